@@ -1,0 +1,11 @@
+pub mod Cuts
+pub mod Words
+pub mod Moves
+pub mod Splits
+pub mod Numbers
+pub mod Verbs
+pub mod Sightings
+pub mod Entries
+pub mod Meeting
+pub mod Carrying
+pub mod Judging

@@ -1,0 +1,9 @@
+use Rattle.std.proofs.Common.{sym, ◌∙◌}
+use Rattle.tp_port.proofs.Splits.{line_at, line_whole}
+use Rattle.tp_port.proofs.cut.first_line.Goals as goal
+
+pub returns-in-Some-clause-lines : goal.returns-in-Some-clause-lines
+returns-in-Some-clause-lines c = line_at _ _ c.requires (sym c.place_of.ensures ∙ c.in-Some.is)
+
+pub returns-in-None-clause-lines : goal.returns-in-None-clause-lines
+returns-in-None-clause-lines c = line_whole _ c.requires (sym c.place_of.ensures ∙ c.in-None.is)

@@ -1,0 +1,5 @@
+use Rattle.tp_port.proofs.Moves.{empty_keeps}
+use Rattle.tp_port.proofs.queue.PortQueue.new.Goals as goal
+
+pub invariant_of-result : goal.invariant_of-result
+invariant_of-result g c = rw (c.new.ensures.items, c.new-2.ensures.items) empty_keeps

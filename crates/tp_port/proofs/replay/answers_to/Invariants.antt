@@ -1,0 +1,16 @@
+use Rattle.std.proofs.Common.{◌-◌, ◌≤◌, length}
+use Rattle.std.specs.Prelude.{string_bytes}
+use Rattle.tp_port.specs.Carried.{IsWithin, stage_of}
+use Rattle.tp_port.proofs.Judging.{Goes}
+use Rattle.tp_port.proofs.replay.answers_to.Given as goal
+
+abbrev pub invariant-loop-rest : goal.invariant-loop-rest
+invariant-loop-rest l =
+    record {
+      fits : length l.rest ≤ length l.text;
+      within : IsWithin l.engine (length l.text - length l.rest);
+      goes : Goes l.text l.rest (stage_of l.engine) (string_bytes l.engine.answers);
+    }
+
+abbrev pub decreases-loop-rest : goal.decreases-loop-rest
+decreases-loop-rest l = length l.rest

@@ -1,0 +1,6 @@
+use Rattle.tp_port.proofs.Judging.{read_faults}
+use Rattle.tp_port.proofs.replay.replay.Goals as goal
+
+pub returns-in-Ok-clause-fault : goal.returns-in-Ok-clause-fault
+returns-in-Ok-clause-fault g c =
+    read_faults c.replay_text.result _ c.in-Ok.text.items c.in-Ok.ensures.whole (rw (← c.as_slice.ensures.value) c.replay_text.ensures.fault)

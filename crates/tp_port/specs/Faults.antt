@@ -1,0 +1,41 @@
+-- When a queue file is answered, and when each fault comes.
+use Rattle.std.specs.Prelude.{ℕ, ◌<◌, Option, List, length, All, ⊤}
+use Rattle.std.specs.Io.KnownBytes.{Appends}
+use Rattle.tp_port.specs.declared.text.TheConstants.{TEXT_LIMIT}
+use Rattle.tp_port.specs.declared.text.ReadFault.{ReadFault}
+use Rattle.tp_port.specs.declared.text.ReadFault.TheVariants as read
+use Rattle.tp_port.specs.declared.replay.QueueFault.{QueueFault}
+use Rattle.tp_port.specs.declared.replay.QueueFault.TheVariants as fault
+use Rattle.tp_port.specs.Line.{Line, Says, IsGood, IsFirstBad, lines_of}
+use Rattle.tp_port.specs.Replay.{queue_text}
+
+abbrev pub fault_of : ReadFault → QueueFault
+fault_of read.Read = fault.Read
+fault_of read.Limit = fault.Limit
+fault_of read.Memory = fault.Memory
+
+-- what is written grew by the answers to the lines of the text
+abbrev pub Answers : List ℕ → Option (List ℕ) → Option (List ℕ) → Type 0
+Answers text old new = (lines : List Line) × Says text lines × Appends old new (queue_text lines)
+
+-- within the limit: the first bad line, and want of memory only where no line is bad
+abbrev pub IsRefusedFor : List ℕ → QueueFault → Type 0
+IsRefusedFor text (fault.BadLine n) = IsFirstBad (lines_of text) n
+IsRefusedFor text fault.Memory = All IsGood (lines_of text)
+IsRefusedFor text _ = ⊥
+
+-- of a text in memory: the limit comes first, then the first bad line, then want of memory, and then a failed write
+abbrev pub IsFaultOf : List ℕ → QueueFault → Type 0
+IsFaultOf text (fault.BadLine n) = IsFirstBad (lines_of text) n
+IsFaultOf text fault.Read = ⊥
+IsFaultOf text fault.Write = All IsGood (lines_of text)
+IsFaultOf text fault.Limit = TEXT_LIMIT < length text
+IsFaultOf text fault.Memory = All IsGood (lines_of text)
+
+-- of a text that is read first: the reader may fail, and memory may be wanting, whatever the text
+abbrev pub IsReadFaultOf : List ℕ → QueueFault → Type 0
+IsReadFaultOf text (fault.BadLine n) = IsFirstBad (lines_of text) n
+IsReadFaultOf text fault.Read = ⊤
+IsReadFaultOf text fault.Write = All IsGood (lines_of text)
+IsReadFaultOf text fault.Limit = TEXT_LIMIT < length text
+IsReadFaultOf text fault.Memory = ⊤

@@ -1,0 +1,10 @@
+pub mod History
+pub mod Answers
+pub mod Kept
+pub mod Lending
+pub mod Admits
+pub mod Line
+pub mod Command
+pub mod Replay
+pub mod Carried
+pub mod Faults

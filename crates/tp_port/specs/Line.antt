@@ -1,0 +1,131 @@
+-- The lines of a queue file: what each one says, and how it is spelled.
+use Rattle.std.specs.Prelude.{◌≡◌, ℕ, ℤ, ◌-◌, ◌<◌, ◌==◌, ◌≤◌, Bool, true, false, Option, Some, None, List, [], ◌∷◌, length, take, slice_get, codes, IfSome, All, cond, FitsSigned}
+use Rattle.std.specs.Int.{w64}
+use Rattle.std.specs.List.{onto_first, slice_split, list_all, AllZip}
+use Rattle.std.specs.Char.{is_ascii_alphabetic, is_ascii_alphanumeric}
+use Rattle.std.specs.Fmt.{signed_decimal}
+use Rattle.tp_port.specs.declared.pattern.Pattern.{Pattern}
+use Rattle.tp_port.specs.declared.pattern.Pattern.TheVariants as pattern
+use Rattle.tp_port.specs.declared.command.Verb.{Verb}
+use Rattle.tp_port.specs.declared.command.Verb.TheVariants as verb
+
+-- the lines of a text: each ends at a byte 10, which the last may lack
+abbrev pub lines_of : List ℕ → List (List ℕ)
+lines_of [] = []
+lines_of (b ∷ bs) = cond (b == 10) ([] ∷ lines_of bs) (onto_first b (lines_of bs))
+
+abbrev pub is_space : ℕ → Bool
+is_space b = b == 32
+
+-- the words of a line: what stands before, between and after its spaces
+abbrev pub words_of : List ℕ → List (List ℕ)
+words_of line = slice_split is_space line
+
+-- the words after a first one: none where no space follows it
+abbrev pub words_after : Option (List ℕ) → List (List ℕ)
+words_after None = []
+words_after (Some rest) = words_of rest
+
+abbrev pub starts_with_letter : List ℕ → Bool
+starts_with_letter [] = false
+starts_with_letter (b ∷ bs) = is_ascii_alphabetic b
+
+-- a letter, and then letters and digits: 1 to 20 in all
+pub record IsName (name : List ℕ) : Type 0 where
+  pub letter : starts_with_letter name ≡ true
+  pub alphanumeric : list_all is_ascii_alphanumeric name ≡ true
+  pub short : length name ≤ 20
+
+-- what a receiving operation asks of a message: its value, and its sender, if one is named
+pub record Wish : Type 0 where
+  pub value : Pattern
+  pub from : Option (List ℕ)
+
+-- what a line says
+pub data Line : Type 0 where
+  arrive : List ℕ → ℤ → Line
+  receive : Wish → Line
+  check : Wish → Line
+  trigger : Wish → Line
+  clear : Line
+  start : Line
+  stop : Line
+  halt : Line
+
+-- the first word of a line
+abbrev pub verb_text : Verb → List ℕ
+verb_text verb.Arrive = codes "arrive"
+verb_text verb.Receive = codes "receive"
+verb_text verb.Check = codes "check"
+verb_text verb.Trigger = codes "trigger"
+verb_text verb.Clear = codes "clear"
+verb_text verb.Start = codes "start"
+verb_text verb.Stop = codes "stop"
+verb_text verb.Halt = codes "halt"
+
+abbrev pub verb_of : Line → Verb
+verb_of (arrive name n) = verb.Arrive
+verb_of (receive wish) = verb.Receive
+verb_of (check wish) = verb.Check
+verb_of (trigger wish) = verb.Trigger
+verb_of clear = verb.Clear
+verb_of start = verb.Start
+verb_of stop = verb.Stop
+verb_of halt = verb.Halt
+
+abbrev pub pattern_text : Pattern → List ℕ
+pattern_text pattern.Any = codes "?"
+pattern_text (pattern.Number n) = signed_decimal n
+
+abbrev pub from_words : Option (List ℕ) → List (List ℕ)
+from_words None = []
+from_words (Some name) = codes "from" ∷ name ∷ []
+
+abbrev pub wish_words : Wish → List (List ℕ)
+wish_words wish = pattern_text wish.value ∷ from_words wish.from
+
+-- the words after the first
+abbrev pub operands : Line → List (List ℕ)
+operands (arrive name n) = name ∷ signed_decimal n ∷ []
+operands (receive wish) = wish_words wish
+operands (check wish) = wish_words wish
+operands (trigger wish) = wish_words wish
+operands clear = []
+operands start = []
+operands stop = []
+operands halt = []
+
+-- an integer has 64 signed bits
+abbrev pub PatternFits : Pattern → Type 0
+PatternFits pattern.Any = Unit {0}
+PatternFits (pattern.Number n) = FitsSigned w64 n
+
+abbrev pub IsWish : Wish → Type 0
+IsWish wish = PatternFits wish.value × IfSome wish.from IsName
+
+-- names are names, and integers have 64 signed bits
+abbrev pub IsLine : Line → Type 0
+IsLine (arrive name n) = IsName name × FitsSigned w64 n
+IsLine (receive wish) = IsWish wish
+IsLine (check wish) = IsWish wish
+IsLine (trigger wish) = IsWish wish
+IsLine clear = Unit {0}
+IsLine start = Unit {0}
+IsLine stop = Unit {0}
+IsLine halt = Unit {0}
+
+-- the text says the line: its words are the line's, with one space between them and none elsewhere
+abbrev pub Spells : List ℕ → Line → Type 0
+Spells text line = (words_of text ≡ verb_text (verb_of line) ∷ operands line) × IsLine line
+
+-- the text is a line of a queue file
+abbrev pub IsGood : List ℕ → Type 0
+IsGood text = (line : Line) × Spells text line
+
+-- the lines of the text say these, in order
+abbrev pub Says : List ℕ → List Line → Type 0
+Says text lines = AllZip Spells (lines_of text) lines
+
+-- the line of this number, from 1, is the first that is not of a queue file
+abbrev pub IsFirstBad : List (List ℕ) → ℕ → Type 0
+IsFirstBad texts n = (0 < n) × All IsGood (take (n - 1) texts) × ((text : List ℕ) × (slice_get texts (n - 1) ≡ Some text) × ¬ IsGood text)

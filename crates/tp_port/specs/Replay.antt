@@ -1,0 +1,147 @@
+-- What a queue file answers: the senders by first sight, the port's history, and the text of each answer.
+use Rattle.std.specs.Prelude.{ℕ, ℤ, ◌==◌, ◌&&◌, Bool, true, false, nat_eq, if◌then◌else◌, Option, Some, None, List, [], ◌∷◌, ◌++◌, length, map, slice_get, codes, unwrap_or, option_and_then}
+use Rattle.std.specs.List.{flat_map, list_any, position_or_len}
+use Rattle.std.specs.Cmp.Lexicographic.{pointwise}
+use Rattle.std.specs.Option.{option_to_list, option_map}
+use Rattle.std.specs.Ordering.{int_eq}
+use Rattle.std.specs.Fmt.{decimal, signed_decimal}
+use Rattle.tp_port.specs.declared.event.Env.{Env}
+use Rattle.tp_port.specs.declared.event.Event.{Event}
+use Rattle.tp_port.specs.declared.event.Event.TheVariants as event
+use Rattle.tp_port.specs.declared.pattern.Pattern.{Pattern}
+use Rattle.tp_port.specs.declared.pattern.Pattern.TheVariants as pattern
+use Rattle.tp_port.specs.History.{accepted, queued, status_of, top}
+use Rattle.tp_port.specs.Answers.{halted_count}
+use Rattle.tp_port.specs.Line.{Line, arrive, receive, check, trigger, clear, start, stop, halt, Wish}
+
+-- how far a replay has come: the senders in the order of their first sight, and the port's history
+pub record Stage : Type 0 where
+  pub senders : List (List ℕ)
+  pub history : List (Event ℤ)
+
+-- the senders, once this name is seen
+abbrev pub seen : List (List ℕ) → List ℕ → List (List ℕ)
+seen senders name = if list_any (pointwise nat_eq name) senders then senders else senders ++ name ∷ []
+
+abbrev pub seen_if : List (List ℕ) → Option (List ℕ) → List (List ℕ)
+seen_if senders None = senders
+seen_if senders (Some name) = seen senders name
+
+-- the senders, once this line is seen
+abbrev pub seen_in : List (List ℕ) → Line → List (List ℕ)
+seen_in senders (arrive name n) = seen senders name
+seen_in senders (receive wish) = seen_if senders wish.from
+seen_in senders (check wish) = seen_if senders wish.from
+seen_in senders (trigger wish) = seen_if senders wish.from
+seen_in senders _ = senders
+
+-- the number of a sender: its place among the senders, from 0
+abbrev pub number_of : List (List ℕ) → List ℕ → ℕ
+number_of senders name = position_or_len (pointwise nat_eq name) senders
+
+-- the name of the sender of this number
+abbrev pub name_of : List (List ℕ) → ℕ → List ℕ
+name_of senders number = unwrap_or (slice_get senders number) []
+
+-- the envelope of an `arrive`: its number is that of the `arrive` lines before it
+abbrev pub envelope : Stage → List ℕ → ℤ → Env ℤ
+envelope s name n = record { sender = number_of s.senders name; number = length (accepted s.history); msg = n }
+
+abbrev pub is_wanted : Pattern → ℤ → Bool
+is_wanted pattern.Any n = true
+is_wanted (pattern.Number wanted) n = int_eq n wanted
+
+abbrev pub is_from : Option ℕ → ℕ → Bool
+is_from None sender = true
+is_from (Some wanted) sender = sender == wanted
+
+-- the envelope has a wanted value, and comes from the wanted sender, if one is named
+abbrev pub meets : Pattern → Option ℕ → Env ℤ → Bool
+meets value from e = is_wanted value e.msg && is_from from e.sender
+
+-- the envelope that a receiving operation succeeds with: the top, if it is wanted
+abbrev pub found : Pattern → Option ℕ → List (Event ℤ) → Option (Env ℤ)
+found value from h = option_and_then (λ e. if meets value from e then Some e else None) (top h)
+
+-- the number of the wanted sender
+abbrev pub from_of : Stage → Wish → Option ℕ
+from_of s wish = option_map (number_of s.senders) wish.from
+
+abbrev pub found_in : Stage → Wish → Option (Env ℤ)
+found_in s wish = found wish.value (from_of s wish) s.history
+
+-- what a trigger makes of the top
+abbrev pub triggered : Bool → Env ℤ → Event ℤ
+triggered true e = event.Took e
+triggered false e = event.Dropped e
+
+-- the events of a line, none or one, where its senders are seen already
+abbrev pub events_of : Stage → Line → List (Event ℤ)
+events_of s (arrive name n) = event.Arrive (envelope s name n) ∷ []
+events_of s (receive wish) = map event.Took (option_to_list (found_in s wish))
+events_of s (check wish) = map event.Found (option_to_list (found_in s wish))
+events_of s (trigger wish) = map (λ e. triggered (meets wish.value (from_of s wish) e) e) (option_to_list (top s.history))
+events_of s clear = event.Cleared ∷ []
+events_of s start = event.Started ∷ []
+events_of s stop = event.Stopped ∷ []
+events_of s halt = event.Halted ∷ []
+
+-- an envelope's sender and value, and the end of the line
+abbrev pub entry_text : List (List ℕ) → Env ℤ → List ℕ
+entry_text senders e = name_of senders e.sender ++ codes " " ++ signed_decimal e.msg ++ codes "\n"
+
+-- the word and the envelope, or `no`
+abbrev pub entry_or_no : List (List ℕ) → List ℕ → Option (Env ℤ) → List ℕ
+entry_or_no senders word None = codes "no\n"
+entry_or_no senders word (Some e) = word ++ entry_text senders e
+
+abbrev pub trigger_word : Bool → List ℕ
+trigger_word true = codes "took "
+trigger_word false = codes "dropped "
+
+abbrev pub triggered_text : List (List ℕ) → Pattern → Option ℕ → Option (Env ℤ) → List ℕ
+triggered_text senders value from None = codes "no\n"
+triggered_text senders value from (Some e) = trigger_word (meets value from e) ++ entry_text senders e
+
+abbrev pub counted_text : List ℕ → ℕ → List ℕ
+counted_text word n = word ++ decimal n ++ codes "\n"
+
+abbrev pub halted_text : Option ℕ → List ℕ
+halted_text None = codes "unchanged\n"
+halted_text (Some n) = counted_text (codes "halted ") n
+
+-- the answer to a line, where its senders are seen already
+abbrev pub answer : Stage → Line → List ℕ
+answer s (arrive name n) = codes "queued\n"
+answer s (receive wish) = entry_or_no s.senders (codes "took ") (found_in s wish)
+answer s (check wish) = entry_or_no s.senders (codes "found ") (found_in s wish)
+answer s (trigger wish) = triggered_text s.senders wish.value (from_of s wish) (top s.history)
+answer s clear = counted_text (codes "cleared ") (length (queued s.history))
+answer s start = counted_text (codes "cleared ") (length (queued s.history))
+answer s stop = codes "stopped\n"
+answer s halt = halted_text (halted_count (status_of s.history) s.history)
+
+-- the stage at which a line is carried out: its senders are seen
+abbrev pub sighted : Stage → Line → Stage
+sighted s line = record { senders = seen_in s.senders line; history = s.history }
+
+-- the stage after a line
+abbrev pub after : Stage → Line → Stage
+after s line = record { senders = seen_in s.senders line; history = s.history ++ events_of (sighted s line) line }
+
+-- what is queued in the end
+abbrev pub left_text : List (List ℕ) → List (Event ℤ) → List ℕ
+left_text senders h = counted_text (codes "left ") (length (queued h)) ++ flat_map (entry_text senders) (queued h)
+
+-- the answers to the lines from this stage on, and then what is left
+abbrev pub text_from : Stage → List Line → List ℕ
+text_from s [] = left_text s.senders s.history
+text_from s (line ∷ lines) = answer (sighted s line) line ++ text_from (after s line) lines
+
+-- before the first line: no sender is seen, and nothing has happened
+abbrev pub first_stage : Stage
+first_stage = record { senders = []; history = [] }
+
+-- the text that a queue file of these lines answers
+abbrev pub queue_text : List Line → List ℕ
+queue_text lines = text_from first_stage lines

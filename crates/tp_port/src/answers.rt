@@ -1,0 +1,86 @@
+//! The texts of answers.
+ghost use Rattle.std.specs.Prelude.{◌≡◌, ◌++◌, OnOk, length, string_bytes};
+ghost use Rattle.std.specs.List.{flat_map};
+ghost use Rattle.std.specs.Option.{option_copied, option_to_list};
+ghost use Rattle.tp_port.specs.History.{queued};
+ghost use Rattle.tp_port.specs.Replay.{counted_text, entry_or_no, entry_text, left_text};
+ghost use Rattle.std.specs.Prelude.{slice_get, codes};
+
+use crate::event::Env;
+use crate::payload::Memory;
+use crate::queue::PortQueue;
+use crate::senders::Senders;
+use itoa::Buffer;
+
+/// Adds a word, a number and the end of the line.
+pub fn write_count(out: &mut String, word: &str, count: u64) -> Result<(), Memory>
+    ensures { OnOk result (string_bytes out.new ≡ string_bytes out.old ++ counted_text word.now count) }
+{
+    let mut buffer = Buffer::new();
+    out.push_str(word)?;
+    out.push_str(buffer.format(count))?;
+    out.push_str("\n")?;
+    Ok(())
+}
+
+/// Adds the envelope's sender and value, and the end of the line.
+pub fn write_entry(out: &mut String, senders: &Senders<'_>, env: &Env<i64>) -> Result<(), Memory>
+    ensures { OnOk result (string_bytes out.new ≡ string_bytes out.old ++ entry_text senders.now env.now) }
+{
+    let mut buffer = Buffer::new();
+    out.push_str(senders.name(env.sender))?;
+    out.push_str(" ")?;
+    out.push_str(buffer.format(env.msg))?;
+    out.push_str("\n")?;
+    Ok(())
+}
+
+/// Adds the word and the envelope, or `no` where there is none.
+pub fn write_entry_or_no(
+    out: &mut String,
+    senders: &Senders<'_>,
+    word: &str,
+    env: Option<&Env<i64>>,
+) -> Result<(), Memory>
+    ensures { OnOk result (string_bytes out.new ≡ string_bytes out.old ++ entry_or_no senders.now word.now (option_copied env.entry)) }
+{
+    match env {
+        None => out.push_str("no\n")?,
+        Some(env) => {
+            out.push_str(word)?;
+            write_entry(out, senders, env)?;
+        }
+    }
+    Ok(())
+}
+
+/// Adds the entry at this place of the queue, if there is one.
+fn write_queued(
+    out: &mut String,
+    senders: &Senders<'_>,
+    queue: &PortQueue<i64>,
+    place: u64,
+) -> Result<(), Memory>
+    ensures { OnOk result (string_bytes out.new ≡ string_bytes out.old ++ flat_map (entry_text senders.now) (option_to_list (slice_get (queued queue.now) place))) }
+{
+    match queue.queued_at(place) {
+        None => Ok(()),
+        Some(env) => write_entry(out, senders, env),
+    }
+}
+
+/// Adds what is left in the queue.
+pub fn write_left(
+    out: &mut String,
+    senders: &Senders<'_>,
+    queue: &PortQueue<i64>,
+) -> Result<(), Memory>
+    ensures { OnOk result (string_bytes out.new ≡ string_bytes out.old ++ left_text senders.now queue.now) }
+{
+    let count = queue.queued_len();
+    write_count(out, "left ", count)?;
+    for place in 0..count {
+        write_queued(out, senders, queue, place)?;
+    }
+    Ok(())
+}

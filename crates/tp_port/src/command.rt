@@ -1,0 +1,246 @@
+//! The lines of a queue file, read.
+ghost use Rattle.std.specs.Prelude.{◌≡◌, ◌∷◌, [], codes, Some, ◌↔◌, ℤ, IfSome, IsSome, IsTrue, MatchOption, FitsSigned};
+ghost use Rattle.std.specs.Int.{w64};
+ghost use Rattle.std.specs.List.{list_all};
+ghost use Rattle.std.specs.Str.{IsAscii};
+ghost use Rattle.std.specs.Char.{is_ascii_alphanumeric};
+ghost use Rattle.std.specs.Fmt.{signed_decimal};
+ghost use Rattle.std.specs.Option.{option_copied};
+ghost use Rattle.tp_port.specs.Line.{IsGood, IsName, IsWish, PatternFits, Spells, Wish, operands, pattern_text, verb_of, verb_text, wish_words, words_after, words_of};
+ghost use Rattle.tp_port.specs.Command.{IsRead, line_of, wish_of};
+
+use crate::cut::first_word;
+use crate::pattern::Pattern;
+use itoa::Buffer;
+use std::str;
+
+/// The most letters and digits that a name has.
+pub const NAME_LIMIT: usize = 20;
+
+/// The first word of a line.
+#[derive(Clone, Copy, Debug, PartialEq, Eq, Hash)]
+pub enum Verb {
+    Arrive,
+    Receive,
+    Check,
+    Trigger,
+    Clear,
+    Start,
+    Stop,
+    Halt,
+}
+
+/// What a receiving operation asks of a message.
+#[derive(Clone, Copy, Debug)]
+pub struct Criteria<'t> {
+    /// The wanted value.
+    pub value: Pattern,
+    /// The name after `from`, if there is one.
+    pub from: Option<&'t str>,
+}
+
+/// A line of a queue file. Its names lie in the text.
+#[derive(Clone, Copy, Debug)]
+pub enum Command<'t> {
+    /// `arrive NAME INT`: a message comes from this sender.
+    Arrive(&'t str, i64),
+    /// `receive PAT [from NAME]`.
+    Receive(Criteria<'t>),
+    /// `check PAT [from NAME]`.
+    Check(Criteria<'t>),
+    /// `trigger PAT [from NAME]`.
+    Trigger(Criteria<'t>),
+    /// `clear`.
+    Clear,
+    /// `start`.
+    Start,
+    /// `stop`.
+    Stop,
+    /// `halt`.
+    Halt,
+}
+
+/// The verb that a word is.
+fn verb_in(word: &[u8]) -> Option<Verb>
+    ensures { MatchOption result ((verb : _) → word.now ≡ verb_text verb → ⊥) (λ verb. word.now ≡ verb_text verb) }
+{
+    if word == b"arrive".as_slice() {
+        Some(Verb::Arrive)
+    } else if word == b"receive".as_slice() {
+        Some(Verb::Receive)
+    } else if word == b"check".as_slice() {
+        Some(Verb::Check)
+    } else if word == b"trigger".as_slice() {
+        Some(Verb::Trigger)
+    } else if word == b"clear".as_slice() {
+        Some(Verb::Clear)
+    } else if word == b"start".as_slice() {
+        Some(Verb::Start)
+    } else if word == b"stop".as_slice() {
+        Some(Verb::Stop)
+    } else if word == b"halt".as_slice() {
+        Some(Verb::Halt)
+    } else {
+        None
+    }
+}
+
+/// Whether all bytes are letters and digits.
+fn is_alphanumeric(bytes: &[u8]) -> bool
+    ensures { result ≡ list_all is_ascii_alphanumeric bytes.now }
+{
+    bytes.iter().all(|byte| byte.is_ascii_alphanumeric())
+}
+
+/// Whether a word is a name: a letter, then letters and digits, 1 to 20 in all.
+fn is_name(word: &[u8]) -> bool
+    ensures { IsTrue result ↔ IsName word.now }
+{
+    match word {
+        [] => false,
+        [first, ..] => {
+            first.is_ascii_alphabetic() && is_alphanumeric(word) && word.len() <= NAME_LIMIT
+        }
+    }
+}
+
+/// The text that bytes are. ASCII is text.
+fn text_of(bytes: &[u8]) -> Option<&str>
+    ensures same { IfSome result (λ text. text.now ≡ bytes.now) }
+    ensures ascii { IsAscii bytes.now → IsSome result }
+{
+    match str::from_utf8(bytes) {
+        Ok(text) => Some(text),
+        Err(_) => None,
+    }
+}
+
+/// The name that a word is.
+fn name_of(word: &[u8]) -> Option<&str>
+    ensures { MatchOption result (¬ IsName word.now) (λ name. (name.now ≡ word.now) × IsName word.now) }
+{
+    if is_name(word) { text_of(word) } else { None }
+}
+
+/// The integer that a word can be read as, in whatever form.
+fn value_of(word: &[u8]) -> Option<i64>
+    ensures { (n : ℤ) → FitsSigned w64 n → word.now ≡ signed_decimal n → result ≡ Some n }
+{
+    let text = text_of(word)?;
+    text.parse::<i64>().ok()
+}
+
+/// The integer that a word is: in decimal, of 64 signed bits, without a leading zero or a `+`.
+fn integer_of(word: &[u8]) -> Option<i64>
+    ensures { MatchOption result ((n : ℤ) → FitsSigned w64 n → word.now ≡ signed_decimal n → ⊥) (λ n. word.now ≡ signed_decimal n) }
+{
+    let value = value_of(word)?;
+    let mut buffer = Buffer::new();
+    if buffer.format(value).as_bytes() == word {
+        Some(value)
+    } else {
+        None
+    }
+}
+
+/// The pattern that a word is.
+fn pattern_of(word: &[u8]) -> Option<Pattern>
+    ensures { MatchOption result ((p : _) → PatternFits p → word.now ≡ pattern_text p → ⊥) (λ p. (word.now ≡ pattern_text p) × PatternFits p) }
+{
+    if word == b"?".as_slice() {
+        return Some(Pattern::Any);
+    }
+    let value = integer_of(word)?;
+    Some(Pattern::Number(value))
+}
+
+/// The one word that there is.
+fn only_word(words: Option<&[u8]>) -> Option<&[u8]>
+    ensures { MatchOption result ((word : _) → words_after (option_copied words.entry) ≡ word ∷ [] → ⊥) (λ word. words_after (option_copied words.entry) ≡ word.now ∷ []) }
+{
+    let (word, rest) = first_word(words?);
+    match rest {
+        None => Some(word),
+        Some(_) => None,
+    }
+}
+
+/// The name after `from`.
+fn sender_of(words: &[u8]) -> Option<&str>
+    ensures { MatchOption result ((name : _) → IsName name → words_of words.now ≡ codes "from" ∷ name ∷ [] → ⊥) (λ name. IsName name.now × (words_of words.now ≡ codes "from" ∷ name.now ∷ [])) }
+{
+    let (word, rest) = first_word(words);
+    if word != b"from".as_slice() {
+        return None;
+    }
+    let name = only_word(rest)?;
+    name_of(name)
+}
+
+/// The criteria of a receiving operation.
+fn criteria_of(words: Option<&[u8]>) -> Option<Criteria<'_>>
+    ensures { MatchOption result ((wish : _) → IsWish wish → words_after (option_copied words.entry) ≡ wish_words wish → ⊥) (λ c. IsWish (wish_of c) × (words_after (option_copied words.entry) ≡ wish_words (wish_of c))) }
+{
+    let (word, rest) = first_word(words?);
+    let value = pattern_of(word)?;
+    match rest {
+        None => Some(Criteria { value, from: None }),
+        Some(rest) => {
+            let name = sender_of(rest)?;
+            Some(Criteria {
+                value,
+                from: Some(name),
+            })
+        }
+    }
+}
+
+/// The sender and the value of an arrival.
+fn arrival_of(words: Option<&[u8]>) -> Option<(&str, i64)>
+    ensures { MatchOption result ((name : _) (n : ℤ) → IsName name → FitsSigned w64 n → words_after (option_copied words.entry) ≡ name ∷ signed_decimal n ∷ [] → ⊥) (λ a. IsName a.0.now × FitsSigned w64 a.1 × (words_after (option_copied words.entry) ≡ a.0.now ∷ signed_decimal a.1 ∷ [])) }
+{
+    let (word, rest) = first_word(words?);
+    let sender = name_of(word)?;
+    let number = only_word(rest)?;
+    let value = integer_of(number)?;
+    Some((sender, value))
+}
+
+/// The command that has no operands, where no word follows.
+fn alone<'t>(command: Command<'t>, words: Option<&[u8]>) -> Option<Command<'t>>
+    requires { operands (line_of command) ≡ [] }
+    ensures { IsRead (verb_of (line_of command.entry)) (words_after (option_copied words.entry)) result }
+{
+    match words {
+        None => Some(command),
+        Some(_) => None,
+    }
+}
+
+/// The command that this verb and the words after it are.
+fn command_with(verb: Verb, words: Option<&[u8]>) -> Option<Command<'_>>
+    ensures { IsRead verb (words_after (option_copied words.entry)) result }
+{
+    match verb {
+        Verb::Arrive => {
+            let (sender, value) = arrival_of(words)?;
+            Some(Command::Arrive(sender, value))
+        }
+        Verb::Receive => criteria_of(words).map(Command::Receive),
+        Verb::Check => criteria_of(words).map(Command::Check),
+        Verb::Trigger => criteria_of(words).map(Command::Trigger),
+        Verb::Clear => alone(Command::Clear, words),
+        Verb::Start => alone(Command::Start, words),
+        Verb::Stop => alone(Command::Stop, words),
+        Verb::Halt => alone(Command::Halt, words),
+    }
+}
+
+/// The command that a line is, without its end.
+pub fn command_of(line: &[u8]) -> Option<Command<'_>>
+    ensures { MatchOption result (¬ IsGood line.now) (λ command. Spells line.now (line_of command)) }
+{
+    let (word, rest) = first_word(line);
+    let verb = verb_in(word)?;
+    command_with(verb, rest)
+}

@@ -1,0 +1,234 @@
+//! The engine of a queue file: one port, its senders, and the answers so far.
+ghost use Rattle.std.specs.Prelude.{◌≡◌, ◌++◌, [], codes, map, IfOk, OnOk, string_bytes};
+ghost use Rattle.std.specs.Option.{option_to_list};
+ghost use Rattle.tp_port.specs.declared.event.Event.TheVariants as event;
+ghost use Rattle.tp_port.specs.History.{top};
+ghost use Rattle.tp_port.specs.Line.{arrive, check, clear, halt, receive, start, stop, trigger};
+ghost use Rattle.tp_port.specs.Command.{line_of, wish_of};
+ghost use Rattle.tp_port.specs.Carried.{Carries, IsWithin, stage_of};
+ghost use Rattle.tp_port.specs.Replay.{entry_or_no, first_stage, found, left_text, meets, triggered, triggered_text};
+
+use crate::answers::{write_count, write_entry_or_no, write_left};
+use crate::command::{Command, Criteria};
+use crate::event::{Env, TriggerAnswer};
+use crate::pattern::Pattern;
+use crate::payload::Memory;
+use crate::queue::PortQueue;
+use crate::senders::Senders;
+use crate::text::TEXT_LIMIT;
+use std::alloc::Global;
+
+/// A queue file that is carried out, line by line.
+#[derive(Drop)]
+pub struct Engine<'t> {
+    /// The senders that were seen.
+    senders: Senders<'t>,
+    queue: PortQueue<i64>,
+    /// How many messages arrived.
+    arrivals: u64,
+    /// The answers so far.
+    answers: String,
+}
+
+/// Answers a `receive`.
+fn answer_receive(
+    queue: &mut PortQueue<i64>,
+    senders: &Senders<'_>,
+    value: Pattern,
+    from: Option<u32>,
+    out: &mut String,
+) -> Result<(), Memory>
+    ensures history { OnOk result (queue.new ≡ queue.old ++ map event.Took (option_to_list (found value from queue.old))) }
+    ensures text { OnOk result (string_bytes out.new ≡ string_bytes out.old ++ entry_or_no senders.now (codes "took ") (found value from queue.old)) }
+{
+    let env = queue.receive(&value, from)?;
+    write_entry_or_no(out, senders, "took ", env.as_ref())?;
+    Ok(())
+}
+
+/// Answers a `check`.
+fn answer_check(
+    queue: &mut PortQueue<i64>,
+    senders: &Senders<'_>,
+    value: Pattern,
+    from: Option<u32>,
+    out: &mut String,
+) -> Result<(), Memory>
+    ensures history { OnOk result (queue.new ≡ queue.old ++ map event.Found (option_to_list (found value from queue.old))) }
+    ensures text { OnOk result (string_bytes out.new ≡ string_bytes out.old ++ entry_or_no senders.now (codes "found ") (found value from queue.old)) }
+{
+    let env = queue.check(&value, from)?;
+    write_entry_or_no(out, senders, "found ", env)?;
+    Ok(())
+}
+
+/// Answers a `trigger`.
+fn answer_trigger(
+    queue: &mut PortQueue<i64>,
+    senders: &Senders<'_>,
+    value: Pattern,
+    from: Option<u32>,
+    out: &mut String,
+) -> Result<(), Memory>
+    ensures history { OnOk result (queue.new ≡ queue.old ++ map (λ e. triggered (meets value from e) e) (option_to_list (top queue.old))) }
+    ensures text { OnOk result (string_bytes out.new ≡ string_bytes out.old ++ triggered_text senders.now value from (top queue.old)) }
+{
+    match queue.trigger(&value, from)? {
+        TriggerAnswer::Took(env) => write_entry_or_no(out, senders, "took ", Some(&env)),
+        TriggerAnswer::Dropped(env) => write_entry_or_no(out, senders, "dropped ", Some(&env)),
+        TriggerAnswer::Nothing => write_entry_or_no(out, senders, "", None),
+    }
+}
+
+impl<'t> Engine<'t> {
+    /// Before the first line.
+    pub fn new(alloc: Global) -> Engine<'t>
+        ensures stage { stage_of result ≡ first_stage }
+        ensures answers { string_bytes result.answers ≡ [] }
+        ensures within { IsWithin result 0 }
+    {
+        Engine {
+            senders: Senders::new(alloc),
+            queue: PortQueue::new(alloc),
+            arrivals: 0,
+            answers: String::new(alloc),
+        }
+    }
+
+    fn arrive(&mut self, name: &'t str, value: i64) -> Result<(), Memory>
+        requires { IsWithin self.old TEXT_LIMIT }
+        ensures { OnOk result (Carries self.old self.new (arrive name.now value)) }
+    {
+        let sender = self.senders.number(name)?;
+        let env = Env {
+            sender,
+            number: self.arrivals,
+            msg: value,
+        };
+        match self.queue.arrive(env) {
+            Err((refused, _)) => Err(refused),
+            Ok(()) => {
+                self.arrivals += 1;
+                self.answers.push_str("queued\n")?;
+                Ok(())
+            }
+        }
+    }
+
+    fn receive(&mut self, criteria: Criteria<'t>) -> Result<(), Memory>
+        requires { IsWithin self.old TEXT_LIMIT }
+        ensures { OnOk result (Carries self.old self.new (receive (wish_of criteria.entry))) }
+    {
+        let from = self.senders.wanted(criteria.from)?;
+        let value = criteria.value;
+        answer_receive(
+            &mut self.queue,
+            &self.senders,
+            value,
+            from,
+            &mut self.answers,
+        )?;
+        Ok(())
+    }
+
+    fn check(&mut self, criteria: Criteria<'t>) -> Result<(), Memory>
+        requires { IsWithin self.old TEXT_LIMIT }
+        ensures { OnOk result (Carries self.old self.new (check (wish_of criteria.entry))) }
+    {
+        let from = self.senders.wanted(criteria.from)?;
+        let value = criteria.value;
+        answer_check(
+            &mut self.queue,
+            &self.senders,
+            value,
+            from,
+            &mut self.answers,
+        )?;
+        Ok(())
+    }
+
+    fn trigger(&mut self, criteria: Criteria<'t>) -> Result<(), Memory>
+        requires { IsWithin self.old TEXT_LIMIT }
+        ensures { OnOk result (Carries self.old self.new (trigger (wish_of criteria.entry))) }
+    {
+        let from = self.senders.wanted(criteria.from)?;
+        let value = criteria.value;
+        answer_trigger(
+            &mut self.queue,
+            &self.senders,
+            value,
+            from,
+            &mut self.answers,
+        )?;
+        Ok(())
+    }
+
+    fn clear(&mut self) -> Result<(), Memory>
+        requires { IsWithin self.old TEXT_LIMIT }
+        ensures { OnOk result (Carries self.old self.new clear) }
+    {
+        let count = self.queue.clear()?;
+        write_count(&mut self.answers, "cleared ", count)?;
+        Ok(())
+    }
+
+    fn start(&mut self) -> Result<(), Memory>
+        requires { IsWithin self.old TEXT_LIMIT }
+        ensures { OnOk result (Carries self.old self.new start) }
+    {
+        let count = self.queue.start()?;
+        write_count(&mut self.answers, "cleared ", count)?;
+        Ok(())
+    }
+
+    fn stop(&mut self) -> Result<(), Memory>
+        requires { IsWithin self.old TEXT_LIMIT }
+        ensures { OnOk result (Carries self.old self.new stop) }
+    {
+        self.queue.stop()?;
+        self.answers.push_str("stopped\n")?;
+        Ok(())
+    }
+
+    fn halt(&mut self) -> Result<(), Memory>
+        requires { IsWithin self.old TEXT_LIMIT }
+        ensures { OnOk result (Carries self.old self.new halt) }
+    {
+        match self.queue.halt()? {
+            Some(count) => write_count(&mut self.answers, "halted ", count)?,
+            None => self.answers.push_str("unchanged\n")?,
+        }
+        Ok(())
+    }
+
+    /// Carries the command out, and adds its answer.
+    pub fn perform(&mut self, command: Command<'t>) -> Result<(), Memory>
+        requires { IsWithin self.old TEXT_LIMIT }
+        ensures { OnOk result (Carries self.old self.new (line_of command.entry)) }
+    {
+        match command {
+            Command::Arrive(name, value) => self.arrive(name, value),
+            Command::Receive(criteria) => self.receive(criteria),
+            Command::Check(criteria) => self.check(criteria),
+            Command::Trigger(criteria) => self.trigger(criteria),
+            Command::Clear => self.clear(),
+            Command::Start => self.start(),
+            Command::Stop => self.stop(),
+            Command::Halt => self.halt(),
+        }
+    }
+
+    /// The answers, what is left in the queue behind them.
+    pub fn finish(self) -> Result<String, Memory>
+        ensures { IfOk result (λ out. string_bytes out ≡ string_bytes self.entry.answers ++ left_text self.entry.senders self.entry.queue) }
+    {
+        let Engine {
+            senders,
+            queue,
+            mut answers,
+            ..
+        } = self;
+        write_left(&mut answers, &senders, &queue)?;
+        Ok(answers)
+    }
+}

@@ -1,0 +1,143 @@
+//! A queue file, read, carried out and answered.
+ghost use Rattle.std.specs.Prelude.{◌≡◌, ◌≤◌, length, All, IfErr, IfOk, IfSome, List, MatchOption, OnOk, string_bytes};
+ghost use Rattle.tp_port.specs.Faults.{Answers, IsFaultOf, IsReadFaultOf, IsRefusedFor};
+ghost use Rattle.tp_port.specs.Line.{IsFirstBad, IsGood, Line, Says, lines_of};
+ghost use Rattle.tp_port.specs.Replay.{queue_text};
+
+use crate::command::command_of;
+use crate::cut::first_line;
+use crate::engine::Engine;
+use crate::text::{ReadFault, TEXT_LIMIT, read_text};
+use std::alloc::Global;
+use std::io::{Read, Write};
+use thiserror::Error;
+
+/// Why a queue file was not replayed.
+#[derive(Clone, Copy, Debug, PartialEq, Eq, Hash, Error)]
+pub enum QueueFault {
+    /// 1 BadLine: the line of this number, from 1, is the first that no queue file has.
+    #[error("line {0} is no line of a queue file")]
+    BadLine(u64),
+    /// 2 Read: the reader answered an error.
+    #[error("the text could not be read")]
+    Read,
+    /// 3 Write: the writer answered an error.
+    #[error("the answers could not be written")]
+    Write,
+    /// 15 Limit: the text has more than 1,048,576 bytes.
+    #[error("the text has more than {TEXT_LIMIT} bytes")]
+    Limit,
+    /// 50 Memory: an allocation was refused.
+    #[error("out of memory")]
+    Memory,
+}
+
+impl From<ReadFault> for QueueFault {
+    ghost use Rattle.std.specs.Prelude.{◌≡◌};
+    ghost use Rattle.tp_port.specs.Faults.{fault_of};
+
+    ghost from_gives = { λ read fault. fault ≡ fault_of read };
+
+    fn from(read: ReadFault) -> QueueFault {
+        match read {
+            ReadFault::Read => QueueFault::Read,
+            ReadFault::Limit => QueueFault::Limit,
+            ReadFault::Memory => QueueFault::Memory,
+        }
+    }
+}
+
+/// The number of the first line that no queue file has, from 1.
+fn first_bad(text: &[u8]) -> Option<u64>
+    ensures { MatchOption result (All IsGood (lines_of text.now)) (IsFirstBad (lines_of text.now)) }
+{
+    let mut rest = text;
+    let mut number = 0;
+    while !rest.is_empty() {
+        let (line, next) = first_line(rest);
+        number += 1;
+        match command_of(line) {
+            None => return Some(number),
+            Some(_) => rest = next,
+        }
+    }
+    None
+}
+
+/// Why a text is refused: its first bad line, and want of memory where it has none.
+fn refusal_of(text: &[u8]) -> QueueFault
+    ensures { IsRefusedFor text.now result }
+{
+    match first_bad(text) {
+        Some(number) => QueueFault::BadLine(number),
+        None => QueueFault::Memory,
+    }
+}
+
+/// The answers to the lines of a text.
+fn answers_to(alloc: Global, text: &[u8]) -> Result<String, QueueFault>
+    requires { length text.now ≤ TEXT_LIMIT }
+    ensures ok { IfOk result (λ out. (lines : List Line) × Says text.now lines × (string_bytes out ≡ queue_text lines)) }
+    ensures err { IfErr result (IsRefusedFor text.now) }
+{
+    let mut engine = Engine::new(alloc);
+    let mut rest = text;
+    while !rest.is_empty() {
+        let (line, next) = first_line(rest);
+        let Some(command) = command_of(line) else {
+            return Err(refusal_of(text));
+        };
+        match engine.perform(command) {
+            Ok(()) => rest = next,
+            Err(_) => return Err(refusal_of(text)),
+        }
+    }
+    match engine.finish() {
+        Ok(answers) => Ok(answers),
+        Err(_) => Err(refusal_of(text)),
+    }
+}
+
+/// Carries out the lines of a text as a queue file, and writes their answers, what is left in the
+/// queue behind them.
+///
+/// Refused are, in this order, 15 `Limit` a text of more than 1,048,576 bytes, 1 `BadLine` its first
+/// line that no queue file has, and 50 `Memory` where an allocation was refused: each before
+/// anything is written. 3 `Write` where the writer answered an error; how much is written then is
+/// open.
+pub fn replay_text<W: Write>(alloc: Global, text: &[u8], writer: &mut W) -> Result<(), QueueFault>
+    ensures written { OnOk result (Answers text.now (W.contents writer.old) (W.contents writer.new)) }
+    ensures fault { IfErr result (IsFaultOf text.now) }
+    ensures unwritten { IfErr result (λ fault. (fault ≡ QueueFault.Write → ⊥) → writer.new ≡ writer.old) }
+{
+    if text.len() > TEXT_LIMIT {
+        return Err(QueueFault::Limit);
+    }
+    match answers_to(alloc, text) {
+        Err(fault) => Err(fault),
+        Ok(answers) => match writer.write_all(answers.as_str().as_bytes()) {
+            Ok(()) => Ok(()),
+            Err(_) => Err(QueueFault::Write),
+        },
+    }
+}
+
+/// Reads a queue file, carries it out, and writes the answers to its lines and what is left in the
+/// queue behind them.
+///
+/// Refused are 2 `Read`, 15 `Limit` and 50 `Memory` as [`read_text`] says, and then 1 `BadLine`,
+/// 50 `Memory` and 3 `Write` as [`replay_text`] says. Nothing is written before all but the last.
+pub fn replay<R: Read, W: Write>(
+    alloc: Global,
+    reader: &mut R,
+    writer: &mut W,
+) -> Result<(), QueueFault>
+    ensures written { OnOk result (IfSome (R.remaining reader.old) (λ text. Answers text (W.contents writer.old) (W.contents writer.new))) }
+    ensures fault { IfErr result (λ fault. IfSome (R.remaining reader.old) (λ text. IsReadFaultOf text fault)) }
+    ensures unwritten { IfErr result (λ fault. (fault ≡ QueueFault.Write → ⊥) → writer.new ≡ writer.old) }
+{
+    match read_text(alloc, reader) {
+        Err(fault) => Err(QueueFault::from(fault)),
+        Ok(text) => replay_text(alloc, text.as_slice(), writer),
+    }
+}

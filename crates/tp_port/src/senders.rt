@@ -1,0 +1,71 @@
+//! The senders of a queue file.
+ghost use Rattle.std.specs.Prelude.{◌≡◌, ◌+◌, ◌<◌, ◌≤◌, ◌^◌, [], length, IfOk, OnOk};
+ghost use Rattle.tp_port.specs.Replay.{name_of, number_of, seen, seen_if};
+ghost use Rattle.std.specs.Option.{option_copied, option_map};
+
+use crate::payload::Memory;
+use indexmap::IndexSet;
+use std::alloc::Global;
+use std::marker::Model;
+
+/// The names of senders, numbered from 0 by first sight. Each name lies in the text.
+#[derive(Drop)]
+pub struct Senders<'t> {
+    names: IndexSet<&'t str>,
+}
+
+impl<'t> Model for Senders<'t> {
+    ghost use Rattle.std.specs.Prelude.{ℕ, List, map};
+
+    ghost Value = { List (List ℕ) };
+
+    ghost view = { λ s. map (λ name. name.now) s.names.keys };
+}
+
+impl<'t> Senders<'t> {
+    /// No sender.
+    pub fn new(alloc: Global) -> Senders<'t>
+        ensures { result ≡ [] }
+    {
+        Senders {
+            names: IndexSet::new(alloc),
+        }
+    }
+
+    /// The number of the sender of this name, which is seen from now on.
+    pub fn number(&mut self, name: &'t str) -> Result<u32, Memory>
+        requires { length self.old < 2 ^ 32 }
+        ensures seen { OnOk result (self.new ≡ seen self.old name.now) }
+        ensures number { IfOk result (λ number. number ≡ number_of self.new name.now) }
+        ensures few { OnOk result (length self.new ≤ length self.old + 1) }
+    {
+        let (number, _) = self.names.insert_full(name)?;
+        Ok(number as u32)
+    }
+
+    /// The number of the wanted sender, if one is named, who is seen from now on.
+    pub fn wanted(&mut self, from: Option<&'t str>) -> Result<Option<u32>, Memory>
+        requires { length self.old < 2 ^ 32 }
+        ensures seen { OnOk result (self.new ≡ seen_if self.old (option_copied from.entry)) }
+        ensures number { IfOk result (λ number. number ≡ option_map (number_of self.new) (option_copied from.entry)) }
+        ensures few { OnOk result (length self.new ≤ length self.old + 1) }
+    {
+        match from {
+            None => Ok(None),
+            Some(name) => {
+                let number = self.number(name)?;
+                Ok(Some(number))
+            }
+        }
+    }
+
+    /// The name of the sender of this number.
+    pub fn name(&self, number: u32) -> &str
+        ensures { result.now ≡ name_of self.now number }
+    {
+        match self.names.get_index(number as usize) {
+            Some(name) => name,
+            None => "",
+        }
+    }
+}

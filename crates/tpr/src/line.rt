@@ -1,0 +1,45 @@
+//! The command line.
+ghost use Rattle.std.specs.Prelude.{◌≡◌, map, MatchOption, string_bytes};
+ghost use Rattle.std.specs.Option.{option_copied};
+ghost use Rattle.tpr.specs.Line.{Asks, IsOffered, mode_text};
+
+/// What the program does.
+#[derive(Clone, Copy, Debug, PartialEq, Eq, Hash)]
+pub enum Mode {
+    /// Replays a queue file.
+    Queue,
+    /// Says whether a test case is right.
+    Check,
+    /// Runs a test case.
+    Run,
+}
+
+/// The mode of this word, if the program offers it.
+fn mode_of(word: &str) -> Option<Mode>
+    ensures { MatchOption result ((mode : _) → IsOffered mode → word.now ≡ mode_text mode → ⊥) (λ mode. IsOffered mode × (word.now ≡ mode_text mode)) }
+{
+    if word == "queue" {
+        Some(Mode::Queue)
+    } else {
+        None
+    }
+}
+
+/// The mode and the FILE, if there is one, that these words ask for: those that follow the
+/// program's name. `None` where they are no command line of the program: the usage line is then
+/// due. `check` and `run` aren't offered yet.
+pub fn line_of(words: &[String]) -> Option<(Mode, Option<&str>)>
+    ensures { MatchOption result ((mode : _) (file : _) → IsOffered mode → Asks (map string_bytes words.now) mode file → ⊥) (λ line. IsOffered line.0 × Asks (map string_bytes words.now) line.0 (option_copied line.1)) }
+{
+    match words {
+        [mode] => {
+            let mode = mode_of(mode.as_str())?;
+            Some((mode, None))
+        }
+        [mode, file] => {
+            let mode = mode_of(mode.as_str())?;
+            Some((mode, Some(file.as_str())))
+        }
+        _ => None,
+    }
+}

@@ -1,0 +1,73 @@
+//! `tpr`: message ports of TTCN-3, replayed, checked and run.
+#![tactic(auto)]
+
+ghost use Rattle.tpr.specs.Line.{IsOffered};
+
+mod line;
+mod modes;
+
+use line::{Mode, line_of};
+use modes::{answer_fault, answer_queue};
+use std::alloc::Global;
+use std::env::Env;
+use std::fs::File;
+use std::io::{BufWriter, ErrorKind, Read, Write};
+use std::process::ExitCode;
+use std::rt::Files;
+use std::{env, io};
+use tp_port::replay::QueueFault;
+
+/// The status where the words are no command line of the program.
+const USAGE: u8 = 4;
+
+/// Prints the usage line on standard error.
+fn usage<R: Eprint>(rt: &R) -> u8 {
+    let _ = eprintln!(rt; "usage: tpr MODE [FILE]");
+    USAGE
+}
+
+/// Answers in this mode.
+fn answer<R: Read, W: Write>(mode: Mode, alloc: Global, reader: &mut R, writer: &mut W) -> u8
+    requires { IsOffered mode }
+{
+    match mode {
+        Mode::Queue => answer_queue(alloc, reader, writer),
+        Mode::Check | Mode::Run => unreachable!(),
+    }
+}
+
+/// Answers the text of this file, or of standard input where no file is named.
+fn answer_file<R: AllocGlobal + Files + Input + Print>(rt: &R, mode: Mode, file: Option<&str>) -> u8
+    requires { IsOffered mode }
+{
+    let Ok(mut writer) = BufWriter::new(rt.alloc(), io::writer(rt)) else {
+        return answer_fault(&mut io::writer(rt), QueueFault::Memory);
+    };
+    match file {
+        None => answer(mode, rt.alloc(), &mut rt.reader(), &mut writer),
+        Some(path) => match File::open(rt, path) {
+            Ok(mut reader) => answer(mode, rt.alloc(), &mut reader, &mut writer),
+            Err(_) => answer_fault(&mut writer, QueueFault::Read),
+        },
+    }
+}
+
+/// The words after the program's name.
+fn words_of<R: Env + AllocGlobal>(rt: &R) -> io::Result<Vec<String>> {
+    let words = env::args(rt)?.skip(1).collect(rt.alloc())?;
+    Ok(words)
+}
+
+fn main(rt: HostRuntime) -> ExitCode {
+    let status = match words_of(&rt) {
+        Ok(words) => match line_of(words.as_slice()) {
+            Some((mode, file)) => answer_file(&rt, mode, file),
+            None => usage(&rt),
+        },
+        Err(error) if error.kind() == ErrorKind::OutOfMemory => {
+            answer_fault(&mut io::writer(&rt), QueueFault::Memory)
+        }
+        Err(_) => usage(&rt),
+    };
+    ExitCode::from(status)
+}
