@@ -9,3 +9,4 @@ pub mod Entries
 pub mod Meeting
 pub mod Carrying
 pub mod Judging
+pub mod Unique

@@ -230,6 +230,12 @@ ahead_is h v entries now at ahead k e s =
     let l : limit v ≡ gone v + deliverable at (length entries) ahead = subst (λ (w : List (Event _)). limit w ≡ gone w + deliverable at (length entries) ahead) e (subst (λ (z : Status). limit h ≡ gone h + deliverable z (length entries) ahead) s (limit_is h entries now ahead k)) in
     omega (arith, l)
 
+-- what is gone was within the limit
+pub gone_within : {M : Type 0} (h v : List (Event M)) (entries : List (Env M)) (now : Status) (ahead : ℕ) → Keeps h entries now ahead → h ≡ v → gone v ≤ limit v
+gone_within h v entries now ahead k e =
+    let l : limit v ≡ gone v + deliverable now (length entries) ahead = subst (λ (w : List (Event _)). limit w ≡ gone w + deliverable now (length entries) ahead) e (limit_is h entries now ahead k) in
+    omega (arith, l)
+
 pub no_top : {M : Type 0} (v : List (Event M)) → limit v - gone v ≡ 0 → None ≡ top v
 unfolding top
 no_top v e = let n : limit v ≤ gone v = omega (arith, e) in grind (arith, nat_tests)

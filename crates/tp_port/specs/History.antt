@@ -1,5 +1,6 @@
 -- The history of a port, and what it says: what is queued, whether the port is started, and what can be received.
--- A history is the whole list of the port's events, the oldest first; a definition filters, cuts and counts that list.
+-- A history is the whole list of the port's events, the oldest first, which only grows; a definition filters, cuts and counts that list.
+-- The clauses are those of ES 201 873-1; ES 201 873-4 has the same as the states of ports and their queues.
 use Rattle.std.specs.Prelude.{◌≡◌, ℕ, ◌+◌, ◌-◌, Bool, true, false, nat_lt, cond, Option, Some, None, List, length, take, drop, slice_get, count_by}
 use Rattle.std.specs.List.{filter_map, list_any, after_first, after_last, before_last}
 use Rattle.tp_port.specs.declared.event.Env.{Env}
@@ -13,13 +14,13 @@ abbrev pub arrival : {M : Type 0} → Event M → Option (Env M)
 arrival (event.Arrive e) = Some e
 arrival _ = None
 
--- the event takes a message out of the queue, by itself
+-- the event takes one message out of the queue: 22.2.2 (receive) and 22.2.3 (trigger)
 abbrev pub is_removal : {M : Type 0} → Event M → Bool
 is_removal (event.Took e) = true
 is_removal (event.Dropped e) = true
 is_removal _ = false
 
--- the event empties the queue
+-- the event empties the queue: 22.5.1 (clear) and 22.5.2 (start)
 abbrev pub is_emptying : {M : Type 0} → Event M → Bool
 is_emptying event.Cleared = true
 is_emptying event.Started = true
@@ -41,7 +42,7 @@ abbrev pub is_halt : {M : Type 0} → Event M → Bool
 is_halt event.Halted = true
 is_halt _ = false
 
--- the envelopes that arrived, in order
+-- the envelopes that arrived, in order: 9.1, a port queues all that comes, first in, first out
 unfoldable pub accepted : {M : Type 0} → List (Event M) → List (Env M)
 accepted h = filter_map arrival h
 
@@ -49,7 +50,7 @@ accepted h = filter_map arrival h
 unfoldable pub gone : {M : Type 0} → List (Event M) → ℕ
 gone h = length (accepted (before_last is_emptying h)) + count_by is_removal (after_last is_emptying h)
 
--- the envelopes that are queued, in order
+-- the envelopes that are queued, in order: 9.1, kept until the owner of the port processes them
 unfoldable pub queued : {M : Type 0} → List (Event M) → List (Env M)
 queued h = drop (gone h) (accepted h)
 
@@ -57,6 +58,7 @@ queued h = drop (gone h) (accepted h)
 unfoldable pub since_start : {M : Type 0} → List (Event M) → List (Event M)
 since_start h = after_last is_start h
 
+-- 22.5.2 to 22.5.4: stopped if there was a stop since the last start, else halted if there was a halt; a port is started when its component is created (21.2.1)
 unfoldable pub status_of : {M : Type 0} → List (Event M) → Status
 status_of h = cond (list_any is_stop (since_start h)) status.Stopped (cond (list_any is_halt (since_start h)) status.Halted status.Started)
 
@@ -64,11 +66,13 @@ status_of h = cond (list_any is_stop (since_start h)) status.Stopped (cond (list
 unfoldable pub since_mark : {M : Type 0} → List (Event M) → List (Event M)
 since_mark h = after_last is_clear (after_first is_halt (since_start h))
 
--- how many envelopes arrived before the mark of a halted port
+-- how many envelopes arrived before the mark of a halted port: 22.5.4, a halt puts the mark behind all that is queued. The event that puts
+-- the mark stands in the part that is counted, and is no arrival
 unfoldable pub mark : {M : Type 0} → List (Event M) → ℕ
 mark h = length (accepted (take (length h - length (since_mark h)) h))
 
--- how many of the envelopes that arrived may have been received, at a port of that status
+-- how many of the envelopes that arrived may have been received, at a port of that status: 22.5.4, those ahead of the mark of a halted port;
+-- 22.5.3, none more at a stopped one
 abbrev pub limit_at : {M : Type 0} → Status → List (Event M) → ℕ
 limit_at status.Started h = length (accepted h)
 limit_at status.Halted h = mark h
@@ -77,7 +81,7 @@ limit_at status.Stopped h = gone h
 unfoldable pub limit : {M : Type 0} → List (Event M) → ℕ
 limit h = limit_at (status_of h) h
 
--- the envelope that a receiving operation sees, if any is deliverable
+-- the envelope that a receiving operation sees, if any is deliverable: 22.2.2, the top of the queue and no other
 unfoldable pub top : {M : Type 0} → List (Event M) → Option (Env M)
 top h = cond (nat_lt (gone h) (limit h)) (slice_get (accepted h) (gone h)) None
 

@@ -5,9 +5,10 @@ use Rattle.std.specs.Borrow.{Fml, RattleType, Bor, MutBor, follows_so}
 use mathlib.Core.Option.{none}
 use Rattle.tp_port.specs.declared.event.Env.{Env}
 use Rattle.tp_port.specs.declared.event.Event.{Event}
+use Rattle.tp_port.specs.History.{Lawful}
 use Rattle.tp_port.specs.Answers.{checked}
 use Rattle.tp_port.specs.contracts.queue.PortQueue.{the_row}
 
--- the queue ends with the history after a `check` that answered r
+-- the queue ends with the history after a `check` that answered r, which is lawful
 abbrev pub ends_checked : (M : RattleType) {E : Type 0} → MutBor (List (Event M.Denot)) → Result (Option (Bor (Env M.Denot))) E → Fml
-ends_checked M q r = follows_so (the_row M) (the_row M) q.ghost_name none (λ _ _. ⊤) (λ n. MatchResult r (λ answer. n ≡ checked q.now (option_copied answer)) (λ _. n ≡ q.now))
+ends_checked M q r = follows_so (the_row M) (the_row M) q.ghost_name none (λ _ _. ⊤) (λ n. MatchResult r (λ answer. (n ≡ checked q.now (option_copied answer)) × Lawful n) (λ _. (n ≡ q.now) × Lawful n))

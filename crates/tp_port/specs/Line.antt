@@ -126,6 +126,10 @@ IsGood text = (line : Line) × Spells text line
 abbrev pub Says : List ℕ → List Line → Type 0
 Says text lines = AllZip Spells (lines_of text) lines
 
+-- a text says one list of lines at most
+abbrev pub SaysOneAtMost : Type 0
+SaysOneAtMost = (text : List ℕ) (these those : List Line) → Says text these → Says text those → these ≡ those
+
 -- the line of this number, from 1, is the first that is not of a queue file
 abbrev pub IsFirstBad : List (List ℕ) → ℕ → Type 0
 IsFirstBad texts n = (0 < n) × All IsGood (take (n - 1) texts) × ((text : List ℕ) × (slice_get texts (n - 1) ≡ Some text) × ¬ IsGood text)

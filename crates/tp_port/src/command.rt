@@ -6,7 +6,7 @@ ghost use Rattle.std.specs.Str.{IsAscii};
 ghost use Rattle.std.specs.Char.{is_ascii_alphanumeric};
 ghost use Rattle.std.specs.Fmt.{signed_decimal};
 ghost use Rattle.std.specs.Option.{option_copied};
-ghost use Rattle.tp_port.specs.Line.{IsGood, IsName, IsWish, PatternFits, Spells, Wish, operands, pattern_text, verb_of, verb_text, wish_words, words_after, words_of};
+ghost use Rattle.tp_port.specs.Line.{IsGood, SaysOneAtMost, IsName, IsWish, PatternFits, Spells, Wish, operands, pattern_text, verb_of, verb_text, wish_words, words_after, words_of};
 ghost use Rattle.tp_port.specs.Command.{IsRead, line_of, wish_of};
 
 use crate::cut::first_word;
@@ -17,20 +17,28 @@ use std::str;
 /// The most letters and digits that a name has.
 pub const NAME_LIMIT: usize = 20;
 
-/// The first word of a line.
+/// The first word of a line: its name in small letters.
 #[derive(Clone, Copy, Debug, PartialEq, Eq, Hash)]
 pub enum Verb {
+    /// `arrive`
     Arrive,
+    /// `receive`
     Receive,
+    /// `check`
     Check,
+    /// `trigger`
     Trigger,
+    /// `clear`
     Clear,
+    /// `start`
     Start,
+    /// `stop`
     Stop,
+    /// `halt`
     Halt,
 }
 
-/// What a receiving operation asks of a message.
+/// What a receiving operation asks of a message: its matching criteria (ES 201 873-1, 22.2.2).
 #[derive(Clone, Copy, Debug)]
 pub struct Criteria<'t> {
     /// The wanted value.
@@ -236,7 +244,9 @@ fn command_with(verb: Verb, words: Option<&[u8]>) -> Option<Command<'_>>
     }
 }
 
-/// The command that a line is, without its end.
+/// The command that a line is, its end left out: one space between words and none elsewhere, names
+/// of 1 to 20 letters and digits with a letter first, integers of 64 signed bits in decimal without
+/// a leading zero or a `+`. `None` for any other line, an empty one too. Takes no memory.
 pub fn command_of(line: &[u8]) -> Option<Command<'_>>
     ensures { MatchOption result (¬ IsGood line.now) (λ command. Spells line.now (line_of command)) }
 {
@@ -244,3 +254,8 @@ pub fn command_of(line: &[u8]) -> Option<Command<'_>>
     let verb = verb_in(word)?;
     command_with(verb, rest)
 }
+
+/// A text says one list of lines at most: a law, and no work.
+pub fn says_one_at_most()
+    ensures { SaysOneAtMost }
+{}

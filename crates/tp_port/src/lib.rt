@@ -11,4 +11,6 @@ pub mod payload;
 pub mod queue;
 pub mod replay;
 mod senders;
+#[cfg(test)]
+mod tests;
 pub mod text;

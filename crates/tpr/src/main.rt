@@ -5,6 +5,8 @@ ghost use Rattle.tpr.specs.Line.{IsOffered};
 
 mod line;
 mod modes;
+#[cfg(test)]
+mod tests;
 
 use line::{Mode, line_of};
 use modes::{answer_fault, answer_queue};

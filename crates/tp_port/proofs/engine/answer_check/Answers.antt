@@ -8,7 +8,7 @@ use Rattle.tp_port.proofs.engine.answer_check.Goals as goal
 
 pub returns-clause-history : goal.returns-clause-history
 returns-clause-history c =
-    checked_is c.args.queue.now _ (option_copied c.in_ok-env.env) (rw c.in_ok-env.was at c.check.follows.holds-at-none) ∙ ap (λ o. c.args.queue.now ++ map event.Found (option_to_list o)) (checks_found c.args.value c.args.from _ (option_copied c.in_ok-env.env) c.in_ok-env.ensures.found)
+    checked_is c.args.queue.now _ (option_copied c.in_ok-env.env) (rw c.in_ok-env.was at c.check.follows.holds-at-none).0 ∙ ap (λ o. c.args.queue.now ++ map event.Found (option_to_list o)) (checks_found c.args.value c.args.from _ (option_copied c.in_ok-env.env) c.in_ok-env.ensures.found)
 
 pub returns-clause-text : goal.returns-clause-text
 returns-clause-text c =

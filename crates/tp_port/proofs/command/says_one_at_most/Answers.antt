@@ -1,0 +1,5 @@
+use Rattle.tp_port.proofs.Unique.{says_one}
+use Rattle.tp_port.proofs.command.says_one_at_most.Goals as goal
+
+pub returns : goal.returns
+returns c = says_one

@@ -1,0 +1,41 @@
+# Each allocation of the program refused in turn: it answers `fault 50 Memory` and nothing else, or
+# what it answers with ample memory. `root`, `room` and `count` are those of ./test. The program is
+# the built one itself, since a shell before it would be refused memory too.
+
+refuse_each() { # EXAMPLE
+    local base=$1 wanted=0 refusals=0 number status
+    if [[ -e $base.status ]]; then wanted=$(<"$base.status"); fi
+    printf 'fault 50 Memory\n' >"$room/fault"
+    for ((number = 1; number <= 200; number++)); do
+        rm -f -- "$room/mark"
+        REFUSED=$number REFUSED_MARK=$room/mark LD_PRELOAD=$room/refused_memory.so \
+            "$root/crates/tpr/out/tpr" queue "$base.queue" >"$room/printed" 2>"$room/said"
+        status=$?
+        if [[ ! -e $room/mark ]]; then break; fi
+        if [[ $status == 3 && ! -s $room/said ]] && cmp -s -- "$room/fault" "$room/printed"; then
+            ((refusals += 1))
+        elif ! { [[ $status == "$wanted" && ! -s $room/said ]] && cmp -s -- "$base.expected" "$room/printed"; }; then
+            echo "FAILED: $base with allocation $number refused: status $status, and printed"
+            head -n 10 -- "$room/printed"
+            return 1
+        fi
+    done
+    if [[ -e $room/mark || $refusals == 0 || $status != "$wanted" ]]; then
+        echo "FAILED: $base: $refusals allocations were refused, and the last status was $status"
+        return 1
+    fi
+}
+
+refused_memory() {
+    local base
+    if ! ${CC:-cc} -O1 -shared -fPIC -o "$room/refused_memory.so" "$root/tests/refused_memory.c"; then
+        echo "FAILED: tests/refused_memory.c can't be compiled"
+        count 1
+        return
+    fi
+    for base in clear_keeps_the_port_halted trigger_discards_what_does_not_match \
+        check_and_receive_from_a_sender integer_too_large_is_refused; do
+        refuse_each "$root/examples/$base"
+        count $?
+    done
+}
