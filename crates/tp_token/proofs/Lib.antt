@@ -1,0 +1,10 @@
+pub mod Runs
+pub mod Longest
+pub mod Quotes
+pub mod Pieces
+pub mod Cutting
+pub mod Unique
+pub mod Words
+pub mod Lines
+pub mod Faults
+pub mod Accepted

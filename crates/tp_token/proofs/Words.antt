@@ -1,0 +1,67 @@
+-- The reserved words by their lengths.
+use Rattle.std.proofs.Common.{◌≡◌, ◌≢◌, ℕ, true, false, List, [], ◌∷◌, length, filter, take, drop, suc, ◌&&◌, refl, ap, sym, ◌∙◌, inl, inr, Option, Some, if◌then◌else◌, ◌==◌}
+use Rattle.std.specs.Str.{bytes_eq}
+use Rattle.std.proofs.lemmas.Bool.Decides.{eqb_tells}
+use Rattle.tp_token.specs.declared.word.Word.{Word}
+use Rattle.tp_token.specs.Word.{first_word, has_length, reserved, word_of}
+
+-- texts of two lengths are different
+other_length : (a b : List ℕ) → length b ≢ length a → bytes_eq a b ≡ false
+other_length [] [] ne = absurd (ne refl)
+other_length [] (y ∷ ys) ne = refl
+other_length (x ∷ xs) [] ne = refl
+other_length (x ∷ xs) (y ∷ ys) ne =
+    let rest : bytes_eq xs ys ≡ false = other_length xs ys (λ same. ne (ap suc same)) in
+    elim (x == y) as (λ t. (t && bytes_eq xs ys) ≡ false) [ true ↦ rest | false ↦ refl ]
+
+-- only words of its length are compared with a text
+pub by_length : (n : ℕ) (bs : List ℕ) (es : List (List ℕ × Word)) → length bs ≡ n → first_word bs (filter (has_length n) es) ≡ first_word bs es
+by_length n bs [] h = refl
+by_length n bs (e ∷ es) h = elim (eqb_tells (length e.0) n) [
+  | inl (test, eq) ↦ rw test (ap (λ (w : Option Word). if bytes_eq bs e.0 then Some e.1 else w) (by_length n bs es h))
+  | inr (test, ne) ↦ let differs : bytes_eq bs e.0 ≡ false = other_length bs e.0 (λ same. ne (same ∙ h)) in rw (test, differs) (by_length n bs es h)
+]
+
+-- the words of one length answer for a text of that length as all do
+part : (n : ℕ) (es : List (List ℕ × Word)) → filter (has_length n) reserved ≡ es → (bs : List ℕ) → length bs ≡ n → first_word bs es ≡ word_of bs
+part n es e bs h = ap (first_word bs) (sym e) ∙ by_length n bs reserved h
+
+pub one : (bs : List ℕ) → length bs ≡ 1 → first_word bs ([]) ≡ word_of bs
+unfolding reserved
+one bs h = part 1 ([]) refl bs h
+
+pub two : (bs : List ℕ) → length bs ≡ 2 → first_word bs (take 4 reserved) ≡ word_of bs
+unfolding reserved
+two bs h = part 2 (take 4 reserved) refl bs h
+
+pub three : (bs : List ℕ) → length bs ≡ 3 → first_word bs (drop 4 (take 11 reserved)) ≡ word_of bs
+unfolding reserved
+three bs h = part 3 (drop 4 (take 11 reserved)) refl bs h
+
+pub four : (bs : List ℕ) → length bs ≡ 4 → first_word bs (drop 11 (take 25 reserved)) ≡ word_of bs
+unfolding reserved
+four bs h = part 4 (drop 11 (take 25 reserved)) refl bs h
+
+pub five : (bs : List ℕ) → length bs ≡ 5 → first_word bs (drop 25 (take 32 reserved)) ≡ word_of bs
+unfolding reserved
+five bs h = part 5 (drop 25 (take 32 reserved)) refl bs h
+
+pub six : (bs : List ℕ) → length bs ≡ 6 → first_word bs (drop 32 (take 38 reserved)) ≡ word_of bs
+unfolding reserved
+six bs h = part 6 (drop 32 (take 38 reserved)) refl bs h
+
+pub seven : (bs : List ℕ) → length bs ≡ 7 → first_word bs (drop 38 (take 45 reserved)) ≡ word_of bs
+unfolding reserved
+seven bs h = part 7 (drop 38 (take 45 reserved)) refl bs h
+
+pub eight : (bs : List ℕ) → length bs ≡ 8 → first_word bs (drop 45 (take 48 reserved)) ≡ word_of bs
+unfolding reserved
+eight bs h = part 8 (drop 45 (take 48 reserved)) refl bs h
+
+pub nine : (bs : List ℕ) → length bs ≡ 9 → first_word bs (drop 48 (take 49 reserved)) ≡ word_of bs
+unfolding reserved
+nine bs h = part 9 (drop 48 (take 49 reserved)) refl bs h
+
+pub ten : (bs : List ℕ) → length bs ≡ 10 → first_word bs (drop 49 reserved) ≡ word_of bs
+unfolding reserved
+ten bs h = part 10 (drop 49 reserved) refl bs h

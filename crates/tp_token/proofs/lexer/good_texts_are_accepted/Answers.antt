@@ -1,0 +1,5 @@
+use Rattle.tp_token.proofs.Accepted.{good_texts_are_accepted}
+use Rattle.tp_token.proofs.lexer.good_texts_are_accepted.Goals as goal
+
+pub returns : goal.returns
+returns c = good_texts_are_accepted

@@ -1,0 +1,6 @@
+use Rattle.std.proofs.Common.{◌≡◌, drop}
+use Rattle.tp_token.specs.Spelling.{value_on}
+use Rattle.tp_token.proofs.piece.value_of.Given as goal
+
+abbrev pub invariant-loop-digit : goal.invariant-loop-digit
+invariant-loop-digit l = value_on l.value (drop l.digit-index l.digits) ≡ value_on 0 l.digits

@@ -1,0 +1,47 @@
+use Rattle.std.proofs.Common.{◌∙◌, refl}
+use Rattle.tp_token.specs.Word.{reserved}
+use Rattle.tp_token.proofs.Words.{one, two, three, four, five, six, seven, eight, nine, ten}
+use Rattle.tp_token.proofs.word.words_of_length.Goals as goal
+
+pub returns-in-2 : goal.returns-in-2
+unfolding reserved
+returns-in-2 c = λ bs h. two bs (h ∙ c.in-2.is)
+
+pub returns-in-3 : goal.returns-in-3
+unfolding reserved
+returns-in-3 c = λ bs h. three bs (h ∙ c.in-3.is)
+
+pub returns-in-4 : goal.returns-in-4
+unfolding reserved
+returns-in-4 c = λ bs h. four bs (h ∙ c.in-4.is)
+
+pub returns-in-5 : goal.returns-in-5
+unfolding reserved
+returns-in-5 c = λ bs h. five bs (h ∙ c.in-5.is)
+
+pub returns-in-6 : goal.returns-in-6
+unfolding reserved
+returns-in-6 c = λ bs h. six bs (h ∙ c.in-6.is)
+
+pub returns-in-7 : goal.returns-in-7
+unfolding reserved
+returns-in-7 c = λ bs h. seven bs (h ∙ c.in-7.is)
+
+pub returns-in-8 : goal.returns-in-8
+unfolding reserved
+returns-in-8 c = λ bs h. eight bs (h ∙ c.in-8.is)
+
+pub returns-in-9 : goal.returns-in-9
+unfolding reserved
+returns-in-9 c = λ bs h. nine bs (h ∙ c.in-9.is)
+
+pub returns-in-10 : goal.returns-in-10
+unfolding reserved
+returns-in-10 c = λ bs h. ten bs (h ∙ c.in-10.is)
+
+pub returns-in-1 : goal.returns-in-1
+returns-in-1 c = λ bs h. one bs (h ∙ c.in-1.is)
+
+pub returns-in_default : goal.returns-in_default
+unfolding reserved
+returns-in_default c = λ bs h. refl

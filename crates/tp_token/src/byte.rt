@@ -1,0 +1,56 @@
+//! Bytes by what they can be part of.
+ghost use Rattle.std.specs.Prelude.{◌≡◌};
+ghost use Rattle.tp_token.specs.Byte.{kind_of, is_word_byte, is_digit, is_printable};
+
+/// What a byte can be part of, outside texts and comments.
+#[derive(Clone, Copy, PartialEq, Eq, Debug)]
+pub enum Kind {
+    /// `a` to `z` and `A` to `Z`: it begins a name or a reserved word.
+    Letter,
+    /// `0` to `9`.
+    Digit,
+    /// `_`, which begins nothing.
+    Underscore,
+    /// `"`, which begins and ends a text.
+    Quote,
+    /// White space: 9 to 13 and 32.
+    Blank,
+    /// Any other byte: one of a symbol or a comment, or one that begins no token.
+    Other,
+}
+
+/// What the byte can be part of.
+#[tactic(auto, unfolding(crate::specs::Byte::kind_of))]
+pub fn kind_of(byte: u8) -> Kind
+    ensures { result ≡ kind_of byte }
+{
+    match byte {
+        b'a'..=b'z' | b'A'..=b'Z' => Kind::Letter,
+        b'0'..=b'9' => Kind::Digit,
+        b'_' => Kind::Underscore,
+        b'"' => Kind::Quote,
+        9..=13 | 32 => Kind::Blank,
+        _ => Kind::Other,
+    }
+}
+
+/// Whether a name or a reserved word may hold the byte.
+pub fn is_word_byte(byte: u8) -> bool
+    ensures { result ≡ is_word_byte byte }
+{
+    matches!(kind_of(byte), Kind::Letter | Kind::Digit | Kind::Underscore)
+}
+
+/// Whether the byte is a digit.
+pub fn is_digit(byte: u8) -> bool
+    ensures { result ≡ is_digit byte }
+{
+    matches!(kind_of(byte), Kind::Digit)
+}
+
+/// Whether a text may hold the byte.
+pub fn is_printable(byte: u8) -> bool
+    ensures { result ≡ is_printable byte }
+{
+    32 <= byte && byte <= 126
+}

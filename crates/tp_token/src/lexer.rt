@@ -1,0 +1,92 @@
+//! From a text to its tokens (ES 201 873-1, Annex A: identifiers, comments, terminals).
+ghost use Rattle.std.specs.Prelude.{◌≡◌, ◌≤◌, ◌++◌, IfErr, IfOk, IsTrue, OnOk, length, map};
+ghost use Rattle.std.specs.Option.{option_map};
+ghost use Rattle.tp_token.specs.Cut.{AreTokens, TokensAreUnique, newlines, placed};
+ghost use Rattle.tp_token.specs.Fault.{AreWithinLimits, GoodTextsAreAccepted, IsMemory, IsRefused};
+ghost use Rattle.tp_token.specs.Lexeme.{lexeme_of, line_of};
+
+use crate::fault::ScriptFault;
+use crate::piece::piece;
+use crate::token::{Placed, Token};
+use std::alloc::Global;
+
+/// How many bytes a text may have.
+pub const LONGEST_TEXT: usize = 1_048_576;
+
+/// The tokens of the text, in order, each with its line: at each place the longest that can stand
+/// there. White space (bytes 9 to 13 and 32) and comments (`//` to the next byte 10 or the end of
+/// the text, `/*` to the next `*/`) are left out. It reads the text once, and borrows names from it.
+///
+/// The first fault in the text is answered:
+/// - 15 `Limit` at line 0, before all else: the text has more than 1,048,576 bytes;
+/// - 10 `Syntax` at the line of a byte that begins no token, of the opening quote of a text that
+///   isn't closed or holds a character other than 32 to 126, of the `/*` of a comment that isn't
+///   closed (`/*/` isn't);
+/// - 15 `Limit` at the line of a name of more than 64 characters, or of a number above
+///   9223372036854775808;
+/// - 50 where memory was refused, for the list of tokens or the characters of a text.
+pub fn lex<'t>(alloc: Global, text: &'t [u8]) -> Result<Vec<Placed<'t>>, ScriptFault>
+    ensures tokens { IfOk result (λ v. AreTokens text.now (map line_of v.items)) }
+    ensures limits { IfOk result (λ v. AreWithinLimits (map line_of v.items)) }
+    ensures short { OnOk result (length text.now ≤ LONGEST_TEXT) }
+    ensures refused { IfErr result (IsRefused text.now) }
+{
+    if text.len() > LONGEST_TEXT {
+        return Err(ScriptFault::limit(0));
+    }
+    let mut tokens = Vec::new(alloc);
+    let mut rest = text;
+    let mut line: u32 = 1;
+    'pieces: while !rest.is_empty() {
+        let (found, size) = piece(alloc, rest, line)?;
+        let (bytes, after) = rest.split_at(size);
+        let is_token = found.is_some();
+        add(&mut tokens, found, line)?;
+        line += lines_in(is_token, bytes);
+        rest = after;
+    }
+    Ok(tokens)
+}
+
+/// The law that a text has one list of tokens, so that what [`lex`] answers is the only one that it
+/// could. It does nothing.
+pub fn tokens_are_unique()
+    ensures { TokensAreUnique }
+{}
+
+/// The law that [`lex`] refuses no good text: where a text has tokens within the limits and isn't too
+/// long, the refusals that `lex` may answer leave want of memory alone. It does nothing.
+pub fn good_texts_are_accepted()
+    ensures { GoodTextsAreAccepted }
+{}
+
+/// Adds the token, if there is one. 50 where memory was refused.
+fn add<'t>(
+    tokens: &mut Vec<Placed<'t>>,
+    found: Option<Token<'t>>,
+    line: u32,
+) -> Result<(), ScriptFault>
+    ensures added { OnOk result (map line_of tokens.new.items ≡ map line_of tokens.old.items ++ placed (option_map lexeme_of found.entry) line) }
+    ensures memory { IfErr result IsMemory }
+{
+    if let Some(token) = found {
+        tokens.push(Placed { token, line })?;
+    }
+    Ok(())
+}
+
+/// How many lines end in a piece. A token holds no line end, so that its bytes aren't looked at.
+fn lines_in(is_token: bool, piece: &[u8]) -> u32
+    requires short { length piece.now ≤ LONGEST_TEXT }
+    requires token { IsTrue is_token → newlines piece.now ≡ 0 }
+    ensures value { result ≡ newlines piece.now }
+    ensures bound { result ≤ length piece.now }
+{
+    if is_token {
+        return 0;
+    }
+    piece.iter().filter(|byte| **byte == b'\n').count() as u32
+}
+
+#[cfg(test)]
+mod tests;
