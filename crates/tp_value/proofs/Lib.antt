@@ -1,0 +1,7 @@
+pub mod Typed
+pub mod Naming
+pub mod Cutting
+pub mod Scans
+pub mod Matched
+pub mod Fitted
+pub mod Written

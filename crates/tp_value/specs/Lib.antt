@@ -1,0 +1,11 @@
+pub mod formers
+pub mod Types
+pub mod HasType
+pub mod Cuts
+pub mod Matches
+pub mod Fits
+pub mod Steps
+pub mod Admits
+pub mod Verdicts
+pub mod ValueText
+pub mod Separators

@@ -1,0 +1,13 @@
+-- What stands before an item in braces, by its place.
+use Rattle.std.specs.Prelude.{ℕ, zero, suc, List, [], codes}
+use Rattle.tp_value.specs.ValueText.{listed, more}
+
+-- a comma and a space, but nothing before the first
+abbrev pub separator : ℕ → List ℕ
+separator zero = []
+separator (suc n) = codes ", "
+
+-- the text of items of which the first has this place
+abbrev pub listed_from : ℕ → List (List ℕ) → List ℕ
+listed_from zero xs = listed xs
+listed_from (suc n) xs = more xs

@@ -1,0 +1,89 @@
+//! Whether a charstring matches a pattern.
+ghost use Rattle.std.specs.Prelude.{◌≡◌, ◌↔◌, ◌<◌, ◌≤◌, IsTrue, length, drop, []};
+ghost use Rattle.tp_value.specs.Cuts.{HasCut};
+ghost use Rattle.tp_value.specs.Steps.{StepIs};
+ghost use Rattle.tp_value.specs.Matches.{is_many_part, AdmitsChar, IsTextPiece};
+
+use crate::scan::Step;
+use crate::template::Part;
+
+/// Whether the part is `*`.
+fn is_many(part: Part) -> bool
+    ensures { result ≡ is_many_part part }
+{
+    match part {
+        Part::Many => true,
+        Part::One | Part::Literal(_) => false,
+    }
+}
+
+/// Whether the part stands for one character, and for this one.
+fn admits(part: Part, char: u8) -> bool
+    ensures { IsTrue result ↔ AdmitsChar part char }
+{
+    match part {
+        Part::Many => false,
+        Part::One => true,
+        Part::Literal(wanted) => char == wanted,
+    }
+}
+
+/// The next step at these places: past a `*`, past one part with one character, or back.
+fn step(parts: &[Part], part: usize, text: &[u8], at: usize) -> Step
+    requires { at < length text.now }
+    ensures { StepIs is_many_part AdmitsChar (drop part parts.now) (drop at text.now) result }
+{
+    if part >= parts.len() {
+        Step::Stuck
+    } else if is_many(parts[part]) {
+        Step::Many
+    } else if admits(parts[part], text[at]) {
+        Step::One
+    } else {
+        Step::Stuck
+    }
+}
+
+/// Whether all parts from here on are `*`.
+fn only_many(parts: &[Part], from: usize) -> bool
+    requires { from ≤ length parts.now }
+    ensures { IsTrue result ↔ HasCut IsTextPiece (drop from parts.now) [] }
+{
+    for part in from..parts.len() {
+        if !is_many(parts[part]) {
+            return false;
+        }
+    }
+    true
+}
+
+/// Whether there is a cut of the text for the parts: goes on from part to part, and where it is stuck
+/// goes back to the last `*`, which then takes one character more.
+pub fn text_matches(parts: &[Part], text: &[u8]) -> bool
+    ensures { IsTrue result ↔ HasCut IsTextPiece parts.now text.now }
+{
+    let mut part = 0;
+    let mut at = 0;
+    let mut back: Option<(usize, usize)> = None;
+    while at < text.len() {
+        match step(parts, part, text, at) {
+            Step::Many => {
+                part += 1;
+                back = Some((part, at));
+            }
+            Step::One => {
+                part += 1;
+                at += 1;
+            }
+            Step::Stuck => {
+                let Some((after, from)) = back else {
+                    return false;
+                };
+                part = after;
+                at = from + 1;
+                back = Some((after, from + 1));
+            }
+        }
+    }
+    only_many(parts, part)
+}

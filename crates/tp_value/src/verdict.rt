@@ -1,0 +1,54 @@
+//! Verdicts.
+ghost use Rattle.std.specs.Prelude.{◌≡◌, ◌≢◌};
+ghost use Rattle.tp_value.specs.Verdicts.{worse};
+
+/// What a test has come to (ES 201 873-1, 24.1), each worse than the one before.
+#[derive(Clone, Copy, Debug, PartialEq, Eq, Hash)]
+pub enum Verdict {
+    /// Nothing was said yet.
+    None,
+    /// The system under test did what was expected.
+    Pass,
+    /// Neither a pass nor a fail can be told.
+    Inconc,
+    /// The system under test did something else.
+    Fail,
+    /// The test itself went wrong. Only the system sets it, and nothing overrides it.
+    Error,
+}
+
+impl Verdict {
+    /// The place in the order, from 0.
+    const fn rank(self) -> u8
+        ensures { result ≡ Rattle.tp_value.specs.Verdicts.rank self }
+    {
+        match self {
+            Verdict::None => 0,
+            Verdict::Pass => 1,
+            Verdict::Inconc => 2,
+            Verdict::Fail => 3,
+            Verdict::Error => 4,
+        }
+    }
+
+    /// The verdict after a statement has set `verdict`, which is not `Error`: the worse of the two,
+    /// so that a verdict never gets better (24.2). Takes no memory.
+    pub fn set(self, verdict: Verdict) -> Verdict
+        requires { verdict ≢ Verdict.Error }
+        ensures { result ≡ worse self verdict }
+    {
+        self.join(verdict)
+    }
+
+    /// The worse of two verdicts, as the overall verdict is the worst of the local ones (24.1).
+    /// Takes no memory.
+    pub fn join(self, other: Verdict) -> Verdict
+        ensures { result ≡ worse self other }
+    {
+        if self.rank() < other.rank() {
+            other
+        } else {
+            self
+        }
+    }
+}

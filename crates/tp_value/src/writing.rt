@@ -1,0 +1,168 @@
+//! The text of a value.
+ghost use Rattle.std.specs.Prelude.{◌≡◌, ◌==◌, ◌<◌, ◌++◌, IfSome, MatchOption, OnOk, codes, length, position};
+ghost use Rattle.std.specs.Fmt.{signed_decimal};
+ghost use Rattle.std.specs.Io.KnownBytes.{Appends};
+ghost use Rattle.tp_value.specs.ValueText.{bool_text, braced, element_texts, escaped, field_texts, quoted, value_text};
+ghost use Rattle.tp_value.specs.Separators.{separator};
+
+use crate::types::{Field, Ty, TypeDef, Types};
+use crate::value::Value;
+use itoa::Buffer;
+use std::io::Write;
+use thiserror::Error;
+
+/// 3 Write: the writer answered an error, or took no byte.
+#[derive(Clone, Copy, Debug, PartialEq, Eq, Hash, Error)]
+#[error("the text could not be written")]
+pub struct WriteFault;
+
+/// Writes these bytes.
+fn put<W: Write>(bytes: &[u8], out: &mut W) -> Result<(), WriteFault>
+    ensures { OnOk result (Appends (W.contents out.old) (W.contents out.new) bytes.now) }
+{
+    match out.write_all(bytes) {
+        Ok(()) => Ok(()),
+        Err(_) => Err(WriteFault),
+    }
+}
+
+/// Writes an integer.
+fn write_number<W: Write>(number: i64, out: &mut W) -> Result<(), WriteFault>
+    ensures { OnOk result (Appends (W.contents out.old) (W.contents out.new) (signed_decimal number)) }
+{
+    let mut buffer = Buffer::new();
+    put(buffer.format(number).as_bytes(), out)
+}
+
+/// Writes a boolean.
+fn write_truth<W: Write>(truth: bool, out: &mut W) -> Result<(), WriteFault>
+    ensures { OnOk result (Appends (W.contents out.old) (W.contents out.new) (bool_text truth)) }
+{
+    if truth {
+        put(b"true", out)
+    } else {
+        put(b"false", out)
+    }
+}
+
+/// The place of the first quote.
+fn quote_place(text: &[u8]) -> Option<usize>
+    ensures { result ≡ position (λ byte. byte == 34) text.now }
+{
+    text.iter().position(|byte| *byte == b'"')
+}
+
+/// What stands up to the first quote, which it ends with, and what stands behind it.
+fn cut_at_quote(text: &[u8]) -> Option<(&[u8], &[u8])>
+    ensures cut { MatchOption result (escaped text.now ≡ text.now) (λ cut. escaped text.now ≡ cut.0.now ++ (codes "\"" ++ escaped cut.1.now)) }
+    ensures shorter { IfSome result (λ cut. length cut.1.now < length text.now) }
+{
+    match quote_place(text) {
+        None => None,
+        Some(place) => Some(text.split_at(place + 1)),
+    }
+}
+
+/// Writes a charstring.
+fn write_text<W: Write>(text: &[u8], out: &mut W) -> Result<(), WriteFault>
+    ensures { OnOk result (Appends (W.contents out.old) (W.contents out.new) (quoted text.now)) }
+{
+    put(b"\"", out)?;
+    let mut rest = text;
+    while let Some((front, behind)) = cut_at_quote(rest) {
+        put(front, out)?;
+        put(b"\"", out)?;
+        rest = behind;
+    }
+    put(rest, out)?;
+    put(b"\"", out)
+}
+
+/// Writes what stands before the item at this place: a comma and a space, or nothing at the first.
+fn separate<W: Write>(place: usize, out: &mut W) -> Result<(), WriteFault>
+    ensures { OnOk result (Appends (W.contents out.old) (W.contents out.new) (separator place)) }
+{
+    if place == 0 {
+        put(b"", out)
+    } else {
+        put(b", ", out)
+    }
+}
+
+/// Writes the text of a value of the type, in the core notation of values (ES 201 873-1, 6).
+///
+/// An integer is decimal, with `-` where it is negative; a boolean is `true` or `false`; a charstring
+/// stands in quotes, with each quote in it doubled. A record is `{f := v, g := w}`, its fields in
+/// declared order, and a record of is `{v, w}`; an empty one of either is `{}`. Ask
+/// [`has_type`](crate::typing::has_type) first: of a value that hasn't the type what is written tells
+/// nothing, and a record without a record type, or a list without a record-of type, is written as
+/// nothing at all.
+///
+/// 3 `Write` where the writer answers an error or takes no byte; how much is written then is open. It
+/// takes no memory. It calls itself once for each level of nesting.
+#[cycle(write)]
+pub fn write_value<W: Write>(
+    types: &Types,
+    ty: Ty,
+    value: &Value,
+    out: &mut W,
+) -> Result<(), WriteFault>
+    ensures { OnOk result (Appends (W.contents out.old) (W.contents out.new) (value_text types.now ty value.now)) }
+{
+    match value {
+        Value::Int(number) => write_number(*number, out),
+        Value::Bool(truth) => write_truth(*truth, out),
+        Value::Text(text) => write_text(text.as_slice(), out),
+        Value::Record(fields) => match types.definition(ty) {
+            Some(TypeDef::Record(declared)) => {
+                write_fields(types, declared.as_slice(), fields.as_slice(), out)
+            }
+            Some(TypeDef::ListOf(_)) | None => Ok(()),
+        },
+        Value::List(elements) => match types.definition(ty) {
+            Some(TypeDef::ListOf(inner)) => {
+                write_elements(types, *inner, elements.as_slice(), out)
+            }
+            Some(TypeDef::Record(_)) | None => Ok(()),
+        },
+    }
+}
+
+/// Writes a record's fields, in braces.
+#[cycle(write)]
+fn write_fields<W: Write>(
+    types: &Types,
+    declared: &[Field],
+    values: &[Value],
+    out: &mut W,
+) -> Result<(), WriteFault>
+    ensures { OnOk result (Appends (W.contents out.old) (W.contents out.new) (braced (field_texts (λ v t. value_text types.now t v) declared.now values.now))) }
+{
+    put(b"{", out)?;
+    for index in 0..declared.len().min(values.len()) {
+        let field = &declared[index];
+        separate(index, out)?;
+        put(field.name.as_slice(), out)?;
+        put(b" := ", out)?;
+        write_value(types, field.ty, &values[index], out)?;
+    }
+    put(b"}", out)
+}
+
+/// Writes the elements of a record of, in braces.
+#[cycle(write)]
+fn write_elements<W: Write>(
+    types: &Types,
+    ty: Ty,
+    values: &[Value],
+    out: &mut W,
+) -> Result<(), WriteFault>
+    ensures { OnOk result (Appends (W.contents out.old) (W.contents out.new) (braced (element_texts (λ v t. value_text types.now t v) ty values.now))) }
+{
+    put(b"{", out)?;
+    for (index, value) in values.iter().enumerate() {
+        separate(index, out)?;
+        write_value(types, ty, value, out)?;
+    }
+    put(b"}", out)
+}
