@@ -39,3 +39,35 @@ refused_memory() {
         count $?
     done
 }
+
+# One test of a crate whose name says that it is right under refused memory too: it must pass with
+# each of its allocations refused in turn. The first half of the gate has built the tests.
+refuse_each_of_test() { # TESTS NAME
+    local number refusals=0
+    for ((number = 1; number <= 500; number++)); do
+        rm -f -- "$room/mark"
+        if ! REFUSED=$number REFUSED_MARK=$room/mark LD_PRELOAD=$room/refused_memory.so \
+            "$1" "$2" >"$room/printed" 2>&1; then
+            echo "FAILED: $2 with allocation $number refused"
+            head -n 10 -- "$room/printed"
+            return 1
+        fi
+        if [[ ! -e $room/mark ]]; then break; fi
+        ((refusals += 1))
+    done
+    if [[ -e $room/mark || $refusals == 0 ]]; then
+        echo "FAILED: $2: $refusals allocations were refused"
+        return 1
+    fi
+}
+
+refused_memory_in_tests() {
+    local tests name
+    for tests in "$root"/crates/*/out/*_tests; do
+        if [[ ! -x $tests ]]; then continue; fi
+        for name in $("$tests" --list | sed -n 's/: test$//p' | grep refused_memory); do
+            refuse_each_of_test "$tests" "$name"
+            count $?
+        done
+    done
+}

@@ -1,4 +1,4 @@
-//! The job of `main.rt` in plain Rust, with the usual matcher that goes back to the last `*`.
+//! The job of `main.rattle` in plain Rust, with the usual matcher that goes back to the last `*`.
 
 #[derive(Clone, Copy, PartialEq)]
 enum Part {
