@@ -10,7 +10,7 @@ use tp_refusal::memory::Memory;
 ///
 /// Values may be nested to any depth that memory allows. A script nests them to 32 brackets; nothing
 /// bounds those that a caller builds. Whatever goes through a value, its drop too, calls itself once
-/// for each level; a stack of 8 MiB lasts for 20,000 levels of any call of this crate.
+/// for each level; a stack of 8 MiB lasts for 16,000 levels of any call of this crate.
 #[derive(Debug, Drop)]
 pub enum Value {
     /// An integer of 64 signed bits (6.1.0).
