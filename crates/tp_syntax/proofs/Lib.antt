@@ -1,0 +1,4 @@
+pub mod Commas
+pub mod StatementTokens
+pub mod TemplateTokens
+pub mod ValueTokens

@@ -1,0 +1,31 @@
+use Rattle.std.proofs.Common.{List, ◌∷◌, ◌++◌, append_assoc, ap, sym, ◌∙◌, arith}
+use Rattle.tp_token.specs.declared.word.Word.TheVariants as w
+use Rattle.tp_token.specs.declared.token.Symbol.TheVariants.{LeftBracket, RightBracket}
+use Rattle.tp_token.specs.Lexeme.{Lexeme, word, symbol}
+use Rattle.tp_syntax.specs.Sequences.{braced, end_lexemes}
+use Rattle.tp_syntax.specs.Statements.{statement_lexemes, branch_lexemes, statements_lexemes, turns_lexemes}
+use Rattle.tp_syntax.proofs.StatementTokens.{counted_made, else_branch_made, for_append}
+use Rattle.tp_syntax.proofs.Commas.{push_read_all}
+use Rattle.tp_syntax.proofs.cursor.Parser.+statement.Goals as goal
+
+pub statements-more-preserved : goal.statements-more-preserved
+statements-more-preserved t c = record {
+  tokens = rw c.in_ok-push.ensures.items (push_read_all statement_lexemes c.more.statements.items c.in_ok-statement.statement _ _ _ c.more.invariant.tokens c.in_ok-statement.ensures.tokens);
+  shorter = omega (arith, c.more.invariant.shorter, c.in_ok-statement.ensures.shorter);
+}
+
+pub branches-more-preserved : goal.branches-more-preserved
+branches-more-preserved t c = record {
+  tokens = rw c.in_ok-push.ensures.items (push_read_all branch_lexemes c.more.branches.items c.in_ok-branch.branch _ _ _ c.more.invariant.tokens c.in_ok-branch.ensures.tokens);
+  shorter = omega (arith, c.more.invariant.shorter, c.in_ok-branch.ensures.shorter);
+}
+
+pub counted-returns-clause-tokens : goal.counted-returns-clause-tokens
+counted-returns-clause-tokens t c =
+    rw counted_made (rw for_append (c.in_ok-turns.ensures.tokens ∙ ap (λ (ts : List Lexeme). turns_lexemes c.in_ok-turns.turns ts) c.in_ok-block.ensures.tokens))
+
+pub otherwise-returns-clause-tokens : goal.otherwise-returns-clause-tokens
+otherwise-returns-clause-tokens t c =
+    let block : List Lexeme = braced (statements_lexemes c.in_ok-block.block.items) in
+    rw else_branch_made (c.in_ok-else_mark.ensures.tokens ∙ ap (λ (ts : List Lexeme). symbol LeftBracket ∷ word w.Else ∷ symbol RightBracket ∷ ts)
+    (c.in_ok-block.ensures.tokens ∙ ap (λ (ts : List Lexeme). block ++ ts) c.in_ok-has_semicolon.ensures.tokens ∙ sym (append_assoc block (end_lexemes c.in_ok-has_semicolon.has_semicolon) _)))

@@ -1,0 +1,52 @@
+use Rattle.std.proofs.Common.{◌≡◌, ◌+◌, ◌*◌, ◌≤◌, ◌++◌, length}
+use Rattle.tp_syntax.specs.Ahead.{ahead}
+use Rattle.tp_syntax.specs.Statements.{statements_lexemes, branches_lexemes}
+use Rattle.tp_syntax.proofs.cursor.Parser.+statement.Given as goal
+
+abbrev pub decreases-statements : goal.decreases-statements
+decreases-statements l = 8 * l.left + 6
+
+abbrev pub decreases-statement : goal.decreases-statement
+decreases-statement l = 8 * l.left + 5
+
+abbrev pub decreases-action : goal.decreases-action
+decreases-action l = 8 * l.left + 4
+
+abbrev pub decreases-alt : goal.decreases-alt
+decreases-alt l = 8 * l.left + 3
+
+abbrev pub decreases-counted : goal.decreases-counted
+decreases-counted l = 8 * l.left + 3
+
+abbrev pub decreases-branches : goal.decreases-branches
+decreases-branches l = 8 * l.left + 5
+
+abbrev pub decreases-branch : goal.decreases-branch
+decreases-branch l = 8 * l.left + 4
+
+abbrev pub decreases-otherwise : goal.decreases-otherwise
+decreases-otherwise l = 8 * l.left + 3
+
+abbrev pub decreases-body : goal.decreases-body
+decreases-body l = 8 * l.left + 3
+
+abbrev pub decreases-block : goal.decreases-block
+decreases-block l = 8 * l.left + 2
+
+abbrev pub invariant-statements-more : goal.invariant-statements-more
+invariant-statements-more l = record {
+  tokens : ahead l.fn.self.rest.now ≡ statements_lexemes l.statements.items ++ ahead l.self.rest.now;
+  shorter : length l.self.rest.now ≤ length l.fn.self.rest.now;
+}
+
+abbrev pub decreases-statements-more : goal.decreases-statements-more
+decreases-statements-more l = length l.self.rest.now
+
+abbrev pub invariant-branches-more : goal.invariant-branches-more
+invariant-branches-more l = record {
+  tokens : ahead l.fn.self.rest.now ≡ branches_lexemes l.branches.items ++ ahead l.self.rest.now;
+  shorter : length l.self.rest.now ≤ length l.fn.self.rest.now;
+}
+
+abbrev pub decreases-branches-more : goal.decreases-branches-more
+decreases-branches-more l = length l.self.rest.now

@@ -1,0 +1,46 @@
+use Rattle.std.proofs.Common.{◌≡◌, ◌+◌, ◌*◌, ◌<◌, ◌++◌, length, map}
+use Rattle.tp_syntax.specs.Ahead.{ahead}
+use Rattle.tp_syntax.specs.Sequences.{by_commas}
+use Rattle.tp_syntax.specs.Templates.{template_lexemes, template_field_lexemes}
+use Rattle.tp_syntax.proofs.cursor.Parser.+template.Given as goal
+
+abbrev pub decreases-template : goal.decreases-template
+decreases-template l = 4 * l.left + 1
+
+abbrev pub decreases-alternatives : goal.decreases-alternatives
+decreases-alternatives l = 4 * l.left + 3
+
+abbrev pub decreases-complement : goal.decreases-complement
+decreases-complement l = 4 * l.left
+
+abbrev pub decreases-template_entries : goal.decreases-template_entries
+decreases-template_entries l = 4 * l.left + 4
+
+abbrev pub decreases-template_fields : goal.decreases-template_fields
+decreases-template_fields l = 4 * l.left + 3
+
+abbrev pub decreases-templates : goal.decreases-templates
+decreases-templates l = 4 * l.left + 2
+
+abbrev pub decreases-template_field : goal.decreases-template_field
+decreases-template_field l = 4 * l.left + 2
+
+abbrev pub invariant-templates-more : goal.invariant-templates-more
+invariant-templates-more l = record {
+  tokens : ahead l.fn.self.rest.now ≡ by_commas (map template_lexemes l.templates.items) ++ ahead l.self.rest.now;
+  some : 0 < length l.templates.items;
+  shorter : length l.self.rest.now < length l.fn.self.rest.now;
+}
+
+abbrev pub decreases-templates-more : goal.decreases-templates-more
+decreases-templates-more l = length l.self.rest.now
+
+abbrev pub invariant-template_fields-more : goal.invariant-template_fields-more
+invariant-template_fields-more l = record {
+  tokens : ahead l.fn.self.rest.now ≡ by_commas (map template_field_lexemes l.fields.items) ++ ahead l.self.rest.now;
+  some : 0 < length l.fields.items;
+  shorter : length l.self.rest.now < length l.fn.self.rest.now;
+}
+
+abbrev pub decreases-template_fields-more : goal.decreases-template_fields-more
+decreases-template_fields-more l = length l.self.rest.now

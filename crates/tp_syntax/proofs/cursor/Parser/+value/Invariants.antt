@@ -1,0 +1,40 @@
+use Rattle.std.proofs.Common.{◌≡◌, ◌+◌, ◌*◌, ◌<◌, ◌++◌, length, map}
+use Rattle.tp_syntax.specs.Ahead.{ahead}
+use Rattle.tp_syntax.specs.Sequences.{by_commas}
+use Rattle.tp_syntax.specs.Values.{value_lexemes, value_field_lexemes}
+use Rattle.tp_syntax.proofs.cursor.Parser.+value.Given as goal
+
+abbrev pub decreases-value : goal.decreases-value
+decreases-value l = 4 * l.left
+
+abbrev pub decreases-value_entries : goal.decreases-value_entries
+decreases-value_entries l = 4 * l.left + 3
+
+abbrev pub decreases-value_fields : goal.decreases-value_fields
+decreases-value_fields l = 4 * l.left + 2
+
+abbrev pub decreases-values : goal.decreases-values
+decreases-values l = 4 * l.left + 1
+
+abbrev pub decreases-value_field : goal.decreases-value_field
+decreases-value_field l = 4 * l.left + 1
+
+abbrev pub invariant-values-more : goal.invariant-values-more
+invariant-values-more l = record {
+  tokens : ahead l.fn.self.rest.now ≡ by_commas (map value_lexemes l.values.items) ++ ahead l.self.rest.now;
+  some : 0 < length l.values.items;
+  shorter : length l.self.rest.now < length l.fn.self.rest.now;
+}
+
+abbrev pub decreases-values-more : goal.decreases-values-more
+decreases-values-more l = length l.self.rest.now
+
+abbrev pub invariant-value_fields-more : goal.invariant-value_fields-more
+invariant-value_fields-more l = record {
+  tokens : ahead l.fn.self.rest.now ≡ by_commas (map value_field_lexemes l.fields.items) ++ ahead l.self.rest.now;
+  some : 0 < length l.fields.items;
+  shorter : length l.self.rest.now < length l.fn.self.rest.now;
+}
+
+abbrev pub decreases-value_fields-more : goal.decreases-value_fields-more
+decreases-value_fields-more l = length l.self.rest.now

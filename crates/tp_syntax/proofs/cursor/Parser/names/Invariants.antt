@@ -1,0 +1,14 @@
+use Rattle.std.proofs.Common.{◌≡◌, ◌<◌, ◌++◌, length}
+use Rattle.tp_syntax.specs.Ahead.{ahead}
+use Rattle.tp_syntax.specs.Definitions.{declared_names_lexemes}
+use Rattle.tp_syntax.proofs.cursor.Parser.names.Given as goal
+
+abbrev pub invariant-more : goal.invariant-more
+invariant-more l = record {
+  tokens : ahead l.fn.self.rest.now ≡ declared_names_lexemes l.names.items ++ ahead l.self.rest.now;
+  some : 0 < length l.names.items;
+  shorter : length l.self.rest.now < length l.fn.self.rest.now;
+}
+
+abbrev pub decreases-more : goal.decreases-more
+decreases-more l = length l.self.rest.now

@@ -1,0 +1,13 @@
+use Rattle.std.proofs.Common.{◌≡◌, ◌≤◌, ◌++◌, length}
+use Rattle.tp_syntax.specs.Ahead.{ahead}
+use Rattle.tp_syntax.specs.Definitions.{port_declarations_lexemes}
+use Rattle.tp_syntax.proofs.cursor.Parser.ports.Given as goal
+
+abbrev pub invariant-more : goal.invariant-more
+invariant-more l = record {
+  tokens : ahead l.fn.self.rest.now ≡ port_declarations_lexemes l.ports.items ++ ahead l.self.rest.now;
+  shorter : length l.self.rest.now ≤ length l.fn.self.rest.now;
+}
+
+abbrev pub decreases-more : goal.decreases-more
+decreases-more l = length l.self.rest.now

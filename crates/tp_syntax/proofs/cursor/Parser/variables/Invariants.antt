@@ -1,0 +1,13 @@
+use Rattle.std.proofs.Common.{◌≡◌, ◌≤◌, ◌++◌, length}
+use Rattle.tp_syntax.specs.Ahead.{ahead}
+use Rattle.tp_syntax.specs.Statements.{variables_lexemes}
+use Rattle.tp_syntax.proofs.cursor.Parser.variables.Given as goal
+
+abbrev pub invariant-more : goal.invariant-more
+invariant-more l = record {
+  tokens : ahead l.fn.self.rest.now ≡ variables_lexemes l.variables.items ++ ahead l.self.rest.now;
+  shorter : length l.self.rest.now ≤ length l.fn.self.rest.now;
+}
+
+abbrev pub decreases-more : goal.decreases-more
+decreases-more l = length l.self.rest.now

@@ -1,0 +1,6 @@
+pub mod Ahead
+pub mod Definitions
+pub mod Sequences
+pub mod Statements
+pub mod Templates
+pub mod Values

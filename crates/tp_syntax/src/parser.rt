@@ -1,0 +1,50 @@
+//! From a text to its module.
+ghost use Rattle.std.specs.Prelude.{◌≡◌, ◌≤◌, IfOk, length};
+ghost use Rattle.tp_syntax.specs.Definitions.{IsReadAs};
+
+use crate::cursor::Parser;
+use crate::tree::Module;
+use std::alloc::Global;
+use tp_token::fault::ScriptFault;
+use tp_token::lexer::lex;
+
+/// How many brackets `{`, `(` and `[` may be open at once.
+const BRACKETS: u32 = 32;
+
+/// The module that the text spells, all of the text: its tokens are those of the text, none left out,
+/// added or moved, but for a `-` directly before the number 0, which is left out.
+///
+/// It makes the whole text into tokens first, by `lex` of `tp_token`, whose refusals come before those
+/// of the grammar. Of these the first in the text is answered:
+/// - 10 `Syntax` at the line of the first token that can't stand at its place, or of the end of the text
+///   where more is needed. So are refused an `[else]` branch that isn't the last one (at the `[` behind
+///   it), a `for` whose four names aren't one name (at the first that differs), and a text behind
+///   `pattern` that holds one of `\ [ ] { } ( ) | # +` or a quote;
+/// - 15 `Limit` at the line of the number 9223372036854775808 without a `-` before it, or of a bracket
+///   that would be the 33rd open one;
+/// - 50 where memory was refused.
+pub fn parse(alloc: Global, text: &[u8]) -> Result<Module, ScriptFault>
+    ensures { IfOk result (IsReadAs text.now) }
+{
+    let tokens = lex(alloc, text)?;
+    let last_line = last_line(text);
+    let mut parser = Parser {
+        rest: &tokens,
+        last_line,
+    };
+    let module = parser.module(alloc, BRACKETS)?;
+    if !parser.rest.is_empty() {
+        return Err(ScriptFault::syntax(parser.line()));
+    }
+    Ok(module)
+}
+
+/// The line of the end of the text: one more than the number of bytes 10 in it.
+fn last_line(text: &[u8]) -> u32
+    requires { length text.now ≤ 1048576 }
+{
+    1 + text.iter().filter(|byte| **byte == b'\n').count() as u32
+}
+
+#[cfg(test)]
+mod tests;

@@ -1,0 +1,245 @@
+//! Templates.
+ghost use Rattle.std.specs.Prelude.{◌≡◌, ◌+◌, ◌<◌, ◌∷◌, ◌++◌, length, map, IfOk, OnOk};
+ghost use Rattle.tp_token.specs.Lexeme.{symbol, word};
+ghost use Rattle.tp_syntax.specs.Ahead.{ahead};
+ghost use Rattle.tp_syntax.specs.Sequences.{by_commas, parenthesised};
+ghost use Rattle.tp_syntax.specs.Templates.{low_lexemes, high_lexemes, template_lexemes, template_field_lexemes, message_template_lexemes};
+
+use crate::cursor::{Parser, below};
+use crate::tree::{MessageTemplate, Template, TemplateField};
+use crate::values::positive;
+use std::alloc::Global;
+use tp_token::fault::ScriptFault;
+use tp_token::token::{Symbol, Token};
+use tp_token::word::Word;
+
+/// Whether the text of a `pattern` may hold this character: the others have a meaning in TTCN-3 that
+/// this profile leaves out.
+fn is_plain(character: u8) -> bool {
+    !matches!(
+        character,
+        b'\\' | b'[' | b']' | b'{' | b'}' | b'(' | b')' | b'|' | b'#' | b'+' | b'"'
+    )
+}
+
+/// Whether the text may stand behind `pattern`.
+fn is_pattern(characters: &[u8]) -> bool {
+    characters.iter().all(|character| is_plain(*character))
+}
+
+impl<'a, 't> Parser<'a, 't> {
+    /// What a message has to match.
+    #[tactic(auto, using(std::proofs::lemmas::List::append_assoc))]
+    pub fn message_template(
+        &mut self,
+        alloc: Global,
+        left: u32,
+    ) -> Result<MessageTemplate, ScriptFault>
+        ensures tokens { IfOk result (λ m. ahead self.old.rest.now ≡ message_template_lexemes m ++ ahead self.new.rest.now) }
+        ensures shorter { OnOk result (length self.new.rest.now < length self.old.rest.now) }
+    {
+        let type_name = self.type_name(alloc)?;
+        self.symbol(Symbol::Colon)?;
+        let template = self.template(alloc, left)?;
+        Ok(MessageTemplate {
+            type_name,
+            template,
+        })
+    }
+
+    /// The lower bound of a range.
+    fn low(&mut self) -> Result<Option<i64>, ScriptFault>
+        ensures tokens { IfOk result (λ b. ahead self.old.rest.now ≡ low_lexemes b ++ ahead self.new.rest.now) }
+        ensures shorter { OnOk result (length self.new.rest.now < length self.old.rest.now) }
+    {
+        if self.is_symbol_at(0, Symbol::Minus) && self.is_word_at(1, Word::Infinity) {
+            self.symbol(Symbol::Minus)?;
+            self.word(Word::Infinity)?;
+            return Ok(None);
+        }
+        let bound = self.integer()?;
+        Ok(Some(bound))
+    }
+
+    /// The upper bound of a range.
+    fn high(&mut self) -> Result<Option<i64>, ScriptFault>
+        ensures tokens { IfOk result (λ b. ahead self.old.rest.now ≡ high_lexemes b ++ ahead self.new.rest.now) }
+        ensures shorter { OnOk result (length self.new.rest.now < length self.old.rest.now) }
+    {
+        if self.has_word(Word::Infinity) {
+            return Ok(None);
+        }
+        let bound = self.integer()?;
+        Ok(Some(bound))
+    }
+
+    /// Whether a range comes next, behind its `(`: its first tokens tell.
+    fn is_range(&self) -> bool {
+        if self.is_symbol_at(0, Symbol::Minus) {
+            return self.is_word_at(1, Word::Infinity)
+                || self.is_number_at(1) && self.is_symbol_at(2, Symbol::DotDot);
+        }
+        self.is_number_at(0) && self.is_symbol_at(1, Symbol::DotDot)
+    }
+
+    /// The characters of a text behind `pattern`. 10 `Syntax`: another token comes next, or none, or
+    /// the text holds one of `\ [ ] { } ( ) | # +` or a quote.
+    #[tactic(auto, using(crate::proofs::TemplateTokens::template_rules))]
+    fn pattern(&mut self, alloc: Global) -> Result<Template, ScriptFault>
+        ensures tokens { IfOk result (λ t. word Word.Pattern ∷ ahead self.old.rest.now ≡ template_lexemes t ++ ahead self.new.rest.now) }
+        ensures shorter { OnOk result (length self.new.rest.now < length self.old.rest.now) }
+    {
+        let placed = self.take()?;
+        match &placed.token {
+            Token::Text(characters) if is_pattern(characters) => {
+                let characters = Vec::from_slice(alloc, characters)?;
+                Ok(Template::Pattern(characters))
+            }
+            _ => Err(ScriptFault::syntax(placed.line)),
+        }
+    }
+
+    /// A template, in which so many brackets may be opened.
+    #[cycle(template)]
+    #[tactic(auto, using(crate::proofs::TemplateTokens::template_rules))]
+    pub fn template(&mut self, alloc: Global, left: u32) -> Result<Template, ScriptFault>
+        ensures tokens { IfOk result (λ t. ahead self.old.rest.now ≡ template_lexemes t ++ ahead self.new.rest.now) }
+        ensures shorter { OnOk result (length self.new.rest.now < length self.old.rest.now) }
+    {
+        let placed = self.take()?;
+        match &placed.token {
+            Token::Symbol(Symbol::Minus) => {
+                let value = self.negative()?;
+                Ok(Template::Int(value))
+            }
+            Token::Number(n) => {
+                let value = positive(*n, placed.line)?;
+                Ok(Template::Int(value))
+            }
+            Token::Word(Word::True) => Ok(Template::Bool(true)),
+            Token::Word(Word::False) => Ok(Template::Bool(false)),
+            Token::Text(characters) => {
+                let characters = Vec::from_slice(alloc, characters)?;
+                Ok(Template::Text(characters))
+            }
+            Token::Name(spelling) => {
+                let name = String::from_str(alloc, spelling)?;
+                Ok(Template::Name(name))
+            }
+            Token::Symbol(Symbol::Question) => Ok(Template::Any),
+            Token::Symbol(Symbol::Star) => Ok(Template::AnyOrNone),
+            Token::Symbol(Symbol::LeftParen) => {
+                let inner = below(left, placed.line)?;
+                self.alternatives(alloc, inner)
+            }
+            Token::Word(Word::Complement) => self.complement(alloc, left),
+            Token::Word(Word::Pattern) => self.pattern(alloc),
+            Token::Symbol(Symbol::LeftBrace) => {
+                let inner = below(left, placed.line)?;
+                self.template_entries(alloc, inner)
+            }
+            _ => Err(ScriptFault::syntax(placed.line)),
+        }
+    }
+
+    /// What stands behind the `(` of a template, and its `)`.
+    #[cycle(template)]
+    #[tactic(auto, using(crate::proofs::TemplateTokens::template_rules))]
+    fn alternatives(&mut self, alloc: Global, left: u32) -> Result<Template, ScriptFault>
+        ensures tokens { IfOk result (λ t. symbol Symbol.LeftParen ∷ ahead self.old.rest.now ≡ template_lexemes t ++ ahead self.new.rest.now) }
+        ensures shorter { OnOk result (length self.new.rest.now < length self.old.rest.now) }
+    {
+        if self.is_range() {
+            let low = self.low()?;
+            self.symbol(Symbol::DotDot)?;
+            let high = self.high()?;
+            self.symbol(Symbol::RightParen)?;
+            return Ok(Template::Range(low, high));
+        }
+        let templates = self.templates(alloc, left)?;
+        self.symbol(Symbol::RightParen)?;
+        Ok(Template::OneOf(templates))
+    }
+
+    /// What stands behind `complement`.
+    #[cycle(template)]
+    #[tactic(auto, using(crate::proofs::TemplateTokens::template_rules))]
+    fn complement(&mut self, alloc: Global, left: u32) -> Result<Template, ScriptFault>
+        ensures tokens { IfOk result (λ t. word Word.Complement ∷ ahead self.old.rest.now ≡ template_lexemes t ++ ahead self.new.rest.now) }
+        ensures shorter { OnOk result (length self.new.rest.now < length self.old.rest.now) }
+    {
+        let inner = self.open(Symbol::LeftParen, left)?;
+        let templates = self.templates(alloc, inner)?;
+        self.symbol(Symbol::RightParen)?;
+        Ok(Template::Complement(templates))
+    }
+
+    /// What stands behind the `{` of a template, and its `}`.
+    #[cycle(template)]
+    #[tactic(auto, using(crate::proofs::TemplateTokens::template_rules))]
+    fn template_entries(&mut self, alloc: Global, left: u32) -> Result<Template, ScriptFault>
+        ensures tokens { IfOk result (λ t. symbol Symbol.LeftBrace ∷ ahead self.old.rest.now ≡ template_lexemes t ++ ahead self.new.rest.now) }
+        ensures shorter { OnOk result (length self.new.rest.now < length self.old.rest.now) }
+    {
+        if self.has_symbol(Symbol::RightBrace) {
+            return Ok(Template::List(Vec::new(alloc)));
+        }
+        if self.is_name_at(0) && self.is_symbol_at(1, Symbol::Assign) {
+            let fields = self.template_fields(alloc, left)?;
+            self.symbol(Symbol::RightBrace)?;
+            return Ok(Template::Record(fields));
+        }
+        let templates = self.templates(alloc, left)?;
+        self.symbol(Symbol::RightBrace)?;
+        Ok(Template::List(templates))
+    }
+
+    /// Templates with a `,` between them.
+    #[cycle(template)]
+    fn templates(&mut self, alloc: Global, left: u32) -> Result<Vec<Template>, ScriptFault>
+        ensures tokens { IfOk result (λ v. ahead self.old.rest.now ≡ by_commas (map template_lexemes v.items) ++ ahead self.new.rest.now) }
+        ensures shorter { OnOk result (length self.new.rest.now < length self.old.rest.now) }
+    {
+        let mut templates = Vec::new(alloc);
+        let first = self.template(alloc, left)?;
+        templates.push(first)?;
+        'more: while self.has_symbol(Symbol::Comma) {
+            let next = self.template(alloc, left)?;
+            templates.push(next)?;
+        }
+        Ok(templates)
+    }
+
+    /// Fields with a `,` between them.
+    #[cycle(template)]
+    fn template_fields(
+        &mut self,
+        alloc: Global,
+        left: u32,
+    ) -> Result<Vec<TemplateField>, ScriptFault>
+        ensures tokens { IfOk result (λ v. ahead self.old.rest.now ≡ by_commas (map template_field_lexemes v.items) ++ ahead self.new.rest.now) }
+        ensures shorter { OnOk result (length self.new.rest.now < length self.old.rest.now) }
+    {
+        let mut fields = Vec::new(alloc);
+        let first = self.template_field(alloc, left)?;
+        fields.push(first)?;
+        'more: while self.has_symbol(Symbol::Comma) {
+            let next = self.template_field(alloc, left)?;
+            fields.push(next)?;
+        }
+        Ok(fields)
+    }
+
+    /// A field.
+    #[cycle(template)]
+    #[tactic(auto, using(crate::proofs::TemplateTokens::template_rules))]
+    fn template_field(&mut self, alloc: Global, left: u32) -> Result<TemplateField, ScriptFault>
+        ensures tokens { IfOk result (λ f. ahead self.old.rest.now ≡ template_field_lexemes f ++ ahead self.new.rest.now) }
+        ensures shorter { OnOk result (length self.new.rest.now < length self.old.rest.now) }
+    {
+        let name = self.name(alloc)?;
+        self.symbol(Symbol::Assign)?;
+        let template = self.template(alloc, left)?;
+        Ok(TemplateField { name, template })
+    }
+}

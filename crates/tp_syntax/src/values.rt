@@ -1,0 +1,186 @@
+//! Values, types and messages.
+ghost use Rattle.std.specs.Prelude.{◌≡◌, ◌+◌, ◌<◌, ◌∷◌, ◌++◌, length, map, pos, IfOk, OnOk};
+ghost use Rattle.tp_token.specs.Lexeme.{symbol};
+ghost use Rattle.tp_syntax.specs.Ahead.{ahead, before};
+ghost use Rattle.tp_syntax.specs.Sequences.{by_commas};
+ghost use Rattle.tp_syntax.specs.Values.{int_lexemes, type_lexemes, value_lexemes, value_field_lexemes, message_lexemes};
+
+use crate::cursor::{Parser, below};
+use crate::tree::{Message, TypeName, Value, ValueField};
+use std::alloc::Global;
+use tp_token::fault::ScriptFault;
+use tp_token::token::{Symbol, Token};
+use tp_token::word::Word;
+
+/// The greatest number without a `-`.
+const GREATEST: u64 = 9_223_372_036_854_775_807;
+
+/// The integer that a number is. 15 `Limit` at the line: it is 9223372036854775808, which needs a
+/// `-` before it.
+pub(crate) fn positive(number: u64, line: u32) -> Result<i64, ScriptFault>
+    ensures { IfOk result (λ z. z ≡ pos number) }
+{
+    if number > GREATEST {
+        return Err(ScriptFault::limit(line));
+    }
+    Ok(number as i64)
+}
+
+impl<'a, 't> Parser<'a, 't> {
+    /// The number behind a `-`.
+    pub fn negative(&mut self) -> Result<i64, ScriptFault>
+        ensures tokens { IfOk result (λ z. before (symbol Symbol.Minus) (ahead self.old.rest.now) ≡ int_lexemes z ++ ahead self.new.rest.now) }
+        ensures shorter { OnOk result (length self.new.rest.now + 1 ≡ length self.old.rest.now) }
+    {
+        let placed = self.take()?;
+        match placed.token {
+            Token::Number(0) => Ok(0),
+            Token::Number(n) if n <= GREATEST + 1 => Ok(-1 - (n - 1) as i64),
+            Token::Number(_) => Err(ScriptFault::limit(placed.line)),
+            _ => Err(ScriptFault::syntax(placed.line)),
+        }
+    }
+
+    /// An integer.
+    pub fn integer(&mut self) -> Result<i64, ScriptFault>
+        ensures tokens { IfOk result (λ z. ahead self.old.rest.now ≡ int_lexemes z ++ ahead self.new.rest.now) }
+        ensures shorter { OnOk result (length self.new.rest.now < length self.old.rest.now) }
+    {
+        let placed = self.take()?;
+        match &placed.token {
+            Token::Symbol(Symbol::Minus) => self.negative(),
+            Token::Number(n) => positive(*n, placed.line),
+            _ => Err(ScriptFault::syntax(placed.line)),
+        }
+    }
+
+    /// The name of a type.
+    pub fn type_name(&mut self, alloc: Global) -> Result<TypeName, ScriptFault>
+        ensures tokens { IfOk result (λ t. ahead self.old.rest.now ≡ type_lexemes t ++ ahead self.new.rest.now) }
+        ensures shorter { OnOk result (length self.new.rest.now < length self.old.rest.now) }
+    {
+        let placed = self.take()?;
+        match &placed.token {
+            Token::Word(Word::Integer) => Ok(TypeName::Integer),
+            Token::Word(Word::Boolean) => Ok(TypeName::Boolean),
+            Token::Word(Word::Charstring) => Ok(TypeName::Charstring),
+            Token::Name(spelling) => {
+                let name = String::from_str(alloc, spelling)?;
+                Ok(TypeName::Named(name))
+            }
+            _ => Err(ScriptFault::syntax(placed.line)),
+        }
+    }
+
+    /// A message.
+    #[tactic(auto, using(std::proofs::lemmas::List::append_assoc))]
+    pub fn message(&mut self, alloc: Global, left: u32) -> Result<Message, ScriptFault>
+        ensures tokens { IfOk result (λ m. ahead self.old.rest.now ≡ message_lexemes m ++ ahead self.new.rest.now) }
+        ensures shorter { OnOk result (length self.new.rest.now < length self.old.rest.now) }
+    {
+        let type_name = self.type_name(alloc)?;
+        self.symbol(Symbol::Colon)?;
+        let value = self.value(alloc, left)?;
+        Ok(Message { type_name, value })
+    }
+
+    /// A value, in which so many brackets may be opened.
+    #[cycle(value)]
+    #[tactic(auto, using(crate::proofs::ValueTokens::value_rules))]
+    pub fn value(&mut self, alloc: Global, left: u32) -> Result<Value, ScriptFault>
+        ensures tokens { IfOk result (λ v. ahead self.old.rest.now ≡ value_lexemes v ++ ahead self.new.rest.now) }
+        ensures shorter { OnOk result (length self.new.rest.now < length self.old.rest.now) }
+    {
+        let placed = self.take()?;
+        match &placed.token {
+            Token::Symbol(Symbol::Minus) => {
+                let value = self.negative()?;
+                Ok(Value::Int(value))
+            }
+            Token::Number(n) => {
+                let value = positive(*n, placed.line)?;
+                Ok(Value::Int(value))
+            }
+            Token::Word(Word::True) => Ok(Value::Bool(true)),
+            Token::Word(Word::False) => Ok(Value::Bool(false)),
+            Token::Text(characters) => {
+                let characters = Vec::from_slice(alloc, characters)?;
+                Ok(Value::Text(characters))
+            }
+            Token::Name(spelling) => {
+                let name = String::from_str(alloc, spelling)?;
+                Ok(Value::Name(name))
+            }
+            Token::Symbol(Symbol::LeftBrace) => {
+                let inner = below(left, placed.line)?;
+                self.value_entries(alloc, inner)
+            }
+            _ => Err(ScriptFault::syntax(placed.line)),
+        }
+    }
+
+    /// What stands behind the `{` of a value, and its `}`.
+    #[cycle(value)]
+    #[tactic(auto, using(crate::proofs::ValueTokens::value_rules, crate::proofs::Commas::braced_read))]
+    pub fn value_entries(&mut self, alloc: Global, left: u32) -> Result<Value, ScriptFault>
+        ensures tokens { IfOk result (λ v. symbol Symbol.LeftBrace ∷ ahead self.old.rest.now ≡ value_lexemes v ++ ahead self.new.rest.now) }
+        ensures shorter { OnOk result (length self.new.rest.now < length self.old.rest.now) }
+    {
+        if self.has_symbol(Symbol::RightBrace) {
+            return Ok(Value::List(Vec::new(alloc)));
+        }
+        if self.is_name_at(0) && self.is_symbol_at(1, Symbol::Assign) {
+            let fields = self.value_fields(alloc, left)?;
+            self.symbol(Symbol::RightBrace)?;
+            return Ok(Value::Record(fields));
+        }
+        let values = self.values(alloc, left)?;
+        self.symbol(Symbol::RightBrace)?;
+        Ok(Value::List(values))
+    }
+
+    /// Values with a `,` between them.
+    #[cycle(value)]
+    pub fn values(&mut self, alloc: Global, left: u32) -> Result<Vec<Value>, ScriptFault>
+        ensures tokens { IfOk result (λ v. ahead self.old.rest.now ≡ by_commas (map value_lexemes v.items) ++ ahead self.new.rest.now) }
+        ensures shorter { OnOk result (length self.new.rest.now < length self.old.rest.now) }
+    {
+        let mut values = Vec::new(alloc);
+        let first = self.value(alloc, left)?;
+        values.push(first)?;
+        'more: while self.has_symbol(Symbol::Comma) {
+            let next = self.value(alloc, left)?;
+            values.push(next)?;
+        }
+        Ok(values)
+    }
+
+    /// Fields with a `,` between them.
+    #[cycle(value)]
+    pub fn value_fields(&mut self, alloc: Global, left: u32) -> Result<Vec<ValueField>, ScriptFault>
+        ensures tokens { IfOk result (λ v. ahead self.old.rest.now ≡ by_commas (map value_field_lexemes v.items) ++ ahead self.new.rest.now) }
+        ensures shorter { OnOk result (length self.new.rest.now < length self.old.rest.now) }
+    {
+        let mut fields = Vec::new(alloc);
+        let first = self.value_field(alloc, left)?;
+        fields.push(first)?;
+        'more: while self.has_symbol(Symbol::Comma) {
+            let next = self.value_field(alloc, left)?;
+            fields.push(next)?;
+        }
+        Ok(fields)
+    }
+
+    /// A field.
+    #[cycle(value)]
+    #[tactic(auto, using(crate::proofs::ValueTokens::value_rules))]
+    pub fn value_field(&mut self, alloc: Global, left: u32) -> Result<ValueField, ScriptFault>
+        ensures tokens { IfOk result (λ f. ahead self.old.rest.now ≡ value_field_lexemes f ++ ahead self.new.rest.now) }
+        ensures shorter { OnOk result (length self.new.rest.now < length self.old.rest.now) }
+    {
+        let name = self.name(alloc)?;
+        self.symbol(Symbol::Assign)?;
+        let value = self.value(alloc, left)?;
+        Ok(ValueField { name, value })
+    }
+}
