@@ -461,3 +461,65 @@ fn deep_templates_fit_the_stack(rt: HostRuntime) -> Result<(), Fail> {
     assert!(rt; matches(&twin, &value));
     Ok(())
 }
+
+/// A template with one of each kind that holds others.
+fn nested(alloc: Global) -> Result<Template, Memory> {
+    let mut members = Items::new(alloc);
+    members.push(Template::OneOf(exactly(alloc, [1, 2].as_slice())?))?;
+    members.push(Template::NoneOf(exactly(alloc, [3].as_slice())?))?;
+    members.push(pattern(alloc, b"a*b?")?)?;
+    members.push(Template::Exact(records(alloc)?))?;
+    members.push(Template::Record(exactly(alloc, [4].as_slice())?))?;
+    members.push(Template::Many)?;
+    members.push(Template::Range(Some(-1), None))?;
+    Ok(Template::List(members))
+}
+
+/// Whether both are printed alike.
+fn print_alike(alloc: Global, one: &Template, other: &Template) -> Result<bool, Memory> {
+    let one = format!(in alloc; "{one:?}")?;
+    let other = format!(in alloc; "{other:?}")?;
+    Ok(one == other)
+}
+
+/// Right also where an allocation of it was refused, whichever: the gate refuses each in turn.
+#[test]
+fn refused_memory_leaves_copies_whole(rt: HostRuntime) {
+    let (Ok(value), Ok(template)) = (records(rt.alloc()), nested(rt.alloc())) else {
+        return;
+    };
+    if let Ok(twin) = value.copy(rt.alloc()) {
+        assert!(rt; are_equal(&value, &twin));
+    }
+    if let Ok(twin) = template.copy(rt.alloc()) {
+        let alike = print_alike(rt.alloc(), &template, &twin);
+        assert!(rt; alike != Ok(false));
+    }
+}
+
+/// A type is added or not, and then the types are as before, also where an allocation was refused.
+#[test]
+fn refused_memory_leaves_types_as_they_were(rt: HostRuntime) {
+    let mut types = Types::new(rt.alloc());
+    for (number, text) in ["R", "L", "M", "N", "O"].iter().enumerate() {
+        let (Ok(name), Ok(definition)) = (
+            String::from_str(rt.alloc(), text),
+            record_type(rt.alloc()),
+        ) else {
+            return;
+        };
+        assert!(rt; types.len() < 5);
+        match types.add(name, definition) {
+            Ok(added) => assert_eq!(rt; added as usize, number),
+            Err(fault) => {
+                assert_eq!(rt; fault, AddFault::Memory);
+                assert_eq!(rt; types.len(), number);
+                assert_eq!(rt; types.find(text), None);
+                return;
+            }
+        }
+        assert_eq!(rt; types.len(), number + 1);
+        assert_eq!(rt; types.find(text), Some(number as u32));
+        assert_eq!(rt; types.find("R"), Some(0));
+    }
+}
