@@ -1,0 +1,15 @@
+pub mod Order
+pub mod Look
+pub mod Places
+pub mod Decide
+pub mod Connect
+pub mod Map
+pub mod Beside
+pub mod Joined
+pub mod Seen
+pub mod Finds
+pub mod Grown
+pub mod Created
+pub mod Made
+pub mod RouteLaws
+pub mod Named

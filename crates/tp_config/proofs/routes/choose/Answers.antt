@@ -1,0 +1,9 @@
+use Rattle.std.proofs.Common.{◌∙◌, sym}
+use Rattle.tp_config.proofs.Finds.{found_to, none_to}
+use Rattle.tp_config.proofs.routes.choose.Goals as goal
+
+pub returns-in-Some-port_of-clause-route : goal.returns-in-Some-port_of-clause-route
+returns-in-Some-port_of-clause-route c = rw (c.in-Some.is) (found_to c.args.p _ _ _ (sym c.in-Some-port_of.is ∙ c.port_of.ensures))
+
+pub returns-in-None-port_of-clause-route : goal.returns-in-None-port_of-clause-route
+returns-in-None-port_of-clause-route c = rw (c.in-Some.is) (none_to c.args.p _ _ (sym c.in-None-port_of.is ∙ c.port_of.ensures))

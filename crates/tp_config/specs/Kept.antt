@@ -1,0 +1,15 @@
+-- What the fields of a configuration have to do with each other.
+use Rattle.std.specs.Prelude.{◌≡◌, List, length}
+use Rattle.tp_config.specs.declared.port_type.CompId.{CompId}
+use Rattle.tp_config.specs.declared.port_type.PortRef.{PortRef}
+use Rattle.tp_config.specs.Setup.{Setup, ports_at}
+use Rattle.tp_config.specs.Allowed.{IsSetup}
+use Rattle.tp_config.specs.Links.{row, links_at}
+use Rattle.tp_config.specs.Routes.{beside}
+
+pub record Keeps (s : Setup) (links : List (List (List PortRef))) : Type 0 where
+  pub setup : IsSetup s
+  -- each component has a list for each of its ports
+  pub shape : (c : CompId) → length (row links c) ≡ length (ports_at s.types s.components c)
+  -- which has what stands in a pair with the port
+  pub kept : (p : PortRef) → links_at links p ≡ beside s p

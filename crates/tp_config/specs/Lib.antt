@@ -1,0 +1,11 @@
+pub mod Types
+pub mod Pairs
+pub mod Setup
+pub mod Allowed
+pub mod Shape
+pub mod Causes
+pub mod Tests
+pub mod Faults
+pub mod Routes
+pub mod Links
+pub mod Kept

@@ -1,0 +1,173 @@
+//! The components of a configuration, and what is known of their ports.
+ghost use Rattle.std.specs.Prelude.{◌≡◌, ◌<◌, ◌++◌, ◌∷◌, [], map, length, option_map, slice_get, IfOk, OnErr, OnOk};
+ghost use Rattle.std.specs.List.{slice_index_or};
+ghost use Rattle.std.specs.Option.{option_copied, option_map_or};
+ghost use Rattle.tp_config.specs.Setup.{decl_at, ins, is_system, outs, ports_at};
+ghost use Rattle.tp_config.specs.Shape.{links_of, member_of, ports_of, type_of, types_of_decl};
+ghost use Rattle.tp_config.specs.Links.{joined, links_at, row, with_links};
+
+use crate::links::Links;
+use crate::port_type::{CompId, CompType, PortRef, PortType, Role};
+use std::alloc::Global;
+use tp_refusal::memory::Memory;
+use tp_value::items::Items;
+use tp_value::types::Ty;
+
+/// A component of a configuration.
+#[derive(Drop)]
+pub(crate) struct Component {
+    /// Its name, which no other component has.
+    pub(crate) name: String,
+    /// The place of its type among the configuration's.
+    pub(crate) kind: u32,
+    pub(crate) role: Role,
+    /// What stands beside each of its ports.
+    pub(crate) links: Links,
+}
+
+pub(crate) fn component_at(components: &[Component], comp: CompId) -> Option<&Component>
+    ensures { option_copied result ≡ slice_get components.now comp.0 }
+{
+    components.get(comp.0 as usize)
+}
+
+fn type_at(types: &[CompType], kind: u32) -> Option<&CompType>
+    ensures { option_copied result ≡ slice_get types.now kind }
+{
+    types.get(kind as usize)
+}
+
+/// The type of a component.
+pub(crate) fn type_in<'a>(
+    types: &'a [CompType],
+    components: &[Component],
+    comp: CompId,
+) -> Option<&'a CompType>
+    ensures { option_map_or ports_of (option_copied result) []
+        ≡ ports_at (map ports_of types.now) (map member_of components.now) comp }
+{
+    let Some(component) = component_at(components, comp) else {
+        return None;
+    };
+    type_at(types, component.kind)
+}
+
+fn port_at(kind: &CompType, port: u32) -> Option<&PortType>
+    ensures { option_copied result ≡ option_map (λ e. e.1) (slice_get kind.now.ports.entries port) }
+{
+    match kind.ports.get_index(port as usize) {
+        Some((_, port_type)) => Some(port_type),
+        None => None,
+    }
+}
+
+/// Whether it is a port of the test system interface.
+pub(crate) fn is_system(components: &[Component], p: PortRef) -> bool
+    ensures { result ≡ is_system (map member_of components.now) p }
+{
+    match component_at(components, p.comp) {
+        Some(component) => component.role.is_system(),
+        None => false,
+    }
+}
+
+fn port_type<'a>(
+    types: &'a [CompType],
+    components: &[Component],
+    p: PortRef,
+) -> Option<&'a PortType>
+    ensures { option_map type_of (option_copied result)
+        ≡ option_map types_of_decl (decl_at (map ports_of types.now) (map member_of components.now) p) }
+{
+    let Some(kind) = type_in(types, components, p.comp) else {
+        return None;
+    };
+    port_at(kind, p.port)
+}
+
+/// The message types that the port receives.
+pub(crate) fn ins<'a>(types: &'a [CompType], components: &[Component], p: PortRef) -> &'a [Ty]
+    ensures { result.now ≡ ins (map ports_of types.now) (map member_of components.now) p }
+{
+    match port_type(types, components, p) {
+        Some(port_type) => port_type.ins.as_slice(),
+        None => &[],
+    }
+}
+
+/// The message types that the port sends.
+pub(crate) fn outs<'a>(types: &'a [CompType], components: &[Component], p: PortRef) -> &'a [Ty]
+    ensures { result.now ≡ outs (map ports_of types.now) (map member_of components.now) p }
+{
+    match port_type(types, components, p) {
+        Some(port_type) => port_type.outs.as_slice(),
+        None => &[],
+    }
+}
+
+/// How many ports the component has.
+pub(crate) fn port_count(types: &[CompType], components: &[Component], comp: CompId) -> usize
+    ensures { result ≡ length (ports_at (map ports_of types.now) (map member_of components.now) comp) }
+{
+    match type_in(types, components, comp) {
+        Some(kind) => kind.ports.len(),
+        None => 0,
+    }
+}
+
+/// What stands beside the port.
+pub(crate) fn beside(components: &[Component], p: PortRef) -> &[PortRef]
+    ensures { result.now ≡ links_at (map links_of components.now) p }
+{
+    match component_at(components, p.comp) {
+        Some(component) => component.links.at(p.port),
+        None => &[],
+    }
+}
+
+/// Puts another list beside the port.
+fn put_beside(components: &mut Vec<Component>, p: PortRef, beside: Items<PortRef>)
+    requires { p.port < length (row (map links_of components.old.items) p.comp) }
+    ensures members { map member_of components.new.items ≡ map member_of components.old.items }
+    ensures links { map links_of components.new.items ≡ with_links (map links_of components.old.items) p beside }
+{
+    let component = &mut components[p.comp.0 as usize];
+    component.links.put(p.port, beside);
+}
+
+/// A list with one more port at its end. 50 `Memory` only where an allocation was refused.
+fn with_last(alloc: Global, ports: &[PortRef], last: PortRef) -> Result<Items<PortRef>, Memory>
+    ensures { IfOk result (λ longer. longer ≡ ports.now ++ last ∷ []) }
+{
+    let mut longer = Items::from_slice(alloc, ports)?;
+    longer.push(last)?;
+    Ok(longer)
+}
+
+/// Joins two different ports: adds their pair, and puts each at the end of what stands beside the other.
+/// Both lists are made first, so that nothing has changed where an allocation is refused. A list has 64
+/// ports at most, one for each component.
+///
+/// 50 `Memory` only where an allocation was refused; everything is then as before.
+pub(crate) fn join(
+    alloc: Global,
+    components: &mut Vec<Component>,
+    pairs: &mut Vec<(PortRef, PortRef)>,
+    p: PortRef,
+    q: PortRef,
+) -> Result<(), Memory>
+    requires p_in { p.port < length (row (map links_of components.old.items) p.comp) }
+    requires q_in { q.port < length (row (map links_of components.old.items) q.comp) }
+    ensures pairs { OnOk result (pairs.new.items ≡ pairs.old.items ++ (p, q) ∷ []) }
+    ensures members { OnOk result (map member_of components.new.items ≡ map member_of components.old.items) }
+    ensures links { OnOk result (map links_of components.new.items ≡ joined (map links_of components.old.items) p q) }
+    ensures no_pair { OnErr result (pairs.new.items ≡ pairs.old.items) }
+    ensures no_link { OnErr result (components.new.items ≡ components.old.items) }
+{
+    let beside_p = with_last(alloc, beside(components.as_slice(), p), q)?;
+    let beside_q = with_last(alloc, beside(components.as_slice(), q), p)?;
+    pairs.push((p, q))?;
+    put_beside(components, p, beside_p);
+    put_beside(components, q, beside_q);
+    Ok(())
+}

@@ -1,0 +1,88 @@
+//! Why a component is not created, and what has a name.
+ghost use Rattle.std.specs.Prelude.{◌≡◌, find, map, position};
+ghost use Rattle.std.specs.List.{list_any};
+ghost use Rattle.std.specs.String.{string_bytes};
+ghost use Rattle.std.specs.Str.{bytes_eq};
+ghost use Rattle.tp_config.specs.Setup.{is_system_role};
+ghost use Rattle.tp_config.specs.Shape.{member_of};
+ghost use Rattle.tp_config.specs.Tests.{create_test, has_name, has_system};
+ghost use Rattle.tp_config.specs.Causes.{create_order};
+ghost use Rattle.tp_config.specs.Faults.{create_refusal};
+
+use crate::component::Component;
+use crate::port_type::{COMPONENT_LIMIT, Role};
+use thiserror::Error;
+use tp_refusal::refusal::Refusal;
+
+/// Why a component was not created.
+#[derive(Clone, Copy, Debug, PartialEq, Eq, Hash, Error)]
+pub enum CreateFault {
+    /// 12 Duplicate: a component has the name, or it would be a second test system interface.
+    #[error("the component is there")]
+    Duplicate,
+    /// 15 Limit: there are 64 components.
+    #[error("there are {COMPONENT_LIMIT} components")]
+    Limit,
+    /// 50 Memory: an allocation was refused.
+    #[error("out of memory")]
+    Memory,
+}
+
+impl CreateFault {
+    /// The refusal, by its number and name.
+    pub fn refusal(self) -> Refusal
+        ensures { result ≡ create_refusal self }
+    {
+        match self {
+            CreateFault::Duplicate => Refusal::Duplicate,
+            CreateFault::Limit => Refusal::Limit,
+            CreateFault::Memory => Refusal::Memory,
+        }
+    }
+}
+
+fn any_named(components: &[Component], name: &str) -> bool
+    ensures { result ≡ list_any (λ c. bytes_eq (string_bytes c.name) name.now) components.now }
+{
+    components.iter().any(|c| c.name.as_str() == name)
+}
+
+/// Whether a component has the name.
+fn has_name(components: &[Component], name: &str) -> bool
+    ensures { result ≡ has_name (map member_of components.now) name.now }
+{
+    any_named(components, name)
+}
+
+fn any_system(components: &[Component]) -> bool
+    ensures { result ≡ list_any (λ c. is_system_role c.role) components.now }
+{
+    components.iter().any(|c| c.role.is_system())
+}
+
+/// Whether a component is the test system interface.
+fn has_system(components: &[Component]) -> bool
+    ensures { result ≡ has_system (map member_of components.now) }
+{
+    any_system(components)
+}
+
+/// The place of the component with the name.
+pub(crate) fn place_of(components: &[Component], name: &str) -> Option<usize>
+    ensures { result ≡ position (λ c. bytes_eq (string_bytes c.name) name.now) components.now }
+{
+    components.iter().position(|c| c.name.as_str() == name)
+}
+
+/// Why a component of this name and role is not created, as far as memory isn't wanting.
+pub(crate) fn create_fault(components: &[Component], name: &str, role: Role) -> Option<CreateFault>
+    ensures { result ≡ find (create_test (map member_of components.now) name.now role) create_order }
+{
+    if has_name(components, name) || role.is_system() && has_system(components) {
+        return Some(CreateFault::Duplicate);
+    }
+    if components.len() >= COMPONENT_LIMIT {
+        return Some(CreateFault::Limit);
+    }
+    None
+}

@@ -1,0 +1,96 @@
+//! Why two ports are not mapped.
+ghost use Rattle.std.specs.Prelude.{◌≡◌, find, map};
+ghost use Rattle.tp_config.specs.Shape.{member_of, ports_of, setup_of};
+ghost use Rattle.tp_config.specs.Causes.{map_order};
+ghost use Rattle.tp_config.specs.Tests.{map_directed, map_test, same_bool};
+ghost use Rattle.tp_config.specs.Faults.{map_refusal};
+
+use crate::component::{Component, ins, is_system, outs};
+use crate::directions::are_among;
+use crate::pairs::stands;
+use crate::port_type::{CompType, PortRef};
+use thiserror::Error;
+use tp_refusal::refusal::Refusal;
+
+/// Why two ports were not mapped, in the order in which the causes are looked at.
+#[derive(Clone, Copy, Debug, PartialEq, Eq, Hash, Error)]
+pub enum MapFault {
+    /// 28 NotSystem: none of them is a port of the test system interface, or both are.
+    #[error("not exactly one is a port of the test system interface")]
+    NotSystem,
+    /// 22 Mixed: one of them is connected.
+    #[error("one is connected")]
+    Mixed,
+    /// 23 NotOneToOne: one of them is mapped.
+    #[error("one is mapped")]
+    NotOneToOne,
+    /// 24 MapDirections: the component's port sends a message type that the system's port doesn't send,
+    /// or doesn't receive one that the system's port receives.
+    #[error("the message types of the two don't fit together")]
+    MapDirections,
+    /// 50 Memory: an allocation was refused.
+    #[error("out of memory")]
+    Memory,
+}
+
+impl MapFault {
+    /// The refusal, by its number and name.
+    pub fn refusal(self) -> Refusal
+        ensures { result ≡ map_refusal self }
+    {
+        match self {
+            MapFault::NotSystem => Refusal::NotSystem,
+            MapFault::Mixed => Refusal::Mixed,
+            MapFault::NotOneToOne => Refusal::NotOneToOne,
+            MapFault::MapDirections => Refusal::MapDirections,
+            MapFault::Memory => Refusal::Memory,
+        }
+    }
+}
+
+fn same_bool(a: bool, b: bool) -> bool
+    ensures { result ≡ same_bool a b }
+{
+    if a { b } else { !b }
+}
+
+/// Whether q, a port of the test system interface, sends all that p sends, and p receives all that q
+/// receives.
+fn map_directed(types: &[CompType], components: &[Component], p: PortRef, q: PortRef) -> bool
+    ensures { result ≡ map_directed (map ports_of types.now) (map member_of components.now) p q }
+{
+    let sent = are_among(outs(types, components, p), outs(types, components, q));
+    let received = are_among(ins(types, components, q), ins(types, components, p));
+    sent && received
+}
+
+/// Why the two ports are not mapped, as far as memory isn't wanting.
+pub(crate) fn map_fault(
+    types: &[CompType],
+    components: &[Component],
+    connected: &[(PortRef, PortRef)],
+    mapped: &[(PortRef, PortRef)],
+    p: PortRef,
+    q: PortRef,
+) -> Option<MapFault>
+    ensures { result ≡ find (map_test (setup_of types.now components.now connected.now mapped.now) p q) map_order }
+{
+    let first = is_system(components, p);
+    let second = is_system(components, q);
+    if same_bool(first, second) {
+        return Some(MapFault::NotSystem);
+    }
+    if stands(connected, p) || stands(connected, q) {
+        return Some(MapFault::Mixed);
+    }
+    if stands(mapped, p) || stands(mapped, q) {
+        return Some(MapFault::NotOneToOne);
+    }
+    let to_second = map_directed(types, components, p, q);
+    let to_first = map_directed(types, components, q, p);
+    if (!second || to_second) && (!first || to_first) {
+        None
+    } else {
+        Some(MapFault::MapDirections)
+    }
+}

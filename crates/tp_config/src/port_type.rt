@@ -1,0 +1,97 @@
+//! Port types, component types, and the names of components, ports and routes.
+ghost use Rattle.std.specs.Prelude.{◌≡◌};
+ghost use Rattle.tp_config.specs.Pairs.{partner, same_port};
+ghost use Rattle.tp_config.specs.Setup.{is_system_role};
+
+use indexmap::IndexMap;
+use tp_value::items::Items;
+use tp_value::types::Ty;
+
+/// How many components a configuration has at most.
+pub const COMPONENT_LIMIT: usize = 64;
+
+/// How many ports a component type has at most.
+pub const PORT_LIMIT: usize = 64;
+
+/// A type of message ports (ES 201 873-1, 6.2.9). A message type listed as `inout` stands in both lists.
+#[derive(Debug, Drop)]
+pub struct PortType {
+    /// The message types that a port of this type receives.
+    pub ins: Items<Ty>,
+    /// The message types that a port of this type sends.
+    pub outs: Items<Ty>,
+}
+
+/// A type of components (ES 201 873-1, 6.2.10): the ports of each component of this type, by their
+/// names, in declared order. The names are compared by their bytes.
+#[derive(Drop)]
+pub struct CompType {
+    /// The ports, numbered from 0 in this order.
+    pub ports: IndexMap<String, PortType>,
+}
+
+/// A component, by its number: from 0, in the order in which they were created.
+#[derive(Clone, Copy, Debug, PartialEq, Eq, Hash)]
+pub struct CompId(pub u32);
+
+/// A port of a component.
+#[derive(Clone, Copy, Debug, PartialEq, Eq, Hash)]
+pub struct PortRef {
+    /// The component.
+    pub comp: CompId,
+    /// The port's number, from 0, in the declared order of the component's type.
+    pub port: u32,
+}
+
+/// The way of messages from a component to a port. The port that sends on it is determined by it, since
+/// no port is connected with two ports of one component.
+#[derive(Clone, Copy, Debug, PartialEq, Eq, Hash)]
+pub struct RouteId {
+    /// The component that sends.
+    pub source: CompId,
+    /// The port that receives.
+    pub to: PortRef,
+}
+
+/// What a component is.
+#[derive(Clone, Copy, Debug, PartialEq, Eq, Hash)]
+pub enum Role {
+    /// The main test component, or one that it created.
+    Test,
+    /// The test system interface (ES 201 873-1, 9.2). A configuration has one at most.
+    System,
+}
+
+impl PortRef {
+    /// Whether the two are the same port. Takes no memory.
+    pub fn is(self, other: PortRef) -> bool
+        ensures { result ≡ same_port self other }
+    {
+        self.comp.0 == other.comp.0 && self.port == other.port
+    }
+
+    /// The port that stands with this one in the pair, if this one stands in it. Takes no memory.
+    pub(crate) fn partner(self, pair: (PortRef, PortRef)) -> Option<PortRef>
+        ensures { result ≡ partner self pair }
+    {
+        if self.is(pair.0) {
+            Some(pair.1)
+        } else if self.is(pair.1) {
+            Some(pair.0)
+        } else {
+            None
+        }
+    }
+}
+
+impl Role {
+    /// Whether it is that of the test system interface. Takes no memory.
+    pub fn is_system(self) -> bool
+        ensures { result ≡ is_system_role self }
+    {
+        match self {
+            Role::Test => false,
+            Role::System => true,
+        }
+    }
+}

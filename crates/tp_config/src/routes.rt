@@ -1,0 +1,125 @@
+//! The routes from and to the ports of a configuration.
+ghost use Rattle.std.specs.Prelude.{◌≡◌, ◌==◌, ◌++◌, ◌≤◌, find, map, IfOk, MatchResult, OnOk};
+ghost use Rattle.tp_config.specs.Routes.{IsRouteOf, RouteCauseOf, route_to};
+ghost use Rattle.tp_config.specs.Faults.{route_refusal};
+ghost use Rattle.tp_config.specs.Links.{routes_kept};
+ghost use Rattle.tp_config.specs.Shape.{links_of};
+
+use crate::component::{Component, beside};
+use crate::port_type::{CompId, PORT_LIMIT, PortRef, RouteId};
+use std::alloc::Global;
+use thiserror::Error;
+use tp_refusal::memory::Memory;
+use tp_refusal::refusal::Refusal;
+
+/// Why there is no route for a send.
+#[derive(Clone, Copy, Debug, PartialEq, Eq, Hash, Error)]
+pub enum RouteFault {
+    /// 41 NoRoute: the port has no route, or none to the component named.
+    #[error("there is no route")]
+    NoRoute,
+    /// 42 NeedsTo: the port has several routes, and no component is named.
+    #[error("there are several routes, and no receiver is named")]
+    NeedsTo,
+}
+
+impl RouteFault {
+    /// The refusal, by its number and name.
+    pub fn refusal(self) -> Refusal
+        ensures { result ≡ route_refusal self }
+    {
+        match self {
+            RouteFault::NoRoute => Refusal::NoRoute,
+            RouteFault::NeedsTo => Refusal::NeedsTo,
+        }
+    }
+}
+
+/// The first of the ports that is of this component.
+fn port_of(ports: &[PortRef], comp: CompId) -> Option<PortRef>
+    ensures { result ≡ find (λ r. r.comp.0 == comp.0) ports.now }
+{
+    ports.iter().copied().find(|r| r.comp.0 == comp.0)
+}
+
+/// The routes from p, beside which these ports stand.
+pub(crate) fn routes_out(
+    alloc: Global,
+    p: PortRef,
+    beside: &[PortRef],
+) -> Result<Vec<RouteId>, Memory>
+    ensures { IfOk result (λ v. v.items ≡ map (route_to p) beside.now) }
+{
+    let routes = beside
+        .iter()
+        .map(|q| RouteId {
+            source: p.comp,
+            to: *q,
+        })
+        .collect(alloc)?;
+    Ok(routes)
+}
+
+/// The route from p, beside which these ports stand, or the one of them to that component.
+pub(crate) fn choose(
+    p: PortRef,
+    beside: &[PortRef],
+    to: Option<CompId>,
+) -> Result<RouteId, RouteFault>
+    ensures source { IfOk result (λ r. r.source ≡ p.comp) }
+    ensures route { MatchResult result
+        (λ r. IsRouteOf (map (route_to p) beside.now) to r)
+        (λ fault. RouteCauseOf (map (route_to p) beside.now) to fault) }
+{
+    match to {
+        Some(comp) => match port_of(beside, comp) {
+            Some(q) => Ok(RouteId {
+                source: p.comp,
+                to: q,
+            }),
+            None => Err(RouteFault::NoRoute),
+        },
+        None => match beside {
+            [] => Err(RouteFault::NoRoute),
+            [q] => Ok(RouteId {
+                source: p.comp,
+                to: *q,
+            }),
+            _ => Err(RouteFault::NeedsTo),
+        },
+    }
+}
+
+/// Adds the routes to p, beside which these ports stand.
+fn add_routes_to(routes: &mut Vec<RouteId>, p: PortRef, beside: &[PortRef]) -> Result<(), Memory>
+    ensures { OnOk result (routes.new.items ≡ routes.old.items ++ map (λ q. route_to q p) beside.now) }
+{
+    for q in beside {
+        routes.push(RouteId {
+            source: q.comp,
+            to: p,
+        })?;
+    }
+    Ok(())
+}
+
+/// The routes to the first `count` ports of the component, by port.
+pub(crate) fn routes_in(
+    alloc: Global,
+    components: &[Component],
+    comp: CompId,
+    count: usize,
+) -> Result<Vec<RouteId>, Memory>
+    requires { count ≤ PORT_LIMIT }
+    ensures { IfOk result (λ v. v.items ≡ routes_kept (map links_of components.now) comp count) }
+{
+    let mut routes = Vec::new(alloc);
+    for port in 0..count {
+        let p = PortRef {
+            comp,
+            port: port as u32,
+        };
+        add_routes_to(&mut routes, p, beside(components, p))?;
+    }
+    Ok(routes)
+}
