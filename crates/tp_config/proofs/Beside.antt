@@ -1,16 +1,15 @@
 -- What stands beside a port.
-use Rattle.std.proofs.Common.{◌≡◌, ℕ, zero, suc, ◌+◌, ◌<◌, ◌≤◌, ◌⊎◌, inl, inr, Bool, true, false, cond, Option, Some, None, List, [], ◌∷◌, ◌++◌, length, get_or, refl, ap, sym, ◌∙◌, subst, arith, append-nil, append_assoc}
-use Rattle.std.specs.Prelude.{AllPairs, Contains, ◌≢◌, is_some}
+use Rattle.std.proofs.Common.{◌≡◌, ℕ, zero, suc, ◌<◌, ◌≤◌, ◌⊎◌, inl, inr, Bool, true, false, cond, Option, Some, None, List, [], ◌∷◌, ◌++◌, length, get_or, refl, ap, sym, ◌∙◌, subst, arith, append-nil}
+use Rattle.std.specs.Prelude.{AllPairs, Contains, ◌≢◌}
 use Rattle.std.specs.List.{cons_option}
 use Rattle.std.proofs.lemmas.Option.{same_Some}
-use Rattle.std.proofs.lemmas.List.Elements.{filter_map-append, Contains-append_cases, Contains-append_left, Contains-append_right}
+use Rattle.std.proofs.lemmas.List.Elements.{filter_map-append, Contains-append_cases}
 use Rattle.tp_config.specs.declared.port_type.PortRef.{PortRef}
 use Rattle.tp_config.specs.Pairs.{partner, partners, same_port}
 use Rattle.tp_config.specs.Setup.{Setup}
 use Rattle.tp_config.specs.Allowed.{Allowed, IsSetup}
 use Rattle.tp_config.specs.Routes.{beside}
 use Rattle.tp_config.proofs.Decide.{port_decides, Contains-here, Contains-later, Contains-split}
-use Rattle.tp_config.proofs.Connect.{only_in}
 
 -- an element of a list with one more at its front, or without
 pub cons_cases : {X : Type 0} (o : Option X) (xs : List X) (q : X) → Contains (cons_option o xs) q → (o ≡ Some q) ⊎ Contains xs q

@@ -1,6 +1,6 @@
 -- A configuration with one more component keeps what holds of every configuration.
-use Rattle.std.proofs.Common.{◌≡◌, ◌≢◌, ℕ, zero, suc, ◌+◌, ◌-◌, ◌<◌, ◌≤◌, ◌⊎◌, inl, inr, true, Some, None, List, [], ◌∷◌, ◌++◌, length, get_or, map, replicate, refl, ap, sym, ◌∙◌, subst, arith, length-append}
-use Rattle.std.specs.Prelude.{All, AllPairs, Contains, find, slice_get}
+use Rattle.std.proofs.Common.{◌≡◌, ◌≢◌, ℕ, zero, suc, ◌<◌, ◌≤◌, inl, inr, true, Some, None, List, [], ◌∷◌, ◌++◌, length, get_or, map, replicate, refl, ap, sym, ◌∙◌, subst, arith, length-append}
+use Rattle.std.specs.Prelude.{All, Contains, find, slice_get}
 use Rattle.std.specs.List.{AllByRecursion}
 use Rattle.std.specs.Option.{option_map_or}
 use Rattle.std.proofs.lemmas.Bool.{cases_eq, cases_lt}
@@ -15,7 +15,6 @@ use Rattle.tp_config.specs.declared.creating.CreateFault.{CreateFault}
 use Rattle.tp_config.specs.declared.creating.CreateFault.TheVariants as trouble
 use Rattle.tp_config.specs.Setup.{Setup, PortDecl, Member, creating, empty_setup, is_system_member, names, ports_at}
 use Rattle.tp_config.specs.Shape.{ports_of}
-use Rattle.tp_config.specs.Allowed.{IsSetup}
 use Rattle.tp_config.specs.Causes.{CanCreate, CreateCause, CreateRefused, IsFirst, IsTaken, create_order}
 use Rattle.tp_config.specs.Tests.{create_test}
 use Rattle.tp_config.specs.Routes.{beside}

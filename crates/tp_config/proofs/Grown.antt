@@ -70,7 +70,8 @@ may_map_before t ms m pair n c =
 pair_within : (s : Setup) (pair : PortRef × PortRef) → ArePorts s pair → AreWithin (length s.components) pair
 pair_within s pair h = (comp_there s.types s.components pair.0 h.0, comp_there s.types s.components pair.1 h.1)
 
-port_kept : (s : Setup) (m : Member) (p : PortRef) → IsPort s p → IsPort (creating s m) p
+-- a port stays a port
+pub port_kept : (s : Setup) (m : Member) (p : PortRef) → IsPort s p → IsPort (creating s m) p
 port_kept s m p h = subst (λ o. IsSome o) (sym (decl_before s.types s.components m p (comp_there s.types s.components p h))) h
 
 pub ports_kept : (s : Setup) (m : Member) (pairs : List (PortRef × PortRef)) → All (ArePorts s) pairs → All (ArePorts (creating s m)) pairs

@@ -1,9 +1,9 @@
 -- A configuration with one more pair keeps what holds of every configuration.
-use Rattle.std.proofs.Common.{◌≡◌, ◌≢◌, ℕ, ◌+◌, ◌<◌, ◌≤◌, ◌⊎◌, inl, inr, Bool, true, false, cond, Option, Some, None, List, [], ◌∷◌, ◌++◌, length, get_or, refl, ap, sym, ◌∙◌, subst, arith, append-nil, append_assoc}
-use Rattle.std.specs.Prelude.{All, AllPairs, Contains, find, slice_get, IsSome, is_some}
+use Rattle.std.proofs.Common.{◌≡◌, ◌≢◌, ◌<◌, inl, inr, Bool, true, false, cond, Option, Some, None, List, [], ◌∷◌, ◌++◌, length, refl, ap, sym, ◌∙◌, subst, arith, append-nil, append_assoc}
+use Rattle.std.specs.Prelude.{AllPairs, Contains, find, slice_get, IsSome}
 use Rattle.std.specs.List.{cons_option, AllByRecursion}
 use Rattle.std.proofs.lemmas.Option.{slice_get_within}
-use Rattle.std.proofs.lemmas.List.Elements.{All-push, Contains-get_or, filter_map-append}
+use Rattle.std.proofs.lemmas.List.Elements.{All-push, Contains-get_or}
 use Rattle.std.proofs.lemmas.List.Quantifiers.{all_pairs_push}
 use Rattle.tp_config.specs.declared.port_type.PortRef.{PortRef}
 use Rattle.tp_config.specs.declared.connecting.ConnectFault.{ConnectFault}
@@ -11,8 +11,8 @@ use Rattle.tp_config.specs.declared.mapping.MapFault.{MapFault}
 use Rattle.tp_config.specs.Pairs.{partner, partners, same_port}
 use Rattle.tp_config.specs.declared.port_type.CompId.{CompId}
 use Rattle.tp_config.specs.Setup.{Setup, PortDecl, Member, IsPort, is_system, decl_at, ports_at, connecting, mapping}
-use Rattle.tp_config.specs.Allowed.{Allowed, ArePorts, CanConnect, CanMap, IsSetup}
-use Rattle.tp_config.specs.Causes.{ConnectCause, ConnectRefused, MapCause, MapRefused, Stands, connect_order, map_order}
+use Rattle.tp_config.specs.Allowed.{ArePorts, CanConnect, CanMap}
+use Rattle.tp_config.specs.Causes.{ConnectCause, MapCause, Stands, connect_order, map_order}
 use Rattle.tp_config.specs.Tests.{connect_test, map_test}
 use Rattle.tp_config.specs.Routes.{beside}
 use Rattle.tp_config.specs.Links.{row, links_at, with_links, joined}

@@ -1,10 +1,9 @@
 -- What a configuration says of a port, by its fields.
-use Rattle.std.proofs.Common.{◌≡◌, ℕ, zero, suc, ◌≤◌, ◌<◌, length, get_or, arith, [], ◌∷◌, false, Option, Some, None, List, map, refl, ap, sym, ◌∙◌, subst}
-use Rattle.std.specs.Prelude.{slice_get, option_map, All, Contains, String, IsSome}
+use Rattle.std.proofs.Common.{◌≡◌, ℕ, zero, suc, length, get_or, [], ◌∷◌, false, Option, Some, None, List, map, refl, ap, sym, ◌∙◌}
+use Rattle.std.specs.Prelude.{slice_get, option_map, String}
 use Rattle.std.specs.Option.{option_map_or}
-use Rattle.std.proofs.lemmas.Option.{slice_get-map, slice_get_within, get_or_from_slice_get}
-use Rattle.std.proofs.lemmas.List.{length-map, get_or_past}
-use Rattle.std.proofs.lemmas.List.Elements.{All-map, All-contains, All-get_or}
+use Rattle.std.proofs.lemmas.Option.{slice_get-map}
+use Rattle.std.proofs.lemmas.List.{length-map}
 use Rattle.tp_value.specs.declared.types.Ty.{Ty}
 use Rattle.tp_config.specs.declared.port_type.CompId.{CompId}
 use Rattle.tp_config.specs.declared.port_type.PortRef.{PortRef}

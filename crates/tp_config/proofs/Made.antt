@@ -1,6 +1,6 @@
 -- The fields of a configuration with one more component.
-use Rattle.std.proofs.Common.{◌≡◌, ℕ, ◌<◌, List, [], ◌∷◌, ◌++◌, Option, length, get_or, map, replicate, refl, ap, sym, ◌∙◌, arith, ◌||◌}
-use Rattle.std.specs.Prelude.{String, find}
+use Rattle.std.proofs.Common.{◌≡◌, ℕ, ◌<◌, List, [], ◌∷◌, ◌++◌, length, get_or, map, replicate, refl, ap, sym, ◌∙◌, arith, ◌||◌}
+use Rattle.std.specs.Prelude.{find}
 use Rattle.std.specs.List.{list_any}
 use Rattle.std.specs.Str.{bytes_eq}
 use Rattle.std.specs.String.{string_bytes}
@@ -9,7 +9,6 @@ use Rattle.tp_config.specs.declared.port_type.PortRef.{PortRef}
 use Rattle.tp_config.specs.declared.port_type.Role.{Role}
 use Rattle.tp_config.specs.declared.port_type.CompType.{CompType}
 use Rattle.tp_config.specs.declared.component.Component.{Component}
-use Rattle.tp_config.specs.declared.creating.CreateFault.{CreateFault}
 use Rattle.tp_config.specs.Setup.{Setup, is_system_role}
 use Rattle.tp_config.specs.Shape.{links_of, member, member_of, ports_of, setup_of}
 use Rattle.tp_config.specs.Causes.{create_order}

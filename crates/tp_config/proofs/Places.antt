@@ -1,6 +1,6 @@
 -- What stands beside a port, as it is kept.
-use Rattle.std.proofs.Common.{◌≡◌, ◌≢◌, ℕ, zero, suc, ◌+◌, ◌<◌, ◌⊎◌, inl, inr, length, get_or, replicate, arith, [], ◌∷◌, ◌++◌, Some, None, List, map, slice_set, refl, ap, sym, ◌∙◌, subst, add-one}
-use Rattle.std.specs.Prelude.{slice_get, option_map}
+use Rattle.std.proofs.Common.{◌≡◌, ◌≢◌, ℕ, zero, suc, ◌+◌, ◌<◌, inl, inr, length, get_or, replicate, arith, [], ◌∷◌, ◌++◌, None, List, map, slice_set, refl, ap, sym, ◌∙◌, add-one}
+use Rattle.std.specs.Prelude.{slice_get}
 use Rattle.std.specs.Option.{option_map_or}
 use Rattle.std.proofs.lemmas.List.{get_or-set_same, get_or-set_other, length-set, map-set}
 use Rattle.std.proofs.Math.Seq.{map-set_same}
@@ -9,7 +9,7 @@ use Rattle.tp_config.specs.declared.port_type.CompId.{CompId}
 use Rattle.tp_config.specs.declared.port_type.PortRef.{PortRef}
 use Rattle.tp_config.specs.declared.component.Component.{Component}
 use Rattle.tp_config.specs.Shape.{member_of, links_of}
-use Rattle.tp_config.specs.Links.{row, links_at, with_links, joined}
+use Rattle.tp_config.specs.Links.{row, links_at, with_links}
 use Rattle.tp_config.proofs.Look.{get_or_mapped}
 
 pub replicate_more : {X : Type 0} (n : ℕ) (x : X) → replicate n x ++ x ∷ [] ≡ replicate (n + 1) x

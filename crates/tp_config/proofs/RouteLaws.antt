@@ -1,5 +1,5 @@
 -- The routes of a configuration differ, and each determines the port that sends on it.
-use Rattle.std.proofs.Common.{◌≡◌, ◌≢◌, ℕ, zero, suc, ◌+◌, ◌<◌, ◌≤◌, ◌⊎◌, inl, inr, Option, Some, None, List, [], ◌∷◌, ◌++◌, length, get_or, map, refl, ap, sym, ◌∙◌, subst, arith, length-append}
+use Rattle.std.proofs.Common.{◌≡◌, ◌≢◌, ℕ, zero, suc, ◌<◌, ◌≤◌, inl, inr, Option, Some, None, List, [], ◌∷◌, ◌++◌, length, get_or, map, refl, ap, sym, ◌∙◌, subst, arith}
 use Rattle.std.specs.Prelude.{All, AllPairs, Contains, IfOk, MatchResult, Result, Ok, Err, slice_get}
 use Rattle.std.specs.Option.{option_map_or}
 use Rattle.std.proofs.lemmas.Bool.{cases_lt}
@@ -12,7 +12,7 @@ use Rattle.tp_config.specs.declared.port_type.TheConstants.{PORT_LIMIT}
 use Rattle.tp_config.specs.declared.routes.RouteFault.{RouteFault}
 use Rattle.tp_config.specs.Pairs.{partner, partners}
 use Rattle.tp_config.specs.Setup.{Setup, PortDecl, Member, IsPort, ports_at}
-use Rattle.tp_config.specs.Allowed.{Allowed, ArePorts, IsSetup}
+use Rattle.tp_config.specs.Allowed.{ArePorts, IsSetup}
 use Rattle.tp_config.specs.Routes.{AreDistinct, AreRoutesInto, IsRouteOf, RouteCauseOf, SendersAreDetermined, beside, route_to, routes_below, routes_from, routes_into}
 use Rattle.tp_config.specs.Links.{links_at, routes_kept}
 use Rattle.tp_config.specs.Kept.{Keeps}
@@ -45,11 +45,6 @@ map_distinct f (x ∷ xs) apart d = λ i j e below n.
     let at_i = get_or-map f (x ∷ xs) i x e (omega (arith, below, m)) in
     let at_j = get_or-map f (x ∷ xs) j x e m in
     λ same. d i j x below m (apart (get_or (x ∷ xs) i x) (get_or (x ∷ xs) j x) (Contains-get_or (x ∷ xs) i x (omega (arith, below, m))) (Contains-get_or (x ∷ xs) j x m) (sym at_i ∙ same ∙ at_j))
-
-get_before : {X : Type 0} (xs ys : List X) (k : ℕ) (d : X) → k < length xs → get_or (xs ++ ys) k d ≡ get_or xs k d
-get_before [] ys k d n = absurd (omega (arith, n))
-get_before (x ∷ xs) ys zero d n = refl
-get_before (x ∷ xs) ys (suc k) d n = get_before xs ys k d (omega (arith, n))
 
 -- two lists of different elements, none of which is in both
 append_distinct : {X : Type 0} (xs ys : List X) → AllPairs (λ x y. x ≢ y) xs → AllPairs (λ x y. x ≢ y) ys → ((x : X) → Contains xs x → Contains ys x → ⊥) → AllPairs (λ x y. x ≢ y) (xs ++ ys)

@@ -17,6 +17,7 @@ abbrev pub IsFirst : {F : Type 0} → (F → Type 0) → List F → F → Type 0
 IsFirst Cause [] f = ⊥
 IsFirst Cause (x ∷ xs) f = ((f ≡ x) × Cause x) ⊎ ((¬ Cause x) × IsFirst Cause xs f)
 
+-- the order in which the causes of a refused create are looked at
 abbrev pub create_order : List CreateFault
 create_order = trouble.Duplicate ∷ trouble.Limit ∷ []
 
@@ -28,6 +29,7 @@ HasSystem members = (m : Member) × Contains members m × (is_system_member m �
 abbrev pub IsTaken : Setup → Member → Type 0
 IsTaken s m = Contains (names s) m.name ⊎ ((is_system_member m ≡ true) × HasSystem s.components)
 
+-- the cause of each refusal, whatever the others
 abbrev pub CreateCause : Setup → Member → CreateFault → Type 0
 CreateCause s m trouble.Duplicate = IsTaken s m
 CreateCause s m trouble.Limit = COMPONENT_LIMIT ≤ length s.components
@@ -42,6 +44,7 @@ abbrev pub CreateRefused : Setup → Member → CreateFault → Type 0
 CreateRefused s m trouble.Memory = CanCreate s m
 CreateRefused s m f = IsFirst (CreateCause s m) create_order f × ¬ CanCreate s m
 
+-- the order in which the causes of a refused connect are looked at
 abbrev pub connect_order : List ConnectFault
 connect_order = fault.SystemPort ∷ fault.SamePort ∷ fault.Already ∷ fault.Mixed ∷ fault.TwoPortsOfOne ∷ fault.Directions ∷ []
 
@@ -53,6 +56,7 @@ Stands pairs p = (q : PortRef) × Contains (partners pairs p) q
 abbrev pub HasOther : List (PortRef × PortRef) → PortRef → PortRef → Type 0
 HasOther pairs p q = (r : PortRef) × Contains (partners pairs p) r × (r.comp ≡ q.comp) × (r ≢ q)
 
+-- the cause of each refusal, whatever the others
 abbrev pub ConnectCause : Setup → PortRef → PortRef → ConnectFault → Type 0
 ConnectCause s p q fault.SystemPort = (is_system s.components p ≡ true) ⊎ (is_system s.components q ≡ true)
 ConnectCause s p q fault.SamePort = p ≡ q
@@ -67,9 +71,11 @@ abbrev pub ConnectRefused : Setup → PortRef → PortRef → ConnectFault → T
 ConnectRefused s p q fault.Memory = CanConnect s p q
 ConnectRefused s p q f = IsFirst (ConnectCause s p q) connect_order f × ¬ CanConnect s p q
 
+-- the order in which the causes of a refused map are looked at
 abbrev pub map_order : List MapFault
 map_order = refusal.NotSystem ∷ refusal.Mixed ∷ refusal.NotOneToOne ∷ refusal.MapDirections ∷ []
 
+-- the cause of each refusal, whatever the others
 abbrev pub MapCause : Setup → PortRef → PortRef → MapFault → Type 0
 MapCause s p q refusal.NotSystem = is_system s.components p ≡ is_system s.components q
 MapCause s p q refusal.Mixed = Stands s.connected p ⊎ Stands s.connected q

@@ -7,6 +7,7 @@ use Rattle.tp_config.specs.Allowed.{IsSetup}
 use Rattle.tp_config.specs.Links.{row, links_at}
 use Rattle.tp_config.specs.Routes.{beside}
 
+-- the lists beside the ports are those of the configuration's pairs
 pub record Keeps (s : Setup) (links : List (List (List PortRef))) : Type 0 where
   pub setup : IsSetup s
   -- each component has a list for each of its ports

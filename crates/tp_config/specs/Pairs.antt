@@ -3,6 +3,7 @@ use Rattle.std.specs.Prelude.{Bool, ◌&&◌, ◌==◌, cond, Option, Some, None
 use Rattle.std.specs.List.{filter_map}
 use Rattle.tp_config.specs.declared.port_type.PortRef.{PortRef}
 
+-- whether the two are one port
 abbrev pub same_port : PortRef → PortRef → Bool
 same_port p q = (p.comp.0 == q.comp.0) && (p.port == q.port)
 

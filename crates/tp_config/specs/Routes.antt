@@ -42,9 +42,11 @@ RouteCauseOf routes (Some c) NoRoute = All (λ (r : RouteId). r.to.comp ≢ c) r
 RouteCauseOf routes None NeedsTo = 2 ≤ length routes
 RouteCauseOf routes (Some c) NeedsTo = ⊥
 
+-- the route from the port p, or the one from it to the component named
 abbrev pub IsRoute : Setup → PortRef → Option CompId → RouteId → Type 0
 IsRoute s p to r = IsRouteOf (routes_from s p) to r
 
+-- why there is none
 abbrev pub RouteCause : Setup → PortRef → Option CompId → RouteFault → Type 0
 RouteCause s p to f = RouteCauseOf (routes_from s p) to f
 

@@ -1,5 +1,5 @@
 -- What a configuration is made of.
-use Rattle.std.specs.Prelude.{◌≡◌, ℕ, ◌<◌, Bool, true, false, Option, List, [], ◌∷◌, ◌++◌, map, length, slice_get, IsSome}
+use Rattle.std.specs.Prelude.{ℕ, ◌<◌, Bool, true, false, Option, List, [], ◌∷◌, ◌++◌, map, length, slice_get, IsSome}
 use Rattle.std.specs.List.{slice_index_or}
 use Rattle.std.specs.Option.{option_map_or}
 use Rattle.tp_value.specs.declared.types.Ty.{Ty}
@@ -27,10 +27,12 @@ pub record Setup : Type 0 where
   pub connected : List (PortRef × PortRef)
   pub mapped : List (PortRef × PortRef)
 
+-- whether it is that of the test system interface
 abbrev pub is_system_role : Role → Bool
 is_system_role Test = false
 is_system_role System = true
 
+-- whether the component is the test system interface
 abbrev pub is_system_member : Member → Bool
 is_system_member m = is_system_role m.role
 

@@ -22,6 +22,7 @@ ports_of t = map decl_of t.ports.entries
 abbrev pub member : List ℕ → ℕ → Role → Member
 member name kind role = record { name = name; kind = kind; role = role }
 
+-- what contracts see of a component
 unfoldable pub member_of : Component → Member
 member_of c = member (string_bytes c.name) c.kind c.role
 
@@ -33,8 +34,10 @@ links_of c = c.links
 abbrev pub type_of : PortType → List Ty × List Ty
 type_of t = (t.ins, t.outs)
 
+-- what a declared port receives and sends
 abbrev pub types_of_decl : PortDecl → List Ty × List Ty
 types_of_decl d = (d.ins, d.outs)
 
+-- what contracts see of a configuration
 abbrev pub setup_of : List CompType → List Component → List (PortRef × PortRef) → List (PortRef × PortRef) → Setup
 setup_of types components connected mapped = record { types = map ports_of types; components = map member_of components; connected = connected; mapped = mapped }

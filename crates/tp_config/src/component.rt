@@ -1,6 +1,5 @@
 //! The components of a configuration, and what is known of their ports.
 ghost use Rattle.std.specs.Prelude.{◌≡◌, ◌<◌, ◌++◌, ◌∷◌, [], map, length, option_map, slice_get, IfOk, OnErr, OnOk};
-ghost use Rattle.std.specs.List.{slice_index_or};
 ghost use Rattle.std.specs.Option.{option_copied, option_map_or};
 ghost use Rattle.tp_config.specs.Setup.{decl_at, ins, is_system, outs, ports_at};
 ghost use Rattle.tp_config.specs.Shape.{links_of, member_of, ports_of, type_of, types_of_decl};

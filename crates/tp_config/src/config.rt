@@ -1,6 +1,6 @@
 //! The configuration of a test.
-ghost use Rattle.std.specs.Prelude.{◌≡◌, ◌<◌, ◌≤◌, ◌↔◌, [], All, Contains, IfErr, IfOk, IfSome, IsSome, MatchResult, OnOk, Some, length, map, option_map, slice_get, string_bytes};
-ghost use Rattle.tp_config.specs.Setup.{IsComponent, IsPort, connecting, creating, decl_at, empty_setup, mapping, names, port_names, ports_at};
+ghost use Rattle.std.specs.Prelude.{◌≡◌, ◌<◌, ◌≤◌, ◌↔◌, All, Contains, IfErr, IfOk, IfSome, IsSome, MatchResult, OnOk, Some, length, map, option_map, slice_get, string_bytes};
+ghost use Rattle.tp_config.specs.Setup.{IsComponent, IsPort, connecting, creating, empty_setup, mapping, names, port_names, ports_at};
 ghost use Rattle.tp_config.specs.Shape.{member, ports_of};
 ghost use Rattle.tp_config.specs.Allowed.{CanConnect, CanMap, IsSetup};
 ghost use Rattle.tp_config.specs.Causes.{CanCreate, ConnectRefused, CreateRefused, MapRefused};

@@ -41,6 +41,7 @@ impl CreateFault {
     }
 }
 
+/// Whether one of these has the name, said of what is kept.
 fn any_named(components: &[Component], name: &str) -> bool
     ensures { result ≡ list_any (λ c. bytes_eq (string_bytes c.name) name.now) components.now }
 {
@@ -54,6 +55,7 @@ fn has_name(components: &[Component], name: &str) -> bool
     any_named(components, name)
 }
 
+/// Whether one of these is the test system interface, said of what is kept.
 fn any_system(components: &[Component]) -> bool
     ensures { result ≡ list_any (λ c. is_system_role c.role) components.now }
 {

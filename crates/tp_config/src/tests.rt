@@ -333,6 +333,21 @@ fn connects_and_maps_in_the_right_directions(rt: HostRuntime) -> Result<(), Fail
 }
 
 #[test]
+fn prints_faults(rt: HostRuntime) -> Result<(), Fail> {
+    let limit = format!(in rt.alloc(); "{}", CreateFault::Limit)?;
+    assert_eq!(rt; limit.as_str(), "there are 64 components");
+    let connected = format!(in rt.alloc(); "{}", ConnectFault::Already)?;
+    assert_eq!(rt; connected.as_str(), "they are connected");
+    let mapped = format!(in rt.alloc(); "{}", MapFault::NotOneToOne)?;
+    assert_eq!(rt; mapped.as_str(), "one is mapped");
+    let none = format!(in rt.alloc(); "{}", RouteFault::NoRoute)?;
+    assert_eq!(rt; none.as_str(), "there is no route");
+    assert_eq!(rt; RouteFault::NoRoute.refusal().label().0, 41);
+    assert_eq!(rt; RouteFault::NeedsTo.refusal().label().0, 42);
+    Ok(())
+}
+
+#[test]
 fn looks_up_names(rt: HostRuntime) -> Result<(), Fail> {
     let both = [Ty::Integer];
     let config = mapped(&rt, both.as_slice(), both.as_slice())?;

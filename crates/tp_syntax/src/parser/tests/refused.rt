@@ -245,14 +245,33 @@ fn a_semicolon_that_is_missing(rt: HostRuntime) -> Result<(), Fail> {
     Ok(())
 }
 
+/// A module with what `WITH_SUT` hasn't, each of its tokens on one line.
+const WITH_STATEMENTS: &str = "module M { type record R { integer a, L b }; type record of R L;
+type port P message { in R; out integer, L }
+function f(C a,
+D b) runs on C { var R v; p.send(R:{a := -5,
+b := {}}) to a; p.send(v) to all component;
+q.check(receive(integer:(-infinity ..
+7)) from b -> value v sender
+w); p.trigger(R:{complement(1, ?), *}); p.receive(charstring:pattern \"a\" ); p.receive
+-> sender w; alt { [] p.receive { q.halt } [
+else] { all port.stop } } for (var integer i := 0;
+i < 3; i :=
+i + 1) { setverdict(none) } }
+testcase t() runs on C { var C a := C.create; connect(self:p, a:q); a.start(f(a,
+mtc)); var integer v; all component.done } }";
+
 #[test]
 fn a_text_that_is_cut_is_refused_at_its_end(rt: HostRuntime) -> Result<(), Fail> {
-    let bytes = WITH_SUT.as_bytes();
-    for end in 0..bytes.len() {
-        let cut = &bytes[..end];
-        let line = cut.iter().filter(|byte| **byte == b'\n').count() + 1;
-        let want = format!(in rt.alloc(); "refused 10 Syntax line {line}")?;
-        assert_eq!(rt; answer(rt.alloc(), cut)?.as_str(), want.as_str());
+    for text in [WITH_SUT, WITH_STATEMENTS] {
+        answers(&rt, rt.alloc(), text, "accepted")?;
+        let bytes = text.as_bytes();
+        for end in 0..bytes.len() {
+            let cut = &bytes[..end];
+            let line = cut.iter().filter(|byte| **byte == b'\n').count() + 1;
+            let want = format!(in rt.alloc(); "refused 10 Syntax line {line}")?;
+            assert_eq!(rt; answer(rt.alloc(), cut)?.as_str(), want.as_str());
+        }
     }
     let text = format!(in rt.alloc();
         "{HEAD}testcase t() runs on C {{\nconnect(self:p, self:q);\np.send(integer:5);\nq.halt;\nalt {{\n"

@@ -1,7 +1,7 @@
-use Rattle.std.proofs.Common.{◌≡◌, ◌<◌, ◌∙◌, List, ap, arith, length, map, refl, subst, sym}
+use Rattle.std.proofs.Common.{◌<◌, ◌∙◌, ap, arith, length, refl, subst, sym}
 use Rattle.std.proofs.lemmas.List.{length-map}
 use Rattle.tp_config.specs.Setup.{Setup, ports_at}
-use Rattle.tp_config.specs.Shape.{member_of, ports_of, setup_of}
+use Rattle.tp_config.specs.Shape.{ports_of, setup_of}
 use Rattle.tp_config.proofs.Named.{kind_at, member_at, ports_by}
 use Rattle.tp_config.proofs.config.Config.comp_type.Goals as goal
 

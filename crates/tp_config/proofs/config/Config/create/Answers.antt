@@ -1,7 +1,5 @@
-use Rattle.std.proofs.Common.{◌∙◌, ◌<◌, ap, find, length, map, refl, string_bytes, subst, sym}
-use Rattle.tp_config.specs.Shape.{links_of, member, member_of, ports_of, setup_of}
-use Rattle.tp_config.specs.Causes.{create_order}
-use Rattle.tp_config.specs.Tests.{create_test}
+use Rattle.std.proofs.Common.{◌∙◌, ap, map, refl, string_bytes, sym}
+use Rattle.tp_config.specs.Shape.{links_of, member, setup_of}
 use Rattle.tp_config.proofs.Created.{after_create, can_create, create_refused}
 use Rattle.tp_config.proofs.Made.{count_is, kind_below, links_made, members_made, same_lengths, tested, tested_now}
 use Rattle.tp_config.proofs.config.Config.create.Goals as goal

@@ -1,6 +1,6 @@
-use Rattle.std.proofs.Common.{◌≡◌, refl, ap, sym, ◌∙◌, subst, find, map, Some, None}
+use Rattle.std.proofs.Common.{refl, ap, sym, ◌∙◌, subst, find, map}
 use Rattle.tp_config.specs.Setup.{IsPort}
-use Rattle.tp_config.specs.Shape.{setup_of, links_of, member_of}
+use Rattle.tp_config.specs.Shape.{setup_of, links_of}
 use Rattle.tp_config.specs.Allowed.{Allowed}
 use Rattle.tp_config.specs.Causes.{map_order}
 use Rattle.tp_config.specs.Tests.{map_test}

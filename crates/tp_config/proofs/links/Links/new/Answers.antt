@@ -1,4 +1,4 @@
-use Rattle.std.proofs.Common.{◌≡◌, ◌∙◌, [], ◌++◌, ◌∷◌, ap, arith, replicate, sym}
+use Rattle.std.proofs.Common.{◌∙◌, [], ◌++◌, ◌∷◌, ap, arith, replicate}
 use Rattle.tp_config.proofs.Places.{replicate_more}
 use Rattle.tp_config.proofs.links.Links.new.Goals as goal
 
