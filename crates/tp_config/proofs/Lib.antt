@@ -13,3 +13,4 @@ pub mod Created
 pub mod Made
 pub mod RouteLaws
 pub mod Named
+pub mod Listing

@@ -1,5 +1,7 @@
--- The equality of message types, as a test.
-use Rattle.std.specs.Prelude.{Bool, true, false, ◌==◌}
+-- Message types: their equality, as a test, and lists of them.
+use Rattle.std.specs.Prelude.{◌≡◌, Bool, true, false, ◌==◌, List, [], Option}
+use Rattle.std.specs.List.{list_any}
+use Rattle.std.specs.Option.{option_map_or}
 use Rattle.tp_value.specs.declared.types.Ty.{Ty}
 use Rattle.tp_value.specs.declared.types.Ty.TheVariants.{Integer, Boolean, Charstring, Named}
 
@@ -10,3 +12,11 @@ same_type Boolean Boolean = true
 same_type Charstring Charstring = true
 same_type (Named x) (Named y) = x == y
 same_type _ _ = false
+
+-- each type stands in both of the lists, or in none
+abbrev pub HaveSame : List Ty → List Ty → Type 0
+HaveSame xs ys = (ty : Ty) → list_any (λ other. same_type other ty) xs ≡ list_any (λ other. same_type other ty) ys
+
+-- the types of the list, and none where there is no list
+abbrev pub listed : Option (List Ty) → List Ty
+listed o = option_map_or (λ (types : List Ty). types) o []

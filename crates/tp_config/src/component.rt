@@ -3,14 +3,15 @@ ghost use Rattle.std.specs.Prelude.{◌≡◌, ◌<◌, ◌++◌, ◌∷◌, [],
 ghost use Rattle.std.specs.Option.{option_copied, option_map_or};
 ghost use Rattle.tp_config.specs.Setup.{decl_at, ins, is_system, outs, ports_at};
 ghost use Rattle.tp_config.specs.Shape.{links_of, member_of, ports_of, type_of, types_of_decl};
+ghost use Rattle.tp_config.specs.Types.{listed};
 ghost use Rattle.tp_config.specs.Links.{joined, links_at, row, with_links};
 
 use crate::links::Links;
 use crate::port_type::{CompId, CompType, PortRef, PortType, Role};
+use crate::type_list::TypeList;
 use std::alloc::Global;
 use tp_refusal::memory::Memory;
 use tp_value::items::Items;
-use tp_value::types::Ty;
 
 /// A component of a configuration.
 #[derive(Drop)]
@@ -85,22 +86,30 @@ fn port_type<'a>(
 }
 
 /// The message types that the port receives.
-pub(crate) fn ins<'a>(types: &'a [CompType], components: &[Component], p: PortRef) -> &'a [Ty]
-    ensures { result.now ≡ ins (map ports_of types.now) (map member_of components.now) p }
+pub(crate) fn ins<'a>(
+    types: &'a [CompType],
+    components: &[Component],
+    p: PortRef,
+) -> Option<&'a TypeList>
+    ensures { listed (option_copied result) ≡ ins (map ports_of types.now) (map member_of components.now) p }
 {
     match port_type(types, components, p) {
-        Some(port_type) => port_type.ins.as_slice(),
-        None => &[],
+        Some(port_type) => Some(&port_type.ins),
+        None => None,
     }
 }
 
 /// The message types that the port sends.
-pub(crate) fn outs<'a>(types: &'a [CompType], components: &[Component], p: PortRef) -> &'a [Ty]
-    ensures { result.now ≡ outs (map ports_of types.now) (map member_of components.now) p }
+pub(crate) fn outs<'a>(
+    types: &'a [CompType],
+    components: &[Component],
+    p: PortRef,
+) -> Option<&'a TypeList>
+    ensures { listed (option_copied result) ≡ outs (map ports_of types.now) (map member_of components.now) p }
 {
     match port_type(types, components, p) {
-        Some(port_type) => port_type.outs.as_slice(),
-        None => &[],
+        Some(port_type) => Some(&port_type.outs),
+        None => None,
     }
 }
 

@@ -1,35 +1,44 @@
 //! Whether lists of message types fit together.
 ghost use Rattle.std.specs.Prelude.{◌≡◌};
+ghost use Rattle.std.specs.Option.{option_copied};
 ghost use Rattle.std.specs.List.{list_any};
 ghost use Rattle.tp_config.specs.Tests.{are_among};
-ghost use Rattle.tp_config.specs.Types.{same_type};
+ghost use Rattle.tp_config.specs.Types.{listed, same_type};
 
+use crate::type_list::TypeList;
 use tp_value::types::Ty;
 
-/// Whether the two are the same type.
-fn same_type(left: Ty, right: Ty) -> bool
-    ensures { result ≡ same_type left right }
+/// The types of the list, and none where there is no list.
+fn types_of(list: Option<&TypeList>) -> &[Ty]
+    ensures { result.now ≡ listed (option_copied list.entry) }
 {
-    match (left, right) {
-        (Ty::Integer, Ty::Integer) => true,
-        (Ty::Boolean, Ty::Boolean) => true,
-        (Ty::Charstring, Ty::Charstring) => true,
-        (Ty::Named(x), Ty::Named(y)) => x == y,
-        _ => false,
+    match list {
+        Some(list) => list.as_slice(),
+        None => &[],
     }
 }
 
 /// Whether the type is among these.
-fn is_among(ty: Ty, these: &[Ty]) -> bool
-    ensures { result ≡ list_any (λ other. same_type other ty) these.now }
+fn is_among(ty: Ty, these: Option<&TypeList>) -> bool
+    ensures { result ≡ list_any (λ other. same_type other ty) (listed (option_copied these.entry)) }
 {
-    these.iter().any(|other| same_type(*other, ty))
+    match these {
+        Some(list) => list.has(ty),
+        None => false,
+    }
 }
 
-/// Whether each type of `these` is among `those`.
+/// Whether each type of `these` is among those of the slice.
 #[tactic(auto, unfolding(crate::specs::Tests::are_among))]
-pub(crate) fn are_among(these: &[Ty], those: &[Ty]) -> bool
-    ensures { result ≡ are_among these.now those.now }
+fn are_all_among(these: &[Ty], those: Option<&TypeList>) -> bool
+    ensures { result ≡ are_among these.now (listed (option_copied those.entry)) }
 {
     these.iter().all(|ty| is_among(*ty, those))
+}
+
+/// Whether each type of `these` is among `those`. It looks once at each type of `these`.
+pub(crate) fn are_among(these: Option<&TypeList>, those: Option<&TypeList>) -> bool
+    ensures { result ≡ are_among (listed (option_copied these.entry)) (listed (option_copied those.entry)) }
+{
+    are_all_among(types_of(these), those)
 }

@@ -14,3 +14,4 @@ pub mod port_type;
 pub mod routes;
 #[cfg(test)]
 mod tests;
+pub mod type_list;

@@ -3,9 +3,8 @@ ghost use Rattle.std.specs.Prelude.{◌≡◌};
 ghost use Rattle.tp_config.specs.Pairs.{partner, same_port};
 ghost use Rattle.tp_config.specs.Setup.{is_system_role};
 
+use crate::type_list::TypeList;
 use indexmap::IndexMap;
-use tp_value::items::Items;
-use tp_value::types::Ty;
 
 /// How many components a configuration has at most.
 pub const COMPONENT_LIMIT: usize = 64;
@@ -17,9 +16,9 @@ pub const PORT_LIMIT: usize = 64;
 #[derive(Debug, Drop)]
 pub struct PortType {
     /// The message types that a port of this type receives.
-    pub ins: Items<Ty>,
+    pub ins: TypeList,
     /// The message types that a port of this type sends.
-    pub outs: Items<Ty>,
+    pub outs: TypeList,
 }
 
 /// A type of components (ES 201 873-1, 6.2.10): the ports of each component of this type, by their

@@ -10,6 +10,7 @@ use crate::port_type::{
     COMPONENT_LIMIT, CompId, CompType, PORT_LIMIT, PortRef, PortType, Role, RouteId,
 };
 use crate::routes::RouteFault;
+use crate::type_list::TypeList;
 use indexmap::IndexMap;
 use std::alloc::Global;
 use std::process::Abort;
@@ -25,8 +26,8 @@ fn comp_type(alloc: Global, names: &[&str], ins: &[Ty], outs: &[Ty]) -> Result<C
     let mut ports = IndexMap::new(alloc);
     for name in names {
         let port_type = PortType {
-            ins: Items::from_slice(alloc, ins)?,
-            outs: Items::from_slice(alloc, outs)?,
+            ins: TypeList::from_items(alloc, Items::from_slice(alloc, ins)?)?,
+            outs: TypeList::from_items(alloc, Items::from_slice(alloc, outs)?)?,
         };
         ports.insert(String::from_str(alloc, *name)?, port_type)?;
     }
@@ -406,8 +407,8 @@ fn has_64_ports_of_a_type(rt: HostRuntime) -> Result<(), Fail> {
     let mut ports = IndexMap::new(alloc);
     for number in 0..PORT_LIMIT {
         let port_type = PortType {
-            ins: Items::new(alloc),
-            outs: Items::new(alloc),
+            ins: TypeList::from_items(alloc, Items::new(alloc))?,
+            outs: TypeList::from_items(alloc, Items::new(alloc))?,
         };
         ports.insert(format!(in alloc; "p{number}")?, port_type)?;
     }

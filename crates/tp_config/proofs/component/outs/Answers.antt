@@ -7,7 +7,7 @@ use Rattle.tp_config.proofs.component.outs.Goals as goal
 
 pub returns-in-Some : goal.returns-in-Some
 returns-in-Some c =
-    c.as_slice.ensures ∙ outs_by _ _ _ (Some c.in-Some.port_type.now) (sym (ap (λ o. option_map type_of (option_copied o)) c.in-Some.is) ∙ c.port_type.ensures)
+    outs_by _ _ _ (Some c.in-Some.port_type.now) (sym (ap (λ o. option_map type_of (option_copied o)) c.in-Some.is) ∙ c.port_type.ensures)
 
 pub returns-in-None : goal.returns-in-None
 returns-in-None c = outs_by _ _ _ None (sym (ap (λ o. option_map type_of (option_copied o)) c.in-None.is) ∙ c.port_type.ensures)

@@ -1,0 +1,117 @@
+//! Lists of message types, which several port types share.
+ghost use Rattle.std.specs.Prelude.{◌≡◌, IfOk};
+ghost use Rattle.std.specs.List.{list_any};
+ghost use Rattle.tp_config.specs.Types.{HaveSame, same_type};
+
+use indexmap::IndexSet;
+use std::alloc::Global;
+use std::marker::Model;
+use std::sync::Arc;
+use tp_refusal::memory::Memory;
+use tp_value::items::Items;
+use tp_value::types::Ty;
+
+/// Message types in their order, with the set of them, so that one is looked for without a look at each.
+#[derive(Debug, Drop)]
+struct Listed {
+    items: Items<Ty>,
+    known: IndexSet<Ty>,
+}
+
+impl Model for Listed {
+    ghost use Rattle.std.specs.Prelude.{List};
+    ghost use Rattle.tp_value.specs.declared.types.Ty.{Ty};
+    ghost use Rattle.tp_config.specs.Types.{HaveSame};
+
+    ghost Value = { List Ty };
+
+    ghost view = { λ l. l.items };
+
+    ghost invariant = { λ l. HaveSame l.known.keys l.items };
+}
+
+/// The set of these types. 50 `Memory` only where an allocation was refused.
+fn known_types(alloc: Global, types: &[Ty]) -> Result<IndexSet<Ty>, Memory>
+    ensures { IfOk result (λ known. HaveSame known.keys types.now) }
+{
+    let mut known = IndexSet::new(alloc);
+    for ty in types {
+        known.insert(*ty)?;
+    }
+    Ok(known)
+}
+
+impl Listed {
+    /// These types. 50 `Memory` only where an allocation was refused.
+    fn new(alloc: Global, items: Items<Ty>) -> Result<Listed, Memory>
+        ensures { IfOk result (λ listed. listed ≡ items) }
+    {
+        let known = known_types(alloc, items.as_slice())?;
+        Ok(Listed { items, known })
+    }
+
+    /// The types, the first at place 0.
+    fn as_slice(&self) -> &[Ty]
+        ensures { result.now ≡ self.now }
+    {
+        self.items.as_slice()
+    }
+
+    /// Whether the type is one of these.
+    fn has(&self, ty: Ty) -> bool
+        ensures { result ≡ list_any (λ other. same_type other ty) self.now }
+    {
+        self.known.contains(&ty)
+    }
+}
+
+/// The message types that a port type receives or sends, in the order in which it lists them (ES 201
+/// 873-1, 6.2.9). Contracts see the list. It never changes, and several port types may share one list:
+/// each then holds a handle of its own, and the types stand in memory once.
+#[derive(Debug, Drop)]
+pub struct TypeList {
+    listed: Arc<Listed>,
+}
+
+impl Model for TypeList {
+    ghost use Rattle.std.specs.Prelude.{List};
+    ghost use Rattle.std.specs.Arc.{arc_value};
+    ghost use Rattle.tp_value.specs.declared.types.Ty.{Ty};
+
+    ghost Value = { List Ty };
+
+    ghost view = { λ l. arc_value l.listed };
+}
+
+impl TypeList {
+    /// The types of these items, in their order. 50 `Memory` only where an allocation was refused.
+    pub fn from_items(alloc: Global, items: Items<Ty>) -> Result<TypeList, Memory>
+        ensures { IfOk result (λ list. list ≡ items) }
+    {
+        let listed = Arc::new(alloc, Listed::new(alloc, items)?)?;
+        Ok(TypeList { listed })
+    }
+
+    /// A second handle of the same list. It copies no type, whatever the length. 50 `Memory` only where
+    /// the list can have no more handles.
+    pub fn share(&self) -> Result<TypeList, Memory>
+        ensures { IfOk result (λ other. other ≡ self.now) }
+    {
+        let listed = Arc::try_clone(&self.listed)?;
+        Ok(TypeList { listed })
+    }
+
+    /// The types, the first at place 0. Takes no memory.
+    pub fn as_slice(&self) -> &[Ty]
+        ensures { result.now ≡ self.now }
+    {
+        self.listed.as_slice()
+    }
+
+    /// Whether the type is one of these, found without a look at each. Takes no memory.
+    pub fn has(&self, ty: Ty) -> bool
+        ensures { result ≡ list_any (λ other. same_type other ty) self.now }
+    {
+        self.listed.has(ty)
+    }
+}
