@@ -1,0 +1,167 @@
+-- The arrivals that envelopes make, route by route.
+use Rattle.std.proofs.Common.{◌≡◌, ◌≢◌, ◌⊎◌, inl, inr, ℕ, zero, suc, ◌<◌, Bool, true, false, cond, eqb, eq-eqb, ne_eqb, Some, None, List, [], ◌∷◌, ◌++◌, length, refl, sym, ap, ◌∙◌, ⊎_elim, arith}
+use Rattle.std.specs.Prelude.{slice_index_or, ◌&&◌, ◌==◌, All, filter}
+use Rattle.std.specs.List.{filter_map, cons_option}
+use Rattle.std.proofs.lemmas.Bool.{and_parts, and_from, eqb-true}
+use Rattle.std.proofs.lemmas.List.Elements.{filter_map-append, filter-append}
+use Rattle.tp_port.specs.declared.event.Env.{Env}
+use Rattle.tp_value.specs.declared.message.Message.{Message}
+use Rattle.tp_config.specs.declared.port_type.CompId.{CompId}
+use Rattle.tp_config.specs.declared.port_type.RouteId.{RouteId}
+use Rattle.tp_inbox.specs.declared.entry.Entry.{Entry}
+use Rattle.tp_inbox.specs.declared.entry.Entry.TheVariants as entry
+use Rattle.tp_inbox.specs.declared.envelope.Envelope.{Envelope}
+use Rattle.tp_inbox.specs.History.{is_arrival, arrivals, arrival_on, arrived_on}
+use Rattle.tp_inbox.specs.Envelopes.{of, InOrder, AreRouted}
+use Rattle.tp_inbox.specs.Routed.{AreRoutes, meets, route_at, no_route, arrival_of, arrivals_of, IsArrivalOn, AreNumbered}
+use Rattle.tp_inbox.proofs.Routes.{same_or_not}
+
+true_and : (a b : ℕ) (c d : ℕ) → (eqb a b && eqb c d) ≡ true → (a ≡ b) × (c ≡ d)
+true_and a b c d e = let h = and_parts (eqb a b) (eqb c d) e in (eqb-true a b h.0, eqb-true c d h.1)
+
+true_or_false : (b : Bool) → (b ≡ true) ⊎ (b ≡ false)
+true_or_false true = inl refl
+true_or_false false = inr refl
+
+pub same_default : {A : Type 0} (xs : List A) (k : ℕ) (d e : A) → k < length xs → slice_index_or xs k d ≡ slice_index_or xs k e
+same_default [] k d e low = absurd (omega arith)
+same_default (x ∷ xs) zero d e low = refl
+same_default (x ∷ xs) (suc k) d e low = same_default xs k d e (omega arith)
+
+-- two routes into one component that have one port and one sender are equal
+meeting : (comp : CompId) (r q : RouteId) → r.to.comp ≡ comp → q.to.comp ≡ comp → r.to.port ≡ q.to.port → r.source.0 ≡ q.source.0 → r ≡ q
+meeting comp r q a b p s = λ i. record { source = record { 0 = s i }; to = record { comp = (a ∙ sym b) i; port = p i } }
+
+either_way : (p q : ℕ) → p ≢ q → (p < q) ⊎ (q < p)
+either_way zero zero n = absurd (n refl)
+either_way zero (suc q) n = inl (omega arith)
+either_way (suc p) zero n = inr (omega arith)
+either_way (suc p) (suc q) n =
+    ⊎_elim (λ (l : p < q). inl (omega arith)) (λ (l : q < p). inr (omega arith)) (either_way p q (λ e. n (ap suc e)))
+
+-- one list has no two equal routes
+pub same_place : (comp : CompId) (ports : ℕ) (routes : List RouteId) → AreRoutes comp ports routes → (p q : ℕ) → p < length routes → q < length routes → route_at routes p ≡ route_at routes q → p ≡ q
+same_place comp ports routes r p q low few e =
+    ⊎_elim
+    (λ (same : p ≡ q). same)
+    (λ (other : p ≢ q).
+    absurd
+    (⊎_elim
+    (λ (l : p < q). r.apart p q no_route l few e)
+    (λ (l : q < p). r.apart q p no_route l low (sym e))
+    (either_way p q other)))
+    (same_or_not p q)
+
+meets_itself : (r : RouteId) → meets r r ≡ true
+meets_itself r = and_from (eqb r.to.port r.to.port) (eqb r.source.0 r.source.0) (eq-eqb r.to.port r.to.port refl) (eq-eqb r.source.0 r.source.0 refl)
+
+-- of two routes of the list, one meets the other only at one place
+meets_places : (comp : CompId) (ports : ℕ) (routes : List RouteId) → AreRoutes comp ports routes → (p q : ℕ) → p < length routes → q < length routes → meets (route_at routes p) (route_at routes q) ≡ eqb p q
+meets_places comp ports routes r p q low few =
+    let R = route_at routes in
+    ⊎_elim
+    (λ (same : p ≡ q). ap (λ k. meets (R p) (R k)) (sym same) ∙ meets_itself (R p) ∙ sym (eq-eqb p q same))
+    (λ (other : p ≢ q).
+    ⊎_elim
+    (λ (yes : meets (R p) (R q) ≡ true).
+    let same = true_and (R p).to.port (R q).to.port (R p).source.0 (R q).source.0 yes in
+    absurd (other (same_place comp ports routes r p q low few (meeting comp (R p) (R q) (r.here p no_route low) (r.here q no_route few) same.0 same.1))))
+    (λ (no_ : meets (R p) (R q) ≡ false). no_ ∙ sym (ne_eqb p q other))
+    (true_or_false (meets (R p) (R q))))
+    (same_or_not p q)
+
+cons_cond : {A : Type 0} (b : Bool) (x : A) (l : List A) → cons_option (cond b (Some x) None) l ≡ cond b (x ∷ l) l
+cons_cond true x l = refl
+cons_cond false x l = refl
+
+-- what arrives on a route that meets one of the list alone is what that one's envelopes hold
+on_only : (routes : List RouteId) (q : RouteId) (p : ℕ) → ((k : ℕ) → k < length routes → meets q (route_at routes k) ≡ eqb p k) → (es : List Envelope) → AreRouted (length routes) es → arrived_on q (arrivals_of routes es) ≡ of p es
+unfolding arrived_on
+on_only routes q p only [] of_these = refl
+on_only routes q p only (e ∷ es) of_these =
+    ap (λ b. cons_option (cond b (Some (e.number, e.message)) None) (filter_map (arrival_on q) (arrivals_of routes es))) (only e.place of_these.0)
+    ∙ ap (λ l. cons_option (cond (eqb p e.place) (Some (e.number, e.message)) None) l) (on_only routes q p only es of_these.1)
+    ∙ cons_cond (eqb p e.place) (e.number, e.message) (of p es)
+
+-- what arrives on a route of the list is what its envelopes hold
+pub on_place : (comp : CompId) (ports : ℕ) (routes : List RouteId) → AreRoutes comp ports routes → (p : ℕ) → p < length routes → (es : List Envelope) → AreRouted (length routes) es → arrived_on (route_at routes p) (arrivals_of routes es) ≡ of p es
+on_place comp ports routes r p low es of_these = on_only routes (route_at routes p) p (λ k few. meets_places comp ports routes r p k low few) es of_these
+
+meets_as : (r q s : RouteId) → meets r q ≡ true → meets r s ≡ meets q s
+meets_as r q s e =
+    let same = true_and r.to.port q.to.port r.source.0 q.source.0 e in
+    λ i. (same.0 i == s.to.port) && (same.1 i == s.source.0)
+
+-- what arrives on a route that meets one of the list
+pub on_met : (comp : CompId) (ports : ℕ) (routes : List RouteId) → AreRoutes comp ports routes → (q : RouteId) (p : ℕ) → p < length routes → meets q (route_at routes p) ≡ true → (es : List Envelope) → AreRouted (length routes) es → arrived_on q (arrivals_of routes es) ≡ of p es
+on_met comp ports routes r q p low met es of_these =
+    on_only routes q p (λ k few. meets_as q (route_at routes p) (route_at routes k) met ∙ meets_places comp ports routes r p k low few) es of_these
+
+-- nothing arrives on a route that meets none of the list
+pub on_none : (routes : List RouteId) (q : RouteId) → ((p : ℕ) → p < length routes → meets q (route_at routes p) ≡ false) → (es : List Envelope) → AreRouted (length routes) es → arrived_on q (arrivals_of routes es) ≡ []
+unfolding arrived_on
+on_none routes q none [] of_these = refl
+on_none routes q none (e ∷ es) of_these =
+    ap (λ b. cons_option (cond b (Some (e.number, e.message)) None) (filter_map (arrival_on q) (arrivals_of routes es))) (none e.place of_these.0)
+    ∙ on_none routes q none es of_these.1
+
+pub arrivals_are : (routes : List RouteId) (es : List Envelope) → arrivals (arrivals_of routes es) ≡ arrivals_of routes es
+unfolding arrivals
+arrivals_are routes [] = refl
+arrivals_are routes (e ∷ es) = ap (λ l. arrival_of routes e ∷ l) (arrivals_are routes es)
+
+pub arrivals_one : (port : ℕ) (env : Env Message) → arrivals (entry.Arrive port env ∷ []) ≡ entry.Arrive port env ∷ []
+unfolding arrivals
+arrivals_one port env = refl
+
+pub arrivals_none : arrivals [] ≡ []
+unfolding arrivals
+arrivals_none = refl
+
+pub arrivals-append : (xs ys : List Entry) → arrivals (xs ++ ys) ≡ arrivals xs ++ arrivals ys
+unfolding arrivals
+arrivals-append xs ys = filter-append is_arrival xs ys
+
+pub arrived_on-append : (r : RouteId) (xs ys : List Entry) → arrived_on r (xs ++ ys) ≡ arrived_on r xs ++ arrived_on r ys
+unfolding arrived_on
+arrived_on-append r xs ys = filter_map-append (arrival_on r) xs ys
+
+no_arrival : (r : RouteId) (e : Entry) → is_arrival e ≡ false → arrival_on r e ≡ None
+no_arrival r (entry.Arrive p env) n = absurd (cc)
+no_arrival r (entry.Took p env b) n = refl
+no_arrival r (entry.Found p env b) n = refl
+no_arrival r (entry.Dropped p env b) n = refl
+no_arrival r (entry.Cleared p) n = refl
+no_arrival r (entry.Started p) n = refl
+no_arrival r (entry.Stopped p) n = refl
+no_arrival r (entry.Halted p) n = refl
+no_arrival r (entry.Sent q number message) n = refl
+no_arrival r entry.Else n = refl
+no_arrival r (entry.Verdict v) n = refl
+no_arrival r (entry.Failed code) n = refl
+
+arrived_step : (r : RouteId) (e : Entry) (xs ys : List Entry) (b : Bool) → is_arrival e ≡ b → filter_map (arrival_on r) xs ≡ filter_map (arrival_on r) ys → filter_map (arrival_on r) (e ∷ xs) ≡ filter_map (arrival_on r) (cond b (e ∷ ys) ys)
+arrived_step r e xs ys true is same = ap (cons_option (arrival_on r e)) same
+arrived_step r e xs ys false is same = ap (λ o. cons_option o (filter_map (arrival_on r) xs)) (no_arrival r e is) ∙ same
+
+-- only arrivals arrive
+pub arrived_in : (r : RouteId) (log : List Entry) → arrived_on r log ≡ arrived_on r (arrivals log)
+unfolding arrived_on arrivals
+arrived_in r [] = refl
+arrived_in r (e ∷ log) = arrived_step r e log (filter is_arrival log) (is_arrival e) refl (arrived_in r log)
+
+pub are_on : (routes : List RouteId) (es : List Envelope) → AreRouted (length routes) es → All (IsArrivalOn routes) (arrivals_of routes es)
+are_on routes [] of_these k d low = absurd (omega arith)
+are_on routes (e ∷ es) of_these zero d low = (
+  route_at routes e.place,
+  (e.place, of_these.0, same_default routes e.place (route_at routes e.place) no_route of_these.0),
+  refl,
+  refl,
+)
+are_on routes (e ∷ es) of_these (suc k) d low = are_on routes es of_these.1 k d (omega arith)
+
+pub numbered_on : (comp : CompId) (ports : ℕ) (routes : List RouteId) → AreRoutes comp ports routes → (es : List Envelope) → AreRouted (length routes) es → InOrder es → AreNumbered routes (arrivals_of routes es)
+numbered_on comp ports routes r es of_these order k d low = (
+  (order k).0,
+  ap (λ q. arrived_on q (arrivals_of routes es)) (same_default routes k d no_route low) ∙ on_place comp ports routes r k low es of_these ∙ (order k).1,
+)

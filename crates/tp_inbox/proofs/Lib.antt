@@ -1,0 +1,11 @@
+pub mod Tops
+pub mod Ports
+pub mod Routes
+pub mod Steps
+pub mod Owners
+pub mod Arrivals
+pub mod Places
+pub mod Owned
+pub mod Gathering
+pub mod Made
+pub mod Senders

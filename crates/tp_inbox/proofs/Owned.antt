@@ -1,0 +1,107 @@
+-- What an owner's fields say of what it has drained.
+use Rattle.std.proofs.Common.{◌≡◌, ℕ, suc, ◌+◌, ◌<◌, ◌≤◌, Bool, true, false, Option, Some, None, List, [], ◌∷◌, ◌++◌, length, set, get_or, cond, append_assoc, sym, ap, ◌∙◌, subst, arith}
+use Rattle.std.specs.Prelude.{filter}
+use Rattle.std.specs.Arc.{arc_value}
+use Rattle.std.proofs.lemmas.List.{map-append, length-map}
+use Rattle.tp_config.specs.declared.port_type.RouteId.{RouteId}
+use Rattle.tp_inbox.specs.declared.entry.Entry.{Entry}
+use Rattle.tp_inbox.specs.declared.envelope.Envelope.{Envelope}
+use Rattle.tp_inbox.specs.declared.hub.Hub.{Hub}
+use Rattle.tp_inbox.specs.declared.owner.Owner.TheInside as owner
+use Rattle.tp_inbox.specs.History.{is_arrival, arrivals, arrived_on}
+use Rattle.tp_inbox.specs.Desks.{Journal, adding_all}
+use Rattle.tp_inbox.specs.Envelopes.{of, one_of, before, EndsWith, AreCounts, AreRouted}
+use Rattle.tp_inbox.specs.Routed.{AreArrivals, arrival_of, arrivals_of, meets, route_at, no_route}
+use Rattle.tp_inbox.specs.Ledgers.{Inbox, Draining, IsDeskOf}
+use Rattle.tp_inbox.specs.Ends.{IsOwner, drained_of, inbox_of}
+use Rattle.tp_inbox.proofs.Routes.{append_nil, length-of, counts_next}
+use Rattle.tp_inbox.proofs.Owners.{in_order_before, routed_before, arrived, ends_nothing, before_nothing}
+use Rattle.tp_inbox.proofs.Arrivals.{are_on, numbered_on, on_met, on_none}
+
+-- what an owner sees itself as
+abbrev pub seen : owner.Inside → Draining
+seen s = record { inbox = inbox_of (arc_value s.hub); drained = drained_of s }
+
+-- the envelopes that it has drained
+abbrev pub moved : owner.Inside → List Envelope
+moved s = before s.pass.me.view.client.taken (one_of s.hand)
+
+pub owner_arrivals : (s : owner.Inside) (v : Draining) → IsOwner s → seen s ≡ v → AreArrivals v.inbox.routes v.drained
+owner_arrivals s v o e =
+    let hub = arc_value s.hub in
+    let routes = hub.routes.items in
+    let routed : AreRouted (length routes) (moved s) = routed_before _ _ s.pass.me.view.client.taken (one_of s.hand) o.made o.sound.routed in
+    subst (λ (x : Draining). AreArrivals x.inbox.routes x.drained) e
+    record {
+      routed = are_on routes (moved s) routed;
+      order = numbered_on hub.comp hub.ports routes hub.routed (moved s) routed (in_order_before s.pass.me.view.client.taken (one_of s.hand) o.sound.order);
+    }
+
+pub length-arrivals : (log : List Entry) → length (arrivals log) ≤ length log
+unfolding arrivals
+length-arrivals [] = omega arith
+length-arrivals (e ∷ log) = shorter (is_arrival e) e (filter is_arrival log) (length log) (length-arrivals log)
+  where
+    shorter : (b : Bool) (e : Entry) (l : List Entry) (n : ℕ) → length l ≤ n → length (cond b (e ∷ l) l) ≤ suc n
+    shorter true e l n h = omega arith
+    shorter false e l n h = omega arith
+
+-- the envelope in hand is the next of its route
+pub in_hand : (s : owner.Inside) (e : Envelope) → IsOwner s → Some e ≡ s.hand
+    → (e.place < length (arc_value s.hub).routes.items) × (e.number ≡ length (of e.place (moved s))) × (s.pass.me.view.client.taken ≡ moved s ++ e ∷ [])
+in_hand s e h is =
+    let taken : s.pass.me.view.client.taken ≡ moved s ++ e ∷ [] = h.ends ∙ ap (λ x. moved s ++ one_of x) (sym is) in
+    let a = arrived s.pass.me.view.client (moved s) e (length (arc_value s.hub).routes.items) h.sound h.made taken in (a.0, a.1, taken)
+
+pub drained-push : (routes : List RouteId) (all : List Envelope) (xs : List Envelope) (e : Envelope) (o : Option Envelope) (x : Entry) → o ≡ None → all ≡ xs ++ e ∷ [] → x ≡ arrival_of routes e
+    → arrivals_of routes (before all (one_of o)) ≡ arrivals_of routes xs ++ x ∷ []
+drained-push routes all xs e o x none is entry =
+    ap (λ h. arrivals_of routes (before all (one_of h))) none ∙ ap (arrivals_of routes) (before_nothing all ∙ is)
+    ∙ map-append (arrival_of routes) xs (e ∷ []) ∙ ap (λ y. arrivals_of routes xs ++ y ∷ []) (sym entry)
+
+pub counts-push : (n : ℕ) (counts : List ℕ) (all xs : List Envelope) (e : Envelope) (o : Option Envelope) → o ≡ None → all ≡ xs ++ e ∷ [] → AreCounts n counts xs → e.place < n → e.number ≡ length (of e.place xs)
+    → AreCounts n (set counts e.place (e.number + 1)) (before all (one_of o))
+counts-push n counts all xs e o none is were low number =
+    subst (AreCounts n (set counts e.place (e.number + 1))) (sym (ap (λ h. before all (one_of h)) none ∙ before_nothing all ∙ is)) (counts_next n counts xs e were low number)
+
+pub ends-none : (all : List Envelope) (o : Option Envelope) → o ≡ None → EndsWith all (one_of o)
+ends-none all o none = subst (λ (h : Option Envelope). EndsWith all (one_of h)) (sym none) (ends_nothing all)
+
+-- the port of an envelope is one of the desk's
+pub port_within : (hub shown : Hub) (inbox : Inbox) (d : Journal) (place port : ℕ) → shown ≡ hub → inbox_of hub ≡ inbox → IsDeskOf inbox d → place < length hub.routes.items → port ≡ (route_at shown.routes.items place).to.port → port < d.ports
+port_within hub shown inbox d place port same is desk low at =
+    let p : port ≡ (route_at hub.routes.items place).to.port = at ∙ ap (λ (h : Hub). (route_at h.routes.items place).to.port) same in
+    let within : (route_at hub.routes.items place).to.port < hub.ports = hub.routed.within place no_route low in
+    let ports : hub.ports ≡ inbox.ports = ap (λ (i : Inbox). i.ports) is in
+    let desks : d.ports ≡ inbox.ports = desk.1 in
+    omega arith
+
+-- what is drained is no more than the desk's history holds
+pub drained_within : (s : owner.Inside) (v : Draining) (d : Journal) (place : ℕ) → seen s ≡ v → arrivals d.log ≡ v.drained → length (of place (moved s)) ≤ length d.log
+drained_within s v d place is same =
+    let routes = (arc_value s.hub).routes.items in
+    let a : length (arrivals_of routes (moved s)) ≡ length (moved s) = length-map (moved s) (arrival_of routes) in
+    let b : length (arrivals_of routes (moved s)) ≡ length (arrivals d.log) = ap (λ (x : Draining). length x.drained) is ∙ sym (ap length same) in
+    let c = length-arrivals d.log in
+    let e = length-of place (moved s) in
+    omega arith
+
+pub adding_nothing : (d : Journal) → d ≡ adding_all d []
+adding_nothing d = λ i. record { comp = d.comp; ports = d.ports; log = sym (append_nil d.log) i }
+
+pub adding_twice : (d : Journal) (xs ys : List Entry) → adding_all (adding_all d xs) ys ≡ adding_all d (xs ++ ys)
+adding_twice d xs ys = λ i. record { comp = d.comp; ports = d.ports; log = append_assoc d.log xs ys i }
+
+-- how many of a route were drained
+pub counted_at : (s : owner.Inside) (v : Draining) (route : RouteId) (place n : ℕ) → IsOwner s → seen s ≡ v → place < length (arc_value s.hub).routes.items → meets route (route_at (arc_value s.hub).routes.items place) ≡ true → n ≡ get_or s.counts.items place 0 → n ≡ length (arrived_on route v.drained)
+counted_at s v route place n o is low met at =
+    let hub = arc_value s.hub in
+    let routed = routed_before _ _ s.pass.me.view.client.taken (one_of s.hand) o.made o.sound.routed in
+    at ∙ o.counts.1 place low ∙ ap length (sym (on_met hub.comp hub.ports hub.routes.items hub.routed route place low met (moved s) routed))
+    ∙ ap (λ (x : Draining). length (arrived_on route x.drained)) is
+
+pub counted_none : (s : owner.Inside) (v : Draining) (route : RouteId) → IsOwner s → seen s ≡ v → ((k : ℕ) → k < length (arc_value s.hub).routes.items → meets route (route_at (arc_value s.hub).routes.items k) ≡ false) → 0 ≡ length (arrived_on route v.drained)
+counted_none s v route o is none =
+    let hub = arc_value s.hub in
+    let routed = routed_before _ _ s.pass.me.view.client.taken (one_of s.hand) o.made o.sound.routed in
+    ap length (sym (on_none hub.routes.items route none (moved s) routed)) ∙ ap (λ (x : Draining). length (arrived_on route x.drained)) is

@@ -1,0 +1,9 @@
+use Rattle.std.proofs.Common.{◌≡◌, ◌≤◌, [], replicate, vec_capacity}
+use Rattle.tp_inbox.proofs.desk.Desk.with_ports.Given as goal
+
+abbrev pub invariant-loop : goal.invariant-loop
+invariant-loop l =
+    record {
+      ports : l.ports.items ≡ replicate l.counter [];
+      room : l.count ≤ vec_capacity l.ports;
+    }

@@ -1,0 +1,19 @@
+use Rattle.std.proofs.Common.{◌≡◌, ◌++◌, length, map}
+use Rattle.std.specs.Arc.{arc_value}
+use Rattle.crossbeam_queue.specs.SegTies.{IsSegPassOf}
+use Rattle.tp_inbox.specs.Rule.{Sound}
+use Rattle.tp_inbox.specs.Routed.{arrivals_of, rest_arrivals}
+use Rattle.tp_inbox.specs.Ends.{seen_sent}
+use Rattle.tp_inbox.proofs.gathered.Gathered.settle.Given as goal
+
+abbrev pub invariant-loop : goal.invariant-loop
+invariant-loop g l =
+    let client = l.pass.me.view.client in
+    let routes = (arc_value l.hub).routes.items in
+    record {
+      pass : IsSegPassOf (arc_value l.hub).line l.pass;
+      sound : Sound client;
+      made : client.made ≡ length routes;
+      known : client.known ≡ map (λ v. v.1) (seen_sent l.sent.items);
+      taken : arrivals_of routes client.taken ≡ l.fn.self.drained ++ rest_arrivals l.rest.items;
+    }

@@ -1,0 +1,11 @@
+use Rattle.std.specs.Arc.{arc_value}
+use Rattle.tp_inbox.specs.Ends.{inbox_of}
+use Rattle.tp_inbox.proofs.Steps.{begins}
+use Rattle.tp_inbox.proofs.Made.{new_are_senders}
+use Rattle.tp_inbox.proofs.making.inbox.Goals as goal
+
+pub with_rule-requires : goal.with_rule-requires
+with_rule-requires c = begins
+
+pub returns-clause-joins : goal.returns-clause-joins
+returns-clause-joins c = new_are_senders (inbox_of (arc_value c.in_ok-hub.hub)) _ c.in_ok-senders.ensures.senders

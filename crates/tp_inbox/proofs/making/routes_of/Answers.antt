@@ -1,0 +1,5 @@
+use Rattle.tp_inbox.proofs.Made.{routes_are}
+use Rattle.tp_inbox.proofs.making.routes_of.Goals as goal
+
+pub returns-clause-are : goal.returns-clause-are
+returns-clause-are c = routes_are c.args.config.now c.args.comp _ c.in_ok-routes.ensures.routes c.in_ok-routes.ensures.distinct

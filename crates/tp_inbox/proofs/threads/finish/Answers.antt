@@ -1,0 +1,13 @@
+use Rattle.tp_inbox.proofs.Senders.{moved}
+use Rattle.tp_inbox.proofs.threads.finish.Goals as goal
+
+pub loop-child-preserved : goal.loop-child-preserved
+loop-child-preserved g c =
+    let was = c.loop-child.invariant in
+    let steps = c.in-Some.ensures.steps.0 in
+    let pushed = c.in_ok-push.ensures.items in
+    let kept = c.join.ensures in
+    record {
+      inboxes = moved _ _ _ _ _ _ _ _ _ pushed steps kept.0 was.inboxes;
+      routes = moved _ _ _ _ _ _ _ _ _ pushed steps kept.1 was.routes;
+    }

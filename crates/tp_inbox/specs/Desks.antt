@@ -1,0 +1,65 @@
+-- What contracts see of a desk, and what its calls answer and do.
+use Rattle.std.specs.Prelude.{◌≡◌, ℕ, ◌<◌, Bool, true, false, Option, Some, None, List, [], ◌∷◌, ◌++◌, length, slice_index_or}
+use Rattle.tp_port.specs.declared.event.Env.{Env}
+use Rattle.tp_port.specs.declared.event.Event.{Event}
+use Rattle.tp_port.specs.declared.event.TriggerAnswer.{TriggerAnswer}
+use Rattle.tp_port.specs.declared.event.TriggerAnswer.TheVariants as answer
+use Rattle.tp_port.specs.History.{Lawful, top}
+use Rattle.tp_port.specs.Answers.{Finds, FindsNone, Satisfies}
+use Rattle.tp_value.specs.declared.message.Message.{Message}
+use Rattle.tp_config.specs.declared.port_type.CompId.{CompId}
+use Rattle.tp_inbox.specs.declared.entry.Entry.{Entry}
+use Rattle.tp_inbox.specs.declared.entry.Entry.TheVariants as entry
+use Rattle.tp_inbox.specs.History.{history_of}
+
+-- a desk: whose it is, how many ports that component has, and its history
+pub record Journal : Type 0 where
+  pub comp : CompId
+  pub ports : ℕ
+  pub log : List Entry
+
+-- with one more entry, and nothing else changed
+abbrev pub adding : Journal → Entry → Journal
+adding d e = record d { log = d.log ++ e ∷ [] }
+
+-- with these entries more, and nothing else changed
+abbrev pub adding_all : Journal → List Entry → Journal
+adding_all d es = record d { log = d.log ++ es }
+
+-- an entry that a behaviour makes itself: it names no port
+abbrev pub IsNote : Entry → Type 0
+IsNote (entry.Sent r number message) = Unit {0}
+IsNote entry.Else = Unit {0}
+IsNote (entry.Verdict v) = Unit {0}
+IsNote (entry.Failed code) = Unit {0}
+IsNote _ = ⊥
+
+-- the history of this port
+abbrev pub at_port : Journal → ℕ → List (Event Message)
+at_port d port = history_of port d.log
+
+-- what `receive` answers, and the desk after it
+abbrev pub Receives : (Message → Type 0) → Option ℕ → ℕ → ℕ → Journal → Option (Env Message) → Journal → Type 0
+Receives admits from port branch d (Some e) after = Finds admits from (at_port d port) e × (after ≡ adding d (entry.Took port e branch))
+Receives admits from port branch d None after = FindsNone admits from (at_port d port) × (after ≡ d)
+
+-- what `trigger` answers, and the desk after it
+abbrev pub Triggers : (Message → Type 0) → Option ℕ → ℕ → ℕ → Journal → TriggerAnswer Message → Journal → Type 0
+Triggers admits from port branch d (answer.Took e) after = Finds admits from (at_port d port) e × (after ≡ adding d (entry.Took port e branch))
+Triggers admits from port branch d (answer.Dropped e) after = (top (at_port d port) ≡ Some e) × ¬ Satisfies admits from e × (after ≡ adding d (entry.Dropped port e branch))
+Triggers admits from port branch d answer.Nothing after = (top (at_port d port) ≡ None) × (after ≡ d)
+
+-- the desk after a `check` that answered this
+abbrev pub checked : ℕ → ℕ → Journal → Option (Env Message) → Journal
+checked port branch d (Some e) = adding d (entry.Found port e branch)
+checked port branch d None = d
+
+-- what `check` notes in the desk: that it found the top, or nothing
+abbrev pub Notes : (Message → Type 0) → Option ℕ → ℕ → ℕ → Journal → Bool → Journal → Type 0
+Notes admits from port branch d true after = (e : Env Message) × Finds admits from (at_port d port) e × (after ≡ adding d (entry.Found port e branch))
+Notes admits from port branch d false after = FindsNone admits from (at_port d port) × (after ≡ d)
+
+-- each port's queue has the history that the desk's log says, and each of these obeys the rules of a port
+pub record IsKept (queues : List (List (Event Message))) (log : List Entry) : Type 0 where
+  pub histories : (port : ℕ) → port < length queues → slice_index_or queues port [] ≡ history_of port log
+  pub lawful : (port : ℕ) → port < length queues → Lawful (history_of port log)

@@ -1,0 +1,46 @@
+-- Envelopes, read route by route.
+use Rattle.std.specs.Prelude.{◌≡◌, ℕ, ◌<◌, ◌==◌, ◌-◌, cond, Option, Some, None, List, [], ◌∷◌, ◌++◌, length, take, slice_index_or}
+use Rattle.tp_inbox.specs.declared.envelope.Envelope.{Envelope}
+use Rattle.tp_value.specs.declared.message.Message.{Message}
+use Rattle.tp_inbox.specs.History.{numbered}
+
+-- the numbers and messages of the envelopes of route p, in order
+abbrev pub of : ℕ → List Envelope → List (ℕ × Message)
+of p [] = []
+of p (e ∷ es) = cond (p == e.place) ((e.number, e.message) ∷ of p es) (of p es)
+
+-- of each route the numbers are 0, 1, 2 and so on
+abbrev pub InOrder : List Envelope → Type 0
+InOrder es = (p : ℕ) → (ms : List Message) × (of p es ≡ numbered 0 ms)
+
+-- each envelope is of one of the first n routes
+abbrev pub AreRouted : ℕ → List Envelope → Type 0
+AreRouted n [] = Unit {0}
+AreRouted n (e ∷ es) = (e.place < n) × AreRouted n es
+
+-- the first list begins the second
+abbrev pub Begins : {A : Type 0} → List A → List A → Type 0
+Begins {A} xs ys = (rest : List A) × (xs ++ rest ≡ ys)
+
+-- of each of the first routes, what is among these envelopes begins what was put there
+abbrev pub AreFronts : List Envelope → List (List Message) → Type 0
+AreFronts es ledgers = (p : ℕ) → p < length ledgers → Begins (of p es) (numbered 0 (slice_index_or ledgers p []))
+
+-- of each of the first routes, these envelopes are what was put there: numbered from 0, and with those messages
+abbrev pub AreWhole : List Envelope → List (List Message) → Type 0
+AreWhole es ledgers = (p : ℕ) → p < length ledgers → of p es ≡ numbered 0 (slice_index_or ledgers p [])
+
+abbrev pub one_of : Option Envelope → List Envelope
+one_of None = []
+one_of (Some e) = e ∷ []
+
+-- what stands before `kept` at the end of `all`
+abbrev pub before : List Envelope → List Envelope → List Envelope
+before all kept = take (length all - length kept) all
+
+abbrev pub EndsWith : List Envelope → List Envelope → Type 0
+EndsWith all kept = all ≡ before all kept ++ kept
+
+-- how many of these envelopes each of the first n routes has
+abbrev pub AreCounts : ℕ → List ℕ → List Envelope → Type 0
+AreCounts n counts es = (length counts ≡ n) × ((p : ℕ) → p < n → slice_index_or counts p 0 ≡ length (of p es))

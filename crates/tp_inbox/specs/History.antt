@@ -1,0 +1,69 @@
+-- The history of a component, and what it says: of each port, of each route, and of what its behaviour did.
+-- A history is the whole list of the component's entries, the oldest first, which only grows; a definition filters that list.
+use Rattle.std.specs.Prelude.{ℕ, ◌+◌, Bool, true, false, not, ◌&&◌, ◌==◌, cond, Option, Some, None, List, [], ◌∷◌, filter}
+use Rattle.std.specs.List.{filter_map}
+use Rattle.tp_port.specs.declared.event.Event.{Event}
+use Rattle.tp_port.specs.declared.event.Event.TheVariants as event
+use Rattle.tp_value.specs.declared.message.Message.{Message}
+use Rattle.tp_config.specs.declared.port_type.RouteId.{RouteId}
+use Rattle.tp_inbox.specs.declared.entry.Entry.{Entry}
+use Rattle.tp_inbox.specs.declared.entry.Entry.TheVariants as entry
+
+-- what an entry is at this port, if it names the port: the entry without port and branch
+abbrev pub event_at : ℕ → Entry → Option (Event Message)
+event_at port (entry.Arrive p env) = cond (port == p) (Some (event.Arrive env)) None
+event_at port (entry.Took p env branch) = cond (port == p) (Some (event.Took env)) None
+event_at port (entry.Found p env branch) = cond (port == p) (Some (event.Found env)) None
+event_at port (entry.Dropped p env branch) = cond (port == p) (Some (event.Dropped env)) None
+event_at port (entry.Cleared p) = cond (port == p) (Some event.Cleared) None
+event_at port (entry.Started p) = cond (port == p) (Some event.Started) None
+event_at port (entry.Stopped p) = cond (port == p) (Some event.Stopped) None
+event_at port (entry.Halted p) = cond (port == p) (Some event.Halted) None
+event_at port _ = None
+
+-- the history of a port: the events of the entries that name it, in order
+unfoldable pub history_of : ℕ → List Entry → List (Event Message)
+history_of port k = filter_map (event_at port) k
+
+abbrev pub is_arrival : Entry → Bool
+is_arrival (entry.Arrive p env) = true
+is_arrival _ = false
+
+-- what the component's own behaviour did: the history without the arrivals
+unfoldable pub trace : List Entry → List Entry
+trace k = filter (λ e. not (is_arrival e)) k
+
+-- what came to the component: the arrivals of its history
+unfoldable pub arrivals : List Entry → List Entry
+arrivals k = filter is_arrival k
+
+abbrev pub same_route : RouteId → RouteId → Bool
+same_route r q = (r.source.0 == q.source.0) && (r.to.comp.0 == q.to.comp.0) && (r.to.port == q.to.port)
+
+-- the number and the message, where the entry is a sending on this route
+abbrev pub sending_on : RouteId → Entry → Option (ℕ × Message)
+sending_on r (entry.Sent q number message) = cond (same_route r q) (Some (number, message)) None
+sending_on r _ = None
+
+-- what the component sent on a route, in order, with the numbers
+unfoldable pub sent_on : RouteId → List Entry → List (ℕ × Message)
+sent_on r k = filter_map (sending_on r) k
+
+-- the number and the message, where the entry is an arrival at the route's port from the route's sender
+abbrev pub arrival_on : RouteId → Entry → Option (ℕ × Message)
+arrival_on r (entry.Arrive p env) = cond ((r.to.port == p) && (r.source.0 == env.sender)) (Some (env.number, env.msg)) None
+arrival_on r _ = None
+
+-- what came to the component on a route, in order, with the numbers
+unfoldable pub arrived_on : RouteId → List Entry → List (ℕ × Message)
+arrived_on r k = filter_map (arrival_on r) k
+
+-- the number that stands beside a route, 0 where none does
+abbrev pub count_of : RouteId → List (RouteId × ℕ) → ℕ
+count_of r [] = 0
+count_of r (c ∷ cs) = cond (same_route r c.0) c.1 (count_of r cs)
+
+-- the messages, numbered from n
+abbrev pub numbered : ℕ → List Message → List (ℕ × Message)
+numbered n [] = []
+numbered n (m ∷ ms) = (n, m) ∷ numbered (n + 1) ms

@@ -1,0 +1,10 @@
+pub mod History
+pub mod Desks
+pub mod Calls
+pub mod Lending
+pub mod Envelopes
+pub mod Rule
+pub mod Routed
+pub mod Ledgers
+pub mod Ends
+pub mod Gathers

@@ -1,0 +1,126 @@
+//! The calls of a port's queue that take a message out or find one, each with a copy of it for the
+//! component's history.
+ghost use Rattle.std.specs.Prelude.{◌≡◌, IfOk, OnErr, IsTrue, ◌↔◌};
+ghost use Rattle.std.specs.Option.{option_copied};
+ghost use Rattle.tp_port.specs.History.{Lawful, top};
+ghost use Rattle.tp_port.specs.Answers.{Checks, Satisfies};
+ghost use Rattle.tp_inbox.specs.Calls.{FindsWith, ReceivesWith, TriggersWith};
+
+use std::alloc::Global;
+use tp_port::event::{Env, TriggerAnswer};
+use tp_port::payload::{Memory, Wanted};
+use tp_port::queue::PortQueue;
+use tp_value::message::{Message, MsgTemplate};
+
+/// The envelope that a receiving operation sees, if any is deliverable.
+pub(crate) fn top(queue: &PortQueue<Message>) -> Option<&Env<Message>>
+    ensures { option_copied result ≡ top queue.now }
+{
+    if queue.ahead() == 0 {
+        None
+    } else {
+        queue.queued_at(0)
+    }
+}
+
+/// Whether a receiving operation for `wanted` and `from` succeeds with this envelope.
+pub(crate) fn satisfies<W: Wanted<Message>>(
+    env: &Env<Message>,
+    wanted: &W,
+    from: Option<u32>,
+) -> bool
+    ensures { IsTrue result ↔ Satisfies (W.admits wanted.now) from env.now }
+{
+    let named = match from {
+        None => true,
+        Some(sender) => env.sender == sender,
+    };
+    named && wanted.admits(&env.msg)
+}
+
+/// A copy of the top, where a receiving operation for `wanted` and `from` succeeds with it.
+pub(crate) fn wanted_top<W: Wanted<Message>>(
+    alloc: Global,
+    queue: &PortQueue<Message>,
+    wanted: &W,
+    from: Option<u32>,
+) -> Result<Option<Env<Message>>, Memory>
+    ensures { IfOk result (λ twin. Checks (W.admits wanted.now) from queue.now twin) }
+{
+    match top(queue) {
+        Some(first) if satisfies(first, wanted, from) => Ok(Some(first.copy(alloc)?)),
+        _ => Ok(None),
+    }
+}
+
+/// What `receive` takes out of the queue, and a copy of it. After a refusal the queue is as before.
+pub(crate) fn receive<W: Wanted<Message>>(
+    alloc: Global,
+    queue: &mut PortQueue<Message>,
+    wanted: &W,
+    from: Option<u32>,
+) -> Result<Option<(Env<Message>, Env<Message>)>, Memory>
+    ensures ok { IfOk result (λ taken. ReceivesWith (W.admits wanted.now) from queue.old taken queue.new) }
+    ensures err { OnErr result (queue.new ≡ queue.old) }
+    ensures lawful { Lawful queue.new }
+{
+    let _ = queue.events();
+    let Some(twin) = wanted_top(alloc, queue, wanted, from)? else {
+        return Ok(None);
+    };
+    match queue.receive(&MsgTemplate::Any, None)? {
+        Some(env) => Ok(Some((env, twin))),
+        None => unreachable!(),
+    }
+}
+
+/// A copy of what `check` finds in the queue. After a refusal the queue is as before.
+pub(crate) fn check<W: Wanted<Message>>(
+    alloc: Global,
+    queue: &mut PortQueue<Message>,
+    wanted: &W,
+    from: Option<u32>,
+) -> Result<Option<Env<Message>>, Memory>
+    ensures ok { IfOk result (λ twin. FindsWith (W.admits wanted.now) from queue.old twin queue.new) }
+    ensures err { OnErr result (queue.new ≡ queue.old) }
+    ensures lawful { Lawful queue.new }
+{
+    let _ = queue.events();
+    let Some(twin) = wanted_top(alloc, queue, wanted, from)? else {
+        return Ok(None);
+    };
+    match queue.check(&MsgTemplate::Any, None)? {
+        Some(_) => Ok(Some(twin)),
+        None => unreachable!(),
+    }
+}
+
+/// What a `trigger` did, with a copy of what it took or discarded.
+pub(crate) enum Triggered {
+    Took(Env<Message>, Env<Message>),
+    Dropped(Env<Message>, Env<Message>),
+    Nothing,
+}
+
+/// What `trigger` does at the queue. After a refusal the queue is as before.
+pub(crate) fn trigger<W: Wanted<Message>>(
+    alloc: Global,
+    queue: &mut PortQueue<Message>,
+    wanted: &W,
+    from: Option<u32>,
+) -> Result<Triggered, Memory>
+    ensures ok { IfOk result (λ answer. TriggersWith (W.admits wanted.now) from queue.old answer queue.new) }
+    ensures err { OnErr result (queue.new ≡ queue.old) }
+    ensures lawful { Lawful queue.new }
+{
+    let _ = queue.events();
+    let Some(first) = top(queue) else {
+        return Ok(Triggered::Nothing);
+    };
+    let twin = first.copy(alloc)?;
+    match queue.trigger(wanted, from)? {
+        TriggerAnswer::Took(env) => Ok(Triggered::Took(env, twin)),
+        TriggerAnswer::Dropped(env) => Ok(Triggered::Dropped(env, twin)),
+        TriggerAnswer::Nothing => unreachable!(),
+    }
+}

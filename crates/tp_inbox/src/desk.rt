@@ -1,0 +1,336 @@
+//! A component's desk: its ports and its history.
+ghost use Rattle.std.specs.Prelude.{◌≡◌, ◌∷◌, [], ℕ, ◌<◌, length, IfErr, IfOk, OnErr, OnOk};
+ghost use Rattle.std.specs.Option.{option_copied};
+ghost use Rattle.std.specs.Borrow.{sem};
+ghost use Rattle.tp_port.specs.History.{Lawful, queued, status_of, top};
+ghost use Rattle.tp_port.specs.Answers.{Checks, halted_count};
+ghost use Rattle.tp_config.specs.Setup.{IsComponent, ports_at};
+ghost use Rattle.tp_inbox.specs.declared.entry.Entry.TheVariants as entry;
+ghost use Rattle.tp_inbox.specs.History.{arrivals};
+ghost use Rattle.tp_inbox.specs.Desks.{IsNote, Notes, Receives, Triggers, adding, at_port};
+ghost use Rattle.tp_inbox.specs.Lending.{ends_checked};
+
+use crate::calls;
+use crate::calls::Triggered;
+use crate::entry::Entry;
+use std::alloc::Global;
+use std::marker::Model;
+use tp_config::config::Config;
+use tp_config::port_type::CompId;
+use tp_port::event::{Env, TriggerAnswer};
+use tp_port::payload::{Memory, Payload, Wanted};
+use tp_port::queue::PortQueue;
+use tp_value::message::Message;
+
+/// The ports of one component and its history, seen by contracts as the component, the number of its
+/// ports and the history.
+///
+/// Each port is given by its place in declared order, from 0, and its queue has the history that the
+/// component's history says. A call works on the port's queue alone, and never looks at a history.
+#[derive(Drop)]
+pub struct Desk {
+    comp: CompId,
+    /// The ports in declared order.
+    ports: Vec<PortQueue<Message>>,
+    /// The history.
+    log: Vec<Entry>,
+    alloc: Global,
+}
+
+impl Model for Desk {
+    ghost use Rattle.std.specs.Prelude.{length};
+    ghost use Rattle.tp_inbox.specs.Desks.{Journal, IsKept};
+    ghost use Rattle.tp_value.specs.contracts.value.Value as value_contract;
+    ghost use Rattle.std.specs.Coded.{codes};
+
+    ghost Value = { Journal };
+
+    ghost coded = { Prim.hlevel (codes, value_contract.the_row.coded) };
+
+    ghost view = { λ d. record { comp = d.comp; ports = length d.ports.items; log = d.log.items } };
+
+    ghost invariant = { λ d. IsKept d.ports.items d.log.items };
+}
+
+/// How many ports a component of the configuration has.
+pub(crate) fn port_count(config: &Config, comp: CompId) -> usize
+    requires { IsComponent config.now comp }
+    ensures { result ≡ length (ports_at config.now.types config.now.components comp) }
+{
+    config.comp_type(comp).ports.len()
+}
+
+impl Desk {
+    /// The desk of a component of the configuration: all its ports are started (ES 201 873-1, 21.2.1),
+    /// and nothing has happened.
+    ///
+    /// 50 `Memory` where an allocation was refused.
+    pub fn new(alloc: Global, config: &Config, comp: CompId) -> Result<Desk, Memory>
+        requires { IsComponent config.now comp }
+        ensures desk { IfOk result (λ desk. desk ≡ record { comp = comp; ports = length (ports_at config.now.types config.now.components comp); log = [] }) }
+        ensures none { IfOk result (λ desk. arrivals desk.log ≡ []) }
+    {
+        Desk::with_ports(alloc, comp, port_count(config, comp))
+    }
+
+    /// A desk with so many ports.
+    fn with_ports(alloc: Global, comp: CompId, count: usize) -> Result<Desk, Memory>
+        ensures desk { IfOk result (λ desk. desk ≡ record { comp = comp; ports = count; log = [] }) }
+        ensures none { IfOk result (λ desk. arrivals desk.log ≡ []) }
+    {
+        let mut ports = Vec::with_capacity(alloc, count)?;
+        for _ in 0..count {
+            ports.push_reserved(PortQueue::new(alloc));
+        }
+        Ok(Desk {
+            comp,
+            ports,
+            log: Vec::new(alloc),
+            alloc,
+        })
+    }
+
+    /// A message comes to this port: [`PortQueue::arrive`] there, and an `Arrive` in the history.
+    ///
+    /// 50 `Memory` where an allocation was refused: the envelope is handed back, and the desk is as
+    /// before.
+    pub fn arrive(&mut self, port: u32, env: Env<Message>) -> Result<(), (Memory, Env<Message>)>
+        requires { port < self.old.ports }
+        ensures ok { OnOk result (self.new ≡ adding self.old (entry.Arrive port env)) }
+        ensures err { IfErr result (λ back. (back.1 ≡ env) × (self.new ≡ self.old)) }
+    {
+        if self.log.reserve(1).is_err() {
+            return Err((Memory, env));
+        }
+        let Ok(twin) = env.copy(self.alloc) else {
+            return Err((Memory, env));
+        };
+        match self.ports[port as usize].arrive(env) {
+            Ok(()) => {
+                self.log.push_reserved(Entry::Arrive(port, twin));
+                Ok(())
+            }
+            Err(back) => Err(back),
+        }
+    }
+
+    /// [`PortQueue::receive`] at this port, in this branch; what it took is in the history.
+    ///
+    /// 50 `Memory` where an allocation was refused: the desk is as before.
+    pub fn receive<W: Wanted<Message>>(
+        &mut self,
+        port: u32,
+        wanted: &W,
+        from: Option<u32>,
+        branch: u32,
+    ) -> Result<Option<Env<Message>>, Memory>
+        requires { port < self.old.ports }
+        ensures ok { IfOk result (λ answer. Receives (W.admits wanted.now) from port branch self.old answer self.new) }
+        ensures err { OnErr result (self.new ≡ self.old) }
+    {
+        self.log.reserve(1)?;
+        let queue = &mut self.ports[port as usize];
+        match calls::receive(self.alloc, queue, wanted, from)? {
+            Some((env, twin)) => {
+                self.log.push_reserved(Entry::Took(port, twin, branch));
+                Ok(Some(env))
+            }
+            None => Ok(None),
+        }
+    }
+
+    /// [`PortQueue::trigger`] at this port, in this branch; what it took or discarded is in the
+    /// history.
+    ///
+    /// 50 `Memory` where an allocation was refused: the desk is as before.
+    pub fn trigger<W: Wanted<Message>>(
+        &mut self,
+        port: u32,
+        wanted: &W,
+        from: Option<u32>,
+        branch: u32,
+    ) -> Result<TriggerAnswer<Message>, Memory>
+        requires { port < self.old.ports }
+        ensures ok { IfOk result (λ answer. Triggers (W.admits wanted.now) from port branch self.old answer self.new) }
+        ensures err { OnErr result (self.new ≡ self.old) }
+    {
+        self.log.reserve(1)?;
+        let queue = &mut self.ports[port as usize];
+        match calls::trigger(self.alloc, queue, wanted, from)? {
+            Triggered::Took(env, twin) => {
+                self.log.push_reserved(Entry::Took(port, twin, branch));
+                Ok(TriggerAnswer::Took(env))
+            }
+            Triggered::Dropped(env, twin) => {
+                self.log.push_reserved(Entry::Dropped(port, twin, branch));
+                Ok(TriggerAnswer::Dropped(env))
+            }
+            Triggered::Nothing => Ok(TriggerAnswer::Nothing),
+        }
+    }
+
+    /// [`PortQueue::check`] at this port, in this branch; that it was found is in the history. The
+    /// answer refers into the port's queue.
+    ///
+    /// 50 `Memory` where an allocation was refused: the desk is as before.
+    pub fn check<W: Wanted<Message>>(
+        &mut self,
+        port: u32,
+        wanted: &W,
+        from: Option<u32>,
+        branch: u32,
+    ) -> Result<Option<&Env<Message>>, Memory>
+        requires { port < self.old.ports }
+        ensures* after { sem 𝓛 (ends_checked port branch self.entry result) }
+        ensures found { IfOk result (λ answer. Checks (W.admits wanted.now) from (at_port self.old port) (option_copied answer)) }
+    {
+        if self.find(port, wanted, from, branch)? {
+            Ok(self.top(port))
+        } else {
+            Ok(None)
+        }
+    }
+
+    /// Notes what `check` finds at this port, and answers whether it found something.
+    fn find<W: Wanted<Message>>(
+        &mut self,
+        port: u32,
+        wanted: &W,
+        from: Option<u32>,
+        branch: u32,
+    ) -> Result<bool, Memory>
+        requires { port < self.old.ports }
+        ensures ok { IfOk result (λ found. Notes (W.admits wanted.now) from port branch self.old found self.new) }
+        ensures err { OnErr result (self.new ≡ self.old) }
+    {
+        self.log.reserve(1)?;
+        let queue = &mut self.ports[port as usize];
+        match calls::check(self.alloc, queue, wanted, from)? {
+            Some(twin) => {
+                self.log.push_reserved(Entry::Found(port, twin, branch));
+                Ok(true)
+            }
+            None => Ok(false),
+        }
+    }
+
+    /// The envelope that a receiving operation sees at this port.
+    fn top(&self, port: u32) -> Option<&Env<Message>>
+        requires { port < self.now.ports }
+        ensures { option_copied result ≡ top (at_port self.now port) }
+    {
+        calls::top(&self.ports[port as usize])
+    }
+
+    /// [`PortQueue::clear`] at this port, and a `Cleared` in the history.
+    ///
+    /// 50 `Memory` where an allocation was refused: the desk is as before.
+    pub fn clear(&mut self, port: u32) -> Result<u64, Memory>
+        requires { port < self.old.ports }
+        ensures count { IfOk result (λ discarded. discarded ≡ length (queued (at_port self.old port))) }
+        ensures ok { OnOk result (self.new ≡ adding self.old (entry.Cleared port)) }
+        ensures err { OnErr result (self.new ≡ self.old) }
+    {
+        self.log.reserve(1)?;
+        let discarded = self.ports[port as usize].clear()?;
+        self.log.push_reserved(Entry::Cleared(port));
+        Ok(discarded)
+    }
+
+    /// [`PortQueue::start`] at this port, and a `Started` in the history.
+    ///
+    /// 50 `Memory` where an allocation was refused: the desk is as before.
+    pub fn start(&mut self, port: u32) -> Result<u64, Memory>
+        requires { port < self.old.ports }
+        ensures count { IfOk result (λ discarded. discarded ≡ length (queued (at_port self.old port))) }
+        ensures ok { OnOk result (self.new ≡ adding self.old (entry.Started port)) }
+        ensures err { OnErr result (self.new ≡ self.old) }
+    {
+        self.log.reserve(1)?;
+        let discarded = self.ports[port as usize].start()?;
+        self.log.push_reserved(Entry::Started(port));
+        Ok(discarded)
+    }
+
+    /// [`PortQueue::stop`] at this port, and a `Stopped` in the history.
+    ///
+    /// 50 `Memory` where an allocation was refused: the desk is as before.
+    pub fn stop(&mut self, port: u32) -> Result<(), Memory>
+        requires { port < self.old.ports }
+        ensures ok { OnOk result (self.new ≡ adding self.old (entry.Stopped port)) }
+        ensures err { OnErr result (self.new ≡ self.old) }
+    {
+        self.log.reserve(1)?;
+        self.ports[port as usize].stop()?;
+        self.log.push_reserved(Entry::Stopped(port));
+        Ok(())
+    }
+
+    /// [`PortQueue::halt`] at this port, and a `Halted` in the history, with an effect or without one.
+    ///
+    /// 50 `Memory` where an allocation was refused: the desk is as before.
+    pub fn halt(&mut self, port: u32) -> Result<Option<u64>, Memory>
+        requires { port < self.old.ports }
+        ensures count { IfOk result (λ count. count ≡ halted_count (status_of (at_port self.old port)) (at_port self.old port)) }
+        ensures ok { OnOk result (self.new ≡ adding self.old (entry.Halted port)) }
+        ensures err { OnErr result (self.new ≡ self.old) }
+    {
+        self.log.reserve(1)?;
+        let ahead = self.ports[port as usize].halt()?;
+        self.log.push_reserved(Entry::Halted(port));
+        Ok(ahead)
+    }
+
+    /// Notes what the behaviour did itself: an entry `Sent`, `Else`, `Verdict` or `Failed`.
+    ///
+    /// 50 `Memory` where an allocation was refused: the entry is handed back, and the desk is as
+    /// before.
+    pub fn note(&mut self, entry: Entry) -> Result<(), (Memory, Entry)>
+        requires { IsNote entry }
+        ensures ok { OnOk result (self.new ≡ adding self.old entry) }
+        ensures err { IfErr result (λ back. (back.1 ≡ entry) × (self.new ≡ self.old)) }
+    {
+        if self.log.reserve(1).is_err() {
+            return Err((Memory, entry));
+        }
+        self.log.push_reserved(entry);
+        Ok(())
+    }
+
+    /// Whose desk it is. Takes no memory.
+    pub fn comp(&self) -> CompId
+        ensures { result ≡ self.now.comp }
+    {
+        self.comp
+    }
+
+    /// How many ports there are. Takes no memory.
+    pub fn port_count(&self) -> usize
+        ensures { result ≡ self.now.ports }
+    {
+        self.ports.len()
+    }
+
+    /// The history, the oldest entry first. Takes no memory.
+    pub fn log(&self) -> &[Entry]
+        ensures history { result.now ≡ self.now.log }
+        ensures lawful { (port : ℕ) → port < self.now.ports → Lawful (at_port self.now port) }
+    {
+        self.log.as_slice()
+    }
+
+    /// How many entries the history has.
+    pub(crate) fn entries(&self) -> u64
+        ensures { result ≡ length self.now.log }
+    {
+        self.log.len() as u64
+    }
+
+    /// The queue of this port. Takes no memory.
+    pub fn queue(&self, port: u32) -> &PortQueue<Message>
+        requires { port < self.now.ports }
+        ensures { result.now ≡ at_port self.now port }
+    {
+        &self.ports[port as usize]
+    }
+}

@@ -1,0 +1,13 @@
+//! What an inbox carries.
+use tp_value::message::Message;
+
+/// A message on its way into a component.
+#[derive(Drop)]
+pub(crate) struct Envelope {
+    /// The place of its route among the routes into the component, from 0.
+    pub place: usize,
+    /// Its number on its route, from 0.
+    pub number: u64,
+    /// The message.
+    pub message: Message,
+}

@@ -1,0 +1,164 @@
+//! What is left of an inbox once its senders have ended.
+ghost use Rattle.std.specs.Prelude.{◌≡◌, ◌++◌, ◌≤◌, [], All, IfErr, IfOk, length, map, vec_capacity};
+ghost use Rattle.tp_inbox.specs.History.{arrivals};
+ghost use Rattle.tp_inbox.specs.Envelopes.{one_of};
+ghost use Rattle.tp_inbox.specs.Routed.{AreBegun, AreDelivered, IsArrivalOn, AreRoutes, arrivals_of, rest_arrivals};
+ghost use Rattle.tp_inbox.specs.Envelopes.{AreRouted};
+ghost use Rattle.tp_inbox.specs.Ledgers.{AreSenders, IsDeskOf, put_by};
+ghost use Rattle.tp_inbox.specs.Ends.{seen_sent};
+
+use crate::desk::Desk;
+use crate::envelope::Envelope;
+use crate::hub::Hub;
+use crate::owner::{Owner, take_out};
+use crate::rule::{Pass, Route, Take};
+use crate::sender::Sender;
+use std::alloc::Global;
+use std::marker::Model;
+use std::sync::{Arc, Wait};
+use tp_config::port_type::RouteId;
+use tp_port::event::Env;
+use tp_refusal::memory::Memory;
+use tp_value::message::Message;
+
+/// An owner with its senders, all of them ended, seen by contracts as its inbox, the arrivals that
+/// the owner has drained, those that were taken out after that and are kept here, and what was put on
+/// each route.
+#[derive(Drop)]
+pub struct Gathered {
+    hub: Arc<Hub, Global>,
+    pass: Pass,
+    /// What each sender has put.
+    sent: Vec<(RouteId, Vec<Message>)>,
+    /// What was taken out and not drained, with the ports where it arrives.
+    rest: Vec<(u32, Env<Message>)>,
+}
+
+impl Model for Gathered {
+    ghost use Rattle.std.specs.Arc.{arc_value};
+    ghost use Rattle.tp_value.specs.contracts.value.Value as value_contract;
+    ghost use Rattle.std.specs.Coded.{codes};
+    ghost use Rattle.tp_inbox.specs.Ledgers.{Gathering};
+
+    ghost Value = { Gathering };
+
+    ghost coded = { Prim.hlevel (codes, value_contract.the_row.coded) };
+
+    ghost use Rattle.tp_inbox.specs.Routed.{rest_arrivals};
+    ghost use Rattle.tp_inbox.specs.Gathers.{IsGathered, front_of};
+    ghost use Rattle.tp_inbox.specs.Ends.{inbox_of, seen_sent};
+
+    ghost view = { λ s. record { inbox = inbox_of (arc_value s.hub); drained = front_of s; kept = rest_arrivals s.rest.items; sent = seen_sent s.sent.items } };
+
+    ghost invariant = { IsGathered };
+}
+
+/// What was put on each route, and what of it was still in the inbox.
+#[derive(Drop)]
+pub struct Settled {
+    /// For each route into the component, in order, the messages that its sender has put, in order.
+    pub sent: Vec<(RouteId, Vec<Message>)>,
+    /// What was still in the inbox, in order, with the port where each arrives.
+    pub rest: Vec<(u32, Env<Message>)>,
+}
+
+/// The envelope that was in hand, if any, as the first of the rest.
+fn with_hand(
+    hub: &Hub,
+    mut rest: Vec<(u32, Env<Message>)>,
+    hand: Option<Envelope>,
+) -> Vec<(u32, Env<Message>)>
+    requires empty { rest.items ≡ [] }
+    requires room { 1 ≤ vec_capacity rest }
+    requires routed { AreRouted (length hub.now.routes.items) (one_of hand) }
+    ensures { rest_arrivals result.items ≡ arrivals_of hub.now.routes.items (one_of hand) }
+{
+    if let Some(envelope) = hand {
+        rest.push_reserved(hub.addressed(envelope));
+    }
+    rest
+}
+
+/// Takes the owner and its senders in, after all of them have ended: the senders that
+/// [`inbox`](crate::making::inbox) gave with this owner, in its order. It keeps what each has put and
+/// what was drained. Takes no memory.
+pub fn gather<R: Wait>(rt: &R, owner: Owner, senders: Vec<Sender>) -> Gathered
+    requires { AreSenders owner.inbox senders.items }
+    ensures inbox { result.inbox ≡ owner.inbox }
+    ensures drained { result.drained ≡ owner.drained }
+    ensures sent { result.sent ≡ map put_by senders.items }
+    ensures begun { AreBegun (result.drained ++ result.kept) result.sent }
+{
+    let Owner {
+        hub,
+        mut pass,
+        hand,
+        mut sent,
+        rest,
+        taken: _,
+        counts: _,
+    } = owner;
+    for sender in senders {
+        let route = sender.route();
+        let Sender {
+            hub: _,
+            pass: other,
+            place: _,
+            sent: ledger,
+            alloc: _,
+        } = sender;
+        hub.line.absorb::<Route>(&mut pass, other);
+        sent.push_reserved((route, ledger));
+    }
+    hub.line.len_as::<Take, R>(rt, &mut pass);
+    let rest = with_hand(&hub, rest, hand);
+    Gathered {
+        hub,
+        pass,
+        sent,
+        rest,
+    }
+}
+
+impl Gathered {
+    /// What was put on each route, and what of it was still in the inbox: the arrivals of a route in
+    /// the desk, followed by those in the rest, are what its sender has put, numbered from 0. Nothing
+    /// is compared for this; it follows from the rule of the queue.
+    ///
+    /// 50 `Memory` where an allocation was refused: this is handed back, and may be settled again.
+    pub fn settle<R: Wait>(self, rt: &R, desk: &Desk) -> Result<Settled, (Memory, Gathered)>
+        requires desk { IsDeskOf self.inbox desk.now }
+        requires arrivals { arrivals desk.now.log ≡ self.drained }
+        ensures sent { IfOk result (λ settled. seen_sent settled.sent.items ≡ self.sent) }
+        ensures delivered { IfOk result (λ settled. AreDelivered (desk.now.log ++ rest_arrivals settled.rest.items) self.sent) }
+        ensures routed { IfOk result (λ settled. All (IsArrivalOn self.inbox.routes) (rest_arrivals settled.rest.items)) }
+        ensures same { IfErr result (λ back. (back.1.inbox ≡ self.inbox) × (back.1.drained ≡ self.drained) × (back.1.sent ≡ self.sent)) }
+        ensures begun { IfErr result (λ back. AreBegun (back.1.drained ++ back.1.kept) back.1.sent) }
+    {
+        let _ = desk;
+        let Gathered {
+            hub,
+            mut pass,
+            sent,
+            mut rest,
+        } = self;
+        for _ in rt.forever() {
+            if rest.reserve(1).is_err() {
+                return Err((
+                    Memory,
+                    Gathered {
+                        hub,
+                        pass,
+                        sent,
+                        rest,
+                    },
+                ));
+            }
+            match take_out(rt, &hub.line, &mut pass) {
+                None => return Ok(Settled { sent, rest }),
+                Some(envelope) => rest.push_reserved(hub.addressed(envelope)),
+            }
+        }
+        unreachable!()
+    }
+}

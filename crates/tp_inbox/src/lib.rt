@@ -1,0 +1,18 @@
+//! One component's inbox and desk, and the floor that all behaviours of a run stand on.
+#![tactic(auto)]
+
+mod calls;
+pub mod desk;
+pub mod entry;
+mod envelope;
+pub mod floor;
+pub mod gathered;
+pub mod hub;
+pub mod making;
+pub mod owner;
+mod rule;
+pub mod sender;
+#[cfg(test)]
+mod tests;
+#[cfg(test)]
+mod threads;

@@ -1,0 +1,176 @@
+//! The owner of an inbox.
+ghost use Rattle.std.specs.Prelude.{◌≡◌, ◌++◌, ◌∷◌, [], List, length, IfOk, OnErr, OnOk, MatchOption};
+ghost use Rattle.crossbeam_queue.specs.SegTies.{IsSegPassOf};
+ghost use Rattle.tp_inbox.specs.declared.entry.Entry.{Entry};
+ghost use Rattle.tp_inbox.specs.History.{arrivals, arrived_on};
+ghost use Rattle.tp_inbox.specs.Desks.{adding_all};
+ghost use Rattle.tp_inbox.specs.Envelopes.{AreWhole};
+ghost use Rattle.tp_inbox.specs.Rule.{Sound};
+ghost use Rattle.tp_inbox.specs.Routed.{AreArrivals};
+ghost use Rattle.tp_inbox.specs.Ledgers.{IsDeskOf};
+
+use crate::desk::Desk;
+use crate::envelope::Envelope;
+use crate::hub::{Hub, Woken};
+use crate::rule::{Line, Pass, Take};
+use std::alloc::Global;
+use std::marker::Model;
+use std::sync::{Arc, Wait};
+use tp_config::port_type::RouteId;
+use tp_port::event::Env;
+use tp_refusal::memory::Memory;
+use tp_value::message::Message;
+
+/// The owner of an inbox, seen by contracts as its inbox and the arrivals that it has drained, in
+/// order.
+#[derive(Drop)]
+pub struct Owner {
+    pub(crate) hub: Arc<Hub, Global>,
+    pub(crate) pass: Pass,
+    /// An envelope that was taken out of the queue and could not be moved.
+    pub(crate) hand: Option<Envelope>,
+    /// How many envelopes were taken out of the queue.
+    pub(crate) taken: u64,
+    /// How many envelopes of each route were drained.
+    pub(crate) counts: Vec<u64>,
+    /// Room for what each sender has put.
+    pub(crate) sent: Vec<(RouteId, Vec<Message>)>,
+    /// Room for what is still in the inbox at the end.
+    pub(crate) rest: Vec<(u32, Env<Message>)>,
+}
+
+impl Model for Owner {
+    ghost use Rattle.std.specs.Arc.{arc_value};
+    ghost use Rattle.tp_value.specs.contracts.value.Value as value_contract;
+    ghost use Rattle.std.specs.Coded.{codes};
+    ghost use Rattle.tp_inbox.specs.Ledgers.{Draining};
+
+    ghost Value = { Draining };
+
+    ghost coded = { Prim.hlevel (codes, value_contract.the_row.coded) };
+
+    ghost use Rattle.tp_inbox.specs.Ends.{IsOwner, drained_of, inbox_of};
+
+    ghost view = { λ s. record { inbox = inbox_of (arc_value s.hub); drained = drained_of s } };
+
+    ghost invariant = { IsOwner };
+}
+
+/// The next envelope of the queue. Nothing where the queue was found empty.
+pub(crate) fn take_out<R: Wait>(rt: &R, line: &Line, pass: &mut Pass) -> Option<Envelope>
+    requires queue { IsSegPassOf line.now pass.old }
+    requires sound { Sound pass.old.me.view.client }
+    ensures queue { IsSegPassOf line.now pass.new }
+    ensures sound { Sound pass.new.me.view.client }
+    ensures same { (pass.new.me.view.client.made ≡ pass.old.me.view.client.made) × (pass.new.me.view.client.known ≡ pass.old.me.view.client.known) }
+    ensures found { MatchOption result ((pass.new.me.view.client.taken ≡ pass.old.me.view.client.taken) × AreWhole pass.new.me.view.client.taken pass.new.me.view.client.known) (λ e. pass.new.me.view.client.taken ≡ pass.old.me.view.client.taken ++ e ∷ []) }
+{
+    line.pop_as::<Take, R>(rt, pass)
+}
+
+impl Owner {
+    /// Takes the next envelope into the hand, unless there is one. False where the queue was found
+    /// empty.
+    fn fill<R: Wait>(&mut self, rt: &R) -> bool
+        ensures same { self.new ≡ self.old }
+        ensures drained { AreArrivals self.old.inbox.routes self.old.drained }
+    {
+        if self.hand.is_some() {
+            return true;
+        }
+        let Some(envelope) = take_out(rt, &self.hub.line, &mut self.pass) else {
+            return false;
+        };
+        self.taken = self.taken.wrapping_add(1);
+        self.hand = Some(envelope);
+        true
+    }
+
+    /// Moves the envelope in hand, if there is one, to its port.
+    fn deliver(&mut self, desk: &mut Desk) -> Result<(), Memory>
+        requires desk { IsDeskOf self.old.inbox desk.old }
+        requires arrivals { arrivals desk.old.log ≡ self.old.drained }
+        ensures inbox { self.new.inbox ≡ self.old.inbox }
+        ensures ok { OnOk result ((more : List Entry) × (desk.new ≡ adding_all desk.old more) × (self.new.drained ≡ self.old.drained ++ more) × (arrivals more ≡ more)) }
+        ensures err { OnErr result ((desk.new ≡ desk.old) × (self.new ≡ self.old)) }
+    {
+        let Some(envelope) = self.hand.take() else {
+            return Ok(());
+        };
+        let (place, number) = (envelope.place, envelope.number);
+        let (port, env) = self.hub.addressed(envelope);
+        match desk.arrive(port, env) {
+            Ok(()) => {
+                // The history holds this arrival, so that its number is below its length.
+                let _held = desk.entries();
+                self.counts[place] = number + 1;
+                Ok(())
+            }
+            Err((memory, back)) => {
+                self.hand = Some(Envelope {
+                    place,
+                    number: back.number,
+                    message: back.msg,
+                });
+                Err(memory)
+            }
+        }
+    }
+
+    /// Moves what has come into the inbox to the ports of the desk, in the order of the queue, and
+    /// answers how many messages it moved. Each move is an `Arrive` in the desk's history.
+    ///
+    /// 50 `Memory` where an allocation was refused: what was moved is in the desk, and the rest is in
+    /// the inbox, in its order; the next drain goes on with it.
+    pub fn drain<R: Wait>(&mut self, rt: &R, desk: &mut Desk) -> Result<u64, Memory>
+        requires desk { IsDeskOf self.old.inbox desk.old }
+        requires arrivals { arrivals desk.old.log ≡ self.old.drained }
+        ensures inbox { self.new.inbox ≡ self.old.inbox }
+        ensures moved { (more : List Entry) × (desk.new ≡ adding_all desk.old more) × (self.new.drained ≡ self.old.drained ++ more) × IfOk result (λ count. count ≡ length more) }
+        ensures arrivals { arrivals desk.new.log ≡ self.new.drained }
+        ensures drained { AreArrivals self.new.inbox.routes self.new.drained }
+    {
+        let had = desk.entries();
+        for _ in rt.forever() {
+            if !self.fill(rt) {
+                return Ok(desk.entries() - had);
+            }
+            self.deliver(desk)?;
+        }
+        unreachable!()
+    }
+
+    /// How many messages of a route this owner has drained, over all drains; 0 for a route that does
+    /// not lead into this inbox. Takes no memory.
+    pub fn drained(&self, route: RouteId) -> u64
+        ensures { result ≡ length (arrived_on route self.now.drained) }
+    {
+        match self.hub.place_of(route) {
+            Some(place) => self.counts[place],
+            None => 0,
+        }
+    }
+
+    /// Waits until the inbox holds a message, or is closed, or no other living behaviour is awake.
+    /// A message that a drain could not move counts as in the inbox. Takes no memory.
+    pub fn wait<R: Wait>(&self, rt: &R) -> Woken {
+        if self.hand.is_some() {
+            return Woken::Arrived;
+        }
+        self.hub.wait_past(rt, self.taken)
+    }
+}
+
+/// Closes an inbox.
+#[derive(Drop)]
+pub struct Closer {
+    pub(crate) hub: Arc<Hub, Global>,
+}
+
+impl Closer {
+    /// Closes the inbox: its owner, where it waits or comes to wait, finds no more than what is there
+    /// already. Messages can be put and drained as before. Takes no memory.
+    pub fn close<R: Wait>(&self, rt: &R) {
+        self.hub.close(rt);
+    }
+}

@@ -1,0 +1,91 @@
+//! The rule of an inbox's queue, and its kinds of step.
+//!
+//! The rule speaks of whole envelopes: for each sender, of whom there may be any number, its part of
+//! what the owner has taken out, followed by what the queue holds, is what the sender has put, in its
+//! order, numbered from 0. It holds between any two steps of any threads.
+use crate::envelope::Envelope;
+use crossbeam_queue::protocol::{Join, Lesson, Outcome, Protocol, Split};
+use crossbeam_queue::{RuledSegQueue, SegPass};
+use std::collections::LinkedList;
+use tp_value::message::Message;
+
+/// What a pass knows. No value of it is made: it stands in contracts alone.
+pub(crate) struct View {
+    /// It is a sender's.
+    pub sends: bool,
+    /// The place of the sender's route.
+    pub place: usize,
+    /// What the sender has put, in its order.
+    pub put: LinkedList<Message>,
+    /// It is the owner's.
+    pub owns: bool,
+    /// How many routes the owner has split off.
+    pub made: usize,
+    /// What the owner has taken out, in order.
+    pub taken: LinkedList<Envelope>,
+    /// What the senders that have joined had put, route by route.
+    pub known: LinkedList<LinkedList<Message>>,
+}
+
+/// The rule itself.
+pub(crate) struct Delivery;
+
+impl Protocol<Envelope, View> for Delivery {
+    ghost use Rattle.std.specs.Prelude.{[]};
+    ghost use Rattle.tp_inbox.specs.Rule.{owner_of, Delivers};
+
+    ghost holds = { Delivers };
+
+    ghost first = { owner_of 0 [] [] };
+}
+
+/// A new route, and the pass of its sender; and the sender's pass when it comes back.
+pub(crate) struct Route;
+
+impl Split<View> for Route {
+    ghost use Rattle.std.specs.Prelude.{[], ◌+◌};
+    ghost use Rattle.tp_inbox.specs.Rule.{owner_of, sender_of};
+
+    ghost left = { λ v. owner_of (v.made + 1) v.taken v.known };
+
+    ghost right = { λ v. sender_of v.made [] };
+}
+
+impl Join<View> for Route {
+    ghost use Rattle.std.specs.Prelude.{[], ◌∷◌, ◌++◌};
+    ghost use Rattle.tp_inbox.specs.Rule.{owner_of, spent};
+
+    ghost both = { λ v w. owner_of v.made v.taken (v.known ++ w.put ∷ []) };
+
+    ghost spent = { spent };
+}
+
+/// An envelope that a sender pushes.
+pub(crate) struct Put;
+
+impl Outcome<Envelope, View> for Put {
+    ghost use Rattle.tp_inbox.specs.Rule.{Puts};
+
+    ghost then = { Puts };
+}
+
+/// An envelope that the owner takes out, and what it learns where it looks into the queue.
+pub(crate) struct Take;
+
+impl Outcome<Envelope, View> for Take {
+    ghost use Rattle.tp_inbox.specs.Rule.{Takes};
+
+    ghost then = { Takes };
+}
+
+impl Lesson<Envelope, View> for Take {
+    ghost use Rattle.tp_inbox.specs.Rule.{Knows};
+
+    ghost fact = { Knows };
+}
+
+/// The queue of an inbox.
+pub(crate) type Line = RuledSegQueue<Envelope, View, Delivery>;
+
+/// What a sender or the owner reaches the queue with.
+pub(crate) type Pass = SegPass<Envelope, View>;

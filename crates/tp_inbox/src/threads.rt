@@ -1,0 +1,260 @@
+//! Threads that put while the owner drains, and what waits answer in several threads.
+ghost use Rattle.std.specs.Prelude.{◌≡◌, IfOk, map};
+
+use crate::floor::Floor;
+use crate::gathered::Settled;
+use crate::hub::Woken;
+use crate::owner::Closer;
+use crate::sender::Sender;
+use crate::tests::{Ends, Post, arrivals_from, count_up, ends_of, integer, star, two};
+use std::alloc::{AllocError, Global};
+use std::snapshot::Snapshot;
+use std::sync::{Arc, Wait};
+use std::test::Fail;
+use std::thread;
+use std::thread::{JoinHandle, Promise, PromisedHandle, Threads};
+use tp_config::port_type::CompId;
+use tp_refusal::memory::Memory;
+
+/// How many messages each thread puts.
+const EACH: u64 = 1000;
+
+/// The sender as it was when it went into a thread.
+#[derive(Drop)]
+struct Back(Snapshot<Sender>);
+
+impl Promise<Sender> for Back {
+    ghost use Rattle.std.specs.Prelude.{◌≡◌};
+
+    ghost kept_by = { λ p r. (r.inbox ≡ p.0.value.inbox) × (r.route ≡ p.0.value.route) };
+}
+
+/// A sender that is out in a thread.
+type Out = PromisedHandle<Sender, Back>;
+
+/// Puts the integers from 0 on, so many.
+fn put_all<R: Wait>(rt: &R, mut sender: Sender) -> Sender
+    ensures { (result.inbox ≡ sender.inbox) × (result.route ≡ sender.route) }
+{
+    for n in 0..EACH {
+        if sender.put(rt, integer(n as i64)).is_err() {
+            return sender;
+        }
+    }
+    sender
+}
+
+/// Starts a thread in which this sender puts.
+fn send_off<R>(rt: R, sender: Sender) -> Result<Out, AllocError>
+where
+    R: Threads + Wait + Copy + Send + 'static,
+    ensures { IfOk result (λ h. h.promise.0.value ≡ sender) }
+{
+    let promise = Back(Snapshot::of(&sender));
+    Ok(thread::spawn_with(&rt, promise, move || put_all(&rt, sender))?)
+}
+
+/// Starts a thread for each sender.
+fn start<R>(rt: R, alloc: Global, senders: Vec<Sender>) -> Result<Vec<Out>, AllocError>
+where
+    R: Threads + Wait + Copy + Send + 'static,
+    ensures inboxes { IfOk result (λ hs. map (λ h. h.promise.0.value.inbox) hs.items ≡ map (λ s. s.inbox) senders.items) }
+    ensures routes { IfOk result (λ hs. map (λ h. h.promise.0.value.route) hs.items ≡ map (λ s. s.route) senders.items) }
+{
+    let mut children = Vec::new(alloc);
+    for sender in senders {
+        children.push(send_off(rt, sender)?)?;
+    }
+    Ok(children)
+}
+
+/// The senders come back.
+fn finish<R: Threads>(rt: &R, alloc: Global, children: Vec<Out>) -> Result<Vec<Sender>, AllocError>
+    ensures inboxes { IfOk result (λ ss. map (λ s. s.inbox) ss.items ≡ map (λ h. h.promise.0.value.inbox) children.items) }
+    ensures routes { IfOk result (λ ss. map (λ s. s.route) ss.items ≡ map (λ h. h.promise.0.value.route) children.items) }
+{
+    let mut senders = Vec::new(alloc);
+    for child in children {
+        senders.push(child.join(rt))?;
+    }
+    Ok(senders)
+}
+
+/// Drains some times.
+fn drain_some<R: Wait>(rt: &R, post: &mut Post) -> Result<(), Memory>
+    ensures { post.new.0.inbox ≡ post.old.0.inbox }
+{
+    for _ in 0..50 {
+        post.drain(rt)?;
+        thread::yield_now();
+    }
+    Ok(())
+}
+
+/// Each sender puts in a thread of its own, while the owner drains in this one.
+fn exchange<R>(rt: R, alloc: Global, ends: Ends) -> Result<Ends, Memory>
+where
+    R: Threads + Wait + Copy + Send + 'static,
+{
+    let Ends {
+        mut post,
+        senders,
+        closer,
+    } = ends;
+    let children = start(rt, alloc, senders)?;
+    drain_some(&rt, &mut post)?;
+    let senders = finish(&rt, alloc, children)?;
+    Ok(Ends {
+        post,
+        senders,
+        closer,
+    })
+}
+
+/// Whether each list is what its thread put.
+fn are_whole(settled: &Settled) -> bool {
+    for (_, messages) in &settled.sent {
+        if messages.len() as u64 != EACH || !count_up(messages.as_slice(), 0) {
+            return false;
+        }
+    }
+    true
+}
+
+/// How many of the rest are of this sender.
+fn rest_from(settled: &Settled, sender: u32) -> u64 {
+    let mut count = 0u64;
+    for (_, env) in &settled.rest {
+        if env.sender == sender {
+            count = count.wrapping_add(1);
+        }
+    }
+    count
+}
+
+/// Components with these names; each but the first puts into the first one's inbox in a thread.
+fn all_arrive<R>(rt: R, alloc: Global, names: &[&str]) -> Result<bool, Memory>
+where
+    R: Threads + Wait + Copy + Send + 'static,
+{
+    let Ok(living) = u32::try_from(names.len()) else {
+        return Err(Memory);
+    };
+    let config = star(alloc, names)?;
+    let floor = Floor::new(alloc, living)?;
+    let ends = ends_of(alloc, &config, CompId(0), &floor)?;
+    let (settled, desk) = exchange(rt, alloc, ends)?.settle(&rt)?;
+    for (route, _) in &settled.sent {
+        let sender = route.source.0;
+        match arrivals_from(desk.log(), sender) {
+            Some(came) if came.checked_add(rest_from(&settled, sender)) == Some(EACH) => {}
+            _ => return Ok(false),
+        }
+    }
+    Ok(are_whole(&settled) && settled.sent.len() + 1 == names.len())
+}
+
+#[test]
+fn one_thread_puts(rt: HostRuntime) -> Result<(), Fail> {
+    assert!(rt; all_arrive(rt, rt.alloc(), ["m", "a"].as_slice())?);
+    Ok(())
+}
+
+#[test]
+fn three_threads_put(rt: HostRuntime) -> Result<(), Fail> {
+    assert!(rt; all_arrive(rt, rt.alloc(), ["m", "a", "b", "c"].as_slice())?);
+    Ok(())
+}
+
+#[test]
+fn eight_threads_put(rt: HostRuntime) -> Result<(), Fail> {
+    let names = ["m", "a", "b", "c", "d", "e", "f", "g", "h"];
+    assert!(rt; all_arrive(rt, rt.alloc(), names.as_slice())?);
+    Ok(())
+}
+
+/// Leaves the floor, and where all others rest, puts a message: then somebody waits for it. Answers
+/// whether all others rested.
+fn leave_and_put<R: Wait>(rt: &R, floor: &Floor, mut sender: Sender) -> bool {
+    for _ in 0..100 {
+        thread::yield_now();
+    }
+    let all_rest = floor.leave(rt);
+    if all_rest && sender.put(rt, integer(1)).is_err() {
+        let _ = sender.put(rt, integer(1));
+    }
+    all_rest
+}
+
+/// Has that done in a thread of its own.
+fn put_elsewhere<R>(
+    rt: R,
+    floor: Arc<Floor, Global>,
+    sender: Sender,
+) -> Result<JoinHandle<bool>, AllocError>
+where
+    R: Threads + Wait + Copy + Send + 'static,
+{
+    Ok(thread::spawn(&rt, move || leave_and_put(&rt, &floor, sender))?)
+}
+
+/// Leaves the floor, and where all others rest, closes the inbox. Answers whether all others rested.
+fn leave_and_close<R: Wait>(rt: &R, floor: &Floor, closer: Closer) -> bool {
+    for _ in 0..100 {
+        thread::yield_now();
+    }
+    let all_rest = floor.leave(rt);
+    if all_rest {
+        closer.close(rt);
+    }
+    all_rest
+}
+
+/// The last of two behaviours that is awake is told so, whether it leaves or waits. The one that waits
+/// is woken by a put.
+#[test]
+fn a_put_wakes(rt: HostRuntime) -> Result<(), Fail> {
+    let (ends, floor) = two(rt.alloc())?;
+    let Ends {
+        post,
+        mut senders,
+        closer: _,
+    } = ends;
+    if let Some(sender) = senders.pop() {
+        let child = put_elsewhere(rt, floor, sender)?;
+        let woken = post.wait(&rt);
+        let all_rested = child.join(&rt);
+        assert!(rt;
+            woken
+                == if all_rested {
+                    Woken::Arrived
+                } else {
+                    Woken::Last
+                }
+        );
+    }
+    Ok(())
+}
+
+/// The one that waits is woken by a closing.
+#[test]
+fn a_closing_wakes(rt: HostRuntime) -> Result<(), Fail> {
+    let (ends, floor) = two(rt.alloc())?;
+    let Ends {
+        post,
+        senders: _,
+        closer,
+    } = ends;
+    let child = thread::spawn(&rt, move || leave_and_close(&rt, &floor, closer))?;
+    let woken = post.wait(&rt);
+    let all_rested = child.join(&rt);
+    assert!(rt;
+        woken
+            == if all_rested {
+                Woken::Closed
+            } else {
+                Woken::Last
+            }
+    );
+    Ok(())
+}
