@@ -1,0 +1,3 @@
+pub mod Numbering
+pub mod Places
+pub mod NameTables

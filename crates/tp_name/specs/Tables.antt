@@ -1,0 +1,17 @@
+-- Names, as lists of bytes.
+use Rattle.std.specs.Prelude.{ℕ, ◌≢◌, ◌<◌, ◌^◌, List, Option, length, position}
+use Rattle.std.specs.List.{AllPairs}
+use Rattle.std.specs.Str.{bytes_eq}
+
+-- no name stands twice
+abbrev pub AreDistinct : List (List ℕ) → Type 0
+AreDistinct names = AllPairs (λ a b. a ≢ b) names
+
+-- the place of a name, the first if it stands twice
+abbrev pub place_of : List (List ℕ) → List ℕ → Option ℕ
+place_of names name = position (bytes_eq name) names
+
+-- names that have numbers of 32 bits
+pub record IsNumbered (names : List (List ℕ)) : Type 0 where
+  pub few : length names < 2 ^ 32
+  pub distinct : AreDistinct names

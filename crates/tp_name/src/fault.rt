@@ -1,0 +1,11 @@
+//! Refusals of a script, at a line.
+ghost use Rattle.std.specs.Prelude.{◌≡◌};
+
+pub use tp_token::fault::{Memory, Refusal, ScriptFault};
+
+/// The refusal at this line.
+pub fn refused(refusal: Refusal, line: u32) -> ScriptFault
+    ensures { result ≡ ScriptFault.Refused refusal line }
+{
+    ScriptFault::Refused { refusal, line }
+}

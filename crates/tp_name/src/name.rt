@@ -1,0 +1,32 @@
+//! Names, and where they stand.
+ghost use Rattle.std.specs.Prelude.{◌≡◌, IfSome, IfNone};
+ghost use Rattle.std.specs.Str.{bytes_eq};
+ghost use Rattle.tp_name.specs.Named.{IsPlace, IsAbsent, texts};
+
+/// A name of the text (ES 201 873-1, 5.4).
+#[derive(Clone, Copy)]
+pub struct Name<'m> {
+    /// Its bytes, as they are written.
+    pub text: &'m str,
+}
+
+/// Whether this is the name.
+fn is_called(other: &Name, name: &str) -> bool
+    ensures { result ≡ bytes_eq other.now.text.now name.now }
+{
+    other.text == name
+}
+
+/// The first place of the name among these, from 0, or `None` where it stands nowhere. It goes over
+/// the names one by one, so it is for short lists. Takes no memory.
+pub fn find(names: &[Name], name: &str) -> Option<usize>
+    ensures there { IfSome result (λ place. IsPlace (texts names.now) name.now place) }
+    ensures absent { IfNone result (IsAbsent (texts names.now) name.now) }
+{
+    for (place, other) in names.iter().enumerate() {
+        if is_called(other, name) {
+            return Some(place);
+        }
+    }
+    None
+}

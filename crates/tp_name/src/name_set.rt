@@ -1,0 +1,119 @@
+//! Names, each once.
+ghost use Rattle.std.specs.Prelude.{◌≡◌, ◌<◌, ◌≤◌, ◌∷◌, ◌++◌, ◌↔◌, [], length, Contains, IfNone, IfSome, OnOk, IsErrOf, IsSome, IsTrue, OnErr, is_some};
+
+use crate::fault::{Memory, Refusal, ScriptFault, refused};
+use indexmap::IndexSet;
+use std::alloc::Global;
+use std::marker::Model;
+use thiserror::Error;
+
+/// Why a name was not added.
+#[derive(Clone, Copy, Debug, PartialEq, Eq, Error)]
+pub enum NameFault {
+    /// 12 Duplicate: the name is there.
+    #[error("the name is there")]
+    Duplicate,
+    /// 15 Limit: there are 4,294,967,295 names.
+    #[error("too many names")]
+    Limit,
+    /// 50 Memory: an allocation was refused.
+    #[error("out of memory")]
+    Memory,
+}
+
+/// Names, no two of them equal, numbered from 0 in the order in which they were added. Contracts see
+/// the list of them, each as its bytes.
+#[derive(Drop)]
+pub struct NameSet<'m> {
+    names: IndexSet<&'m str>,
+}
+
+impl NameFault {
+    /// This fault at a line.
+    pub fn at(self, line: u32) -> ScriptFault {
+        match self {
+            NameFault::Duplicate => refused(Refusal::Duplicate, line),
+            NameFault::Limit => refused(Refusal::Limit, line),
+            NameFault::Memory => ScriptFault::Memory(Memory),
+        }
+    }
+}
+
+impl<'m> Model for NameSet<'m> {
+    ghost use Rattle.std.specs.Prelude.{ℕ, List, map};
+    ghost use Rattle.tp_name.specs.Tables.{IsNumbered};
+
+    ghost Value = { List (List ℕ) };
+
+    ghost view = { λ t. map (λ n. n.now) t.names.keys };
+
+    ghost invariant = { λ t. IsNumbered (map (λ n. n.now) t.names.keys) };
+}
+
+impl<'m> NameSet<'m> {
+    ghost use Rattle.std.specs.Prelude.{◌≡◌, ◌<◌, ◌≤◌, ◌∷◌, ◌++◌, ◌↔◌, [], length, Contains, IfNone, IfSome, OnOk, IsErrOf, IsSome, IsTrue, OnErr, is_some};
+    ghost use Rattle.tp_name.specs.Tables.{AreDistinct, place_of};
+    ghost use Rattle.tp_name.specs.Named.{IsAbsent, IsPlace};
+
+    /// No names. Takes no memory; a later [`NameSet::add`] takes it from `alloc`.
+    pub fn new(alloc: Global) -> NameSet<'m>
+        ensures empty { result ≡ [] }
+        ensures distinct { AreDistinct result }
+    {
+        NameSet {
+            names: IndexSet::new(alloc),
+        }
+    }
+
+    /// How many names there are. Takes no memory.
+    pub fn len(&self) -> usize
+        ensures { result ≡ length self.now }
+    {
+        self.names.len()
+    }
+
+    /// Adds a name, whose number is the number of names before.
+    ///
+    /// 12 `Duplicate` exactly where the name is there; otherwise 15 `Limit` where 4,294,967,295 names
+    /// are there, and 50 `Memory` only where an allocation was refused. The names are then as before.
+    pub fn add(&mut self, name: &'m str) -> Result<(), NameFault>
+        ensures ok { OnOk result (self.new ≡ self.old ++ name.now ∷ []) }
+        ensures duplicate { IsErrOf result NameFault.Duplicate ↔ Contains self.old name.now }
+        ensures err { OnErr result (self.new ≡ self.old) }
+        ensures distinct { AreDistinct self.new }
+    {
+        if self.find(name).is_some() {
+            return Err(NameFault::Duplicate);
+        }
+        if self.names.len() >= u32::MAX as usize {
+            return Err(NameFault::Limit);
+        }
+        let Ok(_) = self.names.insert(name) else {
+            return Err(NameFault::Memory);
+        };
+        Ok(())
+    }
+
+    /// The number of the name, or `None` where it is not there. Takes no memory.
+    pub fn find(&self, name: &str) -> Option<u32>
+        ensures place { result ≡ place_of self.now name.now }
+        ensures known { IsSome result ↔ Contains self.now name.now }
+        ensures there { IfSome result (λ place. IsPlace self.now name.now place) }
+        ensures absent { IfNone result (IsAbsent self.now name.now) }
+        ensures distinct { AreDistinct self.now }
+    {
+        match self.names.get_index_of(name) {
+            Some(place) => Some(place as u32),
+            None => None,
+        }
+    }
+
+    /// Whether the name is there. Takes no memory.
+    pub fn has(&self, name: &str) -> bool
+        ensures test { result ≡ is_some (place_of self.now name.now) }
+        ensures known { IsTrue result ↔ Contains self.now name.now }
+    {
+        let place = self.find(name);
+        place.is_some()
+    }
+}

@@ -1,0 +1,9 @@
+pub mod Steps
+pub mod Sorting
+pub mod Known
+pub mod Sound
+pub mod Declaring
+pub mod Made
+pub mod Creating
+pub mod Connecting
+pub mod Setting

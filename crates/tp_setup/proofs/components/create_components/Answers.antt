@@ -1,0 +1,23 @@
+use Rattle.std.proofs.Common.{◌++◌, ◌∷◌, [], ◌∙◌, ap, arith, map, subst, sym, take}
+use Rattle.std.proofs.lemmas.List.{map_push}
+use Rattle.tp_setup.specs.Components.{AddsAll, created, creations, variable}
+use Rattle.tp_setup.proofs.Creating.{adds_more, no_creation, one_creation, sound_more}
+use Rattle.tp_setup.proofs.components.create_components.Goals as goal
+
+pub loop-i-preserved-in_default : goal.loop-i-preserved-in_default
+loop-i-preserved-in_default c =
+    rw (no_creation c.args.setups.now c.loop-i.i c.index-setups-i.result (omega arith) c.index-setups-i.is c.in_default.ensures) c.loop-i.invariant
+
+pub loop-i-preserved : goal.loop-i-preserved
+loop-i-preserved c =
+    let before = creations (take c.loop-i.i c.args.setups.now) in
+    let one = c.in-Some.creation.now in
+    rw (one_creation c.args.setups.now c.loop-i.i c.index-setups-i.result (omega arith) c.index-setups-i.is one c.in-Some.ensures)
+    (record {
+      names = c.in_default-create.ensures.added ∙ ap (λ l. l ++ variable one ∷ []) c.loop-i.invariant.names ∙ sym (map_push variable before one);
+      distinct = c.in_default-create.ensures.distinct;
+      sound = sound_more c.args.types.now c.args.ports.now c.loop-i.variables c.create.new.variables c.args.most before one c.loop-i.invariant.sound c.loop-i.invariant.names c.in_default-create.ensures.added
+          c.in_default-create.ensures.distinct c.in_default-create.ensures.no_port c.in_default-create.ensures.known c.in_default-create.ensures.same c.in_default-create.ensures.few;
+      added = subst (λ l. AddsAll c.args.types.now l c.args.config.now c.create.new.config) (sym (map_push created before one))
+          (adds_more c.args.types.now (map created before) (created one) c.args.config.now c.loop-i.config c.create.new.config c.loop-i.invariant.added c.in_default-create.ensures.component);
+    })

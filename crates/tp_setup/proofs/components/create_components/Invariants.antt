@@ -1,0 +1,12 @@
+use Rattle.std.proofs.Common.{◌≡◌, map, take}
+use Rattle.tp_name.specs.Tables.{AreDistinct}
+use Rattle.tp_setup.specs.Components.{AddsAll, HasSoundVariables, created, creations, variable}
+use Rattle.tp_setup.proofs.components.create_components.Given as goal
+
+abbrev pub invariant-loop-i : goal.invariant-loop-i
+invariant-loop-i l = record {
+  names : l.variables ≡ map variable (creations (take l.i l.setups));
+  distinct : AreDistinct l.variables;
+  sound : HasSoundVariables l.types l.ports l.most (creations (take l.i l.setups));
+  added : AddsAll l.types (map created (creations (take l.i l.setups))) l.fn.config l.config;
+}

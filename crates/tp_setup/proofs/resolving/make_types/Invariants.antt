@@ -1,0 +1,7 @@
+use Rattle.std.proofs.Common.{map, take}
+use Rattle.std.specs.List.{AllZip}
+use Rattle.tp_setup.specs.Resolved.{IsNamedType}
+use Rattle.tp_setup.proofs.resolving.make_types.Given as goal
+
+abbrev pub invariant-loop-defined : goal.invariant-loop-defined
+invariant-loop-defined l = AllZip (IsNamedType l.names) (map (λ x. x.now) (take l.defined-index l.definitions)) l.types

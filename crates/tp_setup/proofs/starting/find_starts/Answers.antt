@@ -1,0 +1,21 @@
+use Rattle.std.proofs.Common.{◌++◌, ◌∷◌, [], arith, map, subst, sym, take}
+use Rattle.std.specs.List.{AllZip}
+use Rattle.std.proofs.lemmas.List.{map_push}
+use Rattle.tp_setup.specs.Components.{creations, variable}
+use Rattle.tp_setup.specs.Starting.{IsStartPlace}
+use Rattle.tp_setup.proofs.Creating.{no_creation, one_creation}
+use Rattle.tp_setup.proofs.Steps.{zip_push}
+use Rattle.tp_setup.proofs.starting.find_starts.Goals as goal
+
+pub loop-setup-preserved-in_default : goal.loop-setup-preserved-in_default
+loop-setup-preserved-in_default c =
+    rw (no_creation c.args.setups.now c.loop-setup.setup-index c.setup-item.result (omega arith) c.setup-item.is c.in_default.ensures) c.loop-setup.invariant
+
+pub loop-setup-preserved : goal.loop-setup-preserved
+loop-setup-preserved c =
+    let before = creations (take c.loop-setup.setup-index c.args.setups.now) in
+    let one = c.in-Some.creation.now in
+    let R = IsStartPlace c.args.started.now in
+    rw (one_creation c.args.setups.now c.loop-setup.setup-index c.setup-item.result (omega arith) c.setup-item.is one c.in-Some.ensures, c.in_ok-push.ensures.items)
+    (subst (λ l. AllZip R l (c.loop-setup.places.items ++ c.in-Some-find.place ∷ [])) (sym (map_push variable before one))
+    (zip_push R (map variable before) c.loop-setup.places.items (variable one) c.in-Some-find.place c.loop-setup.invariant (rw c.as_str.ensures.value at (sym c.in-Some-find.ensures.place))))

@@ -1,0 +1,8 @@
+use Rattle.std.proofs.Common.{take}
+use Rattle.std.specs.List.{AllZip}
+use Rattle.tp_setup.specs.Components.{variables}
+use Rattle.tp_setup.specs.Starting.{IsStartPlace}
+use Rattle.tp_setup.proofs.starting.find_starts.Given as goal
+
+abbrev pub invariant-loop-setup : goal.invariant-loop-setup
+invariant-loop-setup l = AllZip (IsStartPlace l.started) (variables (take l.setup-index l.setups)) l.places.items

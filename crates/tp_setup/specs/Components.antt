@@ -1,0 +1,95 @@
+-- The components of a test case.
+use Rattle.std.specs.Prelude.{◌≡◌, ◌≤◌, ℕ, Option, Some, None, List, ◌∷◌, ◌++◌, All, Contains, length, map, option_to_list, codes, string_bytes}
+use Rattle.std.specs.Option.{option_map}
+use Rattle.std.specs.List.{AllZip, filter_map}
+use Rattle.tp_syntax.specs.declared.tree.ComponentType.{ComponentType}
+use Rattle.tp_syntax.specs.declared.tree.Creation.{Creation}
+use Rattle.tp_syntax.specs.declared.tree.Setup.{Setup as Statement}
+use Rattle.tp_syntax.specs.declared.tree.SetupAction.{SetupAction}
+use Rattle.tp_syntax.specs.declared.tree.SetupAction.TheVariants as a
+use Rattle.tp_syntax.specs.declared.tree.TestCase.{TestCase}
+use Rattle.tp_config.specs.declared.port_type.Role.{Role}
+use Rattle.tp_config.specs.declared.port_type.Role.TheVariants as role
+use Rattle.tp_config.specs.Setup.{Setup, Member, creating}
+use Rattle.tp_name.specs.Tables.{AreDistinct, place_of}
+use Rattle.tp_setup.specs.Definitions.{declared_ports}
+
+abbrev pub creation_in : SetupAction → Option Creation
+creation_in (a.Create c) = Some c
+creation_in (a.Connect p q) = None
+creation_in (a.Map p q) = None
+
+-- the component that a setup statement makes, if it does
+abbrev pub creation_of : Statement → Option Creation
+creation_of x = creation_in x.action
+
+-- the components that the setup statements make, in the order of the text
+abbrev pub creations : List Statement → List Creation
+creations xs = filter_map creation_of xs
+
+abbrev pub variable : Creation → List ℕ
+variable c = string_bytes c.name
+
+-- the component variables
+abbrev pub variables : List Statement → List (List ℕ)
+variables xs = map variable (creations xs)
+
+-- a component as the text declares it: its name, the name of its type, and what it is
+pub record Declared : Type 0 where
+  pub name : List ℕ
+  pub type_name : List ℕ
+  pub role : Role
+
+abbrev pub created : Creation → Declared
+created c = record { name = variable c; type_name = string_bytes c.type_name; role = role.Test }
+
+-- `mtc`, of the type behind `runs on`
+abbrev pub main_component : TestCase → Declared
+main_component case = record { name = codes "mtc"; type_name = string_bytes case.runs_on; role = role.Test }
+
+-- the test system interface, of the type behind `system`, if there is such a clause
+abbrev pub interface : TestCase → List Declared
+interface case = option_to_list (option_map (λ s. record { name = codes "system"; type_name = string_bytes s; role = role.System }) case.system)
+
+-- the components in their order: `mtc`, those that are made, and the test system interface
+abbrev pub component_list : TestCase → List Declared
+component_list case = (main_component case ∷ map created (creations case.setups.items)) ++ interface case
+
+-- a component of the configuration is the one that is declared, where the component types have these names
+pub record IsMember (types : List (List ℕ)) (x : Declared) (m : Member) : Type 0 where
+  pub name : m.name ≡ x.name
+  pub kind : place_of types x.type_name ≡ Some m.kind
+  pub role : m.role ≡ x.role
+
+-- one component was added to the configuration
+pub record Adds (types : List (List ℕ)) (x : Declared) (old new : Setup) : Type 0 where
+  pub member : Member
+  pub is_member : IsMember types x member
+  pub added : new ≡ creating old member
+
+-- the names of the ports of the component type of this name
+pub record HasPorts (types : List ComponentType) (name : List ℕ) (ports : List (List ℕ)) : Type 0 where
+  pub component : ComponentType
+  pub there : Contains types component
+  pub named : string_bytes component.name ≡ name
+  pub ports_are : ports ≡ declared_ports component.ports.items
+
+-- the rules on component variables, where the main component has ports of these names, and at most this many variables may be
+pub record HasSoundVariables (types ports : List (List ℕ)) (most : ℕ) (xs : List Creation) : Type 0 where
+  -- no two variables have one name
+  pub distinct : AreDistinct (map variable xs)
+  -- none has the name of a port of the main component
+  pub no_port : All (λ (c : Creation). Contains ports (variable c) → ⊥) xs
+  -- the types are known
+  pub known : All (λ (c : Creation). Contains types (string_bytes c.type_name)) xs
+  -- the two types of a `var` are the same
+  pub same : All (λ (c : Creation). string_bytes c.type_name ≡ string_bytes c.created) xs
+  -- there are at most 64 components, `mtc` and `system` counted
+  pub few : length xs ≤ most
+
+-- components were added to the configuration as they are declared, one after the other, and nothing else was changed
+pub record AddsAll (types : List (List ℕ)) (xs : List Declared) (old new : Setup) : Type 0 where
+  pub components : (before : List Declared) → AllZip (IsMember types) before old.components → AllZip (IsMember types) (before ++ xs) new.components
+  pub types_stay : new.types ≡ old.types
+  pub connected_stay : new.connected ≡ old.connected
+  pub mapped_stay : new.mapped ≡ old.mapped

@@ -1,0 +1,115 @@
+-- The definitions of a module, as lists in the order of the text (ES 201 873-1, 8).
+use Rattle.std.specs.Prelude.{ℕ, Option, Some, None, List, [], map, string_bytes}
+use Rattle.std.specs.List.{filter_map, flat_map}
+use Rattle.tp_syntax.specs.declared.tree.Module.{Module}
+use Rattle.tp_syntax.specs.declared.tree.Definition.{Definition}
+use Rattle.tp_syntax.specs.declared.tree.Defined.{Defined}
+use Rattle.tp_syntax.specs.declared.tree.Defined.TheVariants as d
+use Rattle.tp_syntax.specs.declared.tree.PortType.{PortType}
+use Rattle.tp_syntax.specs.declared.tree.ComponentType.{ComponentType}
+use Rattle.tp_syntax.specs.declared.tree.Function.{Function}
+use Rattle.tp_syntax.specs.declared.tree.TestCase.{TestCase}
+use Rattle.tp_syntax.specs.declared.tree.DeclaredName.{DeclaredName}
+use Rattle.tp_syntax.specs.declared.tree.PortDeclaration.{PortDeclaration}
+
+-- the name of a definition
+abbrev pub name_of : Defined → List ℕ
+name_of (d.Record r) = string_bytes r.name
+name_of (d.List l) = string_bytes l.name
+name_of (d.Port p) = string_bytes p.name
+name_of (d.Component c) = string_bytes c.name
+name_of (d.Function f) = string_bytes f.name
+name_of (d.TestCase c) = string_bytes c.name
+
+-- the definitions of one kind, in the order of the text
+abbrev pub among : {T : Type 0} → (Defined → Option T) → List Definition → List T
+among kind definitions = filter_map (λ (x : Definition). kind x.defined) definitions
+
+-- a record or a record of
+abbrev pub type_of : Defined → Option Defined
+type_of (d.Record r) = Some (d.Record r)
+type_of (d.List l) = Some (d.List l)
+type_of (d.Port p) = None
+type_of (d.Component c) = None
+type_of (d.Function f) = None
+type_of (d.TestCase c) = None
+
+abbrev pub port_of : Defined → Option PortType
+port_of (d.Record r) = None
+port_of (d.List l) = None
+port_of (d.Port p) = Some p
+port_of (d.Component c) = None
+port_of (d.Function f) = None
+port_of (d.TestCase c) = None
+
+abbrev pub component_of : Defined → Option ComponentType
+component_of (d.Record r) = None
+component_of (d.List l) = None
+component_of (d.Port p) = None
+component_of (d.Component c) = Some c
+component_of (d.Function f) = None
+component_of (d.TestCase c) = None
+
+abbrev pub function_of : Defined → Option Function
+function_of (d.Record r) = None
+function_of (d.List l) = None
+function_of (d.Port p) = None
+function_of (d.Component c) = None
+function_of (d.Function f) = Some f
+function_of (d.TestCase c) = None
+
+abbrev pub case_of : Defined → Option TestCase
+case_of (d.Record r) = None
+case_of (d.List l) = None
+case_of (d.Port p) = None
+case_of (d.Component c) = None
+case_of (d.Function f) = None
+case_of (d.TestCase c) = Some c
+
+abbrev pub type_definitions : Module → List Defined
+type_definitions m = among type_of m.definitions.items
+
+abbrev pub port_types : Module → List PortType
+port_types m = among port_of m.definitions.items
+
+abbrev pub component_types : Module → List ComponentType
+component_types m = among component_of m.definitions.items
+
+abbrev pub functions : Module → List Function
+functions m = among function_of m.definitions.items
+
+abbrev pub test_cases : Module → List TestCase
+test_cases m = among case_of m.definitions.items
+
+-- the names of the definitions, and of those of each kind
+abbrev pub definition_names : Module → List (List ℕ)
+definition_names m = map (λ (x : Definition). name_of x.defined) m.definitions.items
+
+abbrev pub type_names : Module → List (List ℕ)
+type_names m = map name_of (type_definitions m)
+
+abbrev pub port_type_names : Module → List (List ℕ)
+port_type_names m = map (λ (p : PortType). string_bytes p.name) (port_types m)
+
+abbrev pub component_type_names : Module → List (List ℕ)
+component_type_names m = map (λ (c : ComponentType). string_bytes c.name) (component_types m)
+
+abbrev pub function_names : Module → List (List ℕ)
+function_names m = map (λ (f : Function). string_bytes f.name) (functions m)
+
+-- a name where it is declared
+abbrev pub declared : DeclaredName → List ℕ
+declared n = string_bytes n.name
+
+-- the names of the ports that the declarations declare
+abbrev pub declared_ports : List PortDeclaration → List (List ℕ)
+declared_ports ports = flat_map (λ (p : PortDeclaration). map declared p.names.items) ports
+
+-- the names of the fields, ports or parameters that a definition declares
+abbrev pub inner_names : Defined → List (List ℕ)
+inner_names (d.Record r) = map (λ f. declared f.name) r.fields.items
+inner_names (d.List l) = []
+inner_names (d.Port p) = []
+inner_names (d.Component c) = declared_ports c.ports.items
+inner_names (d.Function f) = map (λ p. declared p.name) f.parameters.items
+inner_names (d.TestCase c) = []

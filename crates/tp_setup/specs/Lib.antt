@@ -1,0 +1,10 @@
+pub mod Definitions
+pub mod Resolved
+pub mod Rules
+pub mod Cases
+pub mod Sorted
+pub mod Defining
+pub mod Components
+pub mod Configuring
+pub mod Starting
+pub mod Prepared

@@ -1,0 +1,52 @@
+-- What the first three passes of the checks ask of a module, and what they make of it.
+use Rattle.std.specs.Prelude.{◌≡◌, List, [], ◌∷◌, map}
+use Rattle.tp_syntax.specs.declared.tree.Module.{Module}
+use Rattle.tp_syntax.specs.declared.tree.TestCase.{TestCase}
+use Rattle.tp_config.specs.declared.port_type.CompType.{CompType}
+use Rattle.tp_config.specs.Setup.{Setup}
+use Rattle.tp_config.specs.Shape.{ports_of}
+use Rattle.tp_setup.specs.declared.starts.Starts.{Starts}
+use Rattle.tp_setup.specs.declared.prepared.Prepared.{Prepared}
+use Rattle.tp_setup.specs.Definitions.{component_type_names, component_types, functions, test_cases}
+use Rattle.tp_setup.specs.Rules.{HasUniqueNames}
+use Rattle.tp_setup.specs.Sorted.{AreSorted, HasSoundDefinitions}
+use Rattle.tp_setup.specs.Resolved.{AreTypes, AreComponentTypes}
+use Rattle.tp_setup.specs.Components.{variables}
+use Rattle.tp_setup.specs.Configuring.{AreSoundVariables, IsSetUp}
+use Rattle.tp_setup.specs.Starting.{AreStarts}
+
+-- the configuration is that of the test case, over the component types of the module
+pub record IsConfigOf (m : Module) (case : TestCase) (config : Setup) : Type 0 where
+  pub types : List CompType
+  pub types_are : AreComponentTypes m types
+  pub set_up : IsSetUp (component_type_names m) (map ports_of types) case config
+
+-- what was made of a module
+pub record IsPreparedOf (m : Module) (p : Prepared) : Type 0 where
+  -- the module has this test case, and no other
+  pub one_test_case : test_cases m ≡ p.case.case.now ∷ []
+  pub sorted : AreSorted m p.sorted
+  -- the record and record-of types, and nothing else
+  pub types : AreTypes m p.types
+  -- the components as declared, with the connections and mappings of the setup statements alone
+  pub config : IsConfigOf m p.case.case.now p.config
+  pub variables_are : p.variables ≡ variables p.case.case.now.setups.items
+  pub starts : AreStarts (functions m) p.case.case.now p.starts
+
+-- the module obeys the rules on names, definitions, setup and starts
+pub record IsWellDeclared (m : Module) : Type 0 where
+  pub case : TestCase
+  -- there is one test case
+  pub one_test_case : test_cases m ≡ case ∷ []
+  -- no name is given twice
+  pub names : HasUniqueNames m
+  -- what a definition names is defined, a component type has at most 64 ports, and `sut` plays the system
+  pub definitions : HasSoundDefinitions m case
+  -- the component variables have names of their own, known types, and are few
+  pub variables : AreSoundVariables (component_type_names m) (component_types m) case
+  -- the ports of each `connect` and `map` are known, and each is allowed where it stands
+  pub config : Setup
+  pub connections : IsConfigOf m case config
+  -- each component is started once, by a function of its type, with arguments of the parameters' types, and `all component.done` is there
+  pub started : Starts
+  pub starts : AreStarts (functions m) case started

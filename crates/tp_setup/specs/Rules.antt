@@ -1,0 +1,78 @@
+-- The rules on names and definitions.
+use Rattle.std.specs.Prelude.{◌≡◌, ◌≤◌, ℕ, Option, Some, List, [], All, Contains, IfSome, IsSome, length, string_bytes, codes}
+use Rattle.tp_syntax.specs.declared.tree.Module.{Module}
+use Rattle.tp_syntax.specs.declared.tree.Definition.{Definition}
+use Rattle.tp_syntax.specs.declared.tree.Defined.{Defined}
+use Rattle.tp_syntax.specs.declared.tree.Defined.TheVariants as d
+use Rattle.tp_syntax.specs.declared.tree.TypeName.{TypeName}
+use Rattle.tp_name.specs.Tables.{AreDistinct}
+use Rattle.tp_setup.specs.Definitions.{definition_names, inner_names, declared_ports}
+use Rattle.tp_setup.specs.Resolved.{ty_of}
+
+-- no name is given twice
+pub record HasUniqueNames (m : Module) : Type 0 where
+  -- no two definitions have one name
+  pub definitions : AreDistinct (definition_names m)
+  -- no two fields of a record type, ports of a component type or parameters of a function have one name
+  pub inner : All (λ (x : Definition). AreDistinct (inner_names x.defined)) m.definitions.items
+
+-- a type name names a type
+abbrev pub IsType : List (List ℕ) → TypeName → Type 0
+IsType types name = IsSome (ty_of types name)
+
+-- each name where the type of a field, of elements or of messages stands names a type
+abbrev pub AreTypesKnown : List (List ℕ) → Defined → Type 0
+AreTypesKnown types (d.Record r) = All (λ f. IsType types f.type_name) r.fields.items
+AreTypesKnown types (d.List l) = IsType types l.element
+AreTypesKnown types (d.Port p) = All (λ w. All (IsType types) w.types.items) p.directions.items
+AreTypesKnown types (d.Component c) = Unit {0}
+AreTypesKnown types (d.Function f) = Unit {0}
+AreTypesKnown types (d.TestCase c) = Unit {0}
+
+-- each name where the type of a port stands names a port type
+abbrev pub ArePortTypesKnown : List (List ℕ) → Defined → Type 0
+ArePortTypesKnown ports (d.Record r) = Unit {0}
+ArePortTypesKnown ports (d.List l) = Unit {0}
+ArePortTypesKnown ports (d.Port p) = Unit {0}
+ArePortTypesKnown ports (d.Component c) = All (λ p. Contains ports (string_bytes p.type_name)) c.ports.items
+ArePortTypesKnown ports (d.Function f) = Unit {0}
+ArePortTypesKnown ports (d.TestCase c) = Unit {0}
+
+-- each name where a component type stands names one: behind `runs on` and `system`, and at a parameter
+abbrev pub AreComponentTypesKnown : List (List ℕ) → Defined → Type 0
+AreComponentTypesKnown components (d.Record r) = Unit {0}
+AreComponentTypesKnown components (d.List l) = Unit {0}
+AreComponentTypesKnown components (d.Port p) = Unit {0}
+AreComponentTypesKnown components (d.Component c) = Unit {0}
+AreComponentTypesKnown components (d.Function f) = Contains components (string_bytes f.runs_on) × All (λ p. Contains components (string_bytes p.type_name)) f.parameters.items
+AreComponentTypesKnown components (d.TestCase c) = Contains components (string_bytes c.runs_on) × IfSome c.system (λ s. Contains components (string_bytes s))
+
+-- a component type has at most 64 ports
+abbrev pub HasFewPorts : Defined → Type 0
+HasFewPorts (d.Record r) = Unit {0}
+HasFewPorts (d.List l) = Unit {0}
+HasFewPorts (d.Port p) = Unit {0}
+HasFewPorts (d.Component c) = length (declared_ports c.ports.items) ≤ 64
+HasFewPorts (d.Function f) = Unit {0}
+HasFewPorts (d.TestCase c) = Unit {0}
+
+-- the name of the function that plays the system under test
+abbrev pub sut : List ℕ
+sut = codes "sut"
+
+-- a function named `sut` has no parameters, and runs on the component type behind `system`
+abbrev pub PlaysSystem : Option (List ℕ) → Defined → Type 0
+PlaysSystem system (d.Record r) = Unit {0}
+PlaysSystem system (d.List l) = Unit {0}
+PlaysSystem system (d.Port p) = Unit {0}
+PlaysSystem system (d.Component c) = Unit {0}
+PlaysSystem system (d.Function f) = string_bytes f.name ≡ sut → (f.parameters.items ≡ []) × (system ≡ Some (string_bytes f.runs_on))
+PlaysSystem system (d.TestCase c) = Unit {0}
+
+-- the rules on one definition, where the types, port types and component types have these names, and this name stands behind `system`
+pub record IsSound (types ports components : List (List ℕ)) (system : Option (List ℕ)) (x : Defined) : Type 0 where
+  pub types_known : AreTypesKnown types x
+  pub port_types_known : ArePortTypesKnown ports x
+  pub component_types_known : AreComponentTypesKnown components x
+  pub few_ports : HasFewPorts x
+  pub plays_system : PlaysSystem system x

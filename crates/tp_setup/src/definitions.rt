@@ -1,0 +1,233 @@
+//! The second pass of the checks: what definitions name is defined.
+ghost use Rattle.std.specs.Prelude.{◌≡◌, ◌≤◌, ◌↔◌, All, Contains, IfOk, IfSome, IsTrue, OnOk, [], Some, is_some, length, option_map, string_bytes};
+ghost use Rattle.std.specs.List.{list_all};
+ghost use Rattle.tp_setup.specs.Definitions.{declared_ports};
+ghost use Rattle.tp_setup.specs.Rules.{IsSound, IsType, sut};
+ghost use Rattle.tp_name.specs.Tables.{place_of};
+ghost use Rattle.tp_setup.specs.Sorted.{AreSound, HasSoundDefinitions};
+ghost use Rattle.tp_setup.specs.Defining.{IsDefined};
+
+use crate::ports::{make_components, make_port_types};
+use crate::resolving::{are_types, is_type, make_types};
+use crate::sorted::{Sorted, sort};
+use crate::unique_names::CaseAt;
+use std::alloc::Global;
+use tp_config::port_type::{CompType, PORT_LIMIT};
+use tp_name::fault::{Refusal, ScriptFault, refused};
+use tp_name::name_set::NameSet;
+use tp_syntax::tree::{
+    ComponentType, Defined, Definition, Direction, FieldType, Function, Module, Parameter,
+    PortDeclaration, TestCase,
+};
+use tp_value::types::Types;
+
+/// What the definitions of a module define.
+#[derive(Drop)]
+pub struct Definitions<'m> {
+    /// The test case.
+    pub case: CaseAt<'m>,
+    /// The definitions, sorted by their kinds.
+    pub sorted: Sorted<'m>,
+    /// The record and record-of types, under their own names.
+    pub types: Types,
+    /// The component types, in the order of the text.
+    pub components: Vec<CompType>,
+}
+
+/// Whether the type of each field is known.
+
+fn are_fields_known(types: &NameSet, fields: &[FieldType]) -> bool
+    ensures { IsTrue result → All (λ f. IsType types.now f.type_name) fields.now }
+{
+    fields.iter().all(|field| is_type(types, &field.type_name))
+}
+
+/// Whether each message type of the directions is known.
+fn are_messages_known(types: &NameSet, directions: &[Direction]) -> bool
+    ensures { IsTrue result → All (λ w. All (IsType types.now) w.types.items) directions.now }
+{
+    directions
+        .iter()
+        .all(|direction| are_types(types, &direction.types))
+}
+
+/// Whether the type of each port is known.
+fn are_ports_known(port_types: &NameSet, ports: &[PortDeclaration]) -> bool
+    ensures { result ≡ list_all (λ p. is_some (place_of port_types.now (string_bytes p.type_name))) ports.now }
+{
+    ports
+        .iter()
+        .all(|port| port_types.has(port.type_name.as_str()))
+}
+
+/// Whether the type of each parameter is known.
+fn are_parameters_known(components: &NameSet, parameters: &[Parameter]) -> bool
+    ensures { result ≡ list_all (λ p. is_some (place_of components.now (string_bytes p.type_name))) parameters.now }
+{
+    parameters
+        .iter()
+        .all(|parameter| components.has(parameter.type_name.as_str()))
+}
+
+/// Whether there are at most 64 ports.
+fn are_ports_few(ports: &[PortDeclaration]) -> bool
+    ensures { IsTrue result → length (declared_ports ports.now) ≤ 64 }
+{
+    let mut count = 0;
+    for port in ports {
+        if port.names.len() > PORT_LIMIT - count {
+            return false;
+        }
+        count += port.names.len();
+    }
+    true
+}
+
+/// Nothing, or 11 `Unknown` at the line where not everything is known.
+fn known(is_known: bool, line: u32) -> Result<(), ScriptFault>
+    ensures { OnOk result (IsTrue is_known) }
+{
+    if is_known {
+        Ok(())
+    } else {
+        Err(refused(Refusal::Unknown, line))
+    }
+}
+
+/// Looks at a component type.
+fn check_component(
+    port_types: &NameSet,
+    component: &ComponentType,
+    line: u32,
+) -> Result<(), ScriptFault>
+    ensures known { OnOk result (IsTrue (list_all (λ p. is_some (place_of port_types.now (string_bytes p.type_name))) component.now.ports.items)) }
+    ensures few { OnOk result (length (declared_ports component.now.ports.items) ≤ 64) }
+{
+    known(are_ports_known(port_types, &component.ports), line)?;
+    if !are_ports_few(&component.ports) {
+        return Err(ScriptFault::limit(line));
+    }
+    Ok(())
+}
+
+/// Whether a function can play the system under test, for which this component type stands behind
+/// `system`.
+fn plays_system(system: &Option<String>, function: &Function) -> bool
+    ensures { IsTrue result → (function.now.parameters.items ≡ []) × (option_map string_bytes system.now ≡ Some (string_bytes function.now.runs_on)) }
+{
+    let Some(system) = system else {
+        return false;
+    };
+    function.parameters.is_empty() && function.runs_on.as_str() == system.as_str()
+}
+
+/// Looks at a function.
+fn check_function(
+    components: &NameSet,
+    system: &Option<String>,
+    function: &Function,
+    line: u32,
+) -> Result<(), ScriptFault>
+    ensures runs_on { OnOk result (Contains components.now (string_bytes function.now.runs_on)) }
+    ensures parameters { OnOk result (IsTrue (list_all (λ p. is_some (place_of components.now (string_bytes p.type_name))) function.now.parameters.items)) }
+    ensures sut { OnOk result (string_bytes function.now.name ≡ sut → (function.now.parameters.items ≡ []) × (option_map string_bytes system.now ≡ Some (string_bytes function.now.runs_on))) }
+{
+    known(components.has(function.runs_on.as_str()), line)?;
+    known(are_parameters_known(components, &function.parameters), line)?;
+    if is_sut(function.name.as_str()) && !plays_system(system, function) {
+        return Err(refused(Refusal::NotInSut, line));
+    }
+    Ok(())
+}
+
+/// Whether this is the name of the function that plays the system under test.
+pub fn is_sut(name: &str) -> bool
+    ensures { IsTrue result ↔ (name.now ≡ sut) }
+{
+    name == "sut"
+}
+
+/// Looks at the test case.
+fn check_case(components: &NameSet, case: &TestCase, line: u32) -> Result<(), ScriptFault>
+    ensures runs_on { OnOk result (Contains components.now (string_bytes case.now.runs_on)) }
+    ensures system { OnOk result (IfSome case.now.system (λ s. Contains components.now (string_bytes s))) }
+{
+    known(components.has(case.runs_on.as_str()), line)?;
+    match &case.system {
+        None => Ok(()),
+        Some(system) => known(components.has(system.as_str()), line),
+    }
+}
+
+/// Looks at one definition.
+#[tactic(auto, using(crate::proofs::Sound::soundness))]
+fn check_definition(
+    sorted: &Sorted,
+    system: &Option<String>,
+    definition: &Definition,
+) -> Result<(), ScriptFault>
+    ensures { OnOk result (IsSound sorted.now.type_names sorted.now.port_names sorted.now.component_names (option_map string_bytes system.now) definition.now.defined) }
+{
+    let line = definition.line;
+    let types = &sorted.type_names;
+    let components = &sorted.component_names;
+    match &definition.defined {
+        Defined::Record(record) => known(are_fields_known(types, &record.fields), line),
+        Defined::List(list) => known(is_type(types, &list.element), line),
+        Defined::Port(port) => known(are_messages_known(types, &port.directions), line),
+        Defined::Component(component) => {
+            check_component(&sorted.port_names, component, line)?;
+            Ok(())
+        }
+        Defined::Function(function) => {
+            check_function(components, system, function, line)?;
+            Ok(())
+        }
+        Defined::TestCase(case) => check_case(components, case, line),
+    }
+}
+
+/// Looks at the definitions, one after the other. Takes no memory.
+fn check_definitions(
+    sorted: &Sorted,
+    system: &Option<String>,
+    definitions: &[Definition],
+) -> Result<(), ScriptFault>
+    ensures { OnOk result (AreSound sorted.now (option_map string_bytes system.now) definitions.now) }
+{
+    for definition in definitions {
+        check_definition(sorted, system, definition)?;
+    }
+    Ok(())
+}
+
+/// The second pass: what the definitions of a module define, where it has this test case, and no name
+/// is given twice.
+///
+/// The first fault in the order of the text is the answer, at the line of the first token of its
+/// definition, and within a definition in this order: 11 `Unknown` where a name that stands for a type
+/// of messages, a port type or a component type names none; 15 `Limit` where a component type has more
+/// than 64 ports; 16 `NotInSut` where the function `sut` has parameters, where the test case has no
+/// `system` clause, or one with another type than that behind the function's `runs on`. 50 `Memory`
+/// only where an allocation was refused.
+pub fn define<'m>(
+    alloc: Global,
+    parsed: &'m Module,
+    case: CaseAt<'m>,
+) -> Result<Definitions<'m>, ScriptFault>
+    ensures defined { IfOk result (IsDefined parsed.now) }
+    ensures sound { OnOk result (HasSoundDefinitions parsed.now case.entry.case.now) }
+    ensures case { IfOk result (λ d. d.case.case.now ≡ case.entry.case.now) }
+{
+    let sorted = sort(alloc, parsed)?;
+    check_definitions(&sorted, &case.case.system, &parsed.definitions)?;
+    let types = make_types(alloc, &sorted.type_names, &sorted.types)?;
+    let made = make_port_types(alloc, &sorted.type_names, &sorted.ports)?;
+    let components = make_components(alloc, &sorted, &made)?;
+    Ok(Definitions {
+        case,
+        sorted,
+        types,
+        components,
+    })
+}

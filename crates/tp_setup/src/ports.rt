@@ -1,0 +1,226 @@
+//! The component types that a module defines, with what their ports receive and send.
+ghost use Rattle.std.specs.Prelude.{◌≡◌, ◌≤◌, ◌++◌, ◌∷◌, [], List, IfOk, IfSome, OnOk, All, length, map, slice_get};
+ghost use Rattle.std.specs.Option.{option_copied};
+ghost use Rattle.tp_value.specs.declared.types.Ty.{Ty};
+ghost use Rattle.std.specs.List.{AllZip, flat_map};
+ghost use Rattle.tp_config.specs.Shape.{ports_of};
+ghost use Rattle.tp_setup.specs.Resolved.{Appends, IsComponentType, IsMade, IsMadeOf, port_decl, IsPortType, Names, goes_in, goes_out, received, sent};
+ghost use Rattle.tp_setup.specs.Sorted.{HasMade};
+
+use crate::resolving::resolve;
+use crate::sorted::Sorted;
+use indexmap::IndexMap;
+use std::alloc::Global;
+use tp_config::port_type::{CompType, PORT_LIMIT, PortType};
+use tp_config::type_list::TypeList;
+use tp_name::fault::{Memory, Refusal, ScriptFault, refused};
+use tp_name::name_set::NameSet;
+use tp_syntax::tree::{
+    self, ComponentType, DeclaredName, Direction, PortDeclaration, TypeName, Way,
+};
+use tp_value::items::Items;
+use tp_value::types::Ty;
+
+/// Whether messages go into a port this way.
+fn goes_in(way: Way) -> bool
+    ensures { result ≡ goes_in way }
+{
+    match way {
+        Way::In | Way::InOut => true,
+        Way::Out => false,
+    }
+}
+
+/// Whether messages go out of a port this way.
+fn goes_out(way: Way) -> bool
+    ensures { result ≡ goes_out way }
+{
+    match way {
+        Way::Out | Way::InOut => true,
+        Way::In => false,
+    }
+}
+
+/// Adds the types that these names name. 11 `Unknown` at line 0 where one names none.
+fn add_types(types: &NameSet, names: &[TypeName], made: &mut Items<Ty>) -> Result<(), ScriptFault>
+    ensures { OnOk result (Appends types.now names.now made.old made.new) }
+{
+    for name in names {
+        let Some(ty) = resolve(types, name) else {
+            return Err(refused(Refusal::Unknown, 0));
+        };
+        made.push(ty)?;
+    }
+    Ok(())
+}
+
+/// The types that a port with these directions receives.
+fn received(
+    alloc: Global,
+    types: &NameSet,
+    directions: &[Direction],
+) -> Result<Items<Ty>, ScriptFault>
+    ensures { IfOk result (AllZip (Names types.now) (flat_map received directions.now)) }
+{
+    let mut made = Items::new(alloc);
+    for direction in directions {
+        if !goes_in(direction.way) {
+            continue;
+        }
+        add_types(types, &direction.types, &mut made)?;
+    }
+    Ok(made)
+}
+
+/// The types that a port with these directions sends.
+fn sent(alloc: Global, types: &NameSet, directions: &[Direction]) -> Result<Items<Ty>, ScriptFault>
+    ensures { IfOk result (AllZip (Names types.now) (flat_map sent directions.now)) }
+{
+    let mut made = Items::new(alloc);
+    for direction in directions {
+        if !goes_out(direction.way) {
+            continue;
+        }
+        add_types(types, &direction.types, &mut made)?;
+    }
+    Ok(made)
+}
+
+/// What a port type receives and sends.
+fn make_port_type(
+    alloc: Global,
+    types: &NameSet,
+    port_type: &tree::PortType,
+) -> Result<PortType, ScriptFault>
+    ensures { IfOk result (λ made. IsPortType types.now port_type.now made.ins made.outs) }
+{
+    let ins = received(alloc, types, &port_type.directions)?;
+    let outs = sent(alloc, types, &port_type.directions)?;
+    Ok(PortType {
+        ins: TypeList::from_items(alloc, ins)?,
+        outs: TypeList::from_items(alloc, outs)?,
+    })
+}
+
+/// What the port types receive and send, in their order.
+pub fn make_port_types(
+    alloc: Global,
+    types: &NameSet,
+    port_types: &[&tree::PortType],
+) -> Result<Vec<PortType>, ScriptFault>
+    ensures { IfOk result (λ made. AllZip (IsMade types.now) (map (λ p. p.now) port_types.now) made.items) }
+{
+    let mut made = Vec::new(alloc);
+    for port_type in port_types {
+        let one = make_port_type(alloc, types, port_type)?;
+        made.push(one)?;
+    }
+    Ok(made)
+}
+
+/// The same lists for one more port, which stand in memory once however many ports share them.
+fn share(port_type: &PortType) -> Result<PortType, ScriptFault>
+    ensures { IfOk result (λ shared. (shared.ins ≡ port_type.now.ins) × (shared.outs ≡ port_type.now.outs)) }
+{
+    let ins = port_type.ins.share()?;
+    let outs = port_type.outs.share()?;
+    Ok(PortType { ins, outs })
+}
+
+/// Adds a port. 12 `Duplicate` at the line of its name where the name is there.
+fn add_port(
+    alloc: Global,
+    component: &mut CompType,
+    name: &DeclaredName,
+    port_type: &PortType,
+) -> Result<(), ScriptFault>
+    ensures { OnOk result (ports_of component.new ≡ ports_of component.old ++ port_decl port_type.now name.now ∷ []) }
+{
+    let None = component.ports.get_index_of(name.name.as_str()) else {
+        return Err(refused(Refusal::Duplicate, name.line));
+    };
+    let text = String::from_str(alloc, name.name.as_str())?;
+    let shared = share(port_type)?;
+    component.ports.insert(text, shared)?;
+    Ok(())
+}
+
+/// Adds the ports of these names.
+fn add_ports(
+    alloc: Global,
+    component: &mut CompType,
+    names: &[DeclaredName],
+    port_type: &PortType,
+) -> Result<(), ScriptFault>
+    ensures { OnOk result (ports_of component.new ≡ ports_of component.old ++ map (port_decl port_type.now) names.now) }
+{
+    for name in names {
+        add_port(alloc, component, name, port_type)?;
+    }
+    Ok(())
+}
+
+fn made_at(made: &[PortType], place: u32) -> Option<&PortType>
+    ensures { option_copied result ≡ slice_get made.now place }
+{
+    made.get(place as usize)
+}
+
+/// What the port type of this name receives and sends, or `None` where no port type has it.
+fn find_made<'p>(sorted: &Sorted, made: &'p [PortType], name: &str) -> Option<&'p PortType>
+    requires { HasMade sorted.now made.now }
+    ensures { IfSome result (λ found. IsMadeOf sorted.now.type_names (map (λ p. p.now) sorted.now.ports.items) name.now found.now) }
+{
+    let Some(place) = sorted.port_names.find(name) else {
+        return None;
+    };
+    let Some(found) = made_at(made, place) else {
+        return None;
+    };
+    Some(found)
+}
+
+/// A component type: its ports, in declared order. 11 `Unknown` at line 0 where the type of one is
+/// unknown, and 12 `Duplicate` at the line of a name that is given twice.
+fn make_component(
+    alloc: Global,
+    sorted: &Sorted,
+    made: &[PortType],
+    component: &ComponentType,
+) -> Result<CompType, ScriptFault>
+    requires { HasMade sorted.now made.now }
+    ensures ports { IfOk result (IsComponentType sorted.now.type_names (map (λ p. p.now) sorted.now.ports.items) component.now) }
+    ensures few { IfOk result (λ t. length t.ports.entries ≤ PORT_LIMIT) }
+{
+    let mut ports = CompType {
+        ports: IndexMap::new(alloc),
+    };
+    for declaration in &component.ports {
+        let Some(port_type) = find_made(sorted, made, declaration.type_name.as_str()) else {
+            return Err(refused(Refusal::Unknown, 0));
+        };
+        add_ports(alloc, &mut ports, &declaration.names, port_type)?;
+    }
+    if ports.ports.len() > PORT_LIMIT {
+        return Err(ScriptFault::limit(0));
+    }
+    Ok(ports)
+}
+
+/// The component types, in their order, where these are what the port types receive and send.
+pub fn make_components(
+    alloc: Global,
+    sorted: &Sorted,
+    made: &[PortType],
+) -> Result<Vec<CompType>, ScriptFault>
+    requires { HasMade sorted.now made.now }
+    ensures components { IfOk result (λ r. AllZip (IsComponentType sorted.now.type_names (map (λ p. p.now) sorted.now.ports.items)) (map (λ c. c.now) sorted.now.components.items) r.items) }
+    ensures few { IfOk result (λ r. All (λ t. length t.ports.entries ≤ PORT_LIMIT) r.items) }
+{
+    let mut components = Vec::new(alloc);
+    for component in &sorted.components {
+        let one = make_component(alloc, sorted, made, component)?;
+        components.push(one)?;
+    }
+    Ok(components)
+}

@@ -1,0 +1,140 @@
+//! The types that type names name, and the types of messages that a module defines.
+ghost use Rattle.std.specs.Prelude.{◌≡◌, ◌∷◌, ◌++◌, [], ℕ, List, IfOk, OnOk, map, is_some};
+ghost use Rattle.std.specs.List.{AllZip, list_all};
+ghost use Rattle.tp_setup.specs.Resolved.{IsField, IsNamedType, IsTypeDef, ty_of};
+ghost use Rattle.tp_value.specs.declared.types.TypeDef.{TypeDef};
+
+use crate::unique_names::defined_name;
+use std::alloc::Global;
+use tp_name::fault::{Memory, Refusal, ScriptFault, refused};
+use tp_name::name_set::NameSet;
+use tp_syntax::tree::{Defined, FieldType, TypeName};
+use tp_value::items::Items;
+use tp_value::types::{AddFault, Field, Ty, TypeDef, Types};
+
+/// The type that the name names, where the record and record-of types have these names, or `None`
+/// where it names none. Takes no memory.
+pub fn resolve(types: &NameSet, name: &TypeName) -> Option<Ty>
+    ensures { result ≡ ty_of types.now name.now }
+{
+    match name {
+        TypeName::Integer => Some(Ty::Integer),
+        TypeName::Boolean => Some(Ty::Boolean),
+        TypeName::Charstring => Some(Ty::Charstring),
+        TypeName::Named(name) => match types.find(name.as_str()) {
+            Some(number) => Some(Ty::Named(number)),
+            None => None,
+        },
+    }
+}
+
+/// Whether the name names a type. Takes no memory.
+pub fn is_type(types: &NameSet, name: &TypeName) -> bool
+    ensures { result ≡ is_some (ty_of types.now name.now) }
+{
+    resolve(types, name).is_some()
+}
+
+/// Whether each of the names names a type. Takes no memory.
+pub fn are_types(types: &NameSet, names: &[TypeName]) -> bool
+    ensures { result ≡ list_all (λ n. is_some (ty_of types.now n)) names.now }
+{
+    names.iter().all(|name| is_type(types, name))
+}
+
+/// A field of a record type. 11 `Unknown` at the line where its type is unknown.
+fn make_field(
+    alloc: Global,
+    types: &NameSet,
+    field: &FieldType,
+    line: u32,
+) -> Result<Field, ScriptFault>
+    ensures { IfOk result (IsField types.now field.now) }
+{
+    let Some(ty) = resolve(types, &field.type_name) else {
+        return Err(refused(Refusal::Unknown, line));
+    };
+    let name = Items::from_slice(alloc, field.name.name.as_bytes())?;
+    Ok(Field { name, ty })
+}
+
+/// The fields of a record type.
+fn make_fields(
+    alloc: Global,
+    types: &NameSet,
+    fields: &[FieldType],
+    line: u32,
+) -> Result<Items<Field>, ScriptFault>
+    ensures { IfOk result (AllZip (IsField types.now) fields.now) }
+{
+    let mut made = Items::new(alloc);
+    for field in fields {
+        let one = make_field(alloc, types, field, line)?;
+        made.push(one)?;
+    }
+    Ok(made)
+}
+
+/// A record or record-of type.
+fn make_type(
+    alloc: Global,
+    types: &NameSet,
+    defined: &Defined,
+    line: u32,
+) -> Result<TypeDef, ScriptFault>
+    ensures { IfOk result (IsTypeDef types.now defined.now) }
+{
+    match defined {
+        Defined::Record(record) => {
+            let fields = make_fields(alloc, types, &record.fields, line)?;
+            Ok(TypeDef::Record(fields))
+        }
+        Defined::List(list) => {
+            let Some(element) = resolve(types, &list.element) else {
+                return Err(refused(Refusal::Unknown, line));
+            };
+            Ok(TypeDef::ListOf(element))
+        }
+        _ => Err(refused(Refusal::Unknown, line)),
+    }
+}
+
+/// The types that are defined, under their own names, in the order of the text, where the record and
+/// record-of types have these names.
+///
+/// 15 `Limit` at line 0 where there are 4,294,967,295 types. 50 `Memory` only where an allocation was
+/// refused.
+pub fn make_types(
+    alloc: Global,
+    names: &NameSet,
+    definitions: &[&Defined],
+) -> Result<Types, ScriptFault>
+    ensures { IfOk result (AllZip (IsNamedType names.now) (map (λ x. x.now) definitions.now)) }
+{
+    let mut types = Types::new(alloc);
+    for defined in definitions {
+        add_type(alloc, names, defined, &mut types)?;
+    }
+    Ok(types)
+}
+
+/// Adds the type that is defined.
+fn add_type(
+    alloc: Global,
+    names: &NameSet,
+    defined: &Defined,
+    types: &mut Types,
+) -> Result<(), ScriptFault>
+    ensures { OnOk result ((t : List ℕ × TypeDef) × IsNamedType names.now defined.now t × (types.new ≡ types.old ++ t ∷ [])) }
+{
+    let definition = make_type(alloc, names, defined, 0)?;
+    let name = String::from_str(alloc, defined_name(defined))?;
+    if types.len() >= u32::MAX as usize {
+        return Err(ScriptFault::limit(0));
+    }
+    match types.add(name, definition) {
+        Ok(_) => Ok(()),
+        Err(AddFault::Duplicate) => Err(refused(Refusal::Duplicate, 0)),
+        Err(AddFault::Memory) => Err(ScriptFault::Memory(Memory)),
+    }
+}

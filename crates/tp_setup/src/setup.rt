@@ -1,0 +1,246 @@
+//! The third pass of the checks: the connections and mappings of the test case.
+ghost use Rattle.std.specs.Prelude.{◌≡◌, ◌≤◌, ◌++◌, All, IfOk, IfSome, OnOk, length, map};
+ghost use Rattle.tp_config.specs.Shape.{ports_of};
+ghost use Rattle.tp_setup.specs.Sorted.{AreComponentsNamed};
+ghost use Rattle.std.specs.Option.{option_map, option_to_list};
+ghost use Rattle.tp_setup.specs.Components.{creation_of, variable, variables};
+ghost use Rattle.tp_setup.specs.Configuring.{AreSoundVariables, Connects, IsEnd, IsSetUp, IsStep, Makes, Maps, component_at, most_variables};
+
+use crate::components::{Stopped, add_component, add_interface, create_components, ports_of_type};
+use crate::sorted::Sorted;
+use crate::unique_names::CaseAt;
+use std::alloc::Global;
+use tp_config::config::Config;
+use tp_config::connecting::ConnectFault;
+use tp_config::mapping::MapFault;
+use tp_config::port_type::{COMPONENT_LIMIT, CompId, CompType, PORT_LIMIT, PortRef, Role};
+use tp_name::fault::{Memory, Refusal, ScriptFault, refused};
+use tp_name::name_set::NameSet;
+use tp_syntax::tree::{End, EndComponent, Setup, SetupAction, TestCase};
+
+/// The component that is named, where the component variables so far have these names, or `None` where
+/// there is none. Takes no memory.
+fn find_component(
+    known: &NameSet,
+    system: Option<CompId>,
+    component: &EndComponent,
+) -> Option<CompId>
+    ensures { IfSome result (λ comp. component_at known.now (option_map (λ c. c.0) system) component.now ≡ Some comp.0) }
+{
+    match component {
+        EndComponent::Mtc | EndComponent::SelfComponent => Some(CompId(0)),
+        EndComponent::System => system,
+        EndComponent::Named(name) => {
+            let Some(place) = known.find(name.as_str()) else {
+                return None;
+            };
+            if place == u32::MAX {
+                return None;
+            }
+            Some(CompId(place + 1))
+        }
+    }
+}
+
+/// The port that is named. 11 `Unknown` at the line where its component or the port is unknown.
+fn find_end(
+    config: &Config,
+    known: &NameSet,
+    system: Option<CompId>,
+    end: &End,
+    line: u32,
+) -> Result<PortRef, ScriptFault>
+    ensures { IfOk result (IsEnd config.now known.now (option_map (λ c. c.0) system) end.now) }
+{
+    let Some(comp) = find_component(known, system, &end.component) else {
+        return Err(refused(Refusal::Unknown, line));
+    };
+    let Some(port) = config.port_of(comp, end.port.as_str()) else {
+        return Err(refused(Refusal::Unknown, line));
+    };
+    Ok(port)
+}
+
+/// The refusal of a connection, at a line.
+fn connect_fault(fault: ConnectFault, line: u32) -> ScriptFault {
+    match fault {
+        ConnectFault::Memory => ScriptFault::Memory(Memory),
+        _ => refused(fault.refusal(), line),
+    }
+}
+
+/// The refusal of a mapping, at a line.
+fn map_fault(fault: MapFault, line: u32) -> ScriptFault {
+    match fault {
+        MapFault::Memory => ScriptFault::Memory(Memory),
+        _ => refused(fault.refusal(), line),
+    }
+}
+
+/// Connects two ports: 11 `Unknown` where one is unknown, and the refusals of [`Config::connect`], at the
+/// line.
+fn connect(
+    config: &mut Config,
+    known: &NameSet,
+    system: Option<CompId>,
+    first: &End,
+    second: &End,
+    line: u32,
+) -> Result<(), ScriptFault>
+    ensures { OnOk result (Connects config.old known.now (option_map (λ c. c.0) system) first.now second.now config.new) }
+{
+    let p = find_end(config, known, system, first, line)?;
+    let q = find_end(config, known, system, second, line)?;
+    match config.connect(p, q) {
+        Ok(()) => Ok(()),
+        Err(fault) => Err(connect_fault(fault, line)),
+    }
+}
+
+/// Maps two ports: 11 `Unknown` where one is unknown, and the refusals of [`Config::map`], at the line.
+fn map(
+    config: &mut Config,
+    known: &NameSet,
+    system: Option<CompId>,
+    first: &End,
+    second: &End,
+    line: u32,
+) -> Result<(), ScriptFault>
+    ensures { OnOk result (Maps config.old known.now (option_map (λ c. c.0) system) first.now second.now config.new) }
+{
+    let p = find_end(config, known, system, first, line)?;
+    let q = find_end(config, known, system, second, line)?;
+    match config.map(p, q) {
+        Ok(()) => Ok(()),
+        Err(fault) => Err(map_fault(fault, line)),
+    }
+}
+
+/// Does what one setup statement says, in a configuration whose components are all there.
+fn step<'m>(
+    config: &mut Config,
+    known: &mut NameSet<'m>,
+    system: Option<CompId>,
+    setup: &'m Setup,
+) -> Result<(), ScriptFault>
+    ensures step { OnOk result (IsStep config.old known.old (option_map (λ c. c.0) system) setup.now.action config.new) }
+    ensures known { OnOk result (known.new ≡ known.old ++ option_to_list (option_map variable (creation_of setup.now))) }
+{
+    let line = setup.line;
+    match &setup.action {
+        SetupAction::Create(creation) => match known.add(creation.name.as_str()) {
+            Ok(()) => Ok(()),
+            Err(fault) => Err(fault.at(line)),
+        },
+        SetupAction::Connect(p, q) => connect(config, known, system, p, q, line),
+        SetupAction::Map(p, q) => map(config, known, system, p, q, line),
+    }
+}
+
+/// Makes the connections and mappings of the setup statements, one after the other, in a configuration
+/// whose components are all there, and answers the component variables.
+///
+/// The first statement that breaks a rule stops it: 11 `Unknown` where a component or a port is unknown,
+/// then the refusals of [`Config::connect`] and [`Config::map`] in their order, at its line, or 50
+/// `Memory`.
+pub fn connect_all<'m>(
+    alloc: Global,
+    config: &mut Config,
+    system: Option<CompId>,
+    setups: &'m [Setup],
+) -> Result<NameSet<'m>, ScriptFault>
+    ensures known { IfOk result (λ known. known ≡ variables setups.now) }
+    ensures makes { OnOk result (Makes (option_map (λ c. c.0) system) config.old setups.now config.new) }
+{
+    let mut known = NameSet::new(alloc);
+    for setup in setups {
+        step(config, &mut known, system, setup)?;
+    }
+    Ok(known)
+}
+
+/// The configuration of a test case, and its component variables.
+#[derive(Drop)]
+pub struct SetUp<'m> {
+    /// The configuration: `mtc`, the components that are made, and the test system interface, in this
+    /// order.
+    pub config: Config,
+    /// The component variables, in the order of the text. The number of a variable's component is one
+    /// more than the number of its name.
+    pub variables: NameSet<'m>,
+}
+
+/// How many component variables a test case may have. Takes no memory.
+fn most_variables(case: &TestCase) -> usize
+    ensures { result ≡ most_variables case.now }
+{
+    if case.system.is_some() {
+        COMPONENT_LIMIT - 2
+    } else {
+        COMPONENT_LIMIT - 1
+    }
+}
+
+/// The fault of the setup statements, where making the components stopped: that of a connection or mapping
+/// before it, or its own.
+fn first_fault(
+    alloc: Global,
+    config: &mut Config,
+    types: &NameSet,
+    case: CaseAt<'_>,
+    stopped: Stopped<'_>,
+) -> ScriptFault {
+    let system = match add_interface(alloc, config, types, case.case, case.line) {
+        Ok(system) => system,
+        Err(fault) => return fault,
+    };
+    match connect_all(alloc, config, system, stopped.before) {
+        Ok(_) => stopped.fault,
+        Err(fault) => fault,
+    }
+}
+
+/// The setup statements of the third pass: the configuration of a test case, where the module's
+/// definitions are sorted so and its component types are these, each with at most 64 ports.
+///
+/// The first statement in the order of the text that breaks a rule is refused at its line. Of a `var`: 12
+/// `Duplicate` where another component variable or a port of the test case's component type has its name,
+/// 11 `Unknown` where its type is unknown, 13 `WrongType` where its two types differ, 15 `Limit` where
+/// there are more than 64 components, `mtc` and `system` counted. Of a `connect` and a `map`: 11 `Unknown`
+/// where a component or a port is unknown, and then the refusals of [`Config::connect`] and
+/// [`Config::map`] in their order. 50 `Memory` only where an allocation was refused.
+pub fn set_up<'m>(
+    alloc: Global,
+    sorted: &Sorted<'m>,
+    case: CaseAt<'m>,
+    components: Vec<CompType>,
+) -> Result<SetUp<'m>, ScriptFault>
+    requires named { AreComponentsNamed sorted.now }
+    requires few { All (λ t. length t.ports.entries ≤ PORT_LIMIT) components.items }
+    ensures config { IfOk result (λ s. IsSetUp sorted.now.component_names (map ports_of components.items) case.entry.case.now s.config) }
+    ensures variables { IfOk result (λ s. s.variables ≡ variables case.entry.case.now.setups.items) }
+    ensures sound { OnOk result (AreSoundVariables sorted.now.component_names (map (λ c. c.now) sorted.now.components.items) case.entry.case.now) }
+{
+    let types = &sorted.component_names;
+    let runs_on = case.case.runs_on.as_str();
+    let ports = ports_of_type(alloc, sorted, runs_on, case.line)?;
+    let most = most_variables(case.case);
+    let mut config = Config::new(alloc, components);
+    add_component(
+        alloc,
+        &mut config,
+        types,
+        "mtc",
+        runs_on,
+        Role::Test,
+        case.line,
+    )?;
+    let setups = case.case.setups.as_slice();
+    match create_components(alloc, &mut config, types, &ports, most, setups) {
+        Ok(()) => {}
+        Err(stopped) => return Err(first_fault(alloc, &mut config, types, case, stopped)),
+    }
+    let system = add_interface(alloc, &mut config, types, case.case, case.line)?;
+    let variables = connect_all(alloc, &mut config, system, setups)?;
+    Ok(SetUp { config, variables })
+}

@@ -1,0 +1,257 @@
+//! The third pass of the checks: whether the starts obey their rules.
+ghost use Rattle.std.specs.Prelude.{◌≡◌, ◌∷◌, ◌++◌, [], ◌<◌, IfOk, IfSome, IsSome, IsTrue, OnOk, Some, length, map, slice_get, string_bytes};
+ghost use Rattle.std.specs.Option.{option_copied};
+ghost use Rattle.std.specs.List.{AllZip};
+ghost use Rattle.tp_setup.specs.Sorted.{AreFunctionsNamed};
+ghost use Rattle.tp_name.specs.Tables.{AreDistinct};
+ghost use Rattle.tp_setup.specs.Components.{creations, variables};
+ghost use Rattle.tp_setup.specs.Starting.{AreStarts, HasParameterType, IsReference, IsStartPlace, IsStarted, started_names, type_names_of};
+
+use crate::components::as_creation;
+use crate::definitions::is_sut;
+use crate::sorted::Sorted;
+use crate::starts::{Started, Starts};
+use crate::unique_names::CaseAt;
+use std::alloc::Global;
+use tp_config::port_type::CompId;
+use tp_name::fault::{Refusal, ScriptFault, refused};
+use tp_name::name_set::{NameFault, NameSet};
+use tp_syntax::tree::{ComponentName, ComponentStart, Function, Parameter, Setup, TestCase};
+
+/// The component that the argument names, or `None` where there is none. Takes no memory.
+fn find_reference(variables: &NameSet, argument: &ComponentName) -> Option<CompId>
+    ensures { IfSome result (IsReference variables.now argument.now) }
+{
+    match argument {
+        ComponentName::Mtc | ComponentName::SelfComponent => Some(CompId(0)),
+        ComponentName::Named(name) => {
+            let Some(place) = variables.find(name.as_str()) else {
+                return None;
+            };
+            if place == u32::MAX {
+                return None;
+            }
+            Some(CompId(place + 1))
+        }
+    }
+}
+
+fn type_at<'m>(types: &[&'m str], place: u32) -> Option<&'m str>
+    ensures { option_copied result ≡ slice_get (map (λ t. t.now) types.now) place }
+{
+    match types.get(place as usize) {
+        Some(name) => Some(*name),
+        None => None,
+    }
+}
+
+/// Whether the component has the type of this name, where the components have types of these names.
+fn has_type(types: &[&str], comp: CompId, name: &str) -> bool
+    ensures { IsTrue result → slice_get (map (λ t. t.now) types.now) comp.0 ≡ Some name.now }
+{
+    match type_at(types, comp.0) {
+        Some(other) => other == name,
+        None => false,
+    }
+}
+
+/// The component of an argument: 11 `Unknown` where it is unknown, 13 `WrongType` where it has another
+/// type than the parameter.
+fn check_argument(
+    variables: &NameSet,
+    types: &[&str],
+    parameter: &Parameter,
+    argument: &ComponentName,
+    line: u32,
+) -> Result<CompId, ScriptFault>
+    ensures known { IfOk result (IsReference variables.now argument.now) }
+    ensures fits { IfOk result (HasParameterType (map (λ t. t.now) types.now) parameter.now) }
+{
+    let Some(comp) = find_reference(variables, argument) else {
+        return Err(refused(Refusal::Unknown, line));
+    };
+    if !has_type(types, comp, parameter.type_name.as_str()) {
+        return Err(refused(Refusal::WrongType, line));
+    }
+    Ok(comp)
+}
+
+/// The components of the arguments: 13 `WrongType` where there are not as many as parameters.
+fn check_arguments(
+    alloc: Global,
+    variables: &NameSet,
+    types: &[&str],
+    parameters: &[Parameter],
+    start: &ComponentStart,
+) -> Result<Vec<CompId>, ScriptFault>
+    ensures known { IfOk result (λ made. AllZip (IsReference variables.now) start.now.arguments.items made.items) }
+    ensures fits { IfOk result (λ made. AllZip (HasParameterType (map (λ t. t.now) types.now)) parameters.now made.items) }
+{
+    let arguments = start.arguments.as_slice();
+    if arguments.len() != parameters.len() {
+        return Err(refused(Refusal::WrongType, start.line));
+    }
+    let mut made = Vec::new(alloc);
+    for i in 0..arguments.len() {
+        let comp = check_argument(variables, types, &parameters[i], &arguments[i], start.line)?;
+        made.push(comp)?;
+    }
+    Ok(made)
+}
+
+fn function_at<'m>(functions: &[&'m Function], place: u32) -> Option<&'m Function>
+    ensures { option_copied result ≡ slice_get (map (λ f. f.now) functions.now) place }
+{
+    match functions.get(place as usize) {
+        Some(function) => Some(*function),
+        None => None,
+    }
+}
+
+/// What a start starts, where its component is started once.
+fn check_start(
+    alloc: Global,
+    sorted: &Sorted,
+    variables: &NameSet,
+    types: &[&str],
+    start: &ComponentStart,
+) -> Result<Started, ScriptFault>
+    requires { AreFunctionsNamed sorted.now }
+    ensures { IfOk result (IsStarted (map (λ f. f.now) sorted.now.functions.items) variables.now (map (λ t. t.now) types.now) start.now) }
+{
+    let line = start.line;
+    let Some(comp) = variables.find(start.component.as_str()) else {
+        return Err(refused(Refusal::Unknown, line));
+    };
+    let Some(place) = sorted.function_names.find(start.function.as_str()) else {
+        return Err(refused(Refusal::Unknown, line));
+    };
+    let Some(function) = function_at(&sorted.functions, place) else {
+        return Err(refused(Refusal::Unknown, line));
+    };
+    if is_sut(start.function.as_str()) {
+        return Err(refused(Refusal::NotInSut, line));
+    }
+    if comp == u32::MAX || !has_type(types, CompId(comp + 1), function.runs_on.as_str()) {
+        return Err(refused(Refusal::WrongType, line));
+    }
+    let arguments = check_arguments(alloc, variables, types, &function.parameters, start)?;
+    Ok(Started {
+        function: place,
+        arguments,
+    })
+}
+
+/// The names of the types of `mtc` and of the components that are made.
+fn component_types(alloc: Global, case: &TestCase) -> Result<Vec<&str>, ScriptFault>
+    ensures { IfOk result (λ made. map (λ t. t.now) made.items ≡ type_names_of case.now) }
+{
+    let mut types = Vec::new(alloc);
+    types.push(case.runs_on.as_str())?;
+    for setup in &case.setups {
+        let Some(creation) = as_creation(setup) else {
+            continue;
+        };
+        types.push(creation.type_name.as_str())?;
+    }
+    Ok(types)
+}
+
+/// Adds the component that is started: 11 `Unknown` where there is no such component variable, 18
+/// `NotStarted` where it was started before.
+fn add_started<'m>(
+    variables: &NameSet,
+    started: &mut NameSet<'m>,
+    start: &'m ComponentStart,
+) -> Result<(), ScriptFault>
+    ensures added { OnOk result (started.new ≡ started.old ++ string_bytes start.now.component ∷ []) }
+    ensures distinct { OnOk result (AreDistinct started.new) }
+{
+    if !variables.has(start.component.as_str()) {
+        return Err(refused(Refusal::Unknown, start.line));
+    }
+    match started.add(start.component.as_str()) {
+        Ok(()) => Ok(()),
+        Err(NameFault::Duplicate) => Err(refused(Refusal::NotStarted, start.line)),
+        Err(fault) => Err(fault.at(start.line)),
+    }
+}
+
+/// The places of the starts of the component variables among the components that are started. 18
+/// `NotStarted` at the line of the first variable whose component is not started.
+fn find_starts(alloc: Global, started: &NameSet, setups: &[Setup]) -> Result<Vec<u32>, ScriptFault>
+    ensures { IfOk result (λ places. AllZip (IsStartPlace started.now) (variables setups.now) places.items) }
+{
+    let mut places = Vec::new(alloc);
+    for setup in setups {
+        let Some(creation) = as_creation(setup) else {
+            continue;
+        };
+        let Some(place) = started.find(creation.name.as_str()) else {
+            return Err(refused(Refusal::NotStarted, setup.line));
+        };
+        places.push(place)?;
+    }
+    Ok(places)
+}
+
+/// 17 `NoDone` at the line where the test case starts components and does not end with
+/// `all component.done`.
+fn check_done(case: &TestCase, places: &[u32], line: u32) -> Result<(), ScriptFault>
+    ensures { OnOk result (0 < length places.now → IsSome case.now.all_done) }
+{
+    if case.all_done.is_some() || places.is_empty() {
+        return Ok(());
+    }
+    Err(refused(Refusal::NoDone, line))
+}
+
+/// What the starts start, one after the other, and the components that they start.
+fn check_each<'m>(
+    alloc: Global,
+    sorted: &Sorted,
+    variables: &NameSet,
+    types: &[&str],
+    starts: &'m [ComponentStart],
+) -> Result<(NameSet<'m>, Vec<Started>), ScriptFault>
+    requires { AreFunctionsNamed sorted.now }
+    ensures started { IfOk result (λ r. AllZip (IsStarted (map (λ f. f.now) sorted.now.functions.items) variables.now (map (λ t. t.now) types.now)) starts.now r.1.items) }
+    ensures names { IfOk result (λ r. r.0 ≡ started_names starts.now) }
+    ensures distinct { IfOk result (λ r. AreDistinct r.0) }
+{
+    let mut names = NameSet::new(alloc);
+    let mut started = Vec::new(alloc);
+    for start in starts {
+        add_started(variables, &mut names, start)?;
+        let one = check_start(alloc, sorted, variables, types, start)?;
+        started.push(one)?;
+    }
+    Ok((names, started))
+}
+
+/// The starts of the third pass: what they start, where the module's definitions are sorted so and the
+/// component variables have these names.
+///
+/// The first start in the order of the text that breaks a rule is refused at its line: 11 `Unknown` where
+/// there is no such component variable, 18 `NotStarted` where it was started before, 11 where there is no
+/// such function, 16 `NotInSut` where it is `sut`, 13 `WrongType` where it runs on another type than the
+/// component's or has another number of parameters, and for each argument 11 where it is unknown and 13
+/// where it has another type than its parameter. Then 18 at the line of the first `var` whose component is
+/// not started, and 17 `NoDone` at the line of the test case where it makes components and does not end
+/// with `all component.done`. 50 `Memory` only where an allocation was refused.
+pub fn check_starts(
+    alloc: Global,
+    sorted: &Sorted,
+    case: CaseAt<'_>,
+    names: &NameSet,
+) -> Result<Starts, ScriptFault>
+    requires named { AreFunctionsNamed sorted.now }
+    requires variables { names.now ≡ variables case.case.now.setups.items }
+    ensures { IfOk result (AreStarts (map (λ f. f.now) sorted.now.functions.items) case.entry.case.now) }
+{
+    let types = component_types(alloc, case.case)?;
+    let (started, starts) = check_each(alloc, sorted, names, &types, &case.case.starts)?;
+    let places = find_starts(alloc, &started, &case.case.setups)?;
+    check_done(case.case, &places, case.line)?;
+    Ok(Starts { starts, places })
+}

@@ -1,0 +1,169 @@
+//! The first pass of the checks: names are given once, and there is one test case.
+ghost use Rattle.std.specs.Prelude.{◌≡◌, ◌∷◌, ◌++◌, [], IfOk, OnOk, map, string_bytes};
+ghost use Rattle.std.specs.Option.{option_map, option_to_list};
+ghost use Rattle.tp_name.specs.Tables.{AreDistinct};
+ghost use Rattle.tp_setup.specs.Definitions.{case_of, name_of, declared, declared_ports, inner_names, test_cases};
+ghost use Rattle.tp_setup.specs.Rules.{HasUniqueNames};
+ghost use Rattle.tp_setup.specs.Cases.{cases_of};
+
+use std::alloc::Global;
+use tp_name::fault::{Refusal, ScriptFault, refused};
+use tp_name::name_set::NameSet;
+use tp_syntax::tree::{
+    DeclaredName, Defined, Definition, FieldType, Module, Parameter, PortDeclaration, TestCase,
+};
+
+/// A test case with the line of its first token.
+#[derive(Clone, Copy)]
+pub struct CaseAt<'m> {
+    /// The line.
+    pub line: u32,
+    /// The test case.
+    pub case: &'m TestCase,
+}
+
+/// Adds the name that is declared. 12 `Duplicate` at its line.
+fn declare<'m>(names: &mut NameSet<'m>, name: &'m DeclaredName) -> Result<(), ScriptFault>
+    ensures names { OnOk result (names.new ≡ names.old ++ declared name.now ∷ []) }
+    ensures distinct { AreDistinct names.new }
+{
+    match names.add(name.name.as_str()) {
+        Ok(()) => Ok(()),
+        Err(fault) => Err(fault.at(name.line)),
+    }
+}
+
+/// Adds the names that are declared.
+fn declare_all<'m>(names: &mut NameSet<'m>, list: &'m [DeclaredName]) -> Result<(), ScriptFault>
+    requires { AreDistinct names.old }
+    ensures names { OnOk result (names.new ≡ names.old ++ map declared list.now) }
+    ensures distinct { AreDistinct names.new }
+{
+    for name in list {
+        declare(names, name)?;
+    }
+    Ok(())
+}
+
+/// Adds the names of the ports that are declared.
+pub(crate) fn declare_ports<'m>(
+    names: &mut NameSet<'m>,
+    ports: &'m [PortDeclaration],
+) -> Result<(), ScriptFault>
+    requires { AreDistinct names.old }
+    ensures names { OnOk result (names.new ≡ names.old ++ declared_ports ports.now) }
+    ensures distinct { AreDistinct names.new }
+{
+    for port in ports {
+        declare_all(names, &port.names)?;
+    }
+    Ok(())
+}
+
+/// Adds the names of the fields.
+fn declare_fields<'m>(names: &mut NameSet<'m>, fields: &'m [FieldType]) -> Result<(), ScriptFault>
+    requires { AreDistinct names.old }
+    ensures names { OnOk result (names.new ≡ names.old ++ map (λ f. declared f.name) fields.now) }
+    ensures distinct { AreDistinct names.new }
+{
+    for field in fields {
+        declare(names, &field.name)?;
+    }
+    Ok(())
+}
+
+/// Adds the names of the parameters.
+pub fn declare_parameters<'m>(
+    names: &mut NameSet<'m>,
+    parameters: &'m [Parameter],
+) -> Result<(), ScriptFault>
+    requires { AreDistinct names.old }
+    ensures names { OnOk result (names.new ≡ names.old ++ map (λ p. declared p.name) parameters.now) }
+    ensures distinct { AreDistinct names.new }
+{
+    for parameter in parameters {
+        declare(names, &parameter.name)?;
+    }
+    Ok(())
+}
+
+/// Looks at the names of the fields, ports or parameters of a definition. 12 `Duplicate` at the line
+/// of the second of two that are equal.
+fn check_inner(alloc: Global, definition: &Definition) -> Result<(), ScriptFault>
+    ensures { OnOk result (AreDistinct (inner_names definition.now.defined)) }
+{
+    let mut names = NameSet::new(alloc);
+    match &definition.defined {
+        Defined::Record(record) => declare_fields(&mut names, &record.fields),
+        Defined::Component(component) => declare_ports(&mut names, &component.ports),
+        Defined::Function(function) => declare_parameters(&mut names, &function.parameters),
+        Defined::List(_) | Defined::Port(_) | Defined::TestCase(_) => Ok(()),
+    }
+}
+
+/// The name that is defined.
+pub(crate) fn defined_name(defined: &Defined) -> &str
+    ensures { result.now ≡ name_of defined.now }
+{
+    match defined {
+        Defined::Record(record) => record.name.as_str(),
+        Defined::List(list) => list.name.as_str(),
+        Defined::Port(port) => port.name.as_str(),
+        Defined::Component(component) => component.name.as_str(),
+        Defined::Function(function) => function.name.as_str(),
+        Defined::TestCase(case) => case.name.as_str(),
+    }
+}
+
+/// The test case so far, where one more definition is looked at. 12 `Duplicate` at its line where it
+/// is a second test case.
+fn next_case<'m>(
+    before: Option<CaseAt<'m>>,
+    definition: &'m Definition,
+) -> Result<Option<CaseAt<'m>>, ScriptFault>
+    ensures { IfOk result (λ after. cases_of after ≡ cases_of before.entry ++ option_to_list (case_of definition.now.defined)) }
+{
+    let Defined::TestCase(case) = &definition.defined else {
+        return Ok(before);
+    };
+    if before.is_some() {
+        return Err(refused(Refusal::Duplicate, definition.line));
+    }
+    Ok(Some(CaseAt {
+        line: definition.line,
+        case,
+    }))
+}
+
+/// Whether it is a test case.
+fn is_case(definition: &Definition) -> bool {
+    matches!(&definition.defined, Defined::TestCase(_))
+}
+
+/// The first pass: the test case of the module.
+///
+/// 11 `Unknown` at the line of the module where it has none. Then, in the order of the text: 12
+/// `Duplicate` at the line of the second of two definitions with one name, of a second test case, and
+/// of the second of two equal names of fields, ports or parameters in one definition. 50 `Memory` only
+/// where an allocation was refused.
+pub fn check_names(alloc: Global, parsed: &Module) -> Result<CaseAt<'_>, ScriptFault>
+    ensures case { IfOk result (λ found. test_cases parsed.now ≡ found.case.now ∷ []) }
+    ensures names { OnOk result (HasUniqueNames parsed.now) }
+{
+    if !parsed.definitions.iter().any(is_case) {
+        return Err(refused(Refusal::Unknown, parsed.line));
+    }
+    let mut names = NameSet::new(alloc);
+    let mut case = None;
+    for definition in &parsed.definitions {
+        if let Err(fault) = names.add(defined_name(&definition.defined)) {
+            return Err(fault.at(definition.line));
+        }
+        case = next_case(case, definition)?;
+        check_inner(alloc, definition)?;
+    }
+    match case {
+        Some(found) => Ok(found),
+        None => Err(refused(Refusal::Unknown, parsed.line)),
+    }
+}
