@@ -1,0 +1,12 @@
+pub mod Rules
+pub mod Placed
+pub mod Entries
+pub mod ValueRules
+pub mod TemplateRules
+pub mod OperationRules
+pub mod VariableRules
+pub mod StatementRules
+pub mod PortRules
+pub mod Counting
+pub mod Filling
+pub mod Closed

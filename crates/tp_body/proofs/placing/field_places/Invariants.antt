@@ -1,0 +1,12 @@
+use Rattle.std.proofs.Common.{◌≡◌, ℕ, true, slice_get, Some, length, Contains}
+use Rattle.tp_name.specs.Named.{texts}
+use Rattle.tp_body.specs.Placing.{field_names}
+use Rattle.tp_body.proofs.placing.field_places.Given as goal
+
+abbrev pub invariant-loop-index : goal.invariant-loop-index
+invariant-loop-index l = record {
+  as_many : length l.taken.items ≡ length l.fields;
+  passed : length l.places.items ≡ l.index;
+  same_name : (i k : ℕ) → slice_get l.places.items i ≡ Some k → slice_get (field_names l.fields) k ≡ slice_get (texts l.names) i;
+  each : (k : ℕ) → slice_get l.taken.items k ≡ Some true → Contains l.places.items k;
+}

@@ -1,0 +1,6 @@
+use Rattle.std.proofs.Common.{take}
+use Rattle.tp_body.specs.Bodies.{AreVariables}
+use Rattle.tp_body.proofs.variables.resolve_variables.Given as goal
+
+abbrev pub invariant-loop-variable : goal.invariant-loop-variable
+invariant-loop-variable l = AreVariables l.scope (take l.variable-index l.declared) l.variables

@@ -1,0 +1,15 @@
+-- Which entry stands for which field.
+use Rattle.std.specs.Prelude.{◌≡◌, ◌<◌, ℕ, List, map, Some, length, slice_get, Contains}
+use Rattle.tp_value.specs.declared.types.Field.{Field}
+
+-- the names of the fields, in declared order
+abbrev pub field_names : List Field → List (List ℕ)
+field_names fields = map (λ f. f.name) fields
+
+-- the entries of these names stand at these places of the fields: each has the name of its field, and each field
+-- has an entry
+pub record IsPlacing (fields : List Field) (names : List (List ℕ)) (places : List ℕ) : Type 0 where
+  pub count : length names ≡ length fields
+  pub as_many : length places ≡ length names
+  pub same_name : (i k : ℕ) → slice_get places i ≡ Some k → slice_get (field_names fields) k ≡ slice_get names i
+  pub each : (k : ℕ) → k < length fields → Contains places k

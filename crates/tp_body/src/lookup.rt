@@ -1,0 +1,129 @@
+//! Looking names up.
+ghost use Rattle.std.specs.Prelude.{◌≡◌, ◌++◌, ◌↔◌, Contains, IsTrue, IfNone, IfSome};
+ghost use Rattle.tp_name.specs.Named.{IsAbsent, IsPlace, texts};
+ghost use Rattle.tp_body.specs.Scoping.{IsPort, IsReference, IsType, IsVariable, port_names, receives, sends};
+
+use crate::body::VariableType;
+use crate::scope::{Behaviour, Scope, Variables};
+use tp_config::port_type::{CompType, PortType};
+use tp_name::name::{Name, find};
+use tp_syntax::tree::{ComponentName, TypeName};
+use tp_value::types::{Ty, Types};
+
+/// The place of the port of this name, or `None` where no port has it. Takes no memory.
+pub fn place_of_port(ports: &CompType, name: &str) -> Option<usize>
+    ensures there { IfSome result (λ place. IsPlace (port_names ports.now) name.now place) }
+    ensures absent { IfNone result (IsAbsent (port_names ports.now) name.now) }
+{
+    match ports.ports.get_index_of(name) {
+        Some(place) => Some(place),
+        None => None,
+    }
+}
+
+/// The port of this name: its place, and its type. Takes no memory.
+pub fn find_port<'p>(ports: &'p CompType, name: &str) -> Option<(u32, &'p PortType)>
+    ensures { IfSome result (λ found. IsPort ports.now name.now found.0 found.1.now) }
+{
+    let place = place_of_port(ports, name)?;
+    let Some((_, port)) = ports.ports.get_index(place) else {
+        return None;
+    };
+    if place > 0xffff_ffff {
+        return None;
+    }
+    Some((place as u32, port))
+}
+
+/// What the behaviour sends at the port. Takes no memory.
+pub fn sendable(behaviour: Behaviour, port: &PortType) -> &[Ty]
+    ensures { result.now ≡ sends behaviour port.now }
+{
+    match behaviour {
+        Behaviour::TestCase | Behaviour::Function => port.outs.as_slice(),
+        Behaviour::SystemUnderTest => port.ins.as_slice(),
+    }
+}
+
+/// What the behaviour receives at the port. Takes no memory.
+pub fn receivable(behaviour: Behaviour, port: &PortType) -> &[Ty]
+    ensures { result.now ≡ receives behaviour port.now }
+{
+    match behaviour {
+        Behaviour::TestCase | Behaviour::Function => port.ins.as_slice(),
+        Behaviour::SystemUnderTest => port.outs.as_slice(),
+    }
+}
+
+/// Whether the type is among these. Takes no memory.
+pub fn lists(types: &[Ty], ty: Ty) -> bool
+    ensures { IsTrue result ↔ Contains types.now ty }
+{
+    types.contains(&ty)
+}
+
+/// The type of values that a name stands for. Takes no memory.
+#[tactic(auto, using(crate::proofs::Rules::cases))]
+pub fn find_type(types: &Types, name: &TypeName) -> Option<Ty>
+    ensures { IfSome result (IsType types.now name.now) }
+{
+    match name {
+        TypeName::Integer => Some(Ty::Integer),
+        TypeName::Boolean => Some(Ty::Boolean),
+        TypeName::Charstring => Some(Ty::Charstring),
+        TypeName::Named(name) => {
+            let number = types.find(name.as_str())?;
+            Some(Ty::Named(number))
+        }
+    }
+}
+
+/// The variable of this name: its place, and what it holds. Takes no memory.
+pub fn find_variable(variables: &Variables, name: &str) -> Option<(usize, VariableType)>
+    ensures { IfSome result (λ found. IsVariable variables.now name.now found.0 found.1) }
+{
+    let place = variables.names.find(name)? as usize;
+    let held = variables.types.get(place)?;
+    Some((place, *held))
+}
+
+/// The place of a name among the references, from the third on. Takes no memory.
+fn find_component(scope: &Scope, name: &str) -> Option<usize>
+    ensures { IfSome result (IsPlace (scope.now.parameters.now ++ scope.now.components.now) name.now) }
+{
+    if let Some(place) = scope.parameters.find(name) {
+        return Some(place as usize);
+    }
+    let place = scope.components.find(name)?;
+    scope.parameters.len().checked_add(place as usize)
+}
+
+/// The place of a component among the references. Takes no memory.
+#[tactic(auto, using(crate::proofs::Rules::cases))]
+pub fn find_reference(
+    scope: &Scope,
+    variables: &Variables,
+    turns: &[Name],
+    component: &ComponentName,
+) -> Option<usize>
+    ensures { IfSome result (IsReference scope.now variables.now (texts turns.now) component.now) }
+{
+    match component {
+        ComponentName::Mtc => Some(0),
+        ComponentName::SelfComponent => Some(1),
+        ComponentName::Named(name) => {
+            let name = name.as_str();
+            let None = find(turns, name) else {
+                return None;
+            };
+            let None = variables.names.find(name) else {
+                return None;
+            };
+            let place = find_component(scope, name)?;
+            if place > usize::MAX - 2 {
+                return None;
+            }
+            Some(2 + place)
+        }
+    }
+}

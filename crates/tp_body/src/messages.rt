@@ -1,0 +1,225 @@
+//! What the values of messages stand for.
+ghost use Rattle.std.specs.Prelude.{◌≡◌, ◌↔◌, IfOk, IsTrue, length, map, string_bytes};
+ghost use Rattle.tp_value.specs.HasType.{ArePrintable};
+ghost use Rattle.tp_name.specs.Named.{texts};
+ghost use Rattle.tp_body.specs.Placing.{IsPlacing};
+ghost use Rattle.tp_body.specs.Messages.{AreElements, AreFields, AreNamed, IsMessage, IsValue};
+
+use crate::body::{SendMsg, SendValue};
+use crate::lookup::find_type;
+use crate::placing::field_places;
+use std::alloc::Global;
+use tp_name::fault::{Refusal, ScriptFault, refused};
+use tp_name::name::{Name, find};
+use tp_name::name_set::NameSet;
+use tp_syntax::tree::{Message, Value, ValueField};
+use tp_value::items::Items;
+use tp_value::types::{Field, Ty, TypeDef, Types};
+
+/// Where a value or a template stands: what its names may mean, and the line for its refusals.
+#[derive(Clone, Copy)]
+pub struct Context<'a, 'm> {
+    /// The records and lists of the module.
+    pub types: &'a Types,
+    /// The names of the body's variables, none of which may stand in a value.
+    pub variables: &'a NameSet<'m>,
+    /// The loop variables around it, outermost first.
+    pub turns: &'a [Name<'m>],
+    /// The line of its statement.
+    pub line: u32,
+}
+
+impl<'a, 'm> Context<'a, 'm> {
+    /// 13 `WrongType`.
+    pub fn wrong_type(&self) -> ScriptFault {
+        refused(Refusal::WrongType, self.line)
+    }
+
+    /// What a name is refused with that is no loop variable: 13 `WrongType` for a variable of the body,
+    /// otherwise 11 `Unknown`.
+    pub fn no_turn(&self, name: &str) -> ScriptFault {
+        match self.variables.find(name) {
+            Some(_) => refused(Refusal::WrongType, self.line),
+            None => refused(Refusal::Unknown, self.line),
+        }
+    }
+}
+
+/// Whether all are the characters 32 to 126.
+pub fn are_printable(text: &[u8]) -> bool
+    ensures { IsTrue result ↔ ArePrintable text.now }
+{
+    for byte in text {
+        if *byte < 32 || *byte > 126 {
+            return false;
+        }
+    }
+    true
+}
+
+/// What a value of this type stands for.
+///
+/// The first fault from left to right is answered, the number and the names of a record's fields before
+/// what stands in them: 13 `WrongType` for a value of another type, a field that the record hasn't, or
+/// that is missing or given twice, and a variable; 11 `Unknown` for any other name that is no loop
+/// variable; 50.
+#[cycle(value)]
+#[tactic(auto, using(crate::proofs::ValueRules::cases))]
+pub fn resolve_value(
+    alloc: Global,
+    context: &Context,
+    ty: Ty,
+    value: &Value,
+) -> Result<SendValue, ScriptFault>
+    ensures { IfOk result (IsValue context.now.types.now (texts context.now.turns.now) ty value.now) }
+{
+    match value {
+        Value::Int(number) => {
+            let _number = *number;
+            match ty {
+                Ty::Integer => Ok(SendValue::Int(*number)),
+                Ty::Boolean | Ty::Charstring | Ty::Named(_) => Err(context.wrong_type()),
+            }
+        }
+        Value::Bool(truth) => match ty {
+            Ty::Boolean => Ok(SendValue::Bool(*truth)),
+            Ty::Integer | Ty::Charstring | Ty::Named(_) => Err(context.wrong_type()),
+        },
+        Value::Text(text) => {
+            if ty != Ty::Charstring || !are_printable(text) {
+                return Err(context.wrong_type());
+            }
+            Ok(SendValue::Text(Items::from_slice(alloc, text)?))
+        }
+        Value::Name(name) => match find(context.turns, name.as_str()) {
+            Some(place) => match ty {
+                Ty::Integer => Ok(SendValue::Turn(place)),
+                Ty::Boolean | Ty::Charstring | Ty::Named(_) => Err(context.wrong_type()),
+            },
+            None => Err(context.no_turn(name.as_str())),
+        },
+        Value::List(values) => match context.types.definition(ty) {
+            Some(TypeDef::ListOf(element)) => {
+                let made = resolve_elements(alloc, context, *element, values)?;
+                Ok(SendValue::List(made))
+            }
+            Some(TypeDef::Record(fields)) => {
+                let made = resolve_fields(alloc, context, fields.as_slice(), values)?;
+                Ok(SendValue::Record(made))
+            }
+            None => Err(context.wrong_type()),
+        },
+        Value::Record(entries) => match context.types.definition(ty) {
+            Some(TypeDef::Record(fields)) => {
+                let made = resolve_named(alloc, context, fields.as_slice(), entries)?;
+                Ok(SendValue::Record(made))
+            }
+            Some(TypeDef::ListOf(_)) | None => Err(context.wrong_type()),
+        },
+    }
+}
+
+/// What the elements of a record of stand for.
+#[cycle(value)]
+#[tactic(auto, using(crate::proofs::ValueRules::cases))]
+fn resolve_elements(
+    alloc: Global,
+    context: &Context,
+    ty: Ty,
+    values: &[Value],
+) -> Result<Items<SendValue>, ScriptFault>
+    ensures { IfOk result (AreElements context.now.types.now (texts context.now.turns.now) ty values.now) }
+{
+    let mut made = Items::new(alloc);
+    for value in values {
+        let one = resolve_value(alloc, context, ty, value)?;
+        made.push(one)?;
+    }
+    Ok(made)
+}
+
+/// What the fields of a record stand for, which are given by their places.
+#[cycle(value)]
+#[tactic(auto, using(crate::proofs::ValueRules::cases))]
+fn resolve_fields(
+    alloc: Global,
+    context: &Context,
+    fields: &[Field],
+    values: &[Value],
+) -> Result<Items<SendValue>, ScriptFault>
+    ensures { IfOk result (AreFields context.now.types.now (texts context.now.turns.now) fields.now values.now) }
+{
+    if fields.len() != values.len() {
+        return Err(context.wrong_type());
+    }
+    let mut made = Items::new(alloc);
+    for (index, value) in values.iter().enumerate() {
+        let one = resolve_value(alloc, context, fields[index].ty, value)?;
+        made.push(one)?;
+    }
+    Ok(made)
+}
+
+/// The names of the entries.
+fn entry_names<'v>(alloc: Global, entries: &'v [ValueField]) -> Result<Vec<Name<'v>>, ScriptFault>
+    ensures { IfOk result (λ names. texts names.items ≡ map (λ x. string_bytes x.name) entries.now) }
+{
+    let mut names = Vec::new(alloc);
+    for entry in entries {
+        names.push(Name {
+            text: entry.name.as_str(),
+        })?;
+    }
+    Ok(names)
+}
+
+/// As many values as are needed.
+fn room(alloc: Global, count: usize) -> Result<Vec<SendValue>, ScriptFault>
+    ensures { IfOk result (λ made. length made.items ≡ count) }
+{
+    let mut made = Vec::new(alloc);
+    for _ in 0..count {
+        made.push(SendValue::Bool(false))?;
+    }
+    Ok(made)
+}
+
+/// What the fields of a record stand for, which are given by their names: in declared order.
+#[cycle(value)]
+#[tactic(auto, using(crate::proofs::ValueRules::cases))]
+fn resolve_named(
+    alloc: Global,
+    context: &Context,
+    fields: &[Field],
+    entries: &[ValueField],
+) -> Result<Items<SendValue>, ScriptFault>
+    ensures named { IfOk result (λ made. AreNamed context.now.types.now (texts context.now.turns.now) entries.now fields.now made) }
+    ensures count { IfOk result (λ _. length entries.now ≡ length fields.now) }
+{
+    let names = entry_names(alloc, entries)?;
+    let places = field_places(alloc, fields, &names, context.line)?;
+    let mut made = room(alloc, fields.len())?;
+    for (index, entry) in entries.iter().enumerate() {
+        let place = places[index];
+        let Some(field) = fields.get(place) else {
+            return Err(context.wrong_type());
+        };
+        let one = resolve_value(alloc, context, field.ty, &entry.value)?;
+        made[place] = one;
+    }
+    Ok(Items::from_vec(made))
+}
+
+/// What a message stands for, of a type that is known.
+#[tactic(auto, using(crate::proofs::ValueRules::cases))]
+pub fn resolve_message(
+    alloc: Global,
+    context: &Context,
+    ty: Ty,
+    value: &Value,
+) -> Result<SendMsg, ScriptFault>
+    ensures { IfOk result (λ m. (m.ty ≡ ty) × IsValue context.now.types.now (texts context.now.turns.now) ty value.now m.value) }
+{
+    let value = resolve_value(alloc, context, ty, value)?;
+    Ok(SendMsg { ty, value })
+}

@@ -1,0 +1,114 @@
+//! Which entry stands for which field.
+ghost use Rattle.std.specs.Prelude.{◌≡◌, ◌<◌, ℕ, true, IfOk, IfSome, IsTrue, length, slice_get, slice_set};
+ghost use Rattle.tp_name.specs.Named.{texts};
+ghost use Rattle.tp_body.specs.Placing.{IsPlacing, field_names};
+
+use indexmap::IndexSet;
+use std::alloc::Global;
+use tp_name::fault::{Memory, Refusal, ScriptFault, refused};
+use tp_name::name::Name;
+use tp_value::types::Field;
+
+/// Whether the field at this place has this name.
+fn is_field(fields: &[Field], place: usize, name: &str) -> bool
+    ensures { IsTrue result → slice_get (field_names fields.now) place ≡ Some name.now }
+{
+    match fields.get(place) {
+        Some(field) => field.name.as_slice() == name.as_bytes(),
+        None => false,
+    }
+}
+
+/// Puts the names of the fields into the table, in declared order. A name that stands twice is put in
+/// once. 50 `Memory` only where an allocation was refused.
+fn list_names<'f>(table: &mut IndexSet<&'f [u8]>, fields: &'f [Field]) -> Result<(), ScriptFault> {
+    for field in fields {
+        let Ok(_) = table.insert(field.name.as_slice()) else {
+            return Err(ScriptFault::Memory(Memory));
+        };
+    }
+    Ok(())
+}
+
+/// A place at which the field of this name stands, or `None` where there is none. It looks at the given
+/// place first, where a field in declared order stands, and then into the table, which holds the names of
+/// the fields once one was looked for there. 50 `Memory` only where an allocation was refused.
+fn find_field<'f>(
+    fields: &'f [Field],
+    table: &mut IndexSet<&'f [u8]>,
+    likely: usize,
+    name: &str,
+) -> Result<Option<usize>, ScriptFault>
+    ensures { IfOk result (λ found. IfSome found (λ place. slice_get (field_names fields.now) place ≡ Some name.now)) }
+{
+    if is_field(fields, likely, name) {
+        return Ok(Some(likely));
+    }
+    if table.is_empty() {
+        list_names(table, fields)?;
+    }
+    let Some(place) = table.get_index_of(name.as_bytes()) else {
+        return Ok(None);
+    };
+    if !is_field(fields, place, name) {
+        return Ok(None);
+    }
+    Ok(Some(place))
+}
+
+/// Takes the place, and says whether it was free.
+fn occupy(taken: &mut Vec<bool>, place: usize) -> bool
+    ensures { IsTrue result → taken.new.items ≡ slice_set taken.old.items place true }
+{
+    if place < taken.len() && !taken[place] {
+        taken[place] = true;
+        return true;
+    }
+    false
+}
+
+/// Whether all places are taken.
+fn are_all(taken: &[bool]) -> bool
+    ensures { IsTrue result → (k : ℕ) → k < length taken.now → slice_get taken.now k ≡ Some true }
+{
+    for place in taken {
+        if !*place {
+            return false;
+        }
+    }
+    true
+}
+
+/// The places of the fields that the entries of these names stand for: each field has exactly one entry.
+///
+/// 13 `WrongType` at the line where there are more or fewer entries than fields, a name that no field
+/// has, or a name given twice; 50.
+pub fn field_places(
+    alloc: Global,
+    fields: &[Field],
+    names: &[Name],
+    line: u32,
+) -> Result<Vec<usize>, ScriptFault>
+    ensures { IfOk result (λ places. IsPlacing fields.now (texts names.now) places.items) }
+{
+    if names.len() != fields.len() {
+        return Err(refused(Refusal::WrongType, line));
+    }
+    let mut taken = vec![in alloc; false; fields.len()]?;
+    let mut table = IndexSet::new(alloc);
+    let mut places = Vec::new(alloc);
+    for (index, name) in names.iter().enumerate() {
+        let found = find_field(fields, &mut table, index, name.text)?;
+        let Some(place) = found else {
+            return Err(refused(Refusal::WrongType, line));
+        };
+        if !occupy(&mut taken, place) {
+            return Err(refused(Refusal::WrongType, line));
+        }
+        places.push(place)?;
+    }
+    if !are_all(&taken) {
+        return Err(refused(Refusal::WrongType, line));
+    }
+    Ok(places)
+}

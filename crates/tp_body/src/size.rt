@@ -1,0 +1,95 @@
+//! How many statements a body has.
+ghost use Rattle.std.specs.Prelude.{◌≡◌};
+ghost use Rattle.tp_body.specs.Sizes.{capped, size_in, size_in_all, size_of, size_of_all, size_of_body, turns_between};
+
+use crate::body::{Body, Branch, Statement};
+
+/// Where counting stops: one more than the statements that all bodies of a test case may come to.
+pub const COUNTED: u64 = 100_001;
+
+/// The smaller of a number and the one where counting stops.
+pub fn cap(number: u64) -> u64
+    ensures { result ≡ capped number }
+{
+    if number < COUNTED { number } else { COUNTED }
+}
+
+/// The turns of a `for` from this first value to this bound.
+fn turns(first: &i64, bound: &i64) -> u64
+    ensures { result ≡ turns_between first.now bound.now }
+{
+    if *first < *bound {
+        return bound.abs_diff(*first);
+    }
+    0
+}
+
+/// The size of a statement, up to [`COUNTED`].
+#[cycle(size)]
+#[tactic(auto, using(crate::proofs::Counting::laws))]
+fn count_statement(statement: &Statement) -> u64
+    ensures { result ≡ capped (size_of statement.now) }
+{
+    match statement {
+        Statement::Send(_) => 1,
+        Statement::Receive(_) => 1,
+        Statement::Control(_, _) => 1,
+        Statement::AllPorts(_) => 1,
+        Statement::SetVerdict(_) => 1,
+        Statement::Alt(branches, otherwise) => {
+            let inner = count_branches(branches.as_slice());
+            let Some(block) = otherwise else {
+                return cap(1 + inner);
+            };
+            cap(1 + inner + count_block(block.as_slice()))
+        }
+        Statement::For(first, bound, block) => {
+            cap(1 + cap(turns(first, bound)) * count_block(block.as_slice()))
+        }
+    }
+}
+
+/// The size of a block, up to [`COUNTED`].
+#[cycle(size)]
+#[tactic(auto, using(crate::proofs::Counting::laws))]
+fn count_block(block: &[Statement]) -> u64
+    ensures { result ≡ capped (size_of_all block.now) }
+{
+    let mut sum = 0;
+    for statement in block {
+        sum = cap(sum + count_statement(statement));
+    }
+    sum
+}
+
+/// The size of a branch, up to [`COUNTED`].
+#[cycle(size)]
+#[tactic(auto, using(crate::proofs::Counting::laws))]
+fn count_branch(branch: &Branch) -> u64
+    ensures { result ≡ capped (size_in branch.now) }
+{
+    count_block(branch.block.as_slice())
+}
+
+/// The size of the branches of an `alt`, up to [`COUNTED`].
+#[cycle(size)]
+#[tactic(auto, using(crate::proofs::Counting::laws))]
+fn count_branches(branches: &[Branch]) -> u64
+    ensures { result ≡ capped (size_in_all branches.now) }
+{
+    let mut sum = 0;
+    for branch in branches {
+        sum = cap(sum + count_branch(branch));
+    }
+    sum
+}
+
+/// How many statements a body has, once each `for` stands for its copies; 100,001 where there are more.
+/// Each variable counts 1. Takes no memory.
+#[tactic(auto, using(crate::proofs::Counting::laws))]
+pub fn count_body(body: &Body) -> u64
+    ensures { result ≡ capped (size_of_body body.now) }
+{
+    let variables = cap(body.variables.len() as u64);
+    cap(variables + count_block(body.statements.as_slice()))
+}

@@ -1,0 +1,258 @@
+//! What statements stand for.
+ghost use Rattle.std.specs.Prelude.{◌≡◌, ◌∷◌, ◌++◌, [], IfOk};
+ghost use Rattle.tp_name.specs.Named.{texts};
+ghost use Rattle.tp_body.specs.Bodies.{AreBranches, IsAfter, IsBlock, IsBody, IsBranch, IsStatement};
+ghost use Rattle.tp_body.specs.Closed.{needed_around_all};
+
+use crate::body::{Body, Branch, Statement};
+use crate::lookup::find_port;
+use crate::operations::{resolve_receive, resolve_send, resolve_verdict};
+use crate::scope::{Behaviour, Scope, Variables};
+use crate::variables::{are_no_ports, is_new, resolve_variables};
+use std::alloc::Global;
+use tp_name::fault::{Refusal, ScriptFault, refused};
+use tp_name::name::Name;
+use tp_syntax::tree;
+use tp_syntax::tree::{Action, BranchBody, Control, PortOperation, Turns, Variable, VerdictName};
+use tp_value::items::Items;
+
+/// The loop variables inside a `for`.
+#[tactic(auto, using(std::proofs::lemmas::List::map_push))]
+fn turns_inside<'m>(
+    alloc: Global,
+    turns: &[Name<'m>],
+    name: &'m str,
+) -> Result<Vec<Name<'m>>, ScriptFault>
+    ensures { IfOk result (λ inside. texts inside.items ≡ texts turns.now ++ name.now ∷ []) }
+{
+    let mut inside = Vec::from_slice(alloc, turns)?;
+    inside.push(Name { text: name })?;
+    Ok(inside)
+}
+
+/// A counted `for`.
+fn counted(turns: &Turns, block: Items<Statement>) -> Statement
+    ensures { result ≡ Statement.For turns.now.first turns.now.bound block }
+{
+    Statement::For(turns.first, turns.bound, block)
+}
+
+/// What an operation on one port stands for: 16 `NotInSut` in the system under test, then 11 `Unknown` for
+/// the port.
+#[tactic(auto, using(crate::proofs::StatementRules::cases))]
+fn resolve_control(
+    scope: &Scope,
+    variables: &Variables,
+    turns: &[Name],
+    line: u32,
+    control: &Control,
+) -> Result<Statement, ScriptFault>
+    ensures { IfOk result (IsStatement scope.now variables.now (texts turns.now) (Action.Control control.now)) }
+{
+    if scope.behaviour == Behaviour::SystemUnderTest {
+        return Err(refused(Refusal::NotInSut, line));
+    }
+    let Some((place, _)) = find_port(scope.ports, control.port.as_str()) else {
+        return Err(refused(Refusal::Unknown, line));
+    };
+    Ok(Statement::Control(place, control.operation))
+}
+
+/// What an operation on all ports stands for: 16 `NotInSut` in the system under test.
+#[tactic(auto, using(crate::proofs::StatementRules::cases))]
+fn resolve_all_ports(
+    scope: &Scope,
+    variables: &Variables,
+    turns: &[Name],
+    line: u32,
+    operation: PortOperation,
+) -> Result<Statement, ScriptFault>
+    ensures { IfOk result (IsStatement scope.now variables.now (texts turns.now) (Action.AllPorts operation)) }
+{
+    if scope.behaviour == Behaviour::SystemUnderTest {
+        return Err(refused(Refusal::NotInSut, line));
+    }
+    Ok(Statement::AllPorts(operation))
+}
+
+/// What `setverdict` stands for: 16 `NotInSut` in the system under test, then 13 `WrongType` for `error`.
+#[tactic(auto, using(crate::proofs::StatementRules::cases))]
+fn resolve_set_verdict(
+    scope: &Scope,
+    variables: &Variables,
+    turns: &[Name],
+    line: u32,
+    name: VerdictName,
+) -> Result<Statement, ScriptFault>
+    ensures { IfOk result (IsStatement scope.now variables.now (texts turns.now) (Action.SetVerdict name)) }
+{
+    if scope.behaviour == Behaviour::SystemUnderTest {
+        return Err(refused(Refusal::NotInSut, line));
+    }
+    let verdict = resolve_verdict(name, line)?;
+    Ok(Statement::SetVerdict(verdict))
+}
+
+/// What a statement stands for.
+///
+/// The first fault in the order of the text is answered, at the line of the statement or branch in which
+/// it stands: those of a send, of a receiving operation, of an operation on ports and of `setverdict`, and
+/// 12 `Duplicate` for a loop variable whose name isn't new, before what stands in its block; 50.
+#[cycle(statement)]
+#[tactic(auto, using(crate::proofs::StatementRules::cases))]
+fn resolve_statement<'m>(
+    alloc: Global,
+    scope: &Scope,
+    variables: &Variables,
+    turns: &[Name<'m>],
+    line: u32,
+    action: &'m Action,
+) -> Result<Statement, ScriptFault>
+    ensures { IfOk result (IsStatement scope.now variables.now (texts turns.now) action.now) }
+{
+    match action {
+        Action::Send(send) => {
+            let sending = resolve_send(alloc, scope, variables, turns, line, send)?;
+            Ok(Statement::Send(sending))
+        }
+        Action::Receive(receive) => {
+            let receiving = resolve_receive(alloc, scope, variables, turns, line, receive)?;
+            Ok(Statement::Receive(receiving))
+        }
+        Action::Control(control) => {
+            let made = resolve_control(scope, variables, turns, line, control)?;
+            Ok(made)
+        }
+        Action::AllPorts(operation) => {
+            let made = resolve_all_ports(scope, variables, turns, line, *operation)?;
+            Ok(made)
+        }
+        Action::SetVerdict(name) => {
+            let made = resolve_set_verdict(scope, variables, turns, line, *name)?;
+            Ok(made)
+        }
+        Action::Alt(branches, otherwise) => {
+            let made = resolve_branches(alloc, scope, variables, turns, branches)?;
+            let Some(otherwise) = otherwise else {
+                return Ok(Statement::Alt(made, None));
+            };
+            let block = resolve_block(alloc, scope, variables, turns, &otherwise.block)?;
+            Ok(Statement::Alt(made, Some(block)))
+        }
+        Action::For(looped) => {
+            let name = looped.turns.name.as_str();
+            if !is_new(scope, variables, turns, name) {
+                return Err(refused(Refusal::Duplicate, line));
+            }
+            let inside = turns_inside(alloc, turns, name)?;
+            let block = resolve_block(alloc, scope, variables, &inside, &looped.block)?;
+            Ok(counted(&looped.turns, block))
+        }
+    }
+}
+
+/// What the statements of a block stand for.
+#[cycle(statement)]
+#[tactic(auto, using(crate::proofs::StatementRules::cases))]
+fn resolve_block<'m>(
+    alloc: Global,
+    scope: &Scope,
+    variables: &Variables,
+    turns: &[Name<'m>],
+    block: &'m [tree::Statement],
+) -> Result<Items<Statement>, ScriptFault>
+    ensures { IfOk result (IsBlock scope.now variables.now (texts turns.now) block.now) }
+{
+    let mut made = Items::new(alloc);
+    for statement in block {
+        let line = statement.line;
+        let one = resolve_statement(alloc, scope, variables, turns, line, &statement.action)?;
+        made.push(one)?;
+    }
+    Ok(made)
+}
+
+/// What stands behind the operation of a branch.
+#[cycle(statement)]
+#[tactic(auto, using(crate::proofs::StatementRules::cases))]
+fn resolve_after<'m>(
+    alloc: Global,
+    scope: &Scope,
+    variables: &Variables,
+    turns: &[Name<'m>],
+    body: &'m BranchBody,
+) -> Result<Items<Statement>, ScriptFault>
+    ensures { IfOk result (IsAfter scope.now variables.now (texts turns.now) body.now) }
+{
+    match body {
+        BranchBody::Nothing => Ok(Items::new(alloc)),
+        BranchBody::Block(statements) => {
+            let block = resolve_block(alloc, scope, variables, turns, statements)?;
+            Ok(block)
+        }
+    }
+}
+
+/// What a branch of an `alt` stands for.
+#[cycle(statement)]
+#[tactic(auto, using(crate::proofs::StatementRules::cases))]
+fn resolve_branch<'m>(
+    alloc: Global,
+    scope: &Scope,
+    variables: &Variables,
+    turns: &[Name<'m>],
+    branch: &'m tree::Branch,
+) -> Result<Branch, ScriptFault>
+    ensures { IfOk result (IsBranch scope.now variables.now (texts turns.now) branch.now) }
+{
+    let line = branch.line;
+    let receiving = resolve_receive(alloc, scope, variables, turns, line, &branch.receive)?;
+    let block = resolve_after(alloc, scope, variables, turns, &branch.body)?;
+    Ok(Branch { receiving, block })
+}
+
+/// What the branches of an `alt` stand for.
+#[cycle(statement)]
+#[tactic(auto, using(crate::proofs::StatementRules::cases))]
+fn resolve_branches<'m>(
+    alloc: Global,
+    scope: &Scope,
+    variables: &Variables,
+    turns: &[Name<'m>],
+    branches: &'m [tree::Branch],
+) -> Result<Items<Branch>, ScriptFault>
+    ensures { IfOk result (AreBranches scope.now variables.now (texts turns.now) branches.now) }
+{
+    let mut made = Items::new(alloc);
+    for branch in branches {
+        let one = resolve_branch(alloc, scope, variables, turns, branch)?;
+        made.push(one)?;
+    }
+    Ok(made)
+}
+
+/// What a body stands for: its variables, and its statements.
+///
+/// The first fault in the order of the text is answered: 12 `Duplicate`, at the given line, which is that
+/// of the function, for a parameter that has the name of a port; then those of the variables; then those
+/// of the statements; 50. A body's statements speak of no loop variables but those around them.
+pub fn resolve_body(
+    alloc: Global,
+    scope: &Scope,
+    line: u32,
+    declared: &[Variable],
+    statements: &[tree::Statement],
+) -> Result<Body, ScriptFault>
+    ensures body { IfOk result (IsBody scope.now declared.now statements.now) }
+    ensures closed { IfOk result (λ body. needed_around_all body.statements ≡ 0) }
+{
+    if !are_no_ports(scope) {
+        return Err(refused(Refusal::Duplicate, line));
+    }
+    let variables = resolve_variables(alloc, scope, declared)?;
+    let statements = resolve_block(alloc, scope, &variables, &[], statements)?;
+    Ok(Body {
+        variables: variables.types,
+        statements,
+    })
+}

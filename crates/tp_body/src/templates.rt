@@ -1,0 +1,272 @@
+//! What the templates of receiving operations stand for.
+ghost use Rattle.std.specs.Prelude.{◌≡◌, ◌↔◌, IfOk, IsTrue, length, map, string_bytes};
+ghost use Rattle.tp_value.specs.Fits.{AreOrdered};
+ghost use Rattle.tp_name.specs.Named.{texts};
+ghost use Rattle.tp_body.specs.Messages.{AreElementTemplates, AreFieldTemplates, AreMembers, AreNamedTemplates, IsElementTemplate, IsTemplate, part_of};
+
+use crate::body::{RecvTemplate, SendValue};
+use crate::messages::{Context, are_printable};
+use crate::placing::field_places;
+use std::alloc::Global;
+use tp_name::fault::ScriptFault;
+use tp_name::name::{Name, find};
+use tp_syntax::tree::{Template, TemplateField};
+use tp_value::items::Items;
+use tp_value::template::Part;
+use tp_value::types::{Field, Ty, TypeDef};
+
+/// Whether the lower bound is at most the upper, where there are both.
+fn are_ordered(lower: Option<i64>, upper: Option<i64>) -> bool
+    ensures { IsTrue result ↔ AreOrdered lower upper }
+{
+    match lower {
+        None => true,
+        Some(low) => match upper {
+            None => true,
+            Some(high) => low <= high,
+        },
+    }
+}
+
+/// What a character of a pattern stands for.
+fn part(character: u8) -> Part
+    ensures { result ≡ part_of character }
+{
+    if character == b'?' {
+        return Part::One;
+    }
+    if character == b'*' {
+        return Part::Many;
+    }
+    Part::Literal(character)
+}
+
+/// The parts of a pattern.
+fn parts(alloc: Global, text: &[u8]) -> Result<Items<Part>, ScriptFault>
+    ensures { IfOk result (λ parts. parts ≡ map part_of text.now) }
+{
+    let mut parts = Items::new(alloc);
+    for character in text {
+        parts.push(part(*character))?;
+    }
+    Ok(parts)
+}
+
+/// What a template of this type stands for.
+///
+/// The first fault from left to right is answered, the number and the names of a record's fields before
+/// what stands in them: 13 `WrongType` for a template that doesn't fit the type, a lower bound above the
+/// upper, a `*` elsewhere than among the elements of a record of, a field that the record hasn't, or that
+/// is missing or given twice, and a variable; 11 `Unknown` for any other name that is no loop variable;
+/// 50.
+#[cycle(template)]
+#[tactic(auto, using(crate::proofs::TemplateRules::cases))]
+pub fn resolve_template(
+    alloc: Global,
+    context: &Context,
+    ty: Ty,
+    template: &Template,
+) -> Result<RecvTemplate, ScriptFault>
+    ensures { IfOk result (IsTemplate context.now.types.now (texts context.now.turns.now) ty template.now) }
+{
+    match template {
+        Template::Int(number) => {
+            let _number = *number;
+            match ty {
+                Ty::Integer => Ok(RecvTemplate::Exact(SendValue::Int(*number))),
+                Ty::Boolean | Ty::Charstring | Ty::Named(_) => Err(context.wrong_type()),
+            }
+        }
+        Template::Bool(truth) => match ty {
+            Ty::Boolean => Ok(RecvTemplate::Exact(SendValue::Bool(*truth))),
+            Ty::Integer | Ty::Charstring | Ty::Named(_) => Err(context.wrong_type()),
+        },
+        Template::Text(text) => {
+            if ty != Ty::Charstring || !are_printable(text) {
+                return Err(context.wrong_type());
+            }
+            let text = Items::from_slice(alloc, text)?;
+            Ok(RecvTemplate::Exact(SendValue::Text(text)))
+        }
+        Template::Name(name) => match find(context.turns, name.as_str()) {
+            Some(place) => match ty {
+                Ty::Integer => Ok(RecvTemplate::Exact(SendValue::Turn(place))),
+                Ty::Boolean | Ty::Charstring | Ty::Named(_) => Err(context.wrong_type()),
+            },
+            None => Err(context.no_turn(name.as_str())),
+        },
+        Template::Any => Ok(RecvTemplate::Any),
+        Template::AnyOrNone => Err(context.wrong_type()),
+        Template::OneOf(members) => {
+            let made = resolve_members(alloc, context, ty, members)?;
+            Ok(RecvTemplate::OneOf(made))
+        }
+        Template::Complement(members) => {
+            let made = resolve_members(alloc, context, ty, members)?;
+            Ok(RecvTemplate::NoneOf(made))
+        }
+        Template::Range(lower, upper) => {
+            if ty != Ty::Integer || !are_ordered(*lower, *upper) {
+                return Err(context.wrong_type());
+            }
+            Ok(RecvTemplate::Range(*lower, *upper))
+        }
+        Template::Pattern(text) => {
+            if ty != Ty::Charstring {
+                return Err(context.wrong_type());
+            }
+            let made = parts(alloc, text)?;
+            Ok(RecvTemplate::Pattern(made))
+        }
+        Template::List(members) => match context.types.definition(ty) {
+            Some(TypeDef::ListOf(element)) => {
+                let made = resolve_element_templates(alloc, context, *element, members)?;
+                Ok(RecvTemplate::List(made))
+            }
+            Some(TypeDef::Record(fields)) => {
+                let made = resolve_field_templates(alloc, context, fields.as_slice(), members)?;
+                Ok(RecvTemplate::Record(made))
+            }
+            None => Err(context.wrong_type()),
+        },
+        Template::Record(entries) => match context.types.definition(ty) {
+            Some(TypeDef::Record(fields)) => {
+                let made = resolve_named_templates(alloc, context, fields.as_slice(), entries)?;
+                Ok(RecvTemplate::Record(made))
+            }
+            Some(TypeDef::ListOf(_)) | None => Err(context.wrong_type()),
+        },
+    }
+}
+
+/// What the templates in parentheses stand for.
+#[cycle(template)]
+#[tactic(auto, using(crate::proofs::TemplateRules::cases))]
+fn resolve_members(
+    alloc: Global,
+    context: &Context,
+    ty: Ty,
+    members: &[Template],
+) -> Result<Items<RecvTemplate>, ScriptFault>
+    ensures { IfOk result (AreMembers context.now.types.now (texts context.now.turns.now) ty members.now) }
+{
+    let mut made = Items::new(alloc);
+    for member in members {
+        let one = resolve_template(alloc, context, ty, member)?;
+        made.push(one)?;
+    }
+    Ok(made)
+}
+
+/// What the template of an element of a record of stands for.
+#[cycle(template)]
+#[tactic(auto, using(crate::proofs::TemplateRules::cases))]
+fn resolve_element_template(
+    alloc: Global,
+    context: &Context,
+    ty: Ty,
+    member: &Template,
+) -> Result<RecvTemplate, ScriptFault>
+    ensures { IfOk result (IsElementTemplate context.now.types.now (texts context.now.turns.now) ty member.now) }
+{
+    if let Template::AnyOrNone = member {
+        return Ok(RecvTemplate::Many);
+    }
+    let one = resolve_template(alloc, context, ty, member)?;
+    Ok(one)
+}
+
+/// What the templates of the elements of a record of stand for.
+#[cycle(template)]
+#[tactic(auto, using(crate::proofs::TemplateRules::cases))]
+fn resolve_element_templates(
+    alloc: Global,
+    context: &Context,
+    ty: Ty,
+    members: &[Template],
+) -> Result<Items<RecvTemplate>, ScriptFault>
+    ensures { IfOk result (AreElementTemplates context.now.types.now (texts context.now.turns.now) ty members.now) }
+{
+    let mut made = Items::new(alloc);
+    for member in members {
+        let one = resolve_element_template(alloc, context, ty, member)?;
+        made.push(one)?;
+    }
+    Ok(made)
+}
+
+/// What the templates of the fields of a record stand for, which are given by their places.
+#[cycle(template)]
+#[tactic(auto, using(crate::proofs::TemplateRules::cases))]
+fn resolve_field_templates(
+    alloc: Global,
+    context: &Context,
+    fields: &[Field],
+    members: &[Template],
+) -> Result<Items<RecvTemplate>, ScriptFault>
+    ensures { IfOk result (AreFieldTemplates context.now.types.now (texts context.now.turns.now) fields.now members.now) }
+{
+    if fields.len() != members.len() {
+        return Err(context.wrong_type());
+    }
+    let mut made = Items::new(alloc);
+    for (index, member) in members.iter().enumerate() {
+        let one = resolve_template(alloc, context, fields[index].ty, member)?;
+        made.push(one)?;
+    }
+    Ok(made)
+}
+
+/// The names of the entries.
+fn entry_names<'v>(
+    alloc: Global,
+    entries: &'v [TemplateField],
+) -> Result<Vec<Name<'v>>, ScriptFault>
+    ensures { IfOk result (λ names. texts names.items ≡ map (λ x. string_bytes x.name) entries.now) }
+{
+    let mut names = Vec::new(alloc);
+    for entry in entries {
+        names.push(Name {
+            text: entry.name.as_str(),
+        })?;
+    }
+    Ok(names)
+}
+
+/// As many templates as are needed.
+fn room(alloc: Global, count: usize) -> Result<Vec<RecvTemplate>, ScriptFault>
+    ensures { IfOk result (λ made. length made.items ≡ count) }
+{
+    let mut made = Vec::new(alloc);
+    for _ in 0..count {
+        made.push(RecvTemplate::Any)?;
+    }
+    Ok(made)
+}
+
+/// What the templates of the fields of a record stand for, which are given by their names: in declared
+/// order.
+#[cycle(template)]
+#[tactic(auto, using(crate::proofs::TemplateRules::cases))]
+fn resolve_named_templates(
+    alloc: Global,
+    context: &Context,
+    fields: &[Field],
+    entries: &[TemplateField],
+) -> Result<Items<RecvTemplate>, ScriptFault>
+    ensures named { IfOk result (λ made. AreNamedTemplates context.now.types.now (texts context.now.turns.now) entries.now fields.now made) }
+    ensures count { IfOk result (λ _. length entries.now ≡ length fields.now) }
+{
+    let names = entry_names(alloc, entries)?;
+    let places = field_places(alloc, fields, &names, context.line)?;
+    let mut made = room(alloc, fields.len())?;
+    for (index, entry) in entries.iter().enumerate() {
+        let place = places[index];
+        let Some(field) = fields.get(place) else {
+            return Err(context.wrong_type());
+        };
+        let one = resolve_template(alloc, context, field.ty, &entry.template)?;
+        made[place] = one;
+    }
+    Ok(Items::from_vec(made))
+}

@@ -1,0 +1,120 @@
+//! The variables of a body, and which names are new.
+ghost use Rattle.std.specs.Prelude.{◌≡◌, ◌∷◌, ◌++◌, [], ℕ, List, IfOk, IfSome, IsTrue, OnOk, Some, slice_get};
+ghost use Rattle.tp_name.specs.Named.{IsAbsent, texts};
+ghost use Rattle.tp_body.specs.Scoping.{IsNew, port_names};
+ghost use Rattle.tp_body.specs.Bodies.{AreVariables, IsHeld};
+
+use crate::body::VariableType;
+use crate::lookup::{find_type, place_of_port};
+use crate::scope::{Behaviour, Scope, Variables};
+use std::alloc::Global;
+use tp_name::fault::{Refusal, ScriptFault, refused};
+use tp_name::name::{Name, find};
+use tp_name::name_set::NameSet;
+use tp_syntax::tree::{TypeName, Variable};
+use tp_value::items::Items;
+
+/// Whether the name is new: no port, parameter, variable or loop variable has it, and in the test case no
+/// component variable. Takes no memory.
+pub fn is_new(scope: &Scope, variables: &Variables, turns: &[Name], name: &str) -> bool
+    ensures { IsTrue result → IsNew scope.now variables.now (texts turns.now) name.now }
+{
+    let None = place_of_port(scope.ports, name) else {
+        return false;
+    };
+    let None = scope.parameters.find(name) else {
+        return false;
+    };
+    let None = variables.names.find(name) else {
+        return false;
+    };
+    let None = find(turns, name) else {
+        return false;
+    };
+    if scope.behaviour != Behaviour::TestCase {
+        return true;
+    }
+    let None = scope.components.find(name) else {
+        return false;
+    };
+    true
+}
+
+/// What a variable of this type holds, or `None` where the name stands for no type of messages and no
+/// component type. Takes no memory.
+#[tactic(auto, using(crate::proofs::VariableRules::cases))]
+fn find_held(scope: &Scope, name: &TypeName) -> Option<VariableType>
+    ensures { IfSome result (IsHeld scope.now name.now) }
+{
+    if let Some(ty) = find_type(scope.types, name) {
+        return Some(VariableType::Message(ty));
+    }
+    match name {
+        TypeName::Named(name) => {
+            scope.component_types.find(name.as_str())?;
+            Some(VariableType::Component)
+        }
+        TypeName::Integer | TypeName::Boolean | TypeName::Charstring => None,
+    }
+}
+
+/// Adds a variable behind the others. 12 `Duplicate` for a name that is there; 15 `Limit` for more than
+/// 4,294,967,295 variables; 50.
+fn declare<'m>(
+    variables: &mut Variables<'m>,
+    name: &'m str,
+    held: VariableType,
+    line: u32,
+) -> Result<(), ScriptFault>
+    ensures names { OnOk result (variables.new.names ≡ variables.old.names ++ name.now ∷ []) }
+    ensures types { OnOk result (variables.new.types ≡ variables.old.types ++ held ∷ []) }
+{
+    if let Err(fault) = variables.names.add(name) {
+        return Err(fault.at(line));
+    }
+    variables.types.push(held)?;
+    Ok(())
+}
+
+/// The variables of a body (ES 201 873-1, 11.1).
+///
+/// For each of them in the order of the text 11 `Unknown` for its type, then 12 `Duplicate` for a name
+/// that isn't new, and 15 `Limit` for more than 4,294,967,295 variables; 50.
+pub fn resolve_variables<'m>(
+    alloc: Global,
+    scope: &Scope,
+    declared: &'m [Variable],
+) -> Result<Variables<'m>, ScriptFault>
+    ensures { IfOk result (AreVariables scope.now declared.now) }
+{
+    let mut variables = Variables {
+        names: NameSet::new(alloc),
+        types: Items::new(alloc),
+    };
+    for variable in declared {
+        let Some(held) = find_held(scope, &variable.type_name) else {
+            return Err(refused(Refusal::Unknown, variable.line));
+        };
+        let name = variable.name.as_str();
+        if !is_new(scope, &variables, &[], name) {
+            return Err(refused(Refusal::Duplicate, variable.line));
+        }
+        declare(&mut variables, name, held, variable.line)?;
+    }
+    Ok(variables)
+}
+
+/// Whether no parameter has the name of a port. Takes no memory.
+pub fn are_no_ports(scope: &Scope) -> bool
+    ensures { IsTrue result → (k : ℕ) (name : List ℕ) → slice_get (port_names scope.now.ports.now) k ≡ Some name → IsAbsent scope.now.parameters.now name }
+{
+    for place in 0..scope.ports.ports.len() {
+        let Some((name, _)) = scope.ports.ports.get_index(place) else {
+            return false;
+        };
+        let None = scope.parameters.find(name.as_str()) else {
+            return false;
+        };
+    }
+    true
+}

@@ -1,0 +1,4 @@
+pub mod Numbering
+pub mod Functions
+pub mod Totals
+pub mod Assembling

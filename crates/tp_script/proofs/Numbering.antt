@@ -1,0 +1,43 @@
+-- Numbers of components, and parts that are added one by one.
+use Rattle.std.proofs.Common.{◌≡◌, ◌⊎◌, inl, inr, ℕ, ◌+◌, ◌<◌, ◌≤◌, List, [], ◌∷◌, ◌++◌, Option, Some, length, slice_get, append-nil, append_assoc, refl, sym, ap, ◌∙◌, subst, arith}
+use Rattle.std.proofs.lemmas.List.{length_push, get_or_push, get_or_append_left}
+use Rattle.std.proofs.lemmas.Option.{slice_get-get_or, get_or_from_slice_get}
+use Rattle.std.proofs.lemmas.Bool.{cases_lt}
+use Rattle.tp_body.proofs.Placed.{push_cases}
+use Rattle.tp_setup.specs.declared.prepared.Prepared.{Prepared}
+use Rattle.tp_script.specs.declared.part.Part.{Part}
+use Rattle.tp_script.specs.Duties.{Numbers}
+use Rattle.tp_script.specs.Parts.{AreParts, IsPart}
+
+pub numbers_none : (before : List ℕ) → Numbers 0 before before
+numbers_none before = record { variables = []; as_many = refl; numbered = λ k lt. absurd (omega (arith, lt)); all = sym (append-nil before) }
+
+pub numbers_more : (count : ℕ) (before after next : List ℕ) → Numbers count before after → next ≡ after ++ (count + 1) ∷ [] → Numbers (count + 1) before next
+numbers_more count before after next h e =
+    record {
+      variables = h.variables ++ (count + 1) ∷ [];
+      as_many = length_push h.variables (count + 1) ∙ ap (λ n. n + 1) h.as_many;
+      numbered = λ k lt. by k lt (cases_lt k count);
+      all = e ∙ ap (λ l. l ++ (count + 1) ∷ []) h.all ∙ append_assoc before h.variables ((count + 1) ∷ []);
+    }
+  where
+    longer : length (h.variables ++ (count + 1) ∷ []) ≡ count + 1
+    longer = length_push h.variables (count + 1) ∙ ap (λ n. n + 1) h.as_many
+
+    by : (k : ℕ) → k < count + 1 → (k < count) ⊎ (count ≤ k) → slice_get (h.variables ++ (count + 1) ∷ []) k ≡ Some (k + 1)
+    by k lt (inl early) =
+        slice_get-get_or (h.variables ++ (count + 1) ∷ []) k 0 (omega (arith, longer, lt))
+        ∙ ap Some (get_or_append_left h.variables ((count + 1) ∷ []) 0 k (omega (arith, h.as_many, early)) ∙ get_or_from_slice_get h.variables k (k + 1) 0 (h.numbered k early))
+    by k lt (inr late) =
+        let last : count ≡ k = omega (arith, lt, late) in
+        slice_get-get_or (h.variables ++ (count + 1) ∷ []) k 0 (omega (arith, longer, lt))
+        ∙ ap Some (get_or_push h.variables (count + 1) 0 k (h.as_many ∙ last) ∙ ap (λ n. n + 1) last)
+
+pub parts_none : (p : Prepared) → AreParts p []
+parts_none p k x e = absurd (cc)
+
+pub parts_more : (p : Prepared) (list next : List (Option Part)) (x : Option Part) → AreParts p list → IsPart p (length list) x → next ≡ list ++ x ∷ [] → AreParts p next
+parts_more p list next x each here e k y at = by (push_cases list x k y (ap (λ l. slice_get l k) (sym e) ∙ at)) where
+  by : (slice_get list k ≡ Some y) ⊎ ((k ≡ length list) × (y ≡ x)) → IsPart p k y
+  by (inl before) = each k y before
+  by (inr (last, same)) = subst (λ n. IsPart p n y) (sym last) (subst (IsPart p (length list)) (sym same) here)

@@ -1,0 +1,9 @@
+use Rattle.std.proofs.Common.{take}
+use Rattle.std.specs.List.{AllZip}
+use Rattle.tp_setup.specs.Definitions.{among, function_of}
+use Rattle.tp_script.specs.Parts.{known_in}
+use Rattle.tp_script.specs.Scopes.{IsFunctionBody}
+use Rattle.tp_script.proofs.bodies.resolve_functions.Given as goal
+
+abbrev pub invariant-loop-definition : goal.invariant-loop-definition
+invariant-loop-definition l = AllZip (IsFunctionBody (known_in l.prepared)) (among function_of (take l.definition-index l.definitions)) l.bodies.items

@@ -1,0 +1,9 @@
+use Rattle.std.proofs.Common.{◌∙◌, ap, map}
+use Rattle.std.proofs.lemmas.List.{map_push}
+use Rattle.tp_script.proofs.Numbering.{numbers_more}
+use Rattle.tp_script.proofs.parts.add_variables.Goals as goal
+
+pub loop-place-preserved : goal.loop-place-preserved
+loop-place-preserved c =
+    numbers_more c.loop-place.place (map (λ x. x.0) c.args.references.now.items) (map (λ x. x.0) c.loop-place.references.items) (map (λ x. x.0) c.push.new.self.items) c.loop-place.invariant
+    (ap (map (λ x. x.0)) c.in_ok-push.ensures.items ∙ map_push (λ x. x.0) c.loop-place.references.items _)

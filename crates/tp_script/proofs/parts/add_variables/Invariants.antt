@@ -1,0 +1,6 @@
+use Rattle.std.proofs.Common.{map}
+use Rattle.tp_script.specs.Duties.{Numbers}
+use Rattle.tp_script.proofs.parts.add_variables.Given as goal
+
+abbrev pub invariant-loop-place : goal.invariant-loop-place
+invariant-loop-place l = Numbers l.place (map (λ c. c.0) l.fn.references.items) (map (λ c. c.0) l.references.items)

@@ -1,0 +1,48 @@
+-- What the components of a test case do.
+use Rattle.std.specs.Prelude.{◌≡◌, ◌<◌, ◌+◌, ℕ, Option, Some, None, List, [], ◌∷◌, ◌++◌, Contains, length, map, slice_get, string_bytes}
+use Rattle.std.specs.Option.{option_map_or}
+use Rattle.tp_syntax.specs.declared.tree.Function.{Function}
+use Rattle.tp_syntax.specs.declared.tree.TestCase.{TestCase}
+use Rattle.tp_setup.specs.declared.starts.Started.{Started}
+use Rattle.tp_setup.specs.declared.starts.Starts.{Starts}
+use Rattle.tp_setup.specs.Configuring.{interface_number}
+use Rattle.tp_setup.specs.Rules.{sut}
+use Rattle.tp_body.specs.declared.body.Body.{Body}
+use Rattle.tp_body.specs.Sizes.{size_of_body}
+use Rattle.tp_script.specs.Scopes.{Known, IsMainBody, IsFunctionBody}
+
+-- what a component does: a body, and the numbers of the components that its references name
+pub record Duty : Type 0 where
+  pub body : Body
+  pub references : List ℕ
+
+-- the numbers of the components of so many component variables stand behind other numbers: they are 1, 2, ..
+pub record Numbers (count : ℕ) (before after : List ℕ) : Type 0 where
+  pub variables : List ℕ
+  pub as_many : length variables ≡ count
+  pub numbered : (k : ℕ) → k < count → slice_get variables k ≡ Some (k + 1)
+  pub all : after ≡ before ++ variables
+
+-- the components that the references of a body name: `mtc`, the component itself, the arguments of its start, and the
+-- component variables of the test case
+abbrev pub AreReferences : ℕ → List ℕ → ℕ → List ℕ → Type 0
+AreReferences itself arguments count references = Numbers count (0 ∷ itself ∷ arguments) references
+
+-- what the component of this number does, where these are the functions and the starts
+pub data Does (known : Known) (functions : List Function) (case : TestCase) (starts : Starts) : ℕ → Option Duty → Type 0 where
+  -- `mtc`: the test case's own body
+  main : (d : Duty) → IsMainBody known case d.body → AreReferences 0 [] (length known.components) d.references → Does known functions case starts 0 (Some d)
+  -- a component that is made: the body of the function that its start names, with the arguments of this start
+  started : (k place : ℕ) (x : Started) (f : Function) (d : Duty) → slice_get starts.places.items k ≡ Some place → slice_get starts.starts.items place ≡ Some x
+      → slice_get functions x.function ≡ Some f → IsFunctionBody known f d.body
+      → AreReferences (k + 1) (map (λ c. c.0) x.arguments.items) (length known.components) d.references → Does known functions case starts (k + 1) (Some d)
+  -- the test system interface: the body of `sut`
+  system : (n : ℕ) (f : Function) (d : Duty) → interface_number case ≡ Some n → Contains functions f → string_bytes f.name ≡ sut
+      → IsFunctionBody known f d.body → AreReferences n [] (length known.components) d.references → Does known functions case starts n (Some d)
+  -- or nothing, where no function has that name
+  nobody : (n : ℕ) → interface_number case ≡ Some n → (Contains (map (λ (f : Function). string_bytes f.name) functions) sut → ⊥)
+      → Does known functions case starts n None
+
+-- how many statements a component has to carry out at most, once each `for` stands for its copies
+abbrev pub size_of_duty : Option Duty → ℕ
+size_of_duty d = option_map_or (λ (d : Duty). size_of_body d.body) d 0

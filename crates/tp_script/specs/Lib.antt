@@ -1,0 +1,5 @@
+pub mod Scopes
+pub mod Duties
+pub mod TestCases
+pub mod Parts
+pub mod Seen

@@ -1,0 +1,56 @@
+-- What the bodies of a module may speak of.
+use Rattle.std.specs.Prelude.{◌≡◌, ℕ, List, [], Some, map, slice_get, string_bytes, if◌then◌else◌}
+use Rattle.std.specs.Str.{bytes_eq}
+use Rattle.tp_syntax.specs.declared.tree.Function.{Function}
+use Rattle.tp_syntax.specs.declared.tree.Statement.{Statement}
+use Rattle.tp_syntax.specs.declared.tree.TestCase.{TestCase}
+use Rattle.tp_syntax.specs.declared.tree.Variable.{Variable}
+use Rattle.tp_value.specs.declared.types.Types.{Types}
+use Rattle.tp_config.specs.Setup.{PortDecl}
+use Rattle.tp_config.specs.Shape.{ports_of}
+use Rattle.tp_name.specs.Tables.{place_of}
+use Rattle.tp_setup.specs.Definitions.{declared}
+use Rattle.tp_setup.specs.Rules.{sut}
+use Rattle.tp_body.specs.declared.body.Body.{Body}
+use Rattle.tp_body.specs.declared.scope.Behaviour.{Behaviour}
+use Rattle.tp_body.specs.declared.scope.Behaviour.TheVariants as behaviour
+use Rattle.tp_body.specs.declared.scope.Scope.{Scope}
+use Rattle.tp_body.specs.Bodies.{IsBody}
+
+-- what each body of a module may speak of: the types of messages, the component types by their names, with their
+-- ports, and the component variables of the test case
+pub record Known : Type 0 where
+  pub types : Types
+  pub component_types : List (List ℕ)
+  pub ports : List (List PortDecl)
+  pub components : List (List ℕ)
+
+-- what a behaviour may speak of that runs on the component type of this name and has parameters of these names
+pub record IsScope (known : Known) (plays : Behaviour) (runs_on : List ℕ) (names : List (List ℕ)) (scope : Scope) : Type 0 where
+  pub types : scope.types.now ≡ known.types
+  pub component_types : scope.component_types.now ≡ known.component_types
+  -- the ports are those of the component type behind `runs on`
+  pub kind : ℕ
+  pub kind_known : place_of known.component_types runs_on ≡ Some kind
+  pub ports : slice_get known.ports kind ≡ Some (ports_of scope.ports.now)
+  pub behaviour : scope.behaviour ≡ plays
+  pub parameters : scope.parameters.now ≡ names
+  pub components : scope.components.now ≡ known.components
+
+-- these variables and statements obey the rules on bodies in such a scope, and stand for this body
+pub record StandsFor (known : Known) (plays : Behaviour) (runs_on : List ℕ) (parameters : List (List ℕ)) (variables : List Variable) (statements : List Statement) (body : Body) : Type 0 where
+  pub scope : Scope
+  pub is_scope : IsScope known plays runs_on parameters scope
+  pub is_body : IsBody scope variables statements body
+
+-- the test case's own body
+abbrev pub IsMainBody : Known → TestCase → Body → Type 0
+IsMainBody known case body = StandsFor known behaviour.TestCase (string_bytes case.runs_on) [] case.variables.items case.statements.items body
+
+-- a function named `sut` plays the system under test
+abbrev pub plays_of : Function → Behaviour
+plays_of f = if bytes_eq (string_bytes f.name) sut then behaviour.SystemUnderTest else behaviour.Function
+
+-- the body of a function
+abbrev pub IsFunctionBody : Known → Function → Body → Type 0
+IsFunctionBody known f body = StandsFor known (plays_of f) (string_bytes f.runs_on) (map (λ p. declared p.name) f.parameters.items) f.variables.items f.statements.items body

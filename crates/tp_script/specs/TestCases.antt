@@ -1,0 +1,86 @@
+-- The test case of a module.
+use Rattle.std.specs.Prelude.{◌≡◌, ◌≤◌, ℕ, Option, Some, None, List, [], ◌∷◌, length, map, slice_get, sum}
+use Rattle.std.specs.List.{AllZip, slice_index_or}
+use Rattle.tp_syntax.specs.declared.tree.Module.{Module}
+use Rattle.tp_syntax.specs.declared.tree.TestCase.{TestCase}
+use Rattle.tp_value.specs.declared.types.Types.{Types}
+use Rattle.tp_config.specs.declared.port_type.CompType.{CompType}
+use Rattle.tp_config.specs.Setup.{Setup, PortDecl}
+use Rattle.tp_config.specs.Shape.{ports_of}
+use Rattle.tp_setup.specs.declared.starts.Starts.{Starts}
+use Rattle.tp_setup.specs.Definitions.{component_type_names, functions, test_cases}
+use Rattle.tp_setup.specs.Resolved.{AreTypes, AreComponentTypes}
+use Rattle.tp_setup.specs.Components.{variables}
+use Rattle.tp_setup.specs.Starting.{AreStarts}
+use Rattle.tp_setup.specs.Prepared.{IsConfigOf, IsWellDeclared}
+use Rattle.tp_body.specs.declared.body.Body.{Body}
+use Rattle.tp_script.specs.Scopes.{Known, IsMainBody, IsFunctionBody}
+use Rattle.tp_script.specs.Duties.{Duty, Does, size_of_duty}
+
+-- what contracts see of a test case: its configuration, the record and record-of types, and what each component does, in
+-- the order of the components
+pub record Made : Type 0 where
+  pub config : Setup
+  pub types : Types
+  pub duties : List (Option Duty)
+
+-- what the bodies of a module may speak of, whose test case is this
+abbrev pub known_of : Module → TestCase → Setup → Types → Known
+known_of m case config types = record { types = types; component_types = component_type_names m; ports = config.types; components = variables case.setups.items }
+
+-- the ports of the component types of the module
+pub record AreKinds (m : Module) (kinds : List (List PortDecl)) : Type 0 where
+  pub types : List CompType
+  pub of_module : AreComponentTypes m types
+  pub kinds_are : kinds ≡ map ports_of types
+
+-- this is the test case of the module
+pub record IsTestCaseOf (m : Module) (made : Made) : Type 0 where
+  pub case : TestCase
+  -- the module has this test case, and no other
+  pub one_test_case : test_cases m ≡ case ∷ []
+  -- the record and record-of types under their own names, and nothing else
+  pub types : AreTypes m made.types
+  -- the components in their order, with their declared ports, and the connections and mappings of the setup statements alone
+  pub kinds : AreKinds m made.config.types
+  pub config : IsConfigOf m case made.config
+  -- each component does what it is there for, with the arguments of its start
+  pub starts : Starts
+  pub starts_are : AreStarts (functions m) case starts
+  pub everyone : length made.duties ≡ length made.config.components
+  pub does : (k : ℕ) (duty : Option Duty) → slice_get made.duties k ≡ Some duty → Does (known_of m case made.config made.types) (functions m) case starts k duty
+
+-- the module obeys the rules on bodies: the test case's own and each function's, started or not, stands for something
+pub record HasSoundBodies (m : Module) : Type 0 where
+  pub case : TestCase
+  pub one_test_case : test_cases m ≡ case ∷ []
+  pub types : Types
+  pub types_are : AreTypes m types
+  pub config : Setup
+  pub kinds : AreKinds m config.types
+  pub main : Body
+  pub main_body : IsMainBody (known_of m case config types) case main
+  pub bodies : List Body
+  pub function_bodies : AllZip (IsFunctionBody (known_of m case config types)) (functions m) bodies
+
+-- all components together have at most 100,000 statements to carry out
+abbrev pub size_of_all : Made → ℕ
+size_of_all made = sum (map size_of_duty made.duties)
+
+pub record IsSmall (m : Module) : Type 0 where
+  pub made : Made
+  pub test_case : IsTestCaseOf m made
+  pub few : size_of_all made ≤ 100000
+
+-- the module obeys the rules
+pub record WellFormed (m : Module) : Type 0 where
+  -- on names, definitions, setup and starts
+  pub declared : IsWellDeclared m
+  -- on bodies
+  pub bodies : HasSoundBodies m
+  -- on size
+  pub small : IsSmall m
+
+-- the component of this number does this, or nothing where there is no such component
+abbrev pub duty_at : Made → ℕ → Option Duty
+duty_at made k = slice_index_or made.duties k None

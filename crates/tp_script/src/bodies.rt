@@ -1,0 +1,109 @@
+//! The fourth pass of the checks: the bodies.
+ghost use Rattle.std.specs.Prelude.{◌≡◌, IfOk};
+ghost use Rattle.std.specs.List.{AllZip};
+ghost use Rattle.tp_setup.specs.Definitions.{among, function_of, functions};
+ghost use Rattle.tp_script.specs.Parts.{known_in};
+ghost use Rattle.tp_script.specs.Scopes.{IsFunctionBody, IsMainBody, plays_of};
+
+use crate::scopes::{parameter_names, scope_of};
+use std::alloc::Global;
+use tp_body::body::Body;
+use tp_body::scope::Behaviour;
+use tp_body::statements::resolve_body;
+use tp_name::fault::ScriptFault;
+use tp_name::name_set::NameSet;
+use tp_setup::definitions::is_sut;
+use tp_setup::prepared::Prepared;
+use tp_setup::sorted::as_function;
+use tp_syntax::tree::{Definition, Function, Module};
+
+/// The bodies of a module.
+#[derive(Drop)]
+pub struct Bodies {
+    /// The test case's own.
+    pub main: Body,
+    /// Those of the functions, in the order of the text.
+    pub functions: Vec<Body>,
+}
+
+/// Whose body a function's is: a function named `sut` plays the system under test. Takes no memory.
+fn plays(function: &Function) -> Behaviour
+    ensures { result ≡ plays_of function.now }
+{
+    if is_sut(function.name.as_str()) {
+        Behaviour::SystemUnderTest
+    } else {
+        Behaviour::Function
+    }
+}
+
+/// The test case's own body.
+fn resolve_main(alloc: Global, prepared: &Prepared) -> Result<Body, ScriptFault>
+    ensures { IfOk result (IsMainBody (known_in prepared.now) prepared.now.case.case.now) }
+{
+    let case = prepared.case.case;
+    let line = prepared.case.line;
+    let parameters = NameSet::new(alloc);
+    let runs_on = case.runs_on.as_str();
+    let scope = scope_of(&*prepared, runs_on, Behaviour::TestCase, &parameters, line)?;
+    let body = resolve_body(alloc, &scope, line, &case.variables, &case.statements)?;
+    Ok(body)
+}
+
+/// The body of a function.
+fn resolve_function<'m>(
+    alloc: Global,
+    prepared: &Prepared<'m>,
+    function: &'m Function,
+    line: u32,
+) -> Result<Body, ScriptFault>
+    ensures { IfOk result (IsFunctionBody (known_in prepared.now) function.now) }
+{
+    let parameters = parameter_names(alloc, &function.parameters)?;
+    let runs_on = function.runs_on.as_str();
+    let scope = scope_of(&*prepared, runs_on, plays(function), &parameters, line)?;
+    let body = resolve_body(
+        alloc,
+        &scope,
+        line,
+        &function.variables,
+        &function.statements,
+    )?;
+    Ok(body)
+}
+
+/// The bodies of the functions among the definitions, in the order of the text.
+fn resolve_functions<'m>(
+    alloc: Global,
+    definitions: &'m [Definition],
+    prepared: &Prepared<'m>,
+) -> Result<Vec<Body>, ScriptFault>
+    ensures { IfOk result (λ bodies. AllZip (IsFunctionBody (known_in prepared.now)) (among function_of definitions.now) bodies.items) }
+{
+    let mut bodies = Vec::new(alloc);
+    for definition in definitions {
+        let Some(function) = as_function(definition) else {
+            continue;
+        };
+        let body = resolve_function(alloc, prepared, function, definition.line)?;
+        bodies.push(body)?;
+    }
+    Ok(bodies)
+}
+
+/// The bodies of a module: the test case's own, and those of its functions, started or not.
+///
+/// The first fault is the answer, the test case's own body first and then the functions in the order of
+/// the text: see `resolve_body`. 50 `Memory` only where an allocation was refused.
+pub fn resolve_bodies<'m>(
+    alloc: Global,
+    parsed: &'m Module,
+    prepared: &Prepared<'m>,
+) -> Result<Bodies, ScriptFault>
+    ensures main { IfOk result (λ b. IsMainBody (known_in prepared.now) prepared.now.case.case.now b.main) }
+    ensures functions { IfOk result (λ b. AllZip (IsFunctionBody (known_in prepared.now)) (functions parsed.now) b.functions.items) }
+{
+    let main = resolve_main(alloc, prepared)?;
+    let functions = resolve_functions(alloc, &parsed.definitions, prepared)?;
+    Ok(Bodies { main, functions })
+}

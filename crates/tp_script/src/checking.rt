@@ -1,0 +1,31 @@
+//! The checks of a module, pass by pass.
+ghost use Rattle.std.specs.Prelude.{IfOk, OnOk};
+ghost use Rattle.tp_script.specs.TestCases.{IsTestCaseOf, WellFormed};
+
+use crate::bodies::resolve_bodies;
+use crate::parts::make_parts;
+use crate::test_case::TestCase;
+use crate::total::check_size;
+use std::alloc::Global;
+use tp_name::fault::ScriptFault;
+use tp_setup::preparing::prepare;
+use tp_syntax::tree::Module;
+
+/// Checks a module, and makes its test case.
+///
+/// The first fault of the first pass that finds one is the answer, at its line. The passes are: the names,
+/// 11 `Unknown` and 12 `Duplicate`; the definitions, 11, 15 `Limit` and 16 `NotInSut`; the setup and the
+/// starts, 11, 12, 13 `WrongType`, 15, 16, 17 `NoDone`, 18 `NotStarted` and the refusals of
+/// [`Config::connect`](tp_config::config::Config::connect) and
+/// [`Config::map`](tp_config::config::Config::map), 20 to 28; the bodies, 11, 12, 13, 14 `Direction` and 16;
+/// and the size, 15. 50 `Memory` only where an allocation was refused.
+pub fn check(alloc: Global, parsed: &Module) -> Result<TestCase, ScriptFault>
+    ensures well_formed { OnOk result (WellFormed parsed.now) }
+    ensures made { IfOk result (IsTestCaseOf parsed.now) }
+{
+    let prepared = prepare(alloc, parsed)?;
+    let bodies = resolve_bodies(alloc, parsed, &prepared)?;
+    let parts = make_parts(alloc, &prepared)?;
+    check_size(alloc, &bodies, &parts, prepared.case.line)?;
+    Ok(TestCase::new(prepared, bodies, parts))
+}

@@ -1,0 +1,21 @@
+//! What one component does.
+use tp_config::port_type::CompId;
+
+/// Which body.
+#[derive(Clone, Copy, Debug, PartialEq, Eq)]
+pub enum Source {
+    /// The test case's own.
+    TestCase,
+    /// That of the function at this place among the functions of the module.
+    Function(u32),
+}
+
+/// A body, and the components that its references name.
+#[derive(Drop)]
+pub struct Part {
+    /// The body.
+    pub source: Source,
+    /// The components: `mtc`, the component itself, the arguments of its start, and those of the component
+    /// variables of the test case.
+    pub references: Vec<CompId>,
+}

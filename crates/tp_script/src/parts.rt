@@ -1,0 +1,169 @@
+//! What the components of a test case do.
+ghost use Rattle.std.specs.Prelude.{◌≡◌, ◌<◌, ◌≤◌, ◌+◌, ◌++◌, ◌∷◌, [], ℕ, Some, IfOk, IfSome, IsSome, OnOk, length, map, slice_get};
+ghost use Rattle.std.specs.Option.{option_copied};
+ghost use Rattle.tp_script.specs.declared.part.Source.TheVariants as source;
+ghost use Rattle.tp_script.specs.Duties.{AreReferences, Numbers};
+ghost use Rattle.tp_script.specs.Parts.{AreParts, IsPart, part_count};
+
+use crate::part::{Part, Source};
+use std::alloc::Global;
+use tp_config::port_type::CompId;
+use tp_name::fault::{Refusal, ScriptFault, refused};
+use tp_setup::prepared::Prepared;
+use tp_setup::starts::{Started, Starts};
+
+/// Adds the components of so many component variables, which are numbered from 1.
+fn add_variables(references: &mut Vec<CompId>, count: u32) -> Result<(), ScriptFault>
+    ensures { OnOk result (Numbers count (map (λ c. c.0) references.old.items) (map (λ c. c.0) references.new.items)) }
+{
+    for place in 0..count {
+        references.push(CompId(place + 1))?;
+    }
+    Ok(())
+}
+
+/// The components that the references of a body name.
+fn references(
+    alloc: Global,
+    itself: CompId,
+    arguments: &[CompId],
+    count: u32,
+) -> Result<Vec<CompId>, ScriptFault>
+    ensures { IfOk result (λ made. AreReferences itself.0 (map (λ c. c.0) arguments.now) count (map (λ c. c.0) made.items)) }
+{
+    let mut made = Vec::new(alloc);
+    made.push(CompId(0))?;
+    made.push(itself)?;
+    made.extend_from_slice(arguments)?;
+    add_variables(&mut made, count)?;
+    Ok(made)
+}
+
+/// How many component variables there are. 15 `Limit` where there are more than 4,294,967,295.
+fn variable_count(prepared: &Prepared) -> Result<u32, ScriptFault>
+    ensures { IfOk result (λ count. count ≡ length prepared.now.variables) }
+{
+    let count = prepared.variables.len();
+    if count > u32::MAX as usize {
+        return Err(ScriptFault::limit(prepared.case.line));
+    }
+    Ok(count as u32)
+}
+
+/// The component behind this many others after `mtc`, or `None` where its number is too large.
+fn component_behind(others: usize) -> Option<CompId>
+    ensures { IfSome result (λ comp. comp.0 ≡ others + 1) }
+{
+    if others >= u32::MAX as usize {
+        return None;
+    }
+    Some(CompId(others as u32 + 1))
+}
+
+/// How many components are started.
+fn started_count(starts: &Starts) -> usize
+    ensures { result ≡ length starts.now.places.items }
+{
+    starts.places.as_slice().len()
+}
+
+/// The start at this place.
+fn start_at(starts: &Starts, place: u32) -> Option<&Started>
+    ensures { option_copied result ≡ slice_get starts.now.starts.items place }
+{
+    starts.starts.get(place as usize)
+}
+
+/// What `mtc` does.
+fn main_part(alloc: Global, count: u32) -> Result<Part, ScriptFault>
+    ensures source { IfOk result (λ part. part.source ≡ source.TestCase) }
+    ensures references { IfOk result (λ part. AreReferences 0 [] count (map (λ c. c.0) part.references.items)) }
+{
+    let references = references(alloc, CompId(0), &[], count)?;
+    Ok(Part {
+        source: Source::TestCase,
+        references,
+    })
+}
+
+/// What the component of the variable at this place does, which the start at that place starts.
+fn started_part(
+    alloc: Global,
+    prepared: &Prepared,
+    place: usize,
+    start: u32,
+    count: u32,
+) -> Result<Part, ScriptFault>
+    requires count { count ≡ length prepared.now.variables }
+    requires start { slice_get prepared.now.starts.places.items place ≡ Some start }
+    ensures { IfOk result (λ part. IsPart prepared.now (place + 1) (Some part)) }
+{
+    let Some(itself) = component_behind(place) else {
+        return Err(ScriptFault::limit(prepared.case.line));
+    };
+    let Some(started) = start_at(&prepared.starts, start) else {
+        return Err(refused(Refusal::NotStarted, prepared.case.line));
+    };
+    let references = references(alloc, itself, &started.arguments, count)?;
+    Ok(Part {
+        source: Source::Function(started.function),
+        references,
+    })
+}
+
+/// What the test system interface does, which stands behind all other components: nothing where no function
+/// is named `sut`.
+fn system_part(alloc: Global, prepared: &Prepared, count: u32) -> Result<Option<Part>, ScriptFault>
+    requires count { count ≡ length prepared.now.variables }
+    requires system { IsSome prepared.now.case.case.now.system }
+    ensures { IfOk result (IsPart prepared.now (length prepared.now.starts.places.items + 1)) }
+{
+    let Some(place) = prepared.sorted.function_names.find("sut") else {
+        return Ok(None);
+    };
+    let Some(itself) = component_behind(started_count(&prepared.starts)) else {
+        return Err(ScriptFault::limit(prepared.case.line));
+    };
+    let references = references(alloc, itself, &[], count)?;
+    Ok(Some(Part {
+        source: Source::Function(place),
+        references,
+    }))
+}
+
+/// What `mtc` and the components of the component variables do.
+fn test_parts(
+    alloc: Global,
+    prepared: &Prepared,
+    count: u32,
+) -> Result<Vec<Option<Part>>, ScriptFault>
+    requires { count ≡ length prepared.now.variables }
+    ensures parts { IfOk result (λ parts. AreParts prepared.now parts.items) }
+    ensures count { IfOk result (λ parts. length parts.items ≡ length prepared.now.starts.places.items + 1) }
+{
+    let mut parts = Vec::new(alloc);
+    let main = main_part(alloc, count)?;
+    parts.push(Some(main))?;
+    for (place, start) in prepared.starts.places.iter().enumerate() {
+        let part = started_part(alloc, prepared, place, *start, count)?;
+        parts.push(Some(part))?;
+    }
+    Ok(parts)
+}
+
+/// What each component of a test case does, by its number: `mtc`, the components of the component variables,
+/// and the test system interface where there is a `system` clause.
+///
+/// 50 `Memory` only where an allocation was refused.
+pub fn make_parts(alloc: Global, prepared: &Prepared) -> Result<Vec<Option<Part>>, ScriptFault>
+    ensures parts { IfOk result (λ parts. AreParts prepared.now parts.items) }
+    ensures count { IfOk result (λ parts. length parts.items ≡ part_count prepared.now) }
+{
+    let count = variable_count(prepared)?;
+    let mut parts = test_parts(alloc, prepared, count)?;
+    if prepared.case.case.system.is_some() {
+        let part = system_part(alloc, prepared, count)?;
+        parts.push(part)?;
+    }
+    Ok(parts)
+}

@@ -1,0 +1,60 @@
+//! What the bodies of a module may speak of.
+ghost use Rattle.std.specs.Prelude.{◌≡◌, IfOk, map, slice_get, option_map};
+ghost use Rattle.std.specs.Option.{option_copied};
+ghost use Rattle.tp_config.specs.Shape.{ports_of};
+ghost use Rattle.tp_setup.specs.Definitions.{declared};
+ghost use Rattle.tp_script.specs.Parts.{known_in};
+ghost use Rattle.tp_script.specs.Scopes.{IsScope};
+
+use std::alloc::Global;
+use tp_body::scope::{Behaviour, Scope};
+use tp_config::port_type::CompType;
+use tp_name::fault::{Refusal, ScriptFault, refused};
+use tp_name::name_set::NameSet;
+use tp_setup::prepared::Prepared;
+use tp_setup::unique_names::declare_parameters;
+use tp_syntax::tree::Parameter;
+
+/// The component type at this place. Takes no memory.
+fn kind_at(kinds: &[CompType], place: u32) -> Option<&CompType>
+    ensures { option_copied result ≡ slice_get kinds.now place }
+{
+    kinds.get(place as usize)
+}
+
+/// The names of the parameters, in their order. 12 `Duplicate` at the line of the second of two that are
+/// equal; 50.
+pub fn parameter_names(alloc: Global, parameters: &[Parameter]) -> Result<NameSet<'_>, ScriptFault>
+    ensures { IfOk result (λ names. names ≡ map (λ p. declared p.name) parameters.now) }
+{
+    let mut names = NameSet::new(alloc);
+    declare_parameters(&mut names, parameters)?;
+    Ok(names)
+}
+
+/// What a behaviour may speak of that runs on the component type of this name and has these parameters.
+/// 11 `Unknown` at the line where there is no such type. Takes no memory.
+pub fn scope_of<'m>(
+    prepared: &'m Prepared<'m>,
+    runs_on: &str,
+    behaviour: Behaviour,
+    parameters: &'m NameSet<'m>,
+    line: u32,
+) -> Result<Scope<'m>, ScriptFault>
+    ensures { IfOk result (IsScope (known_in prepared.now) behaviour runs_on.now parameters.now) }
+{
+    let Some(place) = prepared.sorted.component_names.find(runs_on) else {
+        return Err(refused(Refusal::Unknown, line));
+    };
+    let Some(ports) = kind_at(prepared.config.types(), place) else {
+        return Err(refused(Refusal::Unknown, line));
+    };
+    Ok(Scope {
+        types: &prepared.types,
+        component_types: &prepared.sorted.component_names,
+        ports,
+        behaviour,
+        parameters,
+        components: &prepared.variables,
+    })
+}

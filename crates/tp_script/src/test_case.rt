@@ -1,0 +1,127 @@
+//! The test case of a module.
+ghost use Rattle.std.specs.Prelude.{◌≡◌, None, length, map};
+ghost use Rattle.std.specs.List.{slice_index_or};
+ghost use Rattle.std.specs.Option.{option_copied, option_map};
+ghost use Rattle.tp_script.specs.TestCases.{duty_at};
+ghost use Rattle.tp_script.specs.Parts.{body_in, duty_of};
+ghost use Rattle.tp_script.specs.Seen.{seen};
+
+use crate::bodies::Bodies;
+use crate::part::{Part, Source};
+use std::marker::Model;
+use tp_body::body::Body;
+use tp_config::config::Config;
+use tp_config::port_type::CompId;
+use tp_setup::prepared::Prepared;
+use tp_value::types::Types;
+
+/// A test case whose module obeys the rules: its components and what each of them does. Contracts see the
+/// configuration, the types and each component's duty.
+#[derive(Drop)]
+pub struct TestCase {
+    config: Config,
+    types: Types,
+    bodies: Bodies,
+    /// What each component does, by its number.
+    parts: Vec<Option<Part>>,
+}
+
+/// What a component does.
+#[derive(Clone, Copy)]
+pub struct Conduct<'t> {
+    /// Its body. Components that start the same function have the same.
+    pub body: &'t Body,
+    /// The components that the references of the body name, by their places: `mtc` at 0, the component itself
+    /// at 1, then the arguments of its start, then those of the component variables of the test case.
+    pub references: &'t [CompId],
+}
+
+/// The part of the component of this number, if it has one. Takes no memory.
+fn part_at(parts: &[Option<Part>], comp: CompId) -> Option<&Part>
+    ensures { option_copied result ≡ slice_index_or parts.now comp.0 None }
+{
+    match parts.get(comp.0 as usize) {
+        Some(Some(part)) => Some(part),
+        Some(None) | None => None,
+    }
+}
+
+/// The body that is meant. Takes no memory.
+fn body_of(bodies: &Bodies, source: Source) -> Option<&Body>
+    ensures { option_copied result ≡ body_in bodies.now source }
+{
+    match source {
+        Source::TestCase => Some(&bodies.main),
+        Source::Function(place) => bodies.functions.get(place as usize),
+    }
+}
+
+impl Model for TestCase {
+    ghost use Rattle.std.specs.Prelude.{map};
+    ghost use Rattle.tp_script.specs.TestCases.{Made};
+    ghost use Rattle.tp_script.specs.Parts.{duty_of};
+    ghost use Rattle.tp_body.specs.contracts.body.Statement as statement_contract;
+    ghost use Rattle.std.specs.Coded.{codes};
+
+    ghost Value = { Made };
+
+    ghost coded = { Prim.hlevel (codes, statement_contract.the_row.coded) };
+
+    ghost view = { λ t. record { config = t.config; types = t.types; duties = map (duty_of t.bodies) t.parts.items } };
+}
+
+impl TestCase {
+    /// The test case of what the passes made.
+    pub(crate) fn new(prepared: Prepared<'_>, bodies: Bodies, parts: Vec<Option<Part>>) -> TestCase
+        ensures { result ≡ record { config = prepared.entry.config; types = prepared.entry.types; duties = map (duty_of bodies) parts.items } }
+    {
+        let Prepared { types, config, .. } = prepared;
+        TestCase {
+            config,
+            types,
+            bodies,
+            parts,
+        }
+    }
+
+    /// How many components there are, at most 64. They are numbered from 0: `mtc`, those that are created in
+    /// their order, and the test system interface where the test case has a `system` clause
+    /// (ES 201 873-1, 9.1, 21.2.1). Takes no memory.
+    pub fn components(&self) -> usize
+        ensures { result ≡ length self.now.config.components }
+    {
+        self.config.len()
+    }
+
+    /// The configuration that the setup statements make. Takes no memory.
+    pub fn config(&self) -> &Config
+        ensures { result.now ≡ self.now.config }
+    {
+        &self.config
+    }
+
+    /// The record and record-of types, under their own names. Takes no memory.
+    pub fn types(&self) -> &Types
+        ensures { result.now ≡ self.now.types }
+    {
+        &self.types
+    }
+
+    /// What the component does: the test case's own body for `mtc`, that of its function for a component that
+    /// is started, and that of `sut` for the test system interface. `None` for a test system interface
+    /// without `sut`, and where there is no such component. Takes no memory.
+    pub fn body(&self, comp: CompId) -> Option<Conduct<'_>>
+        ensures { option_map seen result ≡ duty_at self.now comp.0 }
+    {
+        let Some(part) = part_at(&self.parts, comp) else {
+            return None;
+        };
+        let Some(body) = body_of(&self.bodies, part.source) else {
+            return None;
+        };
+        Some(Conduct {
+            body,
+            references: part.references.as_slice(),
+        })
+    }
+}

@@ -1,0 +1,77 @@
+//! The fifth pass of the checks: how many statements there are.
+ghost use Rattle.std.specs.Prelude.{◌≡◌, ◌≤◌, IfOk, OnOk, map, sum};
+ghost use Rattle.std.specs.List.{slice_index_or};
+ghost use Rattle.tp_body.specs.Sizes.{capped, size_of_body};
+ghost use Rattle.tp_script.specs.Duties.{size_of_duty};
+ghost use Rattle.tp_script.specs.Parts.{duty_of, size_from, size_of_part};
+
+use crate::bodies::Bodies;
+use crate::part::{Part, Source};
+use std::alloc::Global;
+use tp_body::body::Body;
+use tp_body::size::{COUNTED, cap, count_body};
+use tp_name::fault::ScriptFault;
+
+/// How many statements each body has, up to [`COUNTED`].
+fn count_bodies(alloc: Global, bodies: &[Body]) -> Result<Vec<u64>, ScriptFault>
+    ensures { IfOk result (λ sizes. sizes.items ≡ map (λ b. capped (size_of_body b)) bodies.now) }
+{
+    let mut sizes = Vec::new(alloc);
+    for body in bodies {
+        sizes.push(count_body(body))?;
+    }
+    Ok(sizes)
+}
+
+/// The size at this place, or 0.
+fn size_at(sizes: &[u64], place: u32) -> u64
+    ensures { result ≡ slice_index_or sizes.now place 0 }
+{
+    match sizes.get(place as usize) {
+        Some(size) => *size,
+        None => 0,
+    }
+}
+
+/// The size of what a component does, where the bodies have these sizes.
+fn part_size(main: u64, functions: &[u64], part: &Option<Part>) -> u64
+    ensures { result ≡ size_of_part main functions.now part.now }
+{
+    let Some(part) = part else {
+        return 0;
+    };
+    match part.source {
+        Source::TestCase => main,
+        Source::Function(place) => size_at(functions, place),
+    }
+}
+
+/// The sum of the sizes of what the components do, up to [`COUNTED`].
+fn count_parts(main: u64, functions: &[u64], parts: &[Option<Part>]) -> u64
+    ensures { result ≡ capped (sum (map (size_of_part main functions.now) parts.now)) }
+{
+    let mut sum = 0;
+    for part in parts {
+        sum = cap(sum + cap(part_size(main, functions, part)));
+    }
+    sum
+}
+
+/// 15 `Limit` at the line where all components together have more than 100,000 statements to carry out, a
+/// `for` being as many copies of its block as it has turns. Each body is counted once, however many
+/// components have it. 50 `Memory` only where an allocation was refused.
+pub fn check_size(
+    alloc: Global,
+    bodies: &Bodies,
+    parts: &[Option<Part>],
+    line: u32,
+) -> Result<(), ScriptFault>
+    ensures { OnOk result (sum (map size_of_duty (map (duty_of bodies.now) parts.now)) ≤ 100000) }
+{
+    let main = count_body(&bodies.main);
+    let functions = count_bodies(alloc, &bodies.functions)?;
+    if count_parts(main, &functions, parts) >= COUNTED {
+        return Err(ScriptFault::limit(line));
+    }
+    Ok(())
+}
