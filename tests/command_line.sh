@@ -31,14 +31,16 @@ command_lines() {
     refuses_command_line "a mode that is no text" "$no_text"
     refuses_command_line "a file name that is no text" queue "$no_text"
 
-    # Modes that aren't there yet.
-    refuses_command_line "mode check" check text
+    # A mode that isn't there yet.
     refuses_command_line "mode run" run text
 }
 
 cannot_read() { # NAME FILE
-    observe "$tpr" queue "$2" <text
-    must "$1" 2 "$unread" ''
+    local mode
+    for mode in queue check; do
+        observe "$tpr" "$mode" "$2" <text
+        must "$1 in mode $mode" 2 "$unread" ''
+    done
 }
 
 reading() {

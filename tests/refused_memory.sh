@@ -2,19 +2,19 @@
 # what it answers with ample memory. `root`, `room` and `count` are those of ./test. The program is
 # the built one itself, since a shell before it would be refused memory too.
 
-refuse_each() { # EXAMPLE
-    local base=$1 wanted=0 refusals=0 number status
+refuse_each() { # MODE FILE ANSWER
+    local mode=$1 base=${2%.*} wanted=0 refusals=0 number status
     if [[ -e $base.status ]]; then wanted=$(<"$base.status"); fi
     printf 'fault 50 Memory\n' >"$room/fault"
-    for ((number = 1; number <= 200; number++)); do
+    for ((number = 1; number <= 2000; number++)); do
         rm -f -- "$room/mark"
         REFUSED=$number REFUSED_MARK=$room/mark LD_PRELOAD=$room/refused_memory.so \
-            "$root/crates/tpr/out/tpr" queue "$base.queue" >"$room/printed" 2>"$room/said"
+            "$root/crates/tpr/out/tpr" "$mode" "$2" >"$room/printed" 2>"$room/said"
         status=$?
         if [[ ! -e $room/mark ]]; then break; fi
         if [[ $status == 3 && ! -s $room/said ]] && cmp -s -- "$room/fault" "$room/printed"; then
             ((refusals += 1))
-        elif ! { [[ $status == "$wanted" && ! -s $room/said ]] && cmp -s -- "$base.expected" "$room/printed"; }; then
+        elif ! { [[ $status == "$wanted" && ! -s $room/said ]] && cmp -s -- "$3" "$room/printed"; }; then
             echo "FAILED: $base with allocation $number refused: status $status, and printed"
             head -n 10 -- "$room/printed"
             return 1
@@ -35,7 +35,11 @@ refused_memory() {
     fi
     for base in clear_keeps_the_port_halted trigger_discards_what_does_not_match \
         check_and_receive_from_a_sender integer_too_large_is_refused; do
-        refuse_each "$root/examples/$base"
+        refuse_each queue "$root/examples/$base.queue" "$root/examples/$base.expected"
+        count $?
+    done
+    for base in system_under_test_answers login_is_answered replies_go_to_their_senders; do
+        refuse_each check "$root/examples/$base.ttcn" "$root/examples/$base.checked"
         count $?
     done
 }

@@ -12,7 +12,7 @@ mode_text mode.Run = codes "run"
 -- the modes that the program offers
 abbrev pub IsOffered : Mode → Type 0
 IsOffered mode.Queue = Unit {0}
-IsOffered mode.Check = ⊥
+IsOffered mode.Check = Unit {0}
 IsOffered mode.Run = ⊥
 
 -- the words are the mode's, and then the FILE, if one is given

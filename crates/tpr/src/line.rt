@@ -20,6 +20,8 @@ fn mode_of(word: &str) -> Option<Mode>
 {
     if word == "queue" {
         Some(Mode::Queue)
+    } else if word == "check" {
+        Some(Mode::Check)
     } else {
         None
     }
@@ -27,7 +29,7 @@ fn mode_of(word: &str) -> Option<Mode>
 
 /// The mode and the FILE, if there is one, that these words ask for: those that follow the
 /// program's name. `None` where they are no command line of the program: the usage line is then
-/// due. `check` and `run` aren't offered yet.
+/// due. `run` isn't offered yet.
 pub fn line_of(words: &[String]) -> Option<(Mode, Option<&str>)>
     ensures { MatchOption result ((mode : _) (file : _) → IsOffered mode → Asks (map string_bytes words.now) mode file → ⊥) (λ line. IsOffered line.0 × Asks (map string_bytes words.now) line.0 (option_copied line.1)) }
 {

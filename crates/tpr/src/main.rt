@@ -3,11 +3,13 @@
 
 ghost use Rattle.tpr.specs.Line.{IsOffered};
 
+mod checking;
 mod line;
 mod modes;
 #[cfg(test)]
 mod tests;
 
+use checking::answer_check;
 use line::{Mode, line_of};
 use modes::{answer_fault, answer_queue};
 use std::alloc::Global;
@@ -34,7 +36,8 @@ fn answer<R: Read, W: Write>(mode: Mode, alloc: Global, reader: &mut R, writer: 
 {
     match mode {
         Mode::Queue => answer_queue(alloc, reader, writer),
-        Mode::Check | Mode::Run => unreachable!(),
+        Mode::Check => answer_check(alloc, reader, writer),
+        Mode::Run => unreachable!(),
     }
 }
 

@@ -18,7 +18,7 @@ pub const REFUSED: u8 = 2;
 pub const FAULTED: u8 = 3;
 
 /// Writes a refusal and its line.
-fn write_refused<W: Write>(writer: &mut W, refusal: Refusal, line: u64) -> io::Result<()>
+pub fn write_refused<W: Write>(writer: &mut W, refusal: Refusal, line: u64) -> io::Result<()>
     ensures { OnOk result (Appends (W.contents writer.old) (W.contents writer.new) (refused_text refusal line)) }
 {
     let (number, name) = refusal.label();
@@ -26,7 +26,7 @@ fn write_refused<W: Write>(writer: &mut W, refusal: Refusal, line: u64) -> io::R
 }
 
 /// Writes that the text could not be read.
-fn write_unread<W: Write>(writer: &mut W) -> io::Result<()>
+pub fn write_unread<W: Write>(writer: &mut W) -> io::Result<()>
     ensures { OnOk result (Appends (W.contents writer.old) (W.contents writer.new) unread_text) }
 {
     let (number, name) = Refusal::Read.label();
@@ -34,7 +34,7 @@ fn write_unread<W: Write>(writer: &mut W) -> io::Result<()>
 }
 
 /// Writes that memory was refused.
-fn write_memory<W: Write>(writer: &mut W) -> io::Result<()>
+pub fn write_memory<W: Write>(writer: &mut W) -> io::Result<()>
     ensures { OnOk result (Appends (W.contents writer.old) (W.contents writer.new) memory_text) }
 {
     let (number, name) = Refusal::Memory.label();
@@ -55,7 +55,7 @@ fn write_fault<W: Write>(writer: &mut W, fault: QueueFault) -> io::Result<()>
 }
 
 /// The status, or that of a fault where what was written can't be flushed.
-fn flushed<W: Write>(writer: &mut W, status: u8) -> u8
+pub fn flushed<W: Write>(writer: &mut W, status: u8) -> u8
     ensures status { (result ≡ status) ⊎ (result ≡ FAULTED) }
     ensures kept { Keeps (W.contents writer.old) (W.contents writer.new) }
 {

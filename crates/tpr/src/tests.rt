@@ -18,12 +18,13 @@ fn words_name_a_mode_and_a_file(rt: HostRuntime) -> Result<(), Fail> {
     assert!(rt; line_of(words.as_slice()) == Some((Mode::Queue, Some("a.queue"))));
     words.push(check)?;
     assert!(rt; line_of(words.as_slice()).is_none());
+    assert!(rt; line_of(&words[2..]) == Some((Mode::Check, None)));
     Ok(())
 }
 
 #[test]
 fn modes_to_come_are_not_offered(rt: HostRuntime) -> Result<(), Fail> {
-    for word in ["check", "run", "Queue", "", "--help"] {
+    for word in ["run", "Queue", "", "--help"] {
         let text = String::from_str(rt.alloc(), word)?;
         let mut words = Vec::new(rt.alloc());
         words.push(text)?;

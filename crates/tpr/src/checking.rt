@@ -1,0 +1,121 @@
+//! Whether a script is right.
+ghost use Rattle.std.specs.Prelude.{◌≡◌, ◌⊎◌, IfSome, OnOk};
+ghost use Rattle.std.specs.Io.KnownBytes.{Appends, Keeps};
+ghost use Rattle.tpr.specs.Checked.{IsNotAccepted, IsRight, accepted_text, check_fault_status, check_fault_text};
+
+use crate::modes::{
+    ANSWERED, FAULTED, REFUSED, flushed, write_memory, write_refused, write_unread,
+};
+use std::alloc::Global;
+use std::io;
+use std::io::{Read, Write};
+use tp_port::text::{ReadFault, read_text};
+use tp_refusal::memory::Memory;
+use tp_script::{ScriptFault, check, parse};
+
+/// Why a script isn't accepted.
+#[derive(Clone, Copy, Debug, PartialEq, Eq)]
+pub enum CheckFault {
+    /// 2 Read: the reader answered an error.
+    Read,
+    /// The script breaks a rule, or memory was refused.
+    Script(ScriptFault),
+}
+
+impl From<ReadFault> for CheckFault {
+    ghost use Rattle.std.specs.Prelude.{◌≡◌};
+    ghost use Rattle.tpr.specs.Checked.{check_fault_of};
+
+    ghost from_gives = { λ read fault. fault ≡ check_fault_of read };
+
+    fn from(read: ReadFault) -> CheckFault {
+        match read {
+            ReadFault::Read => CheckFault::Read,
+            ReadFault::Limit => CheckFault::Script(ScriptFault::limit(0)),
+            ReadFault::Memory => CheckFault::Script(ScriptFault::Memory(Memory)),
+        }
+    }
+}
+
+/// Reads a text as a module, and checks it.
+fn check_text(alloc: Global, text: &[u8]) -> Result<(), ScriptFault>
+    ensures { OnOk result (IsRight text.now) }
+{
+    let parsed = parse(alloc, text)?;
+    let _ = check(alloc, &parsed)?;
+    Ok(())
+}
+
+/// Reads a script, and checks it.
+fn check_script<R: Read>(alloc: Global, reader: &mut R) -> Result<(), CheckFault>
+    ensures { OnOk result (IfSome (R.remaining reader.old) IsRight) }
+{
+    match read_text(alloc, reader) {
+        Err(fault) => Err(CheckFault::from(fault)),
+        Ok(text) => match check_text(alloc, text.as_slice()) {
+            Err(fault) => Err(CheckFault::Script(fault)),
+            Ok(()) => Ok(()),
+        },
+    }
+}
+
+/// Writes the line of a fault.
+fn write_check_fault<W: Write>(writer: &mut W, fault: CheckFault) -> io::Result<()>
+    ensures { OnOk result (Appends (W.contents writer.old) (W.contents writer.new) (check_fault_text fault)) }
+{
+    match fault {
+        CheckFault::Read => write_unread(writer),
+        CheckFault::Script(ScriptFault::Refused { refusal, line }) => {
+            write_refused(writer, refusal, line as u64)
+        }
+        CheckFault::Script(ScriptFault::Memory(_)) => write_memory(writer),
+    }
+}
+
+/// Writes that a script is right.
+fn write_accepted<W: Write>(writer: &mut W) -> io::Result<()>
+    ensures { OnOk result (Appends (W.contents writer.old) (W.contents writer.new) accepted_text) }
+{
+    writer.write_all(b"accepted\n")
+}
+
+/// The status of a fault.
+fn status_of(fault: CheckFault) -> u8
+    ensures { result ≡ check_fault_status fault }
+{
+    match fault {
+        CheckFault::Read | CheckFault::Script(ScriptFault::Refused { .. }) => REFUSED,
+        CheckFault::Script(ScriptFault::Memory(_)) => FAULTED,
+    }
+}
+
+/// Prints the line of a fault. The status is the fault's, and 3 where the writer failed.
+fn answer_check_fault<W: Write>(writer: &mut W, fault: CheckFault) -> u8
+    ensures printed { result ≡ REFUSED → IsNotAccepted (W.contents writer.old) (W.contents writer.new) }
+    ensures status { (result ≡ check_fault_status fault) ⊎ (result ≡ FAULTED) }
+{
+    match write_check_fault(writer, fault) {
+        Ok(()) => flushed(writer, status_of(fault)),
+        Err(_) => FAULTED,
+    }
+}
+
+/// Reads a script and checks it: prints `accepted` where it is right, and else the line of its first fault.
+///
+/// The status is 0 where it is right; 2 where it was refused: `refused 2 Read`, or `refused CODE NAME line
+/// L` with 10 to 18 and 20 to 28, as [`parse`] and [`check`] say; 3 where memory was refused, `fault 50
+/// Memory`, or the writer failed, which prints nothing more.
+pub fn answer_check<R: Read, W: Write>(alloc: Global, reader: &mut R, writer: &mut W) -> u8
+    ensures right { result ≡ ANSWERED → IfSome (R.remaining reader.old) IsRight }
+    ensures accepted { result ≡ ANSWERED → Appends (W.contents writer.old) (W.contents writer.new) accepted_text }
+    ensures refused { result ≡ REFUSED → IsNotAccepted (W.contents writer.old) (W.contents writer.new) }
+    ensures only { (result ≡ ANSWERED) ⊎ (result ≡ REFUSED) ⊎ (result ≡ FAULTED) }
+{
+    match check_script(alloc, reader) {
+        Err(fault) => answer_check_fault(writer, fault),
+        Ok(()) => match write_accepted(writer) {
+            Ok(()) => flushed(writer, ANSWERED),
+            Err(_) => FAULTED,
+        },
+    }
+}

@@ -1,0 +1,157 @@
+# The limits of scripts, each bound itself and one more, and scripts that are cut short. `room`, `tpr`,
+# `observe`, `judge` and `count` are those of ./test.
+
+# The script in $room/script is answered by the text.
+checked() { # NAME ANSWER
+    echo "$2" >"$room/wanted"
+    local status_of_it=2
+    if [[ $2 == accepted ]]; then status_of_it=0; fi
+    observe "$tpr" check "$room/script" </dev/null
+    judge "$1" "$status_of_it" '' "$room/wanted"
+    count $?
+}
+
+# A module of three lines with a port type and a component type, and then these lines.
+module_with() { # LINE..
+    printf '%s\n' 'module M {' 'type port P message { inout integer; }' \
+        'type component C { port P p, q; }' "$@" >"$room/script"
+}
+
+repeated() { # TEXT TIMES
+    local text
+    printf -v text "%*s" "$2" ''
+    printf %s "${text// /$1}"
+}
+
+limit_of_text() {
+    printf '%*s' 1048576 '' >"$room/script"
+    checked "a text of 1,048,576 spaces" 'refused 10 Syntax line 1'
+    printf '%*s' 1048577 '' >"$room/script"
+    checked "a text of 1,048,577 spaces" 'refused 15 Limit line 0'
+    module_with 'testcase t() runs on C { }' '}'
+    printf '%*s' $((1048576 - $(wc -c <"$room/script"))) '' >>"$room/script"
+    checked "a module of 1,048,576 bytes" accepted
+    printf ' ' >>"$room/script"
+    checked "a module of 1,048,577 bytes" 'refused 15 Limit line 0'
+}
+
+limit_of_names() {
+    local long
+    long=$(repeated M 64)
+    module_with 'testcase t() runs on C { }' '}'
+    sed -i "1s/M/$long/" "$room/script"
+    checked "a name of 64 letters" accepted
+    sed -i "1s/$long/${long}M/" "$room/script"
+    checked "a name of 65 letters" 'refused 15 Limit line 1'
+}
+
+limit_of_brackets() {
+    local depth
+    for depth in 29 30; do
+        printf '%s' 'module M { type record of T T; type port P message { inout T; } type component C { port P p; } ' \
+            "testcase t() runs on C { p.send(T:$(repeated '{' $depth)$(repeated '}' $depth)); } }" >"$room/script"
+        if ((depth == 29)); then
+            checked "32 brackets open" accepted
+        else
+            checked "33 brackets open" 'refused 15 Limit line 1'
+        fi
+    done
+}
+
+limit_of_numbers() {
+    module_with 'testcase t() runs on C {' 'p.send(integer:9223372036854775807);' \
+        'p.send(integer:-9223372036854775808);' '}' '}'
+    checked "the greatest and the least integer" accepted
+    sed -i '5s/7)/8)/' "$room/script"
+    checked "one above the greatest" 'refused 15 Limit line 5'
+    sed -i -e '5s/8)/7)/' -e '6s/8)/9)/' "$room/script"
+    checked "one below the least" 'refused 15 Limit line 6'
+}
+
+# So many component variables, all started, in a test case whose head ends in the CLAUSE.
+components() { # COUNT CLAUSE
+    local number lines=()
+    for ((number = 0; number < $1; number += 1)); do lines+=("var C c$number := C.create;"); done
+    for ((number = 0; number < $1; number += 1)); do lines+=("c$number.start(f());"); done
+    module_with 'function f() runs on C { }' "testcase t() runs on C $2 {" "${lines[@]}" 'all component.done;' '}' '}'
+}
+
+limit_of_components() {
+    components 63 ''
+    checked "64 components" accepted
+    components 64 ''
+    checked "65 components" 'refused 15 Limit line 69'
+    components 62 'system C'
+    checked "64 components, system among them" accepted
+    components 63 'system C'
+    checked "65 components, system among them" 'refused 15 Limit line 68'
+}
+
+limit_of_ports() {
+    local number names='a0'
+    for ((number = 1; number < 64; number += 1)); do names+=", a$number"; done
+    module_with "type component D { port P $names; }" 'testcase t() runs on C { }' '}'
+    checked "64 ports" accepted
+    module_with "type component D { port P $names; port P a64; }" 'testcase t() runs on C { }' '}'
+    checked "65 ports" 'refused 15 Limit line 4'
+}
+
+# A loop of so many turns around the statement.
+loop() { # NAME TURNS STATEMENT
+    echo "for (var integer $1 := 0; $1 < $2; $1 := $1 + 1) { $3 }"
+}
+
+limit_of_statements() {
+    local body='setverdict(pass);'
+    module_with 'testcase t() runs on C {' "$(loop i 99999 "$body")" '}' '}'
+    checked "100,000 statements" accepted
+    module_with 'testcase t() runs on C {' "$(loop i 100000 "$body")" '}' '}'
+    checked "100,001 statements" 'refused 15 Limit line 4'
+    module_with 'testcase t() runs on C {' "$(loop i 9223372036854775807 "$(loop j 9223372036854775807 "$body")")" '}' '}'
+    checked "more statements than 64 bits count" 'refused 15 Limit line 4'
+    module_with 'function f() runs on C {' "$(loop i 50000 "$body")" '}' 'testcase t() runs on C {' \
+        'var C a := C.create;' 'var C b := C.create;' 'a.start(f());' 'all component.done;' '}' '}'
+    sed -i 's/^a.start(f());$/a.start(f()); b.start(f());/' "$room/script"
+    checked "a function of 50,001 statements started twice" 'refused 15 Limit line 7'
+    sed -i 's/50000/49998/' "$room/script"
+    checked "a function of 49,999 statements started twice" accepted
+    sed -i 's/^a.start(f()); b.start(f());$/a.start(g()); b.start(g());/; s/49998/100000/' "$room/script"
+    sed -i '4s/^/function g() runs on C { } /' "$room/script"
+    checked "a large function that is not started" accepted
+}
+
+# A script that is cut before its last bracket is refused where it ends: one more than the bytes 10
+# before the cut. The right answers need no file.
+cut_script() { # EXAMPLE
+    local text bytes shown failed_before=$failed
+    text=$(<"$1")
+    text=${text%\}*}
+    if ((${#text} < 100)); then
+        echo "FAILED: $1 is too short to be cut"
+        count 1
+        return
+    fi
+    for ((bytes = 0; bytes <= ${#text}; bytes += 1)); do
+        shown=${text:0:bytes}
+        printf %s "$shown" >"$room/script"
+        shown=${shown//[!$'\n']/}
+        echo "refused 10 Syntax line $((${#shown} + 1))" >"$room/wanted"
+        observe "$tpr" check "$room/script" </dev/null
+        if ! judge "$1 cut after byte $bytes" 2 '' "$room/wanted"; then
+            count 1
+            return
+        fi
+    done
+    count $((failed - failed_before))
+}
+
+script_limits() {
+    limit_of_text
+    limit_of_names
+    limit_of_brackets
+    limit_of_numbers
+    limit_of_components
+    limit_of_ports
+    limit_of_statements
+    LC_ALL=C cut_script examples/system_under_test_answers.ttcn
+}
