@@ -17,6 +17,7 @@ use std::sync::{Arc, Wait};
 use std::test::Fail;
 use tp_config::config::Config;
 use tp_config::port_type::{CompId, CompType, PORT_LIMIT, PortRef, PortType, Role, RouteId};
+use tp_config::type_list::TypeList;
 use tp_port::event::TriggerAnswer;
 use tp_refusal::memory::Memory;
 use tp_value::items::Items;
@@ -55,8 +56,8 @@ fn comp_type(alloc: Global) -> Result<CompType, Memory>
     let mut ports = IndexMap::new(alloc);
     for name in ["p", "q"] {
         let port_type = PortType {
-            ins: Items::from_slice(alloc, both.as_slice())?,
-            outs: Items::from_slice(alloc, both.as_slice())?,
+            ins: TypeList::from_items(alloc, Items::from_slice(alloc, both.as_slice())?)?,
+            outs: TypeList::from_items(alloc, Items::from_slice(alloc, both.as_slice())?)?,
         };
         ports.insert(String::from_str(alloc, name)?, port_type)?;
     }
