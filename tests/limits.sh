@@ -154,4 +154,5 @@ script_limits() {
     limit_of_ports
     limit_of_statements
     LC_ALL=C cut_script examples/system_under_test_answers.ttcn
+    LC_ALL=C cut_script tests/every_line.ttcn
 }

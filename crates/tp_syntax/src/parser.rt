@@ -45,6 +45,3 @@ fn last_line(text: &[u8]) -> u32
 {
     1 + text.iter().filter(|byte| **byte == b'\n').count() as u32
 }
-
-#[cfg(test)]
-mod tests;
