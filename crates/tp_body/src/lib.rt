@@ -3,12 +3,12 @@
 
 pub mod body;
 pub mod fill;
-pub mod lookup;
-pub mod messages;
-pub mod operations;
+mod lookup;
+mod messages;
+mod operations;
 mod placing;
 pub mod scope;
 pub mod size;
 pub mod statements;
-pub mod templates;
-pub mod variables;
+mod templates;
+mod variables;

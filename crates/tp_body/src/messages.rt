@@ -3,16 +3,15 @@ ghost use Rattle.std.specs.Prelude.{◌≡◌, ◌↔◌, IfOk, IsTrue, length, 
 ghost use Rattle.tp_value.specs.HasType.{ArePrintable};
 ghost use Rattle.tp_name.specs.Named.{texts};
 ghost use Rattle.tp_body.specs.Placing.{IsPlacing};
-ghost use Rattle.tp_body.specs.Messages.{AreElements, AreFields, AreNamed, IsMessage, IsValue};
+ghost use Rattle.tp_body.specs.Messages.{AreElements, AreFields, AreNamed, IsValue};
 
-use crate::body::{SendMsg, SendValue};
-use crate::lookup::find_type;
+use crate::body::SendValue;
 use crate::placing::field_places;
 use std::alloc::Global;
 use tp_name::fault::{Refusal, ScriptFault, refused};
 use tp_name::name::{Name, find};
 use tp_name::name_set::NameSet;
-use tp_syntax::tree::{Message, Value, ValueField};
+use tp_syntax::tree::{Value, ValueField};
 use tp_value::items::Items;
 use tp_value::types::{Field, Ty, TypeDef, Types};
 
@@ -208,18 +207,4 @@ fn resolve_named(
         made[place] = one;
     }
     Ok(Items::from_vec(made))
-}
-
-/// What a message stands for, of a type that is known.
-#[tactic(auto, using(crate::proofs::ValueRules::cases))]
-pub fn resolve_message(
-    alloc: Global,
-    context: &Context,
-    ty: Ty,
-    value: &Value,
-) -> Result<SendMsg, ScriptFault>
-    ensures { IfOk result (λ m. (m.ty ≡ ty) × IsValue context.now.types.now (texts context.now.turns.now) ty value.now m.value) }
-{
-    let value = resolve_value(alloc, context, ty, value)?;
-    Ok(SendMsg { ty, value })
 }

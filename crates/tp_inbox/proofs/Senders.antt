@@ -4,7 +4,6 @@ use Rattle.std.proofs.lemmas.Grind.{get_or-set_at}
 use Rattle.std.proofs.lemmas.List.{get_or-set_other, length-set, length-map, get_or-map, map-append}
 use Rattle.tp_inbox.specs.Ledgers.{Inbox, Sending, AreSenders}
 use Rattle.tp_inbox.proofs.Ports.{same_or_not}
-use Rattle.tp_inbox.proofs.Routes.{append_nil}
 use Rattle.tp_inbox.proofs.Gathering.{move_one}
 
 map-set_same : {A B : Type 0} (f : A → B) (xs : List A) (p : ℕ) (t d : A) → p < length xs → f t ≡ f (get_or xs p d) → map f (set xs p t) ≡ map f xs
@@ -37,7 +36,3 @@ pub moved : {A B C : Type 0} (f : A → C) (g : B → C) (all xs : List A) (x : 
 moved f g all xs x left rest y whole is steps same was =
     move_one (map f all) (map f xs) (f x) (map g rest) (ap (map f) is ∙ map-append f xs (x ∷ [])) ∙ ap (λ z. map f xs ++ z ∷ map g rest) same
     ∙ sym (ap (λ l. map f xs ++ map g l) steps) ∙ was
-
--- all have moved
-pub all_moved : {A B C : Type 0} (f : A → C) (g : B → C) (xs : List A) (left : List B) (whole : List C) → left ≡ [] → map f xs ++ map g left ≡ whole → map f xs ≡ whole
-all_moved f g xs left whole none was = sym (append_nil (map f xs)) ∙ ap (λ l. map f xs ++ map g l) (sym none) ∙ was
