@@ -10,3 +10,5 @@ pub mod PortRules
 pub mod Counting
 pub mod Filling
 pub mod Closed
+pub mod Typing
+pub mod Fitting

@@ -5,3 +5,4 @@ pub mod Bodies
 pub mod Sizes
 pub mod Fills
 pub mod Closed
+pub mod Laws

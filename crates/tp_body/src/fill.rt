@@ -1,6 +1,8 @@
 //! Messages and templates, with the values of the loop variables.
-ghost use Rattle.std.specs.Prelude.{◌≡◌, ◌≤◌, IfOk, length, map};
+ghost use Rattle.std.specs.Prelude.{◌≡◌, ◌≤◌, All, FitsSigned, IfOk, length, map};
+ghost use Rattle.std.specs.Int.{w64};
 ghost use Rattle.tp_body.specs.Fills.{filled, filled_template, filled_wanted, greatest, needed, needed_by_template, needed_by_wanted};
+ghost use Rattle.tp_body.specs.Laws.{IsTyped, IsFitting};
 
 use crate::body::{RecvMsg, RecvTemplate, SendMsg, SendValue};
 use std::alloc::Global;
@@ -48,16 +50,28 @@ fn fill_values(alloc: Global, values: &[SendValue], turns: &[i64]) -> Result<Ite
     Ok(made)
 }
 
+/// Reads the integers, and changes nothing: each is then known to have 64 bits.
+fn read_integers(integers: &[i64])
+    ensures { All (FitsSigned w64) integers.now }
+{
+    for place in 0..integers.len() {
+        let _integer = integers[place];
+    }
+}
+
 /// The message that a send sends, where the loop variables around it hold these integers, the outermost
-/// first: one for each loop variable of which the message speaks.
+/// first: one for each loop variable of which the message speaks (ES 201 873-1, 22.2.1). Under all types
+/// for which the send stands for a value of a text, the message's value has the message's type.
 ///
 /// 50 `Memory` only where an allocation was refused.
 pub fn fill_message(alloc: Global, message: &SendMsg, turns: &[i64]) -> Result<Message, Memory>
     requires given { needed message.now.value ≤ length turns.now }
     ensures ty { IfOk result (λ made. made.ty ≡ message.now.ty) }
     ensures value { IfOk result (λ made. made.value ≡ filled turns.now message.now.value) }
+    ensures typed { IfOk result (IsTyped message.now) }
 {
     let value = fill_value(alloc, &message.value, turns)?;
+    read_integers(turns);
     Ok(Message {
         ty: message.ty,
         value,
@@ -122,17 +136,21 @@ fn fill_all(
 }
 
 /// What a receiving operation wants, where the loop variables around it hold these integers, the
-/// outermost first: one for each loop variable of which the template speaks.
+/// outermost first: one for each loop variable of which the template speaks (ES 201 873-1, 15 and
+/// Annex B). Under all types for which the operation stands for a template of a text, what is made fits
+/// its type.
 ///
 /// 50 `Memory` only where an allocation was refused.
 pub fn fill_template(alloc: Global, wanted: &RecvMsg, turns: &[i64]) -> Result<MsgTemplate, Memory>
     requires given { needed_by_wanted wanted.now ≤ length turns.now }
-    ensures { IfOk result (λ made. made ≡ filled_wanted turns.now wanted.now) }
+    ensures value { IfOk result (λ made. made ≡ filled_wanted turns.now wanted.now) }
+    ensures fits { IfOk result (IsFitting wanted.now) }
 {
     match wanted {
         RecvMsg::Any => Ok(MsgTemplate::Any),
         RecvMsg::Of(ty, template) => {
             let made = fill_one(alloc, template, turns)?;
+            read_integers(turns);
             Ok(MsgTemplate::Of(*ty, made))
         }
     }

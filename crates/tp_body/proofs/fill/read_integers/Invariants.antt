@@ -1,0 +1,5 @@
+use Rattle.std.proofs.Common.{take, FitsSigned, w64, All}
+use Rattle.tp_body.proofs.fill.read_integers.Given as goal
+
+abbrev pub invariant-loop-place : goal.invariant-loop-place
+invariant-loop-place l = All (FitsSigned w64) (take l.place l.integers)

@@ -1,0 +1,24 @@
+-- What is filled has the type that its text was checked for.
+use Rattle.std.specs.Prelude.{ℕ, List}
+use Rattle.tp_value.specs.declared.types.Types.{Types}
+use Rattle.tp_value.specs.declared.message.Message.{Message}
+use Rattle.tp_value.specs.declared.message.MsgTemplate.{MsgTemplate}
+use Rattle.tp_value.specs.declared.message.MsgTemplate.TheVariants as m
+use Rattle.tp_value.specs.HasType.{HasType}
+use Rattle.tp_value.specs.Fits.{Fits}
+use Rattle.tp_syntax.specs.declared.tree.Value.{Value}
+use Rattle.tp_syntax.specs.declared.tree.Template.{Template}
+use Rattle.tp_body.specs.declared.body.SendMsg.{SendMsg}
+use Rattle.tp_body.specs.declared.body.RecvMsg.{RecvMsg}
+use Rattle.tp_body.specs.declared.body.RecvMsg.TheVariants as wanted
+use Rattle.tp_body.specs.Messages.{IsValue, IsTemplate}
+
+-- where a message stands for a value of the text, what it is filled to has its type
+abbrev pub IsTyped : SendMsg → Message → Type 0
+IsTyped message made = (types : Types) (turns : List (List ℕ)) (text : Value) → IsValue types turns message.ty text message.value → HasType types made.ty made.value
+
+-- where a template stands for one of the text, what it is filled to fits its type
+abbrev pub IsFitting : RecvMsg → MsgTemplate → Type 0
+IsFitting (wanted.Of u r) (m.Of v t) = (types : Types) (turns : List (List ℕ)) (text : Template) → IsTemplate types turns u text r → Fits types v t
+IsFitting (wanted.Of u r) m.Any = ⊥
+IsFitting wanted.Any made = Unit {0}
