@@ -12,3 +12,4 @@ pub mod Filling
 pub mod Closed
 pub mod Typing
 pub mod Fitting
+pub mod Listed

@@ -6,6 +6,7 @@ ghost use Rattle.tp_body.specs.Scoping.{IsPort, IsReference, IsType, IsVariable,
 use crate::body::VariableType;
 use crate::scope::{Behaviour, Scope, Variables};
 use tp_config::port_type::{CompType, PortType};
+use tp_config::type_list::TypeList;
 use tp_name::name::{Name, find};
 use tp_syntax::tree::{ComponentName, TypeName};
 use tp_value::types::{Ty, Types};
@@ -36,30 +37,30 @@ pub fn find_port<'p>(ports: &'p CompType, name: &str) -> Option<(u32, &'p PortTy
 }
 
 /// What the behaviour sends at the port. Takes no memory.
-pub fn sendable(behaviour: Behaviour, port: &PortType) -> &[Ty]
+pub fn sendable(behaviour: Behaviour, port: &PortType) -> &TypeList
     ensures { result.now ≡ sends behaviour port.now }
 {
     match behaviour {
-        Behaviour::TestCase | Behaviour::Function => port.outs.as_slice(),
-        Behaviour::SystemUnderTest => port.ins.as_slice(),
+        Behaviour::TestCase | Behaviour::Function => &port.outs,
+        Behaviour::SystemUnderTest => &port.ins,
     }
 }
 
 /// What the behaviour receives at the port. Takes no memory.
-pub fn receivable(behaviour: Behaviour, port: &PortType) -> &[Ty]
+pub fn receivable(behaviour: Behaviour, port: &PortType) -> &TypeList
     ensures { result.now ≡ receives behaviour port.now }
 {
     match behaviour {
-        Behaviour::TestCase | Behaviour::Function => port.ins.as_slice(),
-        Behaviour::SystemUnderTest => port.outs.as_slice(),
+        Behaviour::TestCase | Behaviour::Function => &port.ins,
+        Behaviour::SystemUnderTest => &port.outs,
     }
 }
 
-/// Whether the type is among these. Takes no memory.
-pub fn lists(types: &[Ty], ty: Ty) -> bool
+/// Whether the type is among these, found without a look at each. Takes no memory.
+pub fn lists(types: &TypeList, ty: Ty) -> bool
     ensures { IsTrue result ↔ Contains types.now ty }
 {
-    types.contains(&ty)
+    types.has(ty)
 }
 
 /// The type of values that a name stands for. Takes no memory.

@@ -13,6 +13,7 @@ use crate::messages::{Context, resolve_value};
 use crate::scope::{Scope, Variables};
 use crate::templates::resolve_template;
 use std::alloc::Global;
+use tp_config::type_list::TypeList;
 use tp_name::fault::{Refusal, ScriptFault, refused};
 use tp_name::name::{Name, find};
 use tp_syntax::tree;
@@ -34,7 +35,7 @@ fn no_variable(scope: &Scope, name: &str, line: u32) -> ScriptFault {
 fn resolve_written(
     alloc: Global,
     context: &Context,
-    sendable: &[Ty],
+    sendable: &TypeList,
     message: &Message,
 ) -> Result<SendMsg, ScriptFault>
     ensures message { IfOk result (IsMessage context.now.types.now (texts context.now.turns.now) message.now) }
@@ -51,7 +52,7 @@ fn resolve_written(
 }
 
 /// What a loop variable sends, as an integer: 14 `Direction` where no integer can be sent.
-fn resolve_counter(sendable: &[Ty], place: usize, line: u32) -> Result<SendMsg, ScriptFault>
+fn resolve_counter(sendable: &TypeList, place: usize, line: u32) -> Result<SendMsg, ScriptFault>
     ensures value { IfOk result (λ m. m ≡ record { ty = Ty.Integer; value = SendValue.Turn place }) }
     ensures listed { IfOk result (λ _. Contains sendable.now Ty.Integer) }
 {
@@ -119,7 +120,7 @@ fn resolve_sent(
     scope: &Scope,
     variables: &Variables,
     turns: &[Name],
-    sendable: &[Ty],
+    sendable: &TypeList,
     line: u32,
     sent: &tree::Sent,
 ) -> Result<Sent, ScriptFault>
@@ -233,7 +234,7 @@ fn resolve_wanted(
     scope: &Scope,
     variables: &Variables,
     turns: &[Name],
-    receivable: &[Ty],
+    receivable: &TypeList,
     line: u32,
     template: &Option<MessageTemplate>,
 ) -> Result<RecvMsg, ScriptFault>

@@ -35,7 +35,6 @@ pub struct Definitions<'m> {
 }
 
 /// Whether the type of each field is known.
-
 fn are_fields_known(types: &NameSet, fields: &[FieldType]) -> bool
     ensures { IsTrue result → All (λ f. IsType types.now f.type_name) fields.now }
 {

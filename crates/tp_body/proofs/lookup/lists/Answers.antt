@@ -1,0 +1,6 @@
+use Rattle.std.proofs.Common.{◌∙◌, sym}
+use Rattle.tp_body.proofs.Listed.{listed, unlisted}
+use Rattle.tp_body.proofs.lookup.lists.Goals as goal
+
+pub returns : goal.returns
+returns c = (λ h. listed c.args.types.now c.args.ty (sym c.has.ensures ∙ h), λ h. c.has.ensures ∙ unlisted c.args.types.now c.args.ty h)
