@@ -11,9 +11,11 @@ use Rattle.tp_config.specs.Pairs.{partner, partners, same_port}
 use Rattle.tp_config.specs.Setup.{Setup, is_system, ins, outs, connecting}
 use Rattle.tp_config.specs.Allowed.{Allowed, CanConnect, Directed, MayConnect}
 use Rattle.tp_config.specs.Causes.{ConnectCause, ConnectRefused, IsFirst, Stands, HasOther, connect_order}
+use Rattle.tp_config.specs.Kept.{Keeps}
 use Rattle.tp_config.specs.Tests.{connect_test, are_among}
-use Rattle.tp_config.proofs.Order.{first_from_find, none_from_find}
-use Rattle.tp_config.proofs.Decide.{port_decides, cause_decides, directed_decides}
+use Rattle.tp_config.proofs.Order.{first_guarded, none_guarded}
+use Rattle.tp_config.proofs.Decide.{port_decides, directed_decides}
+use Rattle.tp_config.proofs.Near.{cause_decides, system_decides}
 
 pub by_decides : {P : Type 0} (b : Bool) → Decides b P → P ⊎ (¬ P)
 by_decides true d = inl (d.0 refl)
@@ -142,6 +144,10 @@ cause_refuses s a b fault.Directions h can =
     h (All-contains (MayConnect s.types s.components) (s.connected ++ (a, b) ∷ []) (a, b) can.1.may_connect (Contains-push s.connected (a, b))).directed
 cause_refuses s a b fault.Memory h can = h
 
+-- the causes behind the first
+abbrev own_order : List ConnectFault
+own_order = fault.SamePort ∷ fault.Already ∷ fault.Mixed ∷ fault.TwoPortsOfOne ∷ fault.Directions ∷ []
+
 first_cause : (Cause : ConnectFault → Type 0) (xs : List ConnectFault) (f : ConnectFault) → IsFirst Cause xs f → Cause f
 first_cause Cause [] f h = absurd h
 first_cause Cause (x ∷ xs) f (inl h) = subst Cause (sym h.0) h.1
@@ -160,10 +166,16 @@ refused_at s a b fault.Memory h = absurd (first_cause (ConnectCause s a b) conne
 pub stable : {P : Type 0} (b : Bool) → Decides b P → ¬ (¬ P) → P
 stable b d h = elim (by_decides b d) [ inl p ↦ p | inr n ↦ absurd (h n) ]
 
-pub connect_refused : (s : Setup) (a b : PortRef) (f : ConnectFault) → Some f ≡ find (connect_test s a b) connect_order → ConnectRefused s a b f
-connect_refused s a b f h = refused_at s a b f (first_from_find (connect_test s a b) (ConnectCause s a b) (cause_decides s a b) connect_order f (sym h))
+pub connect_refused : (s : Setup) (links : List (List (List PortRef))) (a b : PortRef) (f : ConnectFault) → Keeps s links → Some f ≡ find (connect_test s.types s.components links a b) connect_order → ConnectRefused s a b f
+connect_refused s links a b f k h =
+    refused_at s a b f (first_guarded (connect_test s.types s.components links a b) (ConnectCause s a b) fault.SystemPort own_order f (system_decides s links k a b) (cause_decides s links k a b) (sym h))
 
-pub can_connect : (s : Setup) (a b : PortRef) → Allowed s → None ≡ find (connect_test s a b) connect_order → CanConnect s a b
-can_connect s a b l h =
-    let none : AllByRecursion (λ f. ¬ ConnectCause s a b f) connect_order = none_from_find (connect_test s a b) (ConnectCause s a b) (cause_decides s a b) connect_order (sym h) in
-    (none.1.1.0, connect_allowed s a b l none (stable (are_among (outs s.types s.components a) (ins s.types s.components b) && are_among (outs s.types s.components b) (ins s.types s.components a)) (directed_decides s a b)))
+-- where no test passes no cause holds
+pub no_cause : (s : Setup) (links : List (List (List PortRef))) (a b : PortRef) → Keeps s links → None ≡ find (connect_test s.types s.components links a b) connect_order → AllByRecursion (λ f. ¬ ConnectCause s a b f) connect_order
+no_cause s links a b k h =
+    none_guarded (connect_test s.types s.components links a b) (ConnectCause s a b) fault.SystemPort own_order (system_decides s links k a b) (cause_decides s links k a b) (sym h)
+
+pub can_connect : (s : Setup) (links : List (List (List PortRef))) (a b : PortRef) → Keeps s links → None ≡ find (connect_test s.types s.components links a b) connect_order → CanConnect s a b
+can_connect s links a b k h =
+    let none : AllByRecursion (λ f. ¬ ConnectCause s a b f) connect_order = no_cause s links a b k h in
+    (none.1.1.0, connect_allowed s a b k.setup.allowed none (stable (are_among (outs s.types s.components a) (ins s.types s.components b) && are_among (outs s.types s.components b) (ins s.types s.components a)) (directed_decides s a b)))

@@ -1,27 +1,25 @@
--- The tests decide the causes.
-use Rattle.std.proofs.Common.{◌≡◌, ℕ, zero, suc, ◌<◌, Bool, true, ◌&&◌, ◌||◌, not, ◌==◌, ◌⊎◌, inl, inr, Option, Some, None, List, [], ◌∷◌, length, map, ◌≤◌, nat_le, get_or, refl, ap, sym, ◌∙◌, subst, arith}
-use Rattle.std.specs.Prelude.{All, Contains, is_some, ◌≢◌}
+-- The tests decide the causes of a refused create, and what the other causes are made of.
+use Rattle.std.proofs.Common.{◌≡◌, ℕ, zero, suc, ◌<◌, Bool, true, ◌&&◌, ◌||◌, ◌==◌, ◌⊎◌, inl, inr, List, [], ◌∷◌, length, map, ◌≤◌, nat_le, get_or, refl, ap, sym, ◌∙◌, subst, arith}
+use Rattle.std.specs.Prelude.{All, Contains}
 use Rattle.std.specs.Bool.{Decides}
-use Rattle.std.specs.List.{list_any, list_all, cons_option}
-use Rattle.std.proofs.lemmas.Bool.Decides.{Decides-eqb, Decides-and, Decides-or, Decides-not, Decides-like, Decides-at}
+use Rattle.std.specs.List.{list_any, list_all}
+use Rattle.std.proofs.lemmas.Bool.Decides.{Decides-eqb, Decides-and, Decides-or, Decides-like, Decides-at}
 use Rattle.std.proofs.lemmas.Bool.{leb-true, le-leb}
 use Rattle.std.proofs.lemmas.List.Elements.{All-cons, All-head, All-tail, All-nil}
 use Rattle.tp_value.specs.declared.types.Ty.{Ty}
 use Rattle.tp_value.specs.declared.types.Ty.TheVariants.{Integer, Boolean, Charstring, Named}
 use Rattle.tp_config.specs.declared.port_type.PortRef.{PortRef}
-use Rattle.tp_config.specs.declared.connecting.ConnectFault.{ConnectFault}
-use Rattle.tp_config.specs.declared.connecting.ConnectFault.TheVariants as fault
 use Rattle.tp_config.specs.Types.{same_type}
-use Rattle.tp_config.specs.Pairs.{partner, partners, same_port}
+use Rattle.tp_config.specs.Pairs.{same_port}
 use Rattle.std.specs.Str.{bytes_eq}
 use Rattle.std.proofs.lemmas.Slice.Eq.{bytes_eq-Decides}
-use Rattle.tp_config.specs.Setup.{Setup, Member, is_system, is_system_member, ins, outs}
+use Rattle.tp_config.specs.Setup.{Setup, Member, is_system_member, ins, outs}
 use Rattle.tp_config.specs.Allowed.{Directed}
 use Rattle.tp_config.specs.declared.creating.CreateFault.{CreateFault}
 use Rattle.tp_config.specs.declared.creating.CreateFault.TheVariants as trouble
 use Rattle.tp_config.specs.declared.port_type.TheConstants.{COMPONENT_LIMIT}
-use Rattle.tp_config.specs.Causes.{ConnectCause, CreateCause, Stands, HasOther, HasSystem}
-use Rattle.tp_config.specs.Tests.{stands, stands_with, has_other, are_among, connect_test, create_test, has_name, has_system}
+use Rattle.tp_config.specs.Causes.{CreateCause, HasSystem}
+use Rattle.tp_config.specs.Tests.{are_among, create_test, has_name, has_system}
 
 -- some element has P, by recursion
 module _ {X : Type 0} where
@@ -82,32 +80,9 @@ pub among_decides : (xs ys : List Ty) → Decides (are_among xs ys) (All (Contai
 unfolding are_among
 among_decides xs ys = all_decides (λ ty. list_any (λ other. same_type other ty) ys) (Contains ys) (contains_by same_type type_decides ys) xs
 
-pub with_decides : (pairs : List (PortRef × PortRef)) (p q : PortRef) → Decides (stands_with pairs p q) (Contains (partners pairs p) q)
-unfolding stands_with
-with_decides pairs p q = contains_by same_port port_decides (partners pairs p) q
-
 pub comp_decides : (p q : PortRef) → Decides (p.comp.0 == q.comp.0) (p.comp ≡ q.comp)
 unfolding port_at
 comp_decides p q = Decides-like (p.comp.0 == q.comp.0) (λ e. ap (λ i. (port_at i 0).comp) e) (λ e. ap (λ x. x.0) e) (Decides-eqb p.comp.0 q.comp.0)
-
-pub other_decides : (pairs : List (PortRef × PortRef)) (p q : PortRef) → Decides (has_other pairs p q) (HasOther pairs p q)
-unfolding has_other
-other_decides pairs p q =
-    Decides-like (list_any (λ r. (r.comp.0 == q.comp.0) && not (same_port r q)) (partners pairs p)) (λ (w : (r : PortRef) × Contains (partners pairs p) r × ((r.comp ≡ q.comp) × (r ≢ q))). (w.0, w.1, w.2.0, w.2.1)) (λ w. (w.0, w.1, (w.2, w.3))) (any_decides (λ r. (r.comp.0 == q.comp.0) && not (same_port r q)) (λ r. (r.comp ≡ q.comp) × (r ≢ q)) (λ r. Decides-and (r.comp.0 == q.comp.0) (not (same_port r q)) (comp_decides r q) (Decides-not (same_port r q) (port_decides r q))) (partners pairs p))
-
--- p stands in a pair where some pair has a partner for it
-any_partner_at : (o : Option PortRef) (pairs : List (PortRef × PortRef)) (p : PortRef) → list_any (λ pair. is_some (partner p pair)) pairs ≡ list_any (λ _. true) (partners pairs p) → (is_some o || list_any (λ pair. is_some (partner p pair)) pairs) ≡ list_any (λ _. true) (cons_option o (partners pairs p))
-any_partner_at None pairs p h = h
-any_partner_at (Some q) pairs p h = refl
-
-any_partner : (pairs : List (PortRef × PortRef)) (p : PortRef) → list_any (λ pair. is_some (partner p pair)) pairs ≡ list_any (λ _. true) (partners pairs p)
-any_partner [] p = refl
-any_partner (pair ∷ pairs) p = any_partner_at (partner p pair) pairs p (any_partner pairs p)
-
-pub stands_decides : (pairs : List (PortRef × PortRef)) (p : PortRef) → Decides (stands pairs p) (Stands pairs p)
-unfolding stands
-stands_decides pairs p =
-    Decides-at (list_any (λ pair. is_some (partner p pair)) pairs) (list_any (λ _. true) (partners pairs p)) (any_partner pairs p) (Decides-like (list_any (λ _. true) (partners pairs p)) (λ (w : (q : PortRef) × Contains (partners pairs p) q × Unit {0}). (w.0, w.1)) (λ w. (w.0, w.1, tt)) (any_decides (λ _. true) (λ _. Unit {0}) (λ _. (λ _. tt, λ _. refl)) (partners pairs p)))
 
 pub itself : (b : Bool) → Decides b (b ≡ true)
 itself b = (λ e. e, λ e. e)
@@ -115,15 +90,6 @@ itself b = (λ e. e, λ e. e)
 pub directed_decides : (s : Setup) (p q : PortRef) → Decides (are_among (outs s.types s.components p) (ins s.types s.components q) && are_among (outs s.types s.components q) (ins s.types s.components p)) (Directed s.types s.components p q)
 directed_decides s p q =
     Decides-and (are_among (outs s.types s.components p) (ins s.types s.components q)) (are_among (outs s.types s.components q) (ins s.types s.components p)) (among_decides (outs s.types s.components p) (ins s.types s.components q)) (among_decides (outs s.types s.components q) (ins s.types s.components p))
-
-pub cause_decides : (s : Setup) (p q : PortRef) (f : ConnectFault) → Decides (connect_test s p q f) (ConnectCause s p q f)
-cause_decides s p q fault.SystemPort = Decides-or (is_system s.components p) (is_system s.components q) (itself (is_system s.components p)) (itself (is_system s.components q))
-cause_decides s p q fault.SamePort = port_decides p q
-cause_decides s p q fault.Already = with_decides s.connected p q
-cause_decides s p q fault.Mixed = Decides-or (stands s.mapped p) (stands s.mapped q) (stands_decides s.mapped p) (stands_decides s.mapped q)
-cause_decides s p q fault.TwoPortsOfOne = Decides-or (has_other s.connected p q) (has_other s.connected q p) (other_decides s.connected p q) (other_decides s.connected q p)
-cause_decides s p q fault.Directions = Decides-not (are_among (outs s.types s.components p) (ins s.types s.components q) && are_among (outs s.types s.components q) (ins s.types s.components p)) (directed_decides s p q)
-cause_decides s p q fault.Memory = (λ e. absurd (cc), λ h. absurd h)
 
 names_any : (ms : List Member) (name : List ℕ) → list_any (λ (m : Member). bytes_eq m.name name) ms ≡ list_any (λ n. bytes_eq n name) (map (λ (m : Member). m.name) ms)
 names_any [] name = refl

@@ -17,10 +17,11 @@ use Rattle.tp_config.specs.Tests.{connect_test, map_test}
 use Rattle.tp_config.specs.Routes.{beside}
 use Rattle.tp_config.specs.Links.{row, links_at, with_links, joined}
 use Rattle.tp_config.specs.Kept.{Keeps}
-use Rattle.tp_config.proofs.Order.{none_from_find}
-use Rattle.tp_config.proofs.Decide.{port_decides, cause_decides}
+use Rattle.tp_config.proofs.Decide.{port_decides}
+use Rattle.tp_config.proofs.Connect as connect
 use Rattle.tp_config.proofs.Connect.{can_connect, partners_push, same_or_not}
-use Rattle.tp_config.proofs.Map.{can_map, map_decides, no_partners}
+use Rattle.tp_config.proofs.Map as map
+use Rattle.tp_config.proofs.Map.{can_map, no_partners}
 use Rattle.tp_config.proofs.Beside.{beside_parts, pair_cases, partner_first, partner_second, partners_back}
 use Rattle.tp_config.proofs.Places.{links_other, links_same, rows_kept}
 
@@ -99,10 +100,10 @@ beside_mapping : (s : Setup) (p q r : PortRef) → beside (mapping s p q) r ≡ 
 beside_mapping s p q r =
     beside_parts (mapping s p q) r ∙ ap (λ l. partners s.connected r ++ l) (partners_push s.mapped (p, q) r) ∙ sym (append_assoc (partners s.connected r) (partners s.mapped r) (cons_option (partner r (p, q)) [])) ∙ ap (λ l. l ++ cons_option (partner r (p, q)) []) (sym (beside_parts s r))
 
-keeps_connecting : (s : Setup) (links : List (List (List PortRef))) (p q : PortRef) → Keeps s links → IsPort s p → IsPort s q → None ≡ find (connect_test s p q) connect_order → Keeps (connecting s p q) (joined links p q)
+keeps_connecting : (s : Setup) (links : List (List (List PortRef))) (p q : PortRef) → Keeps s links → IsPort s p → IsPort s q → None ≡ find (connect_test s.types s.components links p q) connect_order → Keeps (connecting s p q) (joined links p q)
 keeps_connecting s links p q k hp hq h =
-    let none : AllByRecursion (λ f. ¬ ConnectCause s p q f) connect_order = none_from_find (connect_test s p q) (ConnectCause s p q) (cause_decides s p q) connect_order (sym h) in
-    let can : CanConnect s p q = can_connect s p q k.setup.allowed h in
+    let none : AllByRecursion (λ f. ¬ ConnectCause s p q f) connect_order = connect.no_cause s links p q k h in
+    let can : CanConnect s p q = can_connect s links p q k h in
     let np : p.port < length (row links p.comp) = port_in_row s links p k hp in
     let nq : q.port < length (row links q.comp) = port_in_row s links q k hq in
     record {
@@ -121,10 +122,10 @@ keeps_connecting s links p q k hp hq h =
       kept = λ r. joined_at links p q r none.1.0 np nq ∙ ap (λ l. l ++ cons_option (partner r (p, q)) []) (k.kept r) ∙ sym (beside_connecting s p q r (λ w. none.1.1.1.0 (inl w)) (λ w. none.1.1.1.0 (inr w)));
     }
 
-keeps_mapping : (s : Setup) (links : List (List (List PortRef))) (p q : PortRef) → Keeps s links → IsPort s p → IsPort s q → None ≡ find (map_test s p q) map_order → Keeps (mapping s p q) (joined links p q)
+keeps_mapping : (s : Setup) (links : List (List (List PortRef))) (p q : PortRef) → Keeps s links → IsPort s p → IsPort s q → None ≡ find (map_test s.types s.components links p q) map_order → Keeps (mapping s p q) (joined links p q)
 keeps_mapping s links p q k hp hq h =
-    let none : AllByRecursion (λ f. ¬ MapCause s p q f) map_order = none_from_find (map_test s p q) (MapCause s p q) (map_decides s p q) map_order (sym h) in
-    let can : CanMap s p q = can_map s p q k.setup.allowed h in
+    let none : AllByRecursion (λ f. ¬ MapCause s p q f) map_order = map.no_cause s links p q k h in
+    let can : CanMap s p q = can_map s links p q k h in
     let np : p.port < length (row links p.comp) = port_in_row s links p k hp in
     let nq : q.port < length (row links q.comp) = port_in_row s links q k hq in
     let differ : p ≢ q = λ e. none.0 (ap (is_system s.components) e) in
@@ -145,17 +146,17 @@ keeps_mapping s links p q k hp hq h =
     }
 
 -- the configuration after a connect, by its parts
-pub after_connect : (s now : Setup) (links more : List (List (List PortRef))) (members : List Member) (pairs : List (PortRef × PortRef)) (p q : PortRef) (r : Option ConnectFault) → s ≡ now → Keeps s links → IsPort now p → IsPort now q → r ≡ None → r ≡ find (connect_test s p q) connect_order → members ≡ s.components → pairs ≡ s.connected ++ (p, q) ∷ [] → more ≡ joined links p q → Keeps (record s { components = members; connected = pairs }) more × (CanConnect now p q × (record s { components = members; connected = pairs } ≡ connecting now p q))
+pub after_connect : (s now : Setup) (links more : List (List (List PortRef))) (members : List Member) (pairs : List (PortRef × PortRef)) (p q : PortRef) (r : Option ConnectFault) → s ≡ now → Keeps s links → IsPort now p → IsPort now q → r ≡ None → r ≡ find (connect_test s.types s.components links p q) connect_order → members ≡ s.components → pairs ≡ s.connected ++ (p, q) ∷ [] → more ≡ joined links p q → Keeps (record s { components = members; connected = pairs }) more × (CanConnect now p q × (record s { components = members; connected = pairs } ≡ connecting now p q))
 after_connect s now links more members pairs p q r same k hp hq e is m c l =
-    let h : None ≡ find (connect_test s p q) connect_order = sym e ∙ is in
+    let h : None ≡ find (connect_test s.types s.components links p q) connect_order = sym e ∙ is in
     let kept : Keeps (connecting s p q) (joined links p q) = keeps_connecting s links p q k (subst (λ t. IsPort t p) (sym same) hp) (subst (λ t. IsPort t q) (sym same) hq) h in
     let whole : record s { components = members; connected = pairs } ≡ connecting s p q = ap (λ x. record s { components = x; connected = pairs }) m ∙ ap (λ x. record s { connected = x }) c in
-    (subst (λ t. Keeps t more) (sym whole) (subst (Keeps (connecting s p q)) (sym l) kept), (subst (λ t. CanConnect t p q) same (can_connect s p q k.setup.allowed h), whole ∙ ap (λ t. connecting t p q) same))
+    (subst (λ t. Keeps t more) (sym whole) (subst (Keeps (connecting s p q)) (sym l) kept), (subst (λ t. CanConnect t p q) same (can_connect s links p q k h), whole ∙ ap (λ t. connecting t p q) same))
 
 -- the configuration after a map, by its parts
-pub after_map : (s now : Setup) (links more : List (List (List PortRef))) (members : List Member) (pairs : List (PortRef × PortRef)) (p q : PortRef) (r : Option MapFault) → s ≡ now → Keeps s links → IsPort now p → IsPort now q → r ≡ None → r ≡ find (map_test s p q) map_order → members ≡ s.components → pairs ≡ s.mapped ++ (p, q) ∷ [] → more ≡ joined links p q → Keeps (record s { components = members; mapped = pairs }) more × (CanMap now p q × (record s { components = members; mapped = pairs } ≡ mapping now p q))
+pub after_map : (s now : Setup) (links more : List (List (List PortRef))) (members : List Member) (pairs : List (PortRef × PortRef)) (p q : PortRef) (r : Option MapFault) → s ≡ now → Keeps s links → IsPort now p → IsPort now q → r ≡ None → r ≡ find (map_test s.types s.components links p q) map_order → members ≡ s.components → pairs ≡ s.mapped ++ (p, q) ∷ [] → more ≡ joined links p q → Keeps (record s { components = members; mapped = pairs }) more × (CanMap now p q × (record s { components = members; mapped = pairs } ≡ mapping now p q))
 after_map s now links more members pairs p q r same k hp hq e is m c l =
-    let h : None ≡ find (map_test s p q) map_order = sym e ∙ is in
+    let h : None ≡ find (map_test s.types s.components links p q) map_order = sym e ∙ is in
     let kept : Keeps (mapping s p q) (joined links p q) = keeps_mapping s links p q k (subst (λ t. IsPort t p) (sym same) hp) (subst (λ t. IsPort t q) (sym same) hq) h in
     let whole : record s { components = members; mapped = pairs } ≡ mapping s p q = ap (λ x. record s { components = x; mapped = pairs }) m ∙ ap (λ x. record s { mapped = x }) c in
-    (subst (λ t. Keeps t more) (sym whole) (subst (Keeps (mapping s p q)) (sym l) kept), (subst (λ t. CanMap t p q) same (can_map s p q k.setup.allowed h), whole ∙ ap (λ t. mapping t p q) same))
+    (subst (λ t. Keeps t more) (sym whole) (subst (Keeps (mapping s p q)) (sym l) kept), (subst (λ t. CanMap t p q) same (can_map s links p q k h), whole ∙ ap (λ t. mapping t p q) same))

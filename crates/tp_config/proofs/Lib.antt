@@ -5,6 +5,7 @@ pub mod Decide
 pub mod Connect
 pub mod Map
 pub mod Beside
+pub mod Near
 pub mod Joined
 pub mod Seen
 pub mod Finds

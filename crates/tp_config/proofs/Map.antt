@@ -12,16 +12,12 @@ use Rattle.tp_config.specs.Pairs.{partner, partners, same_port}
 use Rattle.tp_config.specs.Setup.{Setup, is_system, ins, outs, mapping}
 use Rattle.tp_config.specs.Allowed.{Allowed, CanMap, MapDirected, MayMap}
 use Rattle.tp_config.specs.Causes.{MapCause, MapRefused, IsFirst, Stands, map_order}
-use Rattle.tp_config.specs.Tests.{map_test, map_directed, same_bool, are_among, stands}
+use Rattle.tp_config.specs.Kept.{Keeps}
+use Rattle.tp_config.specs.Tests.{map_test, map_directed, are_among, is_connected, is_mapped}
 use Rattle.tp_config.proofs.Order.{first_from_find, none_from_find}
-use Rattle.tp_config.proofs.Decide.{port_decides, among_decides, stands_decides, Contains-here}
+use Rattle.tp_config.proofs.Decide.{port_decides, among_decides, Contains-here}
+use Rattle.tp_config.proofs.Near.{connected_decides, mapped_decides, same_decides}
 use Rattle.tp_config.proofs.Connect.{partners_push, push_cases, push_first, push_second, stable}
-
-same_decides : (a b : Bool) → Decides (same_bool a b) (a ≡ b)
-same_decides true true = (λ _. refl, λ _. refl)
-same_decides true false = (λ e. absurd (cc), λ e. absurd (cc))
-same_decides false true = (λ e. absurd (cc), λ e. absurd (cc))
-same_decides false false = (λ _. refl, λ _. refl)
 
 implies_decides : {P : Type 0} (x y : Bool) → Decides y P → Decides (not x || y) (x ≡ true → P)
 implies_decides true y d = (λ e _. d.0 e, λ h. d.1 (h refl))
@@ -43,13 +39,13 @@ unfolding Fits
 fits_decides s p q =
     Decides-and (not (is_system s.components q) || map_directed s.types s.components p q) (not (is_system s.components p) || map_directed s.types s.components q p) (implies_decides (is_system s.components q) (map_directed s.types s.components p q) (map_directed_decides s p q)) (implies_decides (is_system s.components p) (map_directed s.types s.components q p) (map_directed_decides s q p))
 
-pub map_decides : (s : Setup) (p q : PortRef) (f : MapFault) → Decides (map_test s p q f) (MapCause s p q f)
+pub map_decides : (s : Setup) (links : List (List (List PortRef))) (p q : PortRef) → Keeps s links → (f : MapFault) → Decides (map_test s.types s.components links p q f) (MapCause s p q f)
 unfolding Fits
-map_decides s p q refusal.NotSystem = same_decides (is_system s.components p) (is_system s.components q)
-map_decides s p q refusal.Mixed = Decides-or (stands s.connected p) (stands s.connected q) (stands_decides s.connected p) (stands_decides s.connected q)
-map_decides s p q refusal.NotOneToOne = Decides-or (stands s.mapped p) (stands s.mapped q) (stands_decides s.mapped p) (stands_decides s.mapped q)
-map_decides s p q refusal.MapDirections = Decides-not (fits s p q) (fits_decides s p q)
-map_decides s p q refusal.Memory = (λ e. absurd (cc), λ h. absurd h)
+map_decides s links p q k refusal.NotSystem = same_decides (is_system s.components p) (is_system s.components q)
+map_decides s links p q k refusal.Mixed = Decides-or (is_connected s.components links p) (is_connected s.components links q) (connected_decides s links k p) (connected_decides s links k q)
+map_decides s links p q k refusal.NotOneToOne = Decides-or (is_mapped s.components links p) (is_mapped s.components links q) (mapped_decides s links k p) (mapped_decides s links k q)
+map_decides s links p q k refusal.MapDirections = Decides-not (fits s p q) (fits_decides s p q)
+map_decides s links p q k refusal.Memory = (λ e. absurd (cc), λ h. absurd h)
 
 no_partners_in : (l : List PortRef) → ((q : PortRef) → Contains l q → ⊥) → l ≡ []
 no_partners_in [] h = refl
@@ -138,10 +134,15 @@ refused_at s a b refusal.NotOneToOne h = (h, cause_refuses s a b refusal.NotOneT
 refused_at s a b refusal.MapDirections h = (h, cause_refuses s a b refusal.MapDirections (first_cause (MapCause s a b) map_order refusal.MapDirections h))
 refused_at s a b refusal.Memory h = absurd (first_cause (MapCause s a b) map_order refusal.Memory h)
 
-pub map_refused : (s : Setup) (a b : PortRef) (f : MapFault) → Some f ≡ find (map_test s a b) map_order → MapRefused s a b f
-map_refused s a b f h = refused_at s a b f (first_from_find (map_test s a b) (MapCause s a b) (map_decides s a b) map_order f (sym h))
+pub map_refused : (s : Setup) (links : List (List (List PortRef))) (a b : PortRef) (f : MapFault) → Keeps s links → Some f ≡ find (map_test s.types s.components links a b) map_order → MapRefused s a b f
+map_refused s links a b f k h =
+    refused_at s a b f (first_from_find (map_test s.types s.components links a b) (MapCause s a b) (map_decides s links a b k) map_order f (sym h))
 
-pub can_map : (s : Setup) (a b : PortRef) → Allowed s → None ≡ find (map_test s a b) map_order → CanMap s a b
-can_map s a b l h =
-    let none : AllByRecursion (λ f. ¬ MapCause s a b f) map_order = none_from_find (map_test s a b) (MapCause s a b) (map_decides s a b) map_order (sym h) in
-    (λ c. none.1.1.0 (inl (b, c)), map_allowed s a b l none)
+-- where no test passes no cause holds
+pub no_cause : (s : Setup) (links : List (List (List PortRef))) (a b : PortRef) → Keeps s links → None ≡ find (map_test s.types s.components links a b) map_order → AllByRecursion (λ f. ¬ MapCause s a b f) map_order
+no_cause s links a b k h = none_from_find (map_test s.types s.components links a b) (MapCause s a b) (map_decides s links a b k) map_order (sym h)
+
+pub can_map : (s : Setup) (links : List (List (List PortRef))) (a b : PortRef) → Keeps s links → None ≡ find (map_test s.types s.components links a b) map_order → CanMap s a b
+can_map s links a b k h =
+    let none : AllByRecursion (λ f. ¬ MapCause s a b f) map_order = no_cause s links a b k h in
+    (λ c. none.1.1.0 (inl (b, c)), map_allowed s a b k.setup.allowed none)

@@ -29,7 +29,10 @@ use tp_refusal::memory::Memory;
 pub struct Config {
     types: Vec<CompType>,
     components: Vec<Component>,
+    /// The connected pairs, in the order of their statements. Contracts see them. No call looks through
+    /// them: it finds what stands beside a port in the port's component.
     connected: Vec<(PortRef, PortRef)>,
+    /// The mapped pairs, likewise.
     mapped: Vec<(PortRef, PortRef)>,
     alloc: Global,
 }
@@ -181,7 +184,8 @@ impl Config {
     ///
     /// 25 `SystemPort`, 26 `SamePort`, 27 `Already`, 22 `Mixed`, 21 `TwoPortsOfOne`, 20 `Directions`: the
     /// first of these whose cause holds. Where none does, 50 `Memory` only where an allocation was
-    /// refused. The configuration is then as before.
+    /// refused. The configuration is then as before. Looks at what stands beside the two ports, and not at
+    /// the pairs of others.
     pub fn connect(&mut self, p: PortRef, q: PortRef) -> Result<(), ConnectFault>
         requires p_in { IsPort self.old p }
         requires q_in { IsPort self.old q }
@@ -191,9 +195,7 @@ impl Config {
     {
         let types = self.types.as_slice();
         let components = self.components.as_slice();
-        let connected = self.connected.as_slice();
-        let mapped = self.mapped.as_slice();
-        if let Some(fault) = connect_fault(types, components, connected, mapped, p, q) {
+        if let Some(fault) = connect_fault(types, components, p, q) {
             return Err(fault);
         }
         let Ok(()) = join(self.alloc, &mut self.components, &mut self.connected, p, q) else {
@@ -207,7 +209,7 @@ impl Config {
     ///
     /// 28 `NotSystem`, 22 `Mixed`, 23 `NotOneToOne`, 24 `MapDirections`: the first of these whose cause
     /// holds. Where none does, 50 `Memory` only where an allocation was refused. The configuration is
-    /// then as before.
+    /// then as before. Looks at what stands beside the two ports, and not at the pairs of others.
     pub fn map(&mut self, p: PortRef, q: PortRef) -> Result<(), MapFault>
         requires p_in { IsPort self.old p }
         requires q_in { IsPort self.old q }
@@ -217,9 +219,7 @@ impl Config {
     {
         let types = self.types.as_slice();
         let components = self.components.as_slice();
-        let connected = self.connected.as_slice();
-        let mapped = self.mapped.as_slice();
-        if let Some(fault) = map_fault(types, components, connected, mapped, p, q) {
+        if let Some(fault) = map_fault(types, components, p, q) {
             return Err(fault);
         }
         let Ok(()) = join(self.alloc, &mut self.components, &mut self.mapped, p, q) else {

@@ -1,13 +1,13 @@
 //! Why two ports are not connected.
-ghost use Rattle.std.specs.Prelude.{◌≡◌, find};
-ghost use Rattle.tp_config.specs.Shape.{setup_of};
+ghost use Rattle.std.specs.Prelude.{◌≡◌, find, map};
+ghost use Rattle.tp_config.specs.Shape.{links_of, member_of, ports_of};
 ghost use Rattle.tp_config.specs.Causes.{connect_order};
 ghost use Rattle.tp_config.specs.Tests.{connect_test};
 ghost use Rattle.tp_config.specs.Faults.{connect_refusal};
 
 use crate::component::{Component, ins, is_system, outs};
 use crate::directions::are_among;
-use crate::pairs::{has_other, stands, stands_with};
+use crate::partners::{has_other, is_beside, is_mapped};
 use crate::port_type::{CompType, PortRef};
 use thiserror::Error;
 use tp_refusal::refusal::Refusal;
@@ -16,7 +16,7 @@ use tp_refusal::refusal::Refusal;
 #[derive(Clone, Copy, Debug, PartialEq, Eq, Hash, Error)]
 pub enum ConnectFault {
     /// 25 SystemPort: one of them is a port of the test system interface.
-    #[error("one is a port of the test system interface")]
+    #[error("one is a port of the system interface")]
     SystemPort,
     /// 26 SamePort: they are one port.
     #[error("they are one port")]
@@ -55,16 +55,15 @@ impl ConnectFault {
     }
 }
 
-/// Why the two ports are not connected, as far as memory isn't wanting.
+/// Why the two ports are not connected, as far as memory isn't wanting. It looks at what stands beside the
+/// two, and at no other port.
 pub(crate) fn connect_fault(
     types: &[CompType],
     components: &[Component],
-    connected: &[(PortRef, PortRef)],
-    mapped: &[(PortRef, PortRef)],
     p: PortRef,
     q: PortRef,
 ) -> Option<ConnectFault>
-    ensures { result ≡ find (connect_test (setup_of types.now components.now connected.now mapped.now) p q) connect_order }
+    ensures { result ≡ find (connect_test (map ports_of types.now) (map member_of components.now) (map links_of components.now) p q) connect_order }
 {
     if is_system(components, p) || is_system(components, q) {
         return Some(ConnectFault::SystemPort);
@@ -72,13 +71,13 @@ pub(crate) fn connect_fault(
     if p.is(q) {
         return Some(ConnectFault::SamePort);
     }
-    if stands_with(connected, p, q) {
+    if is_beside(components, p, q) {
         return Some(ConnectFault::Already);
     }
-    if stands(mapped, p) || stands(mapped, q) {
+    if is_mapped(components, p) || is_mapped(components, q) {
         return Some(ConnectFault::Mixed);
     }
-    if has_other(connected, p, q) || has_other(connected, q, p) {
+    if has_other(components, p, q) || has_other(components, q, p) {
         return Some(ConnectFault::TwoPortsOfOne);
     }
     let forth = are_among(outs(types, components, p), ins(types, components, q));

@@ -1,13 +1,13 @@
 //! Why two ports are not mapped.
 ghost use Rattle.std.specs.Prelude.{◌≡◌, find, map};
-ghost use Rattle.tp_config.specs.Shape.{member_of, ports_of, setup_of};
+ghost use Rattle.tp_config.specs.Shape.{links_of, member_of, ports_of};
 ghost use Rattle.tp_config.specs.Causes.{map_order};
-ghost use Rattle.tp_config.specs.Tests.{map_directed, map_test, same_bool};
+ghost use Rattle.tp_config.specs.Tests.{map_directed, map_test};
 ghost use Rattle.tp_config.specs.Faults.{map_refusal};
 
 use crate::component::{Component, ins, is_system, outs};
 use crate::directions::are_among;
-use crate::pairs::stands;
+use crate::partners::{is_connected, is_mapped, same_bool};
 use crate::port_type::{CompType, PortRef};
 use thiserror::Error;
 use tp_refusal::refusal::Refusal;
@@ -16,7 +16,7 @@ use tp_refusal::refusal::Refusal;
 #[derive(Clone, Copy, Debug, PartialEq, Eq, Hash, Error)]
 pub enum MapFault {
     /// 28 NotSystem: none of them is a port of the test system interface, or both are.
-    #[error("not exactly one is a port of the test system interface")]
+    #[error("not exactly one is a port of the system interface")]
     NotSystem,
     /// 22 Mixed: one of them is connected.
     #[error("one is connected")]
@@ -48,12 +48,6 @@ impl MapFault {
     }
 }
 
-fn same_bool(a: bool, b: bool) -> bool
-    ensures { result ≡ same_bool a b }
-{
-    if a { b } else { !b }
-}
-
 /// Whether q, a port of the test system interface, sends all that p sends, and p receives all that q
 /// receives.
 fn map_directed(types: &[CompType], components: &[Component], p: PortRef, q: PortRef) -> bool
@@ -64,26 +58,25 @@ fn map_directed(types: &[CompType], components: &[Component], p: PortRef, q: Por
     sent && received
 }
 
-/// Why the two ports are not mapped, as far as memory isn't wanting.
+/// Why the two ports are not mapped, as far as memory isn't wanting. It looks at what stands beside the
+/// two, and at no other port.
 pub(crate) fn map_fault(
     types: &[CompType],
     components: &[Component],
-    connected: &[(PortRef, PortRef)],
-    mapped: &[(PortRef, PortRef)],
     p: PortRef,
     q: PortRef,
 ) -> Option<MapFault>
-    ensures { result ≡ find (map_test (setup_of types.now components.now connected.now mapped.now) p q) map_order }
+    ensures { result ≡ find (map_test (map ports_of types.now) (map member_of components.now) (map links_of components.now) p q) map_order }
 {
     let first = is_system(components, p);
     let second = is_system(components, q);
     if same_bool(first, second) {
         return Some(MapFault::NotSystem);
     }
-    if stands(connected, p) || stands(connected, q) {
+    if is_connected(components, p) || is_connected(components, q) {
         return Some(MapFault::Mixed);
     }
-    if stands(mapped, p) || stands(mapped, q) {
+    if is_mapped(components, p) || is_mapped(components, q) {
         return Some(MapFault::NotOneToOne);
     }
     let to_second = map_directed(types, components, p, q);

@@ -1,6 +1,6 @@
 //! Port types, component types, and the names of components, ports and routes.
 ghost use Rattle.std.specs.Prelude.{◌≡◌};
-ghost use Rattle.tp_config.specs.Pairs.{partner, same_port};
+ghost use Rattle.tp_config.specs.Pairs.{same_port};
 ghost use Rattle.tp_config.specs.Setup.{is_system_role};
 
 use crate::type_list::TypeList;
@@ -67,19 +67,6 @@ impl PortRef {
         ensures { result ≡ same_port self other }
     {
         self.comp.0 == other.comp.0 && self.port == other.port
-    }
-
-    /// The port that stands with this one in the pair, if this one stands in it. Takes no memory.
-    pub(crate) fn partner(self, pair: (PortRef, PortRef)) -> Option<PortRef>
-        ensures { result ≡ partner self pair }
-    {
-        if self.is(pair.0) {
-            Some(pair.1)
-        } else if self.is(pair.1) {
-            Some(pair.0)
-        } else {
-            None
-        }
     }
 }
 

@@ -1,8 +1,8 @@
 use Rattle.std.proofs.Common.{refl, ap, sym, ◌∙◌, subst, find, map}
 use Rattle.tp_config.specs.Setup.{IsPort}
 use Rattle.tp_config.specs.Shape.{setup_of, links_of}
-use Rattle.tp_config.specs.Allowed.{Allowed}
-use Rattle.tp_config.specs.Causes.{map_order}
+use Rattle.tp_config.specs.Allowed.{CanMap}
+use Rattle.tp_config.specs.Causes.{MapRefused, map_order}
 use Rattle.tp_config.specs.Tests.{map_test}
 use Rattle.tp_config.proofs.Map.{map_refused, can_map}
 use Rattle.tp_config.proofs.Joined.{after_map, port_in_row}
@@ -11,7 +11,9 @@ use Rattle.tp_config.proofs.config.Config.map.Goals as goal
 
 pub returns-in-Some-clause-err : goal.returns-in-Some-clause-err
 returns-in-Some-clause-err c =
-    (refl, map_refused _ _ _ _ (sym c.in-Some.is ∙ c.map_fault.ensures ∙ seen (λ s. find (map_test s c.args.p c.args.q) map_order) _ _ _ _ _ _ _ _ _ c.as_slice-types.ensures.value c.as_slice-components.ensures.value c.as_slice-connected.ensures.value c.as_slice-mapped.ensures.value c.self.view_is))
+    let i = c.self.inside in
+    let s = setup_of i.types.items i.components.items i.connected.items i.mapped.items in
+    (refl, subst (λ t. MapRefused t c.args.p c.args.q c.in-Some.fault) c.self.view_is (map_refused s (map links_of i.components.items) c.args.p c.args.q c.in-Some.fault c.self.invariant (sym c.in-Some.is ∙ c.map_fault.ensures ∙ seen (λ t m links. find (map_test t m links c.args.p c.args.q) map_order) _ _ _ _ c.as_slice-types.ensures.value c.as_slice-components.ensures.value)))
 
 pub join-requires-clause-p_in : goal.join-requires-clause-p_in
 join-requires-clause-p_in c =
@@ -28,17 +30,18 @@ join-requires-clause-q_in c =
 pub returns-in_default-join-clause-err : goal.returns-in_default-join-clause-err
 returns-in_default-join-clause-err c =
     let i = c.self.inside in
-    (ap (λ l. setup_of i.types.items l i.connected.items c.join.new.pairs.items) c.in_default-join.ensures.no_link ∙ ap (λ l. setup_of i.types.items i.components.items i.connected.items l) c.in_default-join.ensures.no_pair ∙ c.self.view_is, can_map _ _ _ (subst Allowed c.self.view_is c.self.invariant.setup.allowed) (sym c.in_default.is ∙ c.map_fault.ensures ∙ seen (λ s. find (map_test s c.args.p c.args.q) map_order) _ _ _ _ _ _ _ _ _ c.as_slice-types.ensures.value c.as_slice-components.ensures.value c.as_slice-connected.ensures.value c.as_slice-mapped.ensures.value c.self.view_is))
+    let s = setup_of i.types.items i.components.items i.connected.items i.mapped.items in
+    (ap (λ l. setup_of i.types.items l i.connected.items c.join.new.pairs.items) c.in_default-join.ensures.no_link ∙ ap (λ l. setup_of i.types.items i.components.items i.connected.items l) c.in_default-join.ensures.no_pair ∙ c.self.view_is, subst (λ t. CanMap t c.args.p c.args.q) c.self.view_is (can_map s (map links_of i.components.items) c.args.p c.args.q c.self.invariant (sym c.in_default.is ∙ c.map_fault.ensures ∙ seen (λ t m links. find (map_test t m links c.args.p c.args.q) map_order) _ _ _ _ c.as_slice-types.ensures.value c.as_slice-components.ensures.value)))
 
 pub invariant_of-self-2 : goal.invariant_of-self-2
 invariant_of-self-2 c =
     let i = c.self.inside in
-    (after_map (setup_of i.types.items i.components.items i.connected.items i.mapped.items) _ (map links_of i.components.items) _ _ _ c.args.p c.args.q c.map_fault.result c.self.view_is c.self.invariant c.requires.p_in c.requires.q_in c.in_default.is (c.map_fault.ensures ∙ seen (λ s. find (map_test s c.args.p c.args.q) map_order) _ _ _ _ _ _ _ _ _ c.as_slice-types.ensures.value c.as_slice-components.ensures.value c.as_slice-connected.ensures.value c.as_slice-mapped.ensures.value refl) c.in-Ok.ensures.members c.in-Ok.ensures.pairs c.in-Ok.ensures.links).0
+    (after_map (setup_of i.types.items i.components.items i.connected.items i.mapped.items) _ (map links_of i.components.items) _ _ _ c.args.p c.args.q c.map_fault.result c.self.view_is c.self.invariant c.requires.p_in c.requires.q_in c.in_default.is (c.map_fault.ensures ∙ seen (λ t m links. find (map_test t m links c.args.p c.args.q) map_order) _ _ _ _ c.as_slice-types.ensures.value c.as_slice-components.ensures.value) c.in-Ok.ensures.members c.in-Ok.ensures.pairs c.in-Ok.ensures.links).0
 
 pub returns-clause-ok : goal.returns-clause-ok
 returns-clause-ok c =
     let i = c.self.inside in
-    (after_map (setup_of i.types.items i.components.items i.connected.items i.mapped.items) _ (map links_of i.components.items) _ _ _ c.args.p c.args.q c.map_fault.result c.self.view_is c.self.invariant c.requires.p_in c.requires.q_in c.in_default.is (c.map_fault.ensures ∙ seen (λ s. find (map_test s c.args.p c.args.q) map_order) _ _ _ _ _ _ _ _ _ c.as_slice-types.ensures.value c.as_slice-components.ensures.value c.as_slice-connected.ensures.value c.as_slice-mapped.ensures.value refl) c.in-Ok.ensures.members c.in-Ok.ensures.pairs c.in-Ok.ensures.links).1
+    (after_map (setup_of i.types.items i.components.items i.connected.items i.mapped.items) _ (map links_of i.components.items) _ _ _ c.args.p c.args.q c.map_fault.result c.self.view_is c.self.invariant c.requires.p_in c.requires.q_in c.in_default.is (c.map_fault.ensures ∙ seen (λ t m links. find (map_test t m links c.args.p c.args.q) map_order) _ _ _ _ c.as_slice-types.ensures.value c.as_slice-components.ensures.value) c.in-Ok.ensures.members c.in-Ok.ensures.pairs c.in-Ok.ensures.links).1
 
 pub returns-clause-lawful : goal.returns-clause-lawful
 returns-clause-lawful c = (invariant_of-self-2 c).setup

@@ -1,0 +1,57 @@
+//! Which ports a port is connected or mapped with, by what stands beside it. So the pairs of other ports
+//! are not looked at.
+ghost use Rattle.std.specs.Prelude.{◌≡◌, map};
+ghost use Rattle.tp_config.specs.Shape.{links_of, member_of};
+ghost use Rattle.tp_config.specs.Tests.{has_other, is_beside, is_connected, is_mapped, same_bool};
+
+use crate::component::{Component, beside, is_system};
+use crate::port_type::PortRef;
+
+/// Whether both hold, or none.
+pub(crate) fn same_bool(a: bool, b: bool) -> bool
+    ensures { result ≡ same_bool a b }
+{
+    if a { b } else { !b }
+}
+
+/// Whether p is connected or mapped with q.
+#[tactic(auto, unfolding(crate::specs::Tests::is_beside))]
+pub(crate) fn is_beside(components: &[Component], p: PortRef, q: PortRef) -> bool
+    ensures { result ≡ is_beside (map links_of components.now) p q }
+{
+    beside(components, p).iter().any(|r| r.is(q))
+}
+
+/// Whether p is connected or mapped with another port of q's component.
+#[tactic(auto, unfolding(crate::specs::Tests::has_other))]
+pub(crate) fn has_other(components: &[Component], p: PortRef, q: PortRef) -> bool
+    ensures { result ≡ has_other (map links_of components.now) p q }
+{
+    beside(components, p)
+        .iter()
+        .any(|r| r.comp.0 == q.comp.0 && !r.is(q))
+}
+
+/// Whether p is connected. None of two connected ports is of the test system interface, and exactly one of
+/// two mapped ports is: so p is connected with a port beside it where both are of it or none.
+#[tactic(auto, unfolding(crate::specs::Tests::is_connected))]
+pub(crate) fn is_connected(components: &[Component], p: PortRef) -> bool
+    ensures { result ≡ is_connected (map member_of components.now) (map links_of components.now) p }
+{
+    let system = is_system(components, p);
+    beside(components, p)
+        .iter()
+        .any(|r| same_bool(system, is_system(components, *r)))
+}
+
+/// Whether p is mapped: with a port beside it where exactly one of the two is of the test system
+/// interface.
+#[tactic(auto, unfolding(crate::specs::Tests::is_mapped))]
+pub(crate) fn is_mapped(components: &[Component], p: PortRef) -> bool
+    ensures { result ≡ is_mapped (map member_of components.now) (map links_of components.now) p }
+{
+    let system = is_system(components, p);
+    beside(components, p)
+        .iter()
+        .any(|r| !same_bool(system, is_system(components, *r)))
+}
