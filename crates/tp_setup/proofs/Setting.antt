@@ -19,27 +19,29 @@ adds_append types xs ys old mid new first second = record {
   mapped_stay = second.mapped_stay ∙ first.mapped_stay;
 }
 
-pub set_up_is : (names : List (List ℕ)) (types : List (List PortDecl)) (case : TestCase) (empty main made start config : Setup) (system : Option ℕ) (setups : List Statement)
-    → empty ≡ empty_setup types → Adds names (main_component case) empty main → setups ≡ case.setups.items → AddsAll names (map created (creations setups)) main made
-    → AddsAll names (interface case) made start → system ≡ option_map (λ _. length made.components) case.system → Makes system start setups config → IsSetUp names types case config
-set_up_is names types case empty main made start config system setups is_empty one statements more last number makes =
-    let first : AddsAll names (main_component case ∷ []) empty main = adds_more names [] (main_component case) empty empty main (adds_none names empty) one in
-    let inner : AddsAll names (main_component case ∷ map created (creations setups)) empty made = adds_append names (main_component case ∷ []) (map created (creations setups)) empty main made first more in
-    let all : AddsAll names ((main_component case ∷ map created (creations setups)) ++ interface case) empty start =
-    adds_append names (main_component case ∷ map created (creations setups)) (interface case) empty made start inner last in
+-- `mtc` was added, and then the components of the setup statements
+pub adds_main : (names : List (List ℕ)) (case : TestCase) (old main new : Setup) → Adds names (main_component case) old main
+    → AddsAll names (map created (creations case.setups.items)) main new → AddsAll names (main_component case ∷ map created (creations case.setups.items)) old new
+adds_main names case old main new one more =
+    adds_append names (main_component case ∷ []) (map created (creations case.setups.items)) old main new (adds_more names [] (main_component case) old old main (adds_none names old) one) more
+
+pub set_up_is : (names : List (List ℕ)) (types : List (List PortDecl)) (case : TestCase) (empty made start config : Setup) (system : Option ℕ) (setups : List Statement)
+    → empty ≡ empty_setup types → AddsAll names (main_component case ∷ map created (creations case.setups.items)) empty made
+    → AddsAll names (interface case) made start → system ≡ option_map (λ _. length made.components) case.system → setups ≡ case.setups.items → Makes system start setups config
+    → IsSetUp names types case config
+set_up_is names types case empty made start config system setups is_empty first last number statements makes =
+    let inner : List Declared = main_component case ∷ map created (creations case.setups.items) in
+    let all : AddsAll names (inner ++ interface case) empty start = adds_append names inner (interface case) empty made start first last in
     let none : AllZip (IsMember names) [] empty.components = subst (λ (s : Setup). AllZip (IsMember names) [] s.components) (sym is_empty) tt in
-    let some : AllZip (IsMember names) (main_component case ∷ map created (creations setups)) made.components = inner.components [] none in
-    let count : length made.components ≡ length (creations setups) + 1 =
-    AllZip-long (IsMember names) (main_component case ∷ map created (creations setups)) made.components some ∙ omega (arith, length-map (creations setups) created) in
-    let numbered : system ≡ option_map (λ _. length (creations setups) + 1) case.system = number ∙ ap (λ n. option_map (λ _. n) case.system) count in
-    let statement : (l : List Statement) → Type 0 = λ l. (system ≡ option_map (λ _. length (creations l) + 1) case.system) × Makes system start l config
-    × AllZip (IsMember names) ((main_component case ∷ map created (creations l)) ++ interface case) start.components in
-    let there : statement case.setups.items = subst statement statements (numbered, makes, all.components [] none) in
+    let some : AllZip (IsMember names) inner made.components = first.components [] none in
+    let count : length made.components ≡ length (creations case.setups.items) + 1 =
+    AllZip-long (IsMember names) inner made.components some ∙ omega (arith, length-map (creations case.setups.items) created) in
+    let numbered : system ≡ option_map (λ _. length (creations case.setups.items) + 1) case.system = number ∙ ap (λ n. option_map (λ _. n) case.system) count in
     record {
       start = start;
       types_are = all.types_stay ∙ ap (λ (s : Setup). s.types) is_empty;
-      components_are = there.2;
+      components_are = all.components [] none;
       not_connected = all.connected_stay ∙ ap (λ (s : Setup). s.connected) is_empty;
       not_mapped = all.mapped_stay ∙ ap (λ (s : Setup). s.mapped) is_empty;
-      makes = subst (λ o. Makes o start case.setups.items config) there.0 there.1;
+      makes = subst (λ o. Makes o start case.setups.items config) numbered (subst (λ l. Makes system start l config) statements makes);
     }

@@ -52,6 +52,10 @@ abbrev pub HasSoundDefinitions : Module → TestCase → Type 0
 HasSoundDefinitions m case =
     All (λ (x : Definition). IsSound (type_names m) (port_type_names m) (component_type_names m) (option_map string_bytes case.system) x.defined) m.definitions.items
 
+-- the port types have their own names
+abbrev pub ArePortsNamed : Sorted → Type 0
+ArePortsNamed s = s.port_names ≡ map (λ (p : PortType). string_bytes p.name) (map (λ p. p.now) s.ports.items)
+
 -- the component types have their own names
 abbrev pub AreComponentsNamed : Sorted → Type 0
 AreComponentsNamed s = s.component_names ≡ map (λ (c : ComponentType). string_bytes c.name) (map (λ c. c.now) s.components.items)

@@ -1,10 +1,11 @@
 //! The second pass of the checks: what definitions name is defined.
-ghost use Rattle.std.specs.Prelude.{◌≡◌, ◌≤◌, ◌↔◌, All, Contains, IfOk, IfSome, IsTrue, OnOk, [], Some, is_some, length, option_map, string_bytes};
-ghost use Rattle.std.specs.List.{list_all};
+ghost use Rattle.std.specs.Prelude.{◌≡◌, ◌≤◌, ◌↔◌, All, Contains, IfOk, IfSome, IsTrue, OnOk, [], Some, is_some, length, map, option_map, string_bytes};
+ghost use Rattle.std.specs.List.{AllZip, list_all};
 ghost use Rattle.tp_setup.specs.Definitions.{declared_ports};
 ghost use Rattle.tp_setup.specs.Rules.{IsSound, IsType, sut};
 ghost use Rattle.tp_name.specs.Tables.{place_of};
-ghost use Rattle.tp_setup.specs.Sorted.{AreSound, HasSoundDefinitions};
+ghost use Rattle.tp_setup.specs.Sorted.{AreSorted, AreSound, ArePortsNamed, HasSoundDefinitions};
+ghost use Rattle.tp_setup.specs.Resolved.{IsComponentType, IsNamedType};
 ghost use Rattle.tp_setup.specs.Defining.{IsDefined};
 
 use crate::ports::{make_components, make_port_types};
@@ -200,6 +201,52 @@ fn check_definitions(
     Ok(())
 }
 
+/// The definitions of a module, sorted by their kinds, where each obeys the rules and this is the test
+/// case.
+fn sort_sound<'m>(
+    alloc: Global,
+    parsed: &'m Module,
+    case: &TestCase,
+) -> Result<Sorted<'m>, ScriptFault>
+    ensures sorted { IfOk result (AreSorted parsed.now) }
+    ensures sound { OnOk result (HasSoundDefinitions parsed.now case.now) }
+{
+    let sorted = sort(alloc, parsed)?;
+    check_definitions(&sorted, &case.system, &parsed.definitions)?;
+    Ok(sorted)
+}
+
+/// What is made of the definitions that are sorted.
+#[derive(Drop)]
+struct Made {
+    /// The record and record-of types, under their own names.
+    types: Types,
+    /// The component types, in the order of the text.
+    components: Vec<CompType>,
+}
+
+/// The component types, in the order of the text, where the port types have their own names.
+fn make_component_types(alloc: Global, sorted: &Sorted) -> Result<Vec<CompType>, ScriptFault>
+    requires { ArePortsNamed sorted.now }
+    ensures components { IfOk result (λ r. AllZip (IsComponentType sorted.now.type_names (map (λ p. p.now) sorted.now.ports.items)) (map (λ c. c.now) sorted.now.components.items) r.items) }
+    ensures few { IfOk result (λ r. All (λ t. length t.ports.entries ≤ PORT_LIMIT) r.items) }
+{
+    let made = make_port_types(alloc, &sorted.type_names, &sorted.ports)?;
+    make_components(alloc, sorted, &made)
+}
+
+/// The types and the component types, where the port types have their own names.
+fn make(alloc: Global, sorted: &Sorted) -> Result<Made, ScriptFault>
+    requires { ArePortsNamed sorted.now }
+    ensures types { IfOk result (λ made. AllZip (IsNamedType sorted.now.type_names) (map (λ x. x.now) sorted.now.types.items) made.types) }
+    ensures components { IfOk result (λ made. AllZip (IsComponentType sorted.now.type_names (map (λ p. p.now) sorted.now.ports.items)) (map (λ c. c.now) sorted.now.components.items) made.components.items) }
+    ensures few { IfOk result (λ made. All (λ t. length t.ports.entries ≤ PORT_LIMIT) made.components.items) }
+{
+    let types = make_types(alloc, &sorted.type_names, &sorted.types)?;
+    let components = make_component_types(alloc, sorted)?;
+    Ok(Made { types, components })
+}
+
 /// The second pass: what the definitions of a module define, where it has this test case, and no name
 /// is given twice.
 ///
@@ -218,11 +265,8 @@ pub fn define<'m>(
     ensures sound { OnOk result (HasSoundDefinitions parsed.now case.entry.case.now) }
     ensures case { IfOk result (λ d. d.case.case.now ≡ case.entry.case.now) }
 {
-    let sorted = sort(alloc, parsed)?;
-    check_definitions(&sorted, &case.case.system, &parsed.definitions)?;
-    let types = make_types(alloc, &sorted.type_names, &sorted.types)?;
-    let made = make_port_types(alloc, &sorted.type_names, &sorted.ports)?;
-    let components = make_components(alloc, &sorted, &made)?;
+    let sorted = sort_sound(alloc, parsed, case.case)?;
+    let Made { types, components } = make(alloc, &sorted)?;
     Ok(Definitions {
         case,
         sorted,

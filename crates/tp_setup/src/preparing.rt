@@ -1,15 +1,67 @@
 //! The first three passes of the checks.
-ghost use Rattle.std.specs.Prelude.{IfOk, OnOk};
+ghost use Rattle.std.specs.Prelude.{◌≡◌, ◌≤◌, ◌∷◌, [], All, IfOk, OnOk, length, map};
+ghost use Rattle.tp_config.specs.Shape.{ports_of};
+ghost use Rattle.tp_setup.specs.Components.{variables};
+ghost use Rattle.tp_setup.specs.Configuring.{AreSoundVariables, IsSetUp};
+ghost use Rattle.tp_setup.specs.Defining.{IsDefined};
+ghost use Rattle.tp_setup.specs.Definitions.{test_cases};
 ghost use Rattle.tp_setup.specs.Prepared.{IsPreparedOf, IsWellDeclared};
+ghost use Rattle.tp_setup.specs.Rules.{HasUniqueNames};
+ghost use Rattle.tp_setup.specs.Sorted.{AreComponentsNamed, AreFunctionsNamed, HasSoundDefinitions};
+ghost use Rattle.tp_setup.specs.Starting.{AreStarts};
 
 use crate::definitions::{Definitions, define};
 use crate::prepared::Prepared;
 use crate::setup::{SetUp, set_up};
+use crate::sorted::Sorted;
 use crate::starting::check_starts;
-use crate::unique_names::check_names;
+use crate::starts::Starts;
+use crate::unique_names::{CaseAt, check_names};
 use std::alloc::Global;
+use tp_config::port_type::{CompType, PORT_LIMIT};
 use tp_name::fault::ScriptFault;
 use tp_syntax::tree::Module;
+
+/// The first two passes: names and definitions.
+fn find_definitions(alloc: Global, parsed: &Module) -> Result<Definitions<'_>, ScriptFault>
+    ensures names { OnOk result (HasUniqueNames parsed.now) }
+    ensures case { IfOk result (λ d. test_cases parsed.now ≡ d.case.case.now ∷ []) }
+    ensures sound { IfOk result (λ d. HasSoundDefinitions parsed.now d.case.case.now) }
+    ensures defined { IfOk result (IsDefined parsed.now) }
+{
+    let case = check_names(alloc, parsed)?;
+    define(alloc, parsed, case)
+}
+
+/// What the third pass makes of a test case.
+#[derive(Drop)]
+struct Configured<'m> {
+    /// The configuration and the component variables.
+    made: SetUp<'m>,
+    /// What starts each component.
+    starts: Starts,
+}
+
+/// The third pass: setup and starts, where the module's definitions are sorted so and its component types
+/// are these, each with at most 64 ports.
+fn configure<'m>(
+    alloc: Global,
+    sorted: &Sorted<'m>,
+    case: CaseAt<'m>,
+    components: Vec<CompType>,
+) -> Result<Configured<'m>, ScriptFault>
+    requires components { AreComponentsNamed sorted.now }
+    requires functions { AreFunctionsNamed sorted.now }
+    requires few { All (λ t. length t.ports.entries ≤ PORT_LIMIT) components.items }
+    ensures config { IfOk result (λ c. IsSetUp sorted.now.component_names (map ports_of components.items) case.entry.case.now c.made.config) }
+    ensures variables { IfOk result (λ c. c.made.variables ≡ variables case.entry.case.now.setups.items) }
+    ensures sound { OnOk result (AreSoundVariables sorted.now.component_names (map (λ c. c.now) sorted.now.components.items) case.entry.case.now) }
+    ensures starts { IfOk result (λ c. AreStarts (map (λ f. f.now) sorted.now.functions.items) case.entry.case.now c.starts) }
+{
+    let made = set_up(alloc, sorted, case, components)?;
+    let starts = check_starts(alloc, sorted, case, &made.variables)?;
+    Ok(Configured { made, starts })
+}
 
 /// The first three passes: names, definitions, setup and starts.
 ///
@@ -20,21 +72,19 @@ pub fn prepare(alloc: Global, parsed: &Module) -> Result<Prepared<'_>, ScriptFau
     ensures rules { OnOk result (IsWellDeclared parsed.now) }
     ensures made { IfOk result (IsPreparedOf parsed.now) }
 {
-    let case = check_names(alloc, parsed)?;
     let Definitions {
         case,
         sorted,
         types,
         components,
-    } = define(alloc, parsed, case)?;
-    let SetUp { config, variables } = set_up(alloc, &sorted, case, components)?;
-    let starts = check_starts(alloc, &sorted, case, &variables)?;
+    } = find_definitions(alloc, parsed)?;
+    let configured = configure(alloc, &sorted, case, components)?;
     Ok(Prepared {
         case,
         sorted,
         types,
-        config,
-        variables,
-        starts,
+        config: configured.made.config,
+        variables: configured.made.variables,
+        starts: configured.starts,
     })
 }

@@ -1,9 +1,10 @@
 //! The third pass of the checks: the connections and mappings of the test case.
-ghost use Rattle.std.specs.Prelude.{◌≡◌, ◌≤◌, ◌++◌, All, IfOk, IfSome, OnOk, length, map};
+ghost use Rattle.std.specs.Prelude.{◌≡◌, ◌≤◌, ◌++◌, ◌∷◌, All, IfOk, IfSome, OnOk, length, map};
+ghost use Rattle.tp_config.specs.Setup.{empty_setup};
 ghost use Rattle.tp_config.specs.Shape.{ports_of};
 ghost use Rattle.tp_setup.specs.Sorted.{AreComponentsNamed};
 ghost use Rattle.std.specs.Option.{option_map, option_to_list};
-ghost use Rattle.tp_setup.specs.Components.{creation_of, variable, variables};
+ghost use Rattle.tp_setup.specs.Components.{AddsAll, HasSoundVariables, created, creation_of, creations, main_component, variable, variables};
 ghost use Rattle.tp_setup.specs.Configuring.{AreSoundVariables, Connects, IsEnd, IsSetUp, IsStep, Makes, Maps, component_at, most_variables};
 
 use crate::components::{Stopped, add_component, add_interface, create_components, ports_of_type};
@@ -200,6 +201,82 @@ fn first_fault(
     }
 }
 
+/// Makes the components of the setup statements, where the component types and the ports of the main
+/// component have these names.
+fn create_beside(
+    alloc: Global,
+    config: &mut Config,
+    types: &NameSet,
+    ports: &NameSet,
+    case: CaseAt<'_>,
+) -> Result<(), ScriptFault>
+    ensures sound { OnOk result (HasSoundVariables types.now ports.now (most_variables case.entry.case.now) (creations case.entry.case.now.setups.items)) }
+    ensures added { OnOk result (AddsAll types.now (map created (creations case.entry.case.now.setups.items)) config.old config.new) }
+{
+    let most = most_variables(case.case);
+    let setups = case.case.setups.as_slice();
+    match create_components(alloc, &mut *config, types, ports, most, setups) {
+        Ok(()) => Ok(()),
+        Err(stopped) => Err(first_fault(alloc, config, types, case, stopped)),
+    }
+}
+
+/// Makes the components of the setup statements.
+fn create_all(
+    alloc: Global,
+    config: &mut Config,
+    sorted: &Sorted,
+    case: CaseAt<'_>,
+) -> Result<(), ScriptFault>
+    requires { AreComponentsNamed sorted.now }
+    ensures sound { OnOk result (AreSoundVariables sorted.now.component_names (map (λ c. c.now) sorted.now.components.items) case.entry.case.now) }
+    ensures added { OnOk result (AddsAll sorted.now.component_names (map created (creations case.entry.case.now.setups.items)) config.old config.new) }
+{
+    let runs_on = case.case.runs_on.as_str();
+    let ports = ports_of_type(alloc, sorted, runs_on, case.line)?;
+    create_beside(alloc, config, &sorted.component_names, &ports, case)
+}
+
+/// Adds `mtc` and the components of the setup statements.
+fn add_components(
+    alloc: Global,
+    config: &mut Config,
+    sorted: &Sorted,
+    case: CaseAt<'_>,
+) -> Result<(), ScriptFault>
+    requires { AreComponentsNamed sorted.now }
+    ensures added { OnOk result (AddsAll sorted.now.component_names (main_component case.entry.case.now ∷ map created (creations case.entry.case.now.setups.items)) config.old config.new) }
+    ensures sound { OnOk result (AreSoundVariables sorted.now.component_names (map (λ c. c.now) sorted.now.components.items) case.entry.case.now) }
+{
+    let types = &sorted.component_names;
+    let runs_on = case.case.runs_on.as_str();
+    let role = Role::Test;
+    add_component(alloc, &mut *config, types, "mtc", runs_on, role, case.line)?;
+    create_all(alloc, config, sorted, case)?;
+    Ok(())
+}
+
+/// Adds the components of a test case to a configuration that has none, makes its connections and
+/// mappings, and answers the component variables.
+fn configure<'m>(
+    alloc: Global,
+    config: &mut Config,
+    sorted: &Sorted,
+    case: CaseAt<'m>,
+) -> Result<NameSet<'m>, ScriptFault>
+    requires named { AreComponentsNamed sorted.now }
+    requires empty { config.old ≡ empty_setup config.old.types }
+    ensures config { OnOk result (IsSetUp sorted.now.component_names config.old.types case.entry.case.now config.new) }
+    ensures variables { IfOk result (λ known. known ≡ variables case.entry.case.now.setups.items) }
+    ensures sound { OnOk result (AreSoundVariables sorted.now.component_names (map (λ c. c.now) sorted.now.components.items) case.entry.case.now) }
+{
+    add_components(alloc, &mut *config, sorted, case)?;
+    let types = &sorted.component_names;
+    let system = add_interface(alloc, &mut *config, types, case.case, case.line)?;
+    let known = connect_all(alloc, config, system, &case.case.setups)?;
+    Ok(known)
+}
+
 /// The setup statements of the third pass: the configuration of a test case, where the module's
 /// definitions are sorted so and its component types are these, each with at most 64 ports.
 ///
@@ -221,26 +298,7 @@ pub fn set_up<'m>(
     ensures variables { IfOk result (λ s. s.variables ≡ variables case.entry.case.now.setups.items) }
     ensures sound { OnOk result (AreSoundVariables sorted.now.component_names (map (λ c. c.now) sorted.now.components.items) case.entry.case.now) }
 {
-    let types = &sorted.component_names;
-    let runs_on = case.case.runs_on.as_str();
-    let ports = ports_of_type(alloc, sorted, runs_on, case.line)?;
-    let most = most_variables(case.case);
     let mut config = Config::new(alloc, components);
-    add_component(
-        alloc,
-        &mut config,
-        types,
-        "mtc",
-        runs_on,
-        Role::Test,
-        case.line,
-    )?;
-    let setups = case.case.setups.as_slice();
-    match create_components(alloc, &mut config, types, &ports, most, setups) {
-        Ok(()) => {}
-        Err(stopped) => return Err(first_fault(alloc, &mut config, types, case, stopped)),
-    }
-    let system = add_interface(alloc, &mut config, types, case.case, case.line)?;
-    let variables = connect_all(alloc, &mut config, system, setups)?;
+    let variables = configure(alloc, &mut config, sorted, case)?;
     Ok(SetUp { config, variables })
 }

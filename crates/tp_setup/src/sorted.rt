@@ -163,18 +163,18 @@ fn sort_functions<'m>(
 pub fn sort(alloc: Global, parsed: &Module) -> Result<Sorted<'_>, ScriptFault>
     ensures { IfOk result (AreSorted parsed.now) }
 {
-    let (type_names, types) = sort_types(alloc, &parsed.definitions)?;
-    let (port_names, ports) = sort_ports(alloc, &parsed.definitions)?;
-    let (component_names, components) = sort_components(alloc, &parsed.definitions)?;
-    let (function_names, functions) = sort_functions(alloc, &parsed.definitions)?;
+    let types = sort_types(alloc, &parsed.definitions)?;
+    let ports = sort_ports(alloc, &parsed.definitions)?;
+    let components = sort_components(alloc, &parsed.definitions)?;
+    let functions = sort_functions(alloc, &parsed.definitions)?;
     Ok(Sorted {
-        type_names,
-        types,
-        port_names,
-        ports,
-        component_names,
-        components,
-        function_names,
-        functions,
+        type_names: types.0,
+        types: types.1,
+        port_names: ports.0,
+        ports: ports.1,
+        component_names: components.0,
+        components: components.1,
+        function_names: functions.0,
+        functions: functions.1,
     })
 }

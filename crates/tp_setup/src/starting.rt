@@ -206,6 +206,25 @@ fn check_done(case: &TestCase, places: &[u32], line: u32) -> Result<(), ScriptFa
     Err(refused(Refusal::NoDone, line))
 }
 
+/// What one start starts, whose component is added to those that are started.
+fn check_next<'m>(
+    alloc: Global,
+    sorted: &Sorted,
+    variables: &NameSet,
+    types: &[&str],
+    names: &mut NameSet<'m>,
+    start: &'m ComponentStart,
+) -> Result<Started, ScriptFault>
+    requires { AreFunctionsNamed sorted.now }
+    ensures started { IfOk result (IsStarted (map (λ f. f.now) sorted.now.functions.items) variables.now (map (λ t. t.now) types.now) start.now) }
+    ensures added { OnOk result (names.new ≡ names.old ++ string_bytes start.now.component ∷ []) }
+    ensures distinct { OnOk result (AreDistinct names.new) }
+{
+    add_started(variables, names, start)?;
+    let one = check_start(alloc, sorted, variables, types, start)?;
+    Ok(one)
+}
+
 /// What the starts start, one after the other, and the components that they start.
 fn check_each<'m>(
     alloc: Global,
@@ -222,11 +241,37 @@ fn check_each<'m>(
     let mut names = NameSet::new(alloc);
     let mut started = Vec::new(alloc);
     for start in starts {
-        add_started(variables, &mut names, start)?;
-        let one = check_start(alloc, sorted, variables, types, start)?;
+        let one = check_next(alloc, sorted, variables, types, &mut names, start)?;
         started.push(one)?;
     }
     Ok((names, started))
+}
+
+/// What the starts of a test case start, and the components that they start.
+fn start_all<'m>(
+    alloc: Global,
+    sorted: &Sorted,
+    case: &'m TestCase,
+    names: &NameSet,
+) -> Result<(NameSet<'m>, Vec<Started>), ScriptFault>
+    requires { AreFunctionsNamed sorted.now }
+    ensures started { IfOk result (λ r. AllZip (IsStarted (map (λ f. f.now) sorted.now.functions.items) names.now (type_names_of case.now)) case.now.starts.items r.1.items) }
+    ensures names { IfOk result (λ r. r.0 ≡ started_names case.now.starts.items) }
+    ensures distinct { IfOk result (λ r. AreDistinct r.0) }
+{
+    let types = component_types(alloc, case)?;
+    let made = check_each(alloc, sorted, names, &types, &case.starts)?;
+    Ok(made)
+}
+
+/// The places of the starts of the component variables, where the test case ends as it has to.
+fn place_starts(alloc: Global, started: &NameSet, case: CaseAt<'_>) -> Result<Vec<u32>, ScriptFault>
+    ensures places { IfOk result (λ places. AllZip (IsStartPlace started.now) (variables case.entry.case.now.setups.items) places.items) }
+    ensures done { OnOk result (0 < length (creations case.entry.case.now.setups.items) → IsSome case.entry.case.now.all_done) }
+{
+    let places = find_starts(alloc, started, &case.case.setups)?;
+    check_done(case.case, &places, case.line)?;
+    Ok(places)
 }
 
 /// The starts of the third pass: what they start, where the module's definitions are sorted so and the
@@ -249,9 +294,7 @@ pub fn check_starts(
     requires variables { names.now ≡ variables case.case.now.setups.items }
     ensures { IfOk result (AreStarts (map (λ f. f.now) sorted.now.functions.items) case.entry.case.now) }
 {
-    let types = component_types(alloc, case.case)?;
-    let (started, starts) = check_each(alloc, sorted, names, &types, &case.case.starts)?;
-    let places = find_starts(alloc, &started, &case.case.setups)?;
-    check_done(case.case, &places, case.line)?;
+    let (started, starts) = start_all(alloc, sorted, case.case, names)?;
+    let places = place_starts(alloc, &started, case)?;
     Ok(Starts { starts, places })
 }

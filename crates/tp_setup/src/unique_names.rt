@@ -1,10 +1,11 @@
 //! The first pass of the checks: names are given once, and there is one test case.
-ghost use Rattle.std.specs.Prelude.{◌≡◌, ◌∷◌, ◌++◌, [], IfOk, OnOk, map, string_bytes};
+ghost use Rattle.std.specs.Prelude.{◌≡◌, ◌∷◌, ◌++◌, [], All, IfOk, OnOk, map, string_bytes};
 ghost use Rattle.std.specs.Option.{option_map, option_to_list};
 ghost use Rattle.tp_name.specs.Tables.{AreDistinct};
-ghost use Rattle.tp_setup.specs.Definitions.{case_of, name_of, declared, declared_ports, inner_names, test_cases};
+ghost use Rattle.tp_setup.specs.Definitions.{among, case_of, name_of, declared, declared_ports, inner_names, test_cases};
 ghost use Rattle.tp_setup.specs.Rules.{HasUniqueNames};
 ghost use Rattle.tp_setup.specs.Cases.{cases_of};
+ghost use Rattle.tp_syntax.specs.declared.tree.Definition.{Definition};
 
 use std::alloc::Global;
 use tp_name::fault::{Refusal, ScriptFault, refused};
@@ -87,18 +88,27 @@ pub fn declare_parameters<'m>(
     Ok(())
 }
 
+/// Adds the names of the fields, ports or parameters of a definition, behind no others. 12 `Duplicate` at
+/// the line of the second of two that are equal.
+fn declare_inner<'m>(names: &mut NameSet<'m>, defined: &'m Defined) -> Result<(), ScriptFault>
+    requires { names.old ≡ [] }
+    ensures { OnOk result (AreDistinct (inner_names defined.now)) }
+{
+    match defined {
+        Defined::Record(record) => declare_fields(names, &record.fields),
+        Defined::Component(component) => declare_ports(names, &component.ports),
+        Defined::Function(function) => declare_parameters(names, &function.parameters),
+        Defined::List(_) | Defined::Port(_) | Defined::TestCase(_) => Ok(()),
+    }
+}
+
 /// Looks at the names of the fields, ports or parameters of a definition. 12 `Duplicate` at the line
 /// of the second of two that are equal.
 fn check_inner(alloc: Global, definition: &Definition) -> Result<(), ScriptFault>
     ensures { OnOk result (AreDistinct (inner_names definition.now.defined)) }
 {
     let mut names = NameSet::new(alloc);
-    match &definition.defined {
-        Defined::Record(record) => declare_fields(&mut names, &record.fields),
-        Defined::Component(component) => declare_ports(&mut names, &component.ports),
-        Defined::Function(function) => declare_parameters(&mut names, &function.parameters),
-        Defined::List(_) | Defined::Port(_) | Defined::TestCase(_) => Ok(()),
-    }
+    declare_inner(&mut names, &definition.defined)
 }
 
 /// The name that is defined.
@@ -140,6 +150,42 @@ fn is_case(definition: &Definition) -> bool {
     matches!(&definition.defined, Defined::TestCase(_))
 }
 
+/// Adds the name of a definition, and looks at the names in it. 12 `Duplicate` at its line where the name
+/// is there.
+fn check_name<'m>(
+    alloc: Global,
+    names: &mut NameSet<'m>,
+    definition: &'m Definition,
+) -> Result<(), ScriptFault>
+    ensures names { OnOk result (names.new ≡ names.old ++ name_of definition.now.defined ∷ []) }
+    ensures distinct { OnOk result (AreDistinct names.new) }
+    ensures inner { OnOk result (AreDistinct (inner_names definition.now.defined)) }
+{
+    if let Err(fault) = names.add(defined_name(&definition.defined)) {
+        return Err(fault.at(definition.line));
+    }
+    check_inner(alloc, definition)?;
+    Ok(())
+}
+
+/// The test case among the definitions, where no name is given twice.
+fn find_case<'m>(
+    alloc: Global,
+    definitions: &'m [Definition],
+) -> Result<Option<CaseAt<'m>>, ScriptFault>
+    ensures case { IfOk result (λ case. cases_of case ≡ among case_of definitions.now) }
+    ensures names { OnOk result (AreDistinct (map (λ (x : Definition). name_of x.defined) definitions.now)) }
+    ensures inner { OnOk result (All (λ (x : Definition). AreDistinct (inner_names x.defined)) definitions.now) }
+{
+    let mut names = NameSet::new(alloc);
+    let mut case = None;
+    for definition in definitions {
+        check_name(alloc, &mut names, definition)?;
+        case = next_case(case, definition)?;
+    }
+    Ok(case)
+}
+
 /// The first pass: the test case of the module.
 ///
 /// 11 `Unknown` at the line of the module where it has none. Then, in the order of the text: 12
@@ -153,16 +199,7 @@ pub fn check_names(alloc: Global, parsed: &Module) -> Result<CaseAt<'_>, ScriptF
     if !parsed.definitions.iter().any(is_case) {
         return Err(refused(Refusal::Unknown, parsed.line));
     }
-    let mut names = NameSet::new(alloc);
-    let mut case = None;
-    for definition in &parsed.definitions {
-        if let Err(fault) = names.add(defined_name(&definition.defined)) {
-            return Err(fault.at(definition.line));
-        }
-        case = next_case(case, definition)?;
-        check_inner(alloc, definition)?;
-    }
-    match case {
+    match find_case(alloc, &parsed.definitions)? {
         Some(found) => Ok(found),
         None => Err(refused(Refusal::Unknown, parsed.line)),
     }

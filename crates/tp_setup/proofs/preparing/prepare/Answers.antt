@@ -1,61 +1,59 @@
-use Rattle.std.proofs.Common.{◌∷◌, [], ◌∙◌, ap, map, string_bytes, subst, sym}
+use Rattle.std.proofs.Common.{◌∙◌, ap, map, string_bytes, subst, sym}
 use Rattle.tp_syntax.specs.declared.tree.ComponentType.{ComponentType}
 use Rattle.tp_syntax.specs.declared.tree.Function.{Function}
 use Rattle.tp_config.specs.Shape.{ports_of}
 use Rattle.tp_setup.specs.Definitions.{component_types}
-use Rattle.tp_setup.specs.Sorted.{HasSoundDefinitions}
 use Rattle.tp_setup.specs.Configuring.{AreSoundVariables, IsSetUp}
 use Rattle.tp_setup.specs.Starting.{AreStarts}
 use Rattle.tp_setup.specs.Prepared.{IsConfigOf}
 use Rattle.tp_setup.proofs.preparing.prepare.Goals as goal
 
-pub set_up-requires-clause-named : goal.set_up-requires-clause-named
-set_up-requires-clause-named c =
-    c.in_ok-case-2.ensures.defined.sorted.components.names_are ∙ ap (map (λ (x : ComponentType). string_bytes x.name)) (sym c.in_ok-case-2.ensures.defined.sorted.components.items_are)
+pub configure-requires-clause-components : goal.configure-requires-clause-components
+configure-requires-clause-components c =
+    c.in_ok-case.ensures.defined.sorted.components.names_are ∙ ap (map (λ (x : ComponentType). string_bytes x.name)) (sym c.in_ok-case.ensures.defined.sorted.components.items_are)
 
-pub check_starts-requires-clause-named : goal.check_starts-requires-clause-named
-check_starts-requires-clause-named c =
-    c.in_ok-case-2.ensures.defined.sorted.functions.names_are ∙ ap (map (λ (x : Function). string_bytes x.name)) (sym c.in_ok-case-2.ensures.defined.sorted.functions.items_are)
+pub configure-requires-clause-functions : goal.configure-requires-clause-functions
+configure-requires-clause-functions c =
+    c.in_ok-case.ensures.defined.sorted.functions.names_are ∙ ap (map (λ (x : Function). string_bytes x.name)) (sym c.in_ok-case.ensures.defined.sorted.functions.items_are)
 
 pub returns-clause-rules : goal.returns-clause-rules
 returns-clause-rules c =
     let m = c.args.parsed.now in
-    let d = c.in_ok-case-2.field-0 in
+    let d = c.in_ok-case.field-0 in
     let case = d.case.case.now in
-    let made = c.in_ok-case-2.ensures.defined in
-    let set : IsConfigOf m case c.in_ok-config.field-0.config = record {
+    let made = c.in_ok-case.ensures.defined in
+    let set : IsConfigOf m case c.in_ok-configured.configured.made.config = record {
       types = d.components.items;
       types_are = made.components;
-      set_up = subst (λ n. IsSetUp n (map ports_of d.components.items) case c.in_ok-config.field-0.config) made.sorted.components.names_are c.in_ok-config.ensures.config;
+      set_up = subst (λ n. IsSetUp n (map ports_of d.components.items) case c.in_ok-configured.configured.made.config) made.sorted.components.names_are c.in_ok-configured.ensures.config;
     } in
     record {
       case = case;
-      one_test_case = c.in_ok-case.ensures.case ∙ ap (λ x. x ∷ []) (sym c.in_ok-case-2.ensures.case);
+      one_test_case = c.in_ok-case.ensures.case;
       names = c.in_ok-case.ensures.names;
-      definitions = subst (HasSoundDefinitions m) (sym c.in_ok-case-2.ensures.case) c.in_ok-case-2.ensures.sound;
+      definitions = c.in_ok-case.ensures.sound;
       variables = subst (λ n. AreSoundVariables n (component_types m) case) made.sorted.components.names_are
-          (subst (λ l. AreSoundVariables d.sorted.component_names l case) made.sorted.components.items_are c.in_ok-config.ensures.sound);
-      config = c.in_ok-config.field-0.config;
+          (subst (λ l. AreSoundVariables d.sorted.component_names l case) made.sorted.components.items_are c.in_ok-configured.ensures.sound);
+      config = c.in_ok-configured.configured.made.config;
       connections = set;
-      started = c.in_ok-starts.starts;
-      starts = subst (λ l. AreStarts l case c.in_ok-starts.starts) made.sorted.functions.items_are c.in_ok-starts.ensures;
+      started = c.in_ok-configured.configured.starts;
+      starts = subst (λ l. AreStarts l case c.in_ok-configured.configured.starts) made.sorted.functions.items_are c.in_ok-configured.ensures.starts;
     }
 
 pub returns-clause-made : goal.returns-clause-made
 returns-clause-made c =
-    let m = c.args.parsed.now in
-    let d = c.in_ok-case-2.field-0 in
+    let d = c.in_ok-case.field-0 in
     let case = d.case.case.now in
-    let made = c.in_ok-case-2.ensures.defined in
+    let made = c.in_ok-case.ensures.defined in
     record {
-      one_test_case = c.in_ok-case.ensures.case ∙ ap (λ x. x ∷ []) (sym c.in_ok-case-2.ensures.case);
+      one_test_case = c.in_ok-case.ensures.case;
       sorted = made.sorted;
       types = made.types;
       config = record {
         types = d.components.items;
         types_are = made.components;
-        set_up = subst (λ n. IsSetUp n (map ports_of d.components.items) case c.in_ok-config.field-0.config) made.sorted.components.names_are c.in_ok-config.ensures.config;
+        set_up = subst (λ n. IsSetUp n (map ports_of d.components.items) case c.in_ok-configured.configured.made.config) made.sorted.components.names_are c.in_ok-configured.ensures.config;
       };
-      variables_are = c.in_ok-config.ensures.variables;
-      starts = subst (λ l. AreStarts l case c.in_ok-starts.starts) made.sorted.functions.items_are c.in_ok-starts.ensures;
+      variables_are = c.in_ok-configured.ensures.variables;
+      starts = subst (λ l. AreStarts l case c.in_ok-configured.configured.starts) made.sorted.functions.items_are c.in_ok-configured.ensures.starts;
     }

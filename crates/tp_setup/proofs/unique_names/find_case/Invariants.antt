@@ -3,12 +3,12 @@ use Rattle.tp_syntax.specs.declared.tree.Definition.{Definition}
 use Rattle.tp_name.specs.Tables.{AreDistinct}
 use Rattle.tp_setup.specs.Definitions.{among, case_of, name_of, inner_names}
 use Rattle.tp_setup.specs.Cases.{cases_of}
-use Rattle.tp_setup.proofs.unique_names.check_names.Given as goal
+use Rattle.tp_setup.proofs.unique_names.find_case.Given as goal
 
 abbrev pub invariant-loop-definition : goal.invariant-loop-definition
 invariant-loop-definition l = record {
-  names : l.names ≡ map (λ (x : Definition). name_of x.defined) (take l.definition-index l.definition-items);
+  names : l.names ≡ map (λ (x : Definition). name_of x.defined) (take l.definition-index l.definitions);
   distinct : AreDistinct l.names;
-  case : among case_of (take l.definition-index l.definition-items) ≡ cases_of l.case;
-  inner : All (λ (x : Definition). AreDistinct (inner_names x.defined)) (take l.definition-index l.definition-items);
+  case : among case_of (take l.definition-index l.definitions) ≡ cases_of l.case;
+  inner : All (λ (x : Definition). AreDistinct (inner_names x.defined)) (take l.definition-index l.definitions);
 }
