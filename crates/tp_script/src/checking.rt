@@ -1,15 +1,40 @@
 //! The checks of a module, pass by pass.
-ghost use Rattle.std.specs.Prelude.{IfOk, OnOk};
+ghost use Rattle.std.specs.Prelude.{◌≡◌, ◌≤◌, IfOk, OnOk, length, map, sum};
+ghost use Rattle.std.specs.List.{AllZip};
+ghost use Rattle.tp_setup.specs.Definitions.{functions};
+ghost use Rattle.tp_script.specs.Duties.{size_of_duty};
+ghost use Rattle.tp_script.specs.Parts.{AreParts, duty_of, known_in, part_count};
+ghost use Rattle.tp_script.specs.Scopes.{IsFunctionBody, IsMainBody};
 ghost use Rattle.tp_script.specs.TestCases.{IsTestCaseOf, WellFormed};
 
 use crate::bodies::resolve_bodies;
 use crate::parts::make_parts;
-use crate::test_case::TestCase;
+use crate::test_case::{Behaviours, TestCase};
 use crate::total::check_size;
 use std::alloc::Global;
 use tp_name::fault::ScriptFault;
+use tp_setup::prepared::Prepared;
 use tp_setup::preparing::prepare;
 use tp_syntax::tree::Module;
+
+/// The fourth pass and the fifth: the bodies, and what each component does with them. The first fault is
+/// the answer. 50 `Memory` only where an allocation was refused.
+fn resolve_behaviours<'m>(
+    alloc: Global,
+    parsed: &'m Module,
+    prepared: &Prepared<'m>,
+) -> Result<Behaviours, ScriptFault>
+    ensures main { IfOk result (λ b. IsMainBody (known_in prepared.now) prepared.now.case.case.now b.bodies.main) }
+    ensures functions { IfOk result (λ b. AllZip (IsFunctionBody (known_in prepared.now)) (functions parsed.now) b.bodies.functions.items) }
+    ensures parts { IfOk result (λ b. AreParts prepared.now b.parts.items) }
+    ensures count { IfOk result (λ b. length b.parts.items ≡ part_count prepared.now) }
+    ensures few { IfOk result (λ b. sum (map size_of_duty (map (duty_of b.bodies) b.parts.items)) ≤ 100000) }
+{
+    let bodies = resolve_bodies(alloc, parsed, prepared)?;
+    let parts = make_parts(alloc, prepared)?;
+    check_size(alloc, &bodies, &parts, prepared.case.line)?;
+    Ok(Behaviours { bodies, parts })
+}
 
 /// Checks a module, and makes its test case.
 ///
@@ -24,8 +49,6 @@ pub fn check(alloc: Global, parsed: &Module) -> Result<TestCase, ScriptFault>
     ensures made { IfOk result (IsTestCaseOf parsed.now) }
 {
     let prepared = prepare(alloc, parsed)?;
-    let bodies = resolve_bodies(alloc, parsed, &prepared)?;
-    let parts = make_parts(alloc, &prepared)?;
-    check_size(alloc, &bodies, &parts, prepared.case.line)?;
-    Ok(TestCase::new(prepared, bodies, parts))
+    let behaviours = resolve_behaviours(alloc, parsed, &prepared)?;
+    Ok(TestCase::new(prepared, behaviours))
 }

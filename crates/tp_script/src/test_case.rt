@@ -26,6 +26,14 @@ pub struct TestCase {
     parts: Vec<Option<Part>>,
 }
 
+/// The bodies of a module, and what each component does with them.
+#[derive(Drop)]
+pub(crate) struct Behaviours {
+    pub(crate) bodies: Bodies,
+    /// What each component does, by its number.
+    pub(crate) parts: Vec<Option<Part>>,
+}
+
 /// What a component does.
 #[derive(Clone, Copy)]
 pub struct Conduct<'t> {
@@ -72,10 +80,11 @@ impl Model for TestCase {
 
 impl TestCase {
     /// The test case of what the passes made.
-    pub(crate) fn new(prepared: Prepared<'_>, bodies: Bodies, parts: Vec<Option<Part>>) -> TestCase
-        ensures { result ≡ record { config = prepared.entry.config; types = prepared.entry.types; duties = map (duty_of bodies) parts.items } }
+    pub(crate) fn new(prepared: Prepared<'_>, behaviours: Behaviours) -> TestCase
+        ensures { result ≡ record { config = prepared.entry.config; types = prepared.entry.types; duties = map (duty_of behaviours.bodies) behaviours.parts.items } }
     {
         let Prepared { types, config, .. } = prepared;
+        let Behaviours { bodies, parts } = behaviours;
         TestCase {
             config,
             types,

@@ -14,8 +14,8 @@ returns-clause-made c =
     let m = c.args.parsed.now in
     let p = c.in_ok-prepared.prepared in
     let of = c.in_ok-prepared.ensures.made in
-    let bodies = c.in_ok-bodies.bodies in
-    let parts = c.in_ok-parts.parts.items in
+    let bodies = c.in_ok-behaviours.behaviours.bodies in
+    let parts = c.in_ok-behaviours.behaviours.parts.items in
     subst (IsTestCaseOf m) (sym c.new.ensures)
     (record {
       case = p.case.case.now;
@@ -25,8 +25,8 @@ returns-clause-made c =
       config = of.config;
       starts = p.starts;
       starts_are = of.starts;
-      everyone = length-map parts (duty_of bodies) ∙ c.in_ok-parts.ensures.count ∙ sym (everyone m p of);
-      does = does m p of bodies c.in_ok-bodies.ensures.main c.in_ok-bodies.ensures.functions parts c.in_ok-parts.ensures.parts;
+      everyone = length-map parts (duty_of bodies) ∙ c.in_ok-behaviours.ensures.count ∙ sym (everyone m p of);
+      does = does m p of bodies c.in_ok-behaviours.ensures.main c.in_ok-behaviours.ensures.functions parts c.in_ok-behaviours.ensures.parts;
     })
 
 pub returns-clause-well_formed : goal.returns-clause-well_formed
@@ -34,7 +34,7 @@ returns-clause-well_formed c =
     let m = c.args.parsed.now in
     let p = c.in_ok-prepared.prepared in
     let of = c.in_ok-prepared.ensures.made in
-    let bodies = c.in_ok-bodies.bodies in
+    let bodies = c.in_ok-behaviours.behaviours.bodies in
     record {
       declared = c.in_ok-prepared.ensures.rules;
       bodies = record {
@@ -45,13 +45,13 @@ returns-clause-well_formed c =
         config = p.config;
         kinds = kinds m p of;
         main = bodies.main;
-        main_body = subst (λ k. IsMainBody k p.case.case.now bodies.main) (known_is m p of) c.in_ok-bodies.ensures.main;
+        main_body = subst (λ k. IsMainBody k p.case.case.now bodies.main) (known_is m p of) c.in_ok-behaviours.ensures.main;
         bodies = bodies.functions.items;
-        function_bodies = subst (λ k. AllZip (IsFunctionBody k) (functions m) bodies.functions.items) (known_is m p of) c.in_ok-bodies.ensures.functions;
+        function_bodies = subst (λ k. AllZip (IsFunctionBody k) (functions m) bodies.functions.items) (known_is m p of) c.in_ok-behaviours.ensures.functions;
       };
       small = record {
         made = c.new.result;
         test_case = returns-clause-made c;
-        few = subst (λ t. size_of_all t ≤ 100000) (sym c.new.ensures) (subst (λ l. sum (map size_of_duty (map (duty_of bodies) l)) ≤ 100000) c.deref.ensures.value c.in_ok-check_size.ensures);
+        few = subst (λ t. size_of_all t ≤ 100000) (sym c.new.ensures) c.in_ok-behaviours.ensures.few;
       };
     }
