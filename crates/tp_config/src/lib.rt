@@ -9,9 +9,7 @@ pub mod creating;
 mod directions;
 mod links;
 pub mod mapping;
-mod pairs;
+mod partners;
 pub mod port_type;
 pub mod routes;
-#[cfg(test)]
-mod tests;
 pub mod type_list;

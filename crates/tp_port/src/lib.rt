@@ -11,6 +11,4 @@ pub mod payload;
 pub mod queue;
 pub mod replay;
 mod senders;
-#[cfg(test)]
-mod tests;
 pub mod text;

@@ -69,21 +69,3 @@ impl<T: Drop> From<AllocFailed<T>> for ScriptFault {
         ScriptFault::Memory(Memory)
     }
 }
-
-#[cfg(test)]
-mod tests {
-    use super::*;
-    use std::test::Fail;
-
-    #[test]
-    fn prints(rt: HostRuntime) -> Result<(), Fail> {
-        for (fault, want) in [
-            (ScriptFault::syntax(7), "refused 10 Syntax line 7"),
-            (ScriptFault::limit(0), "refused 15 Limit line 0"),
-            (ScriptFault::from(Memory), "fault 50 Memory"),
-        ] {
-            assert_eq!(rt; format!(in rt.alloc(); "{fault}")?.as_str(), want);
-        }
-        Ok(())
-    }
-}

@@ -87,6 +87,3 @@ fn lines_in(is_token: bool, piece: &[u8]) -> u32
     }
     piece.iter().filter(|byte| **byte == b'\n').count() as u32
 }
-
-#[cfg(test)]
-mod tests;

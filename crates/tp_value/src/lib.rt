@@ -10,8 +10,6 @@ pub mod message;
 mod pattern;
 mod scan;
 pub mod template;
-#[cfg(test)]
-mod tests;
 pub mod types;
 pub mod typing;
 pub mod value;

@@ -1,23 +1,23 @@
-//! Whether the definitions say what the standard's rules do, and each public call on its happy path.
-use crate::equal::are_equal;
-use crate::fitting::template_fits;
-use crate::items::Items;
-use crate::matching::matches;
-use crate::message::{Message, MsgTemplate};
-use crate::template::{Part, Template};
-use crate::types::{AddFault, Field, Ty, TypeDef, Types};
-use crate::typing::has_type;
-use crate::value::Value;
-use crate::verdict::Verdict;
-use crate::writing::write_value;
+//! Whether the definitions of types, values and templates say what the standard's rules do, and each public
+//! call on its happy path.
+use crate::tests::writers::Short;
 use std::alloc::Global;
-use std::io;
-use std::io::{ErrorKind, Write};
 use std::process::Abort;
 use std::test::Fail;
 use tp_port::event::{Env, TriggerAnswer};
 use tp_port::payload::Memory;
 use tp_port::queue::PortQueue;
+use tp_value::equal::are_equal;
+use tp_value::fitting::template_fits;
+use tp_value::items::Items;
+use tp_value::matching::matches;
+use tp_value::message::{Message, MsgTemplate};
+use tp_value::template::{Part, Template};
+use tp_value::types::{AddFault, Field, Ty, TypeDef, Types};
+use tp_value::typing::has_type;
+use tp_value::value::Value;
+use tp_value::verdict::Verdict;
+use tp_value::writing::write_value;
 
 /// A charstring.
 fn text(alloc: Global, characters: &[u8]) -> Result<Value, Memory> {
@@ -273,27 +273,6 @@ fn values_are_written(rt: HostRuntime) -> Result<(), Fail> {
     writes(&rt, &types, Ty::Named(1), &none, "{}")?;
     let value = records(rt.alloc())?;
     writes(&rt, &types, Ty::Named(1), &value, WRITTEN)
-}
-
-/// Takes this many bytes, and then answers an error.
-#[derive(Drop)]
-struct Short {
-    room: usize,
-}
-
-impl Write for Short {
-    fn write(&mut self, buf: &[u8]) -> io::Result<usize> {
-        if self.room == 0 {
-            return Err(io::Error::from(ErrorKind::BrokenPipe));
-        }
-        let count = buf.len().min(self.room);
-        self.room -= count;
-        Ok(count)
-    }
-
-    fn flush(&mut self) -> io::Result<()> {
-        Ok(())
-    }
 }
 
 #[test]

@@ -2,19 +2,19 @@
 ghost use Rattle.std.specs.Prelude.{◌≤◌, IfOk, IfSome, length};
 ghost use Rattle.tp_config.specs.Setup.{IsPort};
 
-use crate::config::Config;
-use crate::connecting::ConnectFault;
-use crate::creating::CreateFault;
-use crate::mapping::MapFault;
-use crate::port_type::{
-    COMPONENT_LIMIT, CompId, CompType, PORT_LIMIT, PortRef, PortType, Role, RouteId,
-};
-use crate::routes::RouteFault;
-use crate::type_list::TypeList;
 use indexmap::IndexMap;
 use std::alloc::Global;
 use std::process::Abort;
 use std::test::Fail;
+use tp_config::config::Config;
+use tp_config::connecting::ConnectFault;
+use tp_config::creating::CreateFault;
+use tp_config::mapping::MapFault;
+use tp_config::port_type::{
+    COMPONENT_LIMIT, CompId, CompType, PORT_LIMIT, PortRef, PortType, Role, RouteId,
+};
+use tp_config::routes::RouteFault;
+use tp_config::type_list::TypeList;
 use tp_refusal::memory::Memory;
 use tp_value::items::Items;
 use tp_value::types::Ty;

@@ -1,10 +1,11 @@
-use super::*;
-use crate::fault::Memory;
-use crate::token::Symbol;
-use crate::word::{Word, word_of};
-use std::alloc::AllocError;
+//! The tokens of texts, and how faults are printed.
+use std::alloc::{AllocError, Global};
 use std::process::Abort;
 use std::test::Fail;
+use tp_token::fault::{Memory, ScriptFault};
+use tp_token::lexer::lex;
+use tp_token::token::{Symbol, Token};
+use tp_token::word::{Word, word_of};
 
 /// The reserved words, as the notation lists them.
 const WORDS: &str = "module type record of port message component in out inout function testcase \
@@ -209,4 +210,16 @@ fn refused_memory(rt: HostRuntime) {
         Ok(tokens) => assert_eq!(rt; tokens.len(), 14),
         Err(fault) => assert_eq!(rt; fault, ScriptFault::Memory(Memory)),
     }
+}
+
+#[test]
+fn prints_faults(rt: HostRuntime) -> Result<(), Fail> {
+    for (fault, want) in [
+        (ScriptFault::syntax(7), "refused 10 Syntax line 7"),
+        (ScriptFault::limit(0), "refused 15 Limit line 0"),
+        (ScriptFault::from(Memory), "fault 50 Memory"),
+    ] {
+        assert_eq!(rt; format!(in rt.alloc(); "{fault}")?.as_str(), want);
+    }
+    Ok(())
 }

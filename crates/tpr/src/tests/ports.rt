@@ -1,14 +1,15 @@
-//! Calls on their happy paths, with the values of the standard's rules, and readers and writers
-//! that fail.
-use crate::event::{Env, Event, Status, TriggerAnswer};
-use crate::pattern::Pattern;
-use crate::queue::PortQueue;
-use crate::replay::{QueueFault, replay, replay_text};
-use crate::text::{ReadFault, TEXT_LIMIT, read_text};
+//! The calls of a port's queue on their happy paths, with the values of the standard's rules, and readers
+//! and writers that fail.
+use crate::tests::writers::Short;
 use std::io;
-use std::io::{ErrorKind, Read, Write};
+use std::io::{ErrorKind, Read};
 use std::process::Abort;
 use std::test::Fail;
+use tp_port::event::{Env, Event, Status, TriggerAnswer};
+use tp_port::pattern::Pattern;
+use tp_port::queue::PortQueue;
+use tp_port::replay::{QueueFault, replay, replay_text};
+use tp_port::text::{ReadFault, TEXT_LIMIT, read_text};
 
 fn env(sender: u32, number: u64, msg: i64) -> Env<i64> {
     Env {
@@ -140,27 +141,6 @@ impl Read for OneByOne<'_> {
         buf[0] = self.text[0];
         self.text = &self.text[1..];
         Ok(1)
-    }
-}
-
-/// Takes this many bytes, and then answers an error.
-#[derive(Drop)]
-struct Short {
-    room: usize,
-}
-
-impl Write for Short {
-    fn write(&mut self, buf: &[u8]) -> io::Result<usize> {
-        if self.room == 0 {
-            return Err(io::Error::from(ErrorKind::BrokenPipe));
-        }
-        let count = buf.len().min(self.room);
-        self.room -= count;
-        Ok(count)
-    }
-
-    fn flush(&mut self) -> io::Result<()> {
-        Ok(())
     }
 }
 

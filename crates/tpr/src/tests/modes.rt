@@ -1,0 +1,140 @@
+//! The command line, and the modes over readers and writers that fail.
+use crate::line::{Mode, line_of};
+use crate::modes::{ANSWERED, FAULTED, REFUSED, answer_queue};
+use std::io;
+use std::io::{ErrorKind, Read, Write};
+use std::test::Fail;
+
+#[test]
+fn words_name_a_mode_and_a_file(rt: HostRuntime) -> Result<(), Fail> {
+    let queue = String::from_str(rt.alloc(), "queue")?;
+    let file = String::from_str(rt.alloc(), "a.queue")?;
+    let check = String::from_str(rt.alloc(), "check")?;
+    let mut words = Vec::new(rt.alloc());
+    assert!(rt; line_of(words.as_slice()).is_none());
+    words.push(queue)?;
+    assert!(rt; line_of(words.as_slice()) == Some((Mode::Queue, None)));
+    words.push(file)?;
+    assert!(rt; line_of(words.as_slice()) == Some((Mode::Queue, Some("a.queue"))));
+    words.push(check)?;
+    assert!(rt; line_of(words.as_slice()).is_none());
+    assert!(rt; line_of(&words[2..]) == Some((Mode::Check, None)));
+    Ok(())
+}
+
+#[test]
+fn modes_to_come_are_not_offered(rt: HostRuntime) -> Result<(), Fail> {
+    for word in ["run", "Queue", "", "--help"] {
+        let text = String::from_str(rt.alloc(), word)?;
+        let mut words = Vec::new(rt.alloc());
+        words.push(text)?;
+        assert!(rt; line_of(words.as_slice()).is_none(), "at {word}");
+    }
+    Ok(())
+}
+
+#[test]
+fn outcomes_have_their_text_and_status(rt: HostRuntime) -> Result<(), Fail> {
+    let outcomes = [
+        ("", "left 0\n", ANSWERED),
+        (
+            "arrive a 1\nhalt\narrive a 2\nreceive ?\nreceive ?\n",
+            "queued\nhalted 1\nqueued\ntook a 1\nno\nleft 1\na 2\n",
+            ANSWERED,
+        ),
+        (
+            "arrive a 9223372036854775808",
+            "refused 1 BadLine line 1\n",
+            REFUSED,
+        ),
+        ("halt\n\nhalt\n", "refused 1 BadLine line 2\n", REFUSED),
+    ];
+    for (text, printed, status) in outcomes {
+        let mut out = Vec::new(rt.alloc());
+        let answer = answer_queue(rt.alloc(), &mut text.as_bytes(), &mut out);
+        assert_eq!(rt; answer, status, "of {text}");
+        assert_eq!(rt; out.as_slice(), printed.as_bytes(), "of {text}");
+    }
+    Ok(())
+}
+
+/// Gives one byte a read, until it answers an error.
+#[derive(Drop)]
+struct Failing {
+    reads_left: u32,
+}
+
+impl Read for Failing {
+    fn read(&mut self, buf: &mut [u8]) -> io::Result<usize> {
+        if self.reads_left == 0 || buf.is_empty() {
+            return Err(io::Error::from(ErrorKind::PermissionDenied));
+        }
+        self.reads_left -= 1;
+        buf[0] = b'\n';
+        Ok(1)
+    }
+}
+
+#[test]
+fn a_failed_read_is_refused(rt: HostRuntime) -> Result<(), Fail> {
+    for reads_left in 0..5 {
+        let mut reader = Failing { reads_left };
+        let mut out = Vec::new(rt.alloc());
+        let status = answer_queue(rt.alloc(), &mut reader, &mut out);
+        assert_eq!(rt; status, REFUSED);
+        assert_eq!(rt; out.as_slice(), b"refused 2 Read\n".as_slice());
+    }
+    Ok(())
+}
+
+/// Takes one byte a write, until it answers an error; or takes all, and can't be flushed.
+#[derive(Drop)]
+struct Broken {
+    writes_left: u32,
+    flushes: bool,
+}
+
+impl Write for Broken {
+    fn write(&mut self, buf: &[u8]) -> io::Result<usize> {
+        if self.writes_left == 0 {
+            return Err(io::Error::from(ErrorKind::BrokenPipe));
+        }
+        self.writes_left -= 1;
+        Ok(buf.len().min(1))
+    }
+
+    fn flush(&mut self) -> io::Result<()> {
+        if self.flushes {
+            Ok(())
+        } else {
+            Err(io::Error::from(ErrorKind::BrokenPipe))
+        }
+    }
+}
+
+#[test]
+fn a_failed_write_is_a_fault(rt: HostRuntime) -> Result<(), Fail> {
+    for text in ["halt\n", "halted\n"] {
+        for writes_left in 0..16 {
+            let mut writer = Broken {
+                writes_left,
+                flushes: true,
+            };
+            let status = answer_queue(rt.alloc(), &mut text.as_bytes(), &mut writer);
+            assert_eq!(rt; status, FAULTED, "at write {writes_left} of {text}");
+        }
+        let mut writer = Broken {
+            writes_left: 100,
+            flushes: false,
+        };
+        let status = answer_queue(rt.alloc(), &mut text.as_bytes(), &mut writer);
+        assert_eq!(rt; status, FAULTED);
+    }
+    let mut writer = Broken {
+        writes_left: 16,
+        flushes: true,
+    };
+    let status = answer_queue(rt.alloc(), &mut "halt\n".as_bytes(), &mut writer);
+    assert_eq!(rt; status, ANSWERED);
+    Ok(())
+}
