@@ -1,0 +1,2 @@
+mod Moments
+mod Looks

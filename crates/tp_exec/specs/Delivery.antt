@@ -1,0 +1,74 @@
+-- What a report promises of the messages of a run.
+use Rattle.std.specs.Prelude.{◌≡◌, ◌<◌, ℕ, List, [], ◌∷◌, Option, Some, None, Contains, length, map, slice_get, string_bytes, ◌+◌, ⊤}
+use Rattle.tp_port.specs.History.{Lawful}
+use Rattle.tp_config.specs.declared.port_type.CompId.{CompId}
+use Rattle.tp_config.specs.declared.port_type.RouteId.{RouteId}
+use Rattle.tp_config.specs.Setup.{Setup, names, ports_at}
+use Rattle.tp_config.specs.Routes.{routes_into}
+use Rattle.tp_script.specs.Duties.{Duty}
+use Rattle.tp_script.specs.TestCases.{Made, duty_at}
+use Rattle.tp_inbox.specs.declared.entry.Entry.{Entry}
+use Rattle.tp_inbox.specs.declared.entry.Entry.TheVariants as entry
+use Rattle.tp_inbox.specs.Desks.{at_port}
+use Rattle.tp_inbox.specs.History.{sent_on, arrived_on, count_of}
+use Rattle.tp_exec.specs.declared.ending.End.{End}
+use Rattle.tp_exec.specs.declared.report.Report.{Report}
+use Rattle.tp_exec.specs.declared.report.CompReport.{CompReport}
+use Rattle.tp_exec.specs.Ends.{Follows}
+use Rattle.tp_exec.specs.Fresh.{Fresh}
+use Rattle.tp_exec.specs.Verdicts.{local_verdict, overall_verdict}
+
+-- the numbers from n on, one for each of these
+abbrev pub numbers_from : {X : Type 0} → ℕ → List X → List ℕ
+numbers_from n [] = []
+numbers_from n (x ∷ xs) = n ∷ numbers_from (1 + n) xs
+
+-- a route between two components of the report
+pub record Line (components : List CompReport) (r : RouteId) : Type 0 where
+  pub source : CompReport
+  pub source_is : slice_get components r.source.0 ≡ Some source
+  pub receiver : CompReport
+  pub receiver_is : slice_get components r.to.comp.0 ≡ Some receiver
+
+-- on a route, what the sender's trace says was sent is what came to the receiver, in that order and each once, numbered from 0, and as much as
+-- the sender's ledger held
+pub record IsDelivered (components : List CompReport) (r : RouteId) : Type 0 where
+  pub line : Line components r
+  pub same : sent_on r line.source.desk.log ≡ arrived_on r line.receiver.desk.log
+  pub numbered : map (λ s. s.0) (sent_on r line.source.desk.log) ≡ numbers_from 0 (sent_on r line.source.desk.log)
+  pub counted : count_of r line.receiver.counts.items ≡ length (sent_on r line.source.desk.log)
+
+-- the arrival came on a route of the configuration
+abbrev pub IsOnRoute : Setup → CompId → Entry → Type 0
+IsOnRoute s c (entry.Arrive port e) =
+    (r : RouteId) × Contains (routes_into s c) r × (r.to.port ≡ port) × (r.source.0 ≡ e.sender)
+IsOnRoute s c _ = ⊤
+
+-- what a component with no body does: nothing, and it ends at once
+abbrev pub FollowsDuty : Setup → CompId → Option Duty → List Entry → End → Type 0
+FollowsDuty s c (Some d) k end = Follows (record { config = s; comp = c; references = d.references }) d.body k end
+FollowsDuty s c None k end = Follows (record { config = s; comp = c; references = [] }) (record { variables = []; statements = [] }) k end
+
+-- the report of one component of the test case
+pub record IsCompReport (made : Made) (c : CompId) (x : CompReport) : Type 0 where
+  -- it is that of the component, with its ports
+  pub name : slice_get (names made.config) c.0 ≡ Some (string_bytes x.name)
+  pub comp : x.desk.comp ≡ c
+  pub ports : x.desk.ports ≡ length (ports_at made.config.types made.config.components c)
+  -- every port's history obeys the rules of a port
+  pub lawful : (port : ℕ) → port < x.desk.ports → Lawful (at_port x.desk port)
+  -- every arrival is of a route
+  pub routed : (k : ℕ) (e : Entry) → slice_get x.desk.log k ≡ Some e → IsOnRoute made.config c e
+  -- the trace follows the behaviour to its end
+  pub follows : FollowsDuty made.config c (duty_at made c.0) x.desk.log x.ending
+  -- each operation has seen what the component had sent to itself
+  pub fresh : Fresh c x.desk.log
+  pub verdict : x.verdict ≡ local_verdict x.desk.log
+  pub routes : map (λ n. n.0) x.counts.items ≡ routes_into made.config c
+
+-- **delivery**: the report of a run of this test case
+pub record IsReportOf (made : Made) (report : Report) : Type 0 where
+  pub everyone : length report.components.items ≡ length made.config.components
+  pub each : (c : CompId) (x : CompReport) → slice_get report.components.items c.0 ≡ Some x → IsCompReport made c x
+  pub delivered : (c : CompId) (r : RouteId) → Contains (routes_into made.config c) r → IsDelivered report.components.items r
+  pub result : report.result ≡ overall_verdict (map (λ (x : CompReport). x.ending) report.components.items) (map (λ (x : CompReport). x.verdict) report.components.items)

@@ -1,0 +1,9 @@
+pub mod Moments
+pub mod Choices
+pub mod Looks
+pub mod Held
+pub mod Paths
+pub mod Fresh
+pub mod Ends
+pub mod Verdicts
+pub mod Delivery
