@@ -79,6 +79,7 @@ impl<'m> NameSet<'m> {
     pub fn add(&mut self, name: &'m str) -> Result<(), NameFault>
         ensures ok { OnOk result (self.new ≡ self.old ++ name.now ∷ []) }
         ensures duplicate { IsErrOf result NameFault.Duplicate ↔ Contains self.old name.now }
+        ensures limit { IsErrOf result NameFault.Limit → 4294967295 ≤ length self.old }
         ensures err { OnErr result (self.new ≡ self.old) }
         ensures distinct { AreDistinct self.new }
     {

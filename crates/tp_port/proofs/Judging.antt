@@ -1,5 +1,5 @@
 -- The lines of a text, judged and answered from its front.
-use Rattle.std.proofs.Common.{◌≡◌, ℕ, zero, suc, ◌+◌, ◌-◌, Option, Some, None, List, [], ◌∷◌, ◌++◌, length, take, refl, ap, sym, ◌∙◌, subst, arith, append_assoc, append-nil}
+use Rattle.std.proofs.Common.{◌≡◌, ℕ, zero, suc, ◌+◌, ◌-◌, ◌≤◌, inl, inr, Option, Some, None, List, [], ◌∷◌, ◌++◌, length, take, refl, ap, sym, ◌∙◌, subst, arith, append_assoc, append-nil}
 use Rattle.std.specs.Prelude.{slice_get, All, Result, Ok, Err, IfSome, IfErr}
 use Rattle.std.specs.List.{AllZip}
 use Rattle.std.proofs.lemmas.List.{length-append}
@@ -9,7 +9,10 @@ use Rattle.tp_port.specs.declared.replay.QueueFault.{QueueFault}
 use Rattle.tp_port.specs.declared.replay.QueueFault.TheVariants as fault
 use Rattle.tp_port.specs.Line.{Line, IsGood, IsFirstBad, Spells, Says, lines_of}
 use Rattle.tp_port.specs.Replay.{Stage, answer, sighted, after, text_from, left_text, queue_text}
-use Rattle.tp_port.specs.Faults.{IsFaultOf, IsReadFaultOf}
+use Rattle.tp_port.specs.declared.text.ReadFault.{ReadFault}
+use Rattle.tp_port.specs.declared.text.ReadFault.TheVariants as read
+use Rattle.tp_port.specs.Reading.{Takes}
+use Rattle.tp_port.specs.Faults.{HasFault, IsFaultOf, IsReadFaultOf, fault_of}
 
 get_after : {X : Type 0} (xs ys : List X) (y : X) → slice_get (xs ++ y ∷ ys) (length xs) ≡ Some y
 get_after [] ys y = refl
@@ -61,14 +64,6 @@ pub Goes-end : (text rest : List ℕ) (s : Stage) (out : List ℕ) → length re
 Goes-end text rest s out none goes =
     let P : List ℕ → Type 0 = λ r. Says r [] in goes.on [] (subst P (sym (empty_is rest none)) tt)
 
--- a fault of a text in memory, and of the same text where it was read
-read_fault : (e : QueueFault) (text : List ℕ) → IsFaultOf text e → IsReadFaultOf text e
-read_fault (fault.BadLine n) text h = h
-read_fault fault.Read text h = tt
-read_fault fault.Write text h = h
-read_fault fault.Limit text h = h
-read_fault fault.Memory text h = tt
-
 -- a text whose lines say something has good lines alone
 pub says_good : (texts : List (List ℕ)) (lines : List Line) → AllZip Spells texts lines → All IsGood texts
 says_good [] lines says k d h = absurd (omega arith)
@@ -76,7 +71,28 @@ says_good (text ∷ texts) [] says k d h = absurd says
 says_good (text ∷ texts) (line ∷ lines) says zero d h = (line, says.0)
 says_good (text ∷ texts) (line ∷ lines) says (suc k) d h = says_good texts lines says.1 k d (omega arith)
 
-pub read_faults : (r : Result (Unit {0}) QueueFault) (known : Option (List ℕ)) (text : List ℕ) → IfSome known (λ all. text ≡ all) → IfErr r (IsFaultOf text) → IfErr r (λ e. IfSome known (λ t. IsReadFaultOf t e))
-read_faults (Ok x) known text e h = tt
-read_faults (Err x) None text e h = tt
-read_faults (Err x) (Some all) text e h = let P : List ℕ → Type 0 = λ t. IsReadFaultOf t x in subst P e (read_fault x text h)
+-- a fault of reading
+pub reading_fault : (fault : ReadFault) (old new : Option (List ℕ)) → Takes old new (Some fault) → HasFault old new (fault_of fault)
+reading_fault read.Read None new taken = (taken.0, taken.1, tt)
+reading_fault read.Read (Some text) new taken = taken
+reading_fault read.Limit None new taken = (taken.0, taken.1, tt)
+reading_fault read.Limit (Some text) None taken = absurd taken.1
+reading_fault read.Limit (Some text) (Some rest) taken =
+    (taken.0, taken.1, (omega (arith, ap length taken.1, length-append taken.0 rest, taken.2), taken.2))
+reading_fault read.Memory None new taken = (taken.0, taken.1, tt)
+reading_fault read.Memory (Some text) new taken = (taken.0, taken.1, (taken.2.0, inl taken.2.1))
+
+-- a fault of a text in memory, and of the same text where it was read
+read_fault : (e : QueueFault) (text : List ℕ) (taken : ℕ) → length text ≤ 1048576 → taken ≤ 1048576 → IsFaultOf text e → IsReadFaultOf text taken e
+read_fault (fault.BadLine n) text taken short few h = (short, h)
+read_fault fault.Read text taken short few h = few
+read_fault fault.Write text taken short few h = (short, h)
+read_fault fault.Limit text taken short few h = absurd (omega arith)
+read_fault fault.Memory text taken short few h = (few, inr h)
+
+pub read_faults : (r : Result (Unit {0}) QueueFault) (old new : Option (List ℕ)) (text : List ℕ) → IfSome old (λ all. text ≡ all) → length text ≤ 1048576
+    → Takes old new None → IfErr r (IsFaultOf text) → IfErr r (HasFault old new)
+read_faults (Ok x) old new text e short taken h = tt
+read_faults (Err x) None new text e short taken h = (taken.0, taken.1, tt)
+read_faults (Err x) (Some all) new text e short taken h =
+    let P : List ℕ → Type 0 = λ s. IsReadFaultOf s (length taken.0) x in (taken.0, taken.1, subst P e (read_fault x text (length taken.0) short taken.2 h))

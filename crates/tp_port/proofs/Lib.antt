@@ -10,3 +10,4 @@ pub mod Meeting
 pub mod Carrying
 pub mod Judging
 pub mod Unique
+pub mod Taking

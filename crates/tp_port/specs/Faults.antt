@@ -1,12 +1,12 @@
 -- When a queue file is answered, and when each fault comes.
-use Rattle.std.specs.Prelude.{ℕ, ◌<◌, Option, List, length, All, ⊤}
-use Rattle.std.specs.Io.KnownBytes.{Appends}
-use Rattle.tp_port.specs.declared.text.TheConstants.{TEXT_LIMIT}
+use Rattle.std.specs.Prelude.{◌≡◌, ℕ, ◌<◌, ◌≤◌, ◌⊎◌, Option, List, length, All, IfSome}
+use Rattle.std.specs.Io.KnownBytes.{Appends, Consumes}
 use Rattle.tp_port.specs.declared.text.ReadFault.{ReadFault}
 use Rattle.tp_port.specs.declared.text.ReadFault.TheVariants as read
 use Rattle.tp_port.specs.declared.replay.QueueFault.{QueueFault}
 use Rattle.tp_port.specs.declared.replay.QueueFault.TheVariants as fault
 use Rattle.tp_port.specs.Line.{Line, Says, IsGood, IsFirstBad, lines_of}
+use Rattle.tp_port.specs.Reading.{IsFull}
 use Rattle.tp_port.specs.Replay.{queue_text}
 
 abbrev pub fault_of : ReadFault → QueueFault
@@ -29,13 +29,18 @@ abbrev pub IsFaultOf : List ℕ → QueueFault → Type 0
 IsFaultOf text (fault.BadLine n) = IsFirstBad (lines_of text) n
 IsFaultOf text fault.Read = ⊥
 IsFaultOf text fault.Write = All IsGood (lines_of text)
-IsFaultOf text fault.Limit = TEXT_LIMIT < length text
+IsFaultOf text fault.Limit = 1048576 < length text
 IsFaultOf text fault.Memory = All IsGood (lines_of text)
 
--- of a text that is read first: the reader may fail, and memory may be wanting, whatever the text
-abbrev pub IsReadFaultOf : List ℕ → QueueFault → Type 0
-IsReadFaultOf text (fault.BadLine n) = IsFirstBad (lines_of text) n
-IsReadFaultOf text fault.Read = ⊤
-IsReadFaultOf text fault.Write = All IsGood (lines_of text)
-IsReadFaultOf text fault.Limit = TEXT_LIMIT < length text
-IsReadFaultOf text fault.Memory = ⊤
+-- of a text that is read first, where reading took so many bytes of it: the reader may fail anywhere within the limit, and memory may be wanting where the room for the text is full, whatever the text
+abbrev pub IsReadFaultOf : List ℕ → ℕ → QueueFault → Type 0
+IsReadFaultOf text taken (fault.BadLine n) = (length text ≤ 1048576) × IsFirstBad (lines_of text) n
+IsReadFaultOf text taken fault.Read = taken ≤ 1048576
+IsReadFaultOf text taken fault.Write = (length text ≤ 1048576) × All IsGood (lines_of text)
+IsReadFaultOf text taken fault.Limit = (1048576 < length text) × (taken ≡ 1048577)
+IsReadFaultOf text taken fault.Memory = (taken ≤ 1048576) × (IsFull taken ⊎ All IsGood (lines_of text))
+
+-- the same of what the reader has, where that is known
+abbrev pub HasFault : Option (List ℕ) → Option (List ℕ) → QueueFault → Type 0
+HasFault old new fault =
+    (bytes : List ℕ) × Consumes old new bytes × IfSome old (λ text. IsReadFaultOf text (length bytes) fault)

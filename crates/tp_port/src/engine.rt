@@ -15,8 +15,8 @@ use crate::pattern::Pattern;
 use crate::payload::Memory;
 use crate::queue::PortQueue;
 use crate::senders::Senders;
-use crate::text::TEXT_LIMIT;
 use std::alloc::Global;
+use tp_refusal::limit::TEXT_LIMIT;
 
 /// A queue file that is carried out, line by line.
 #[derive(Drop)]

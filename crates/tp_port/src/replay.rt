@@ -1,16 +1,17 @@
 //! A queue file, read, carried out and answered.
-ghost use Rattle.std.specs.Prelude.{◌≡◌, ◌≤◌, length, All, IfErr, IfOk, IfSome, List, MatchOption, OnOk, string_bytes};
-ghost use Rattle.tp_port.specs.Faults.{Answers, IsFaultOf, IsReadFaultOf, IsRefusedFor};
+ghost use Rattle.std.specs.Prelude.{◌≡◌, ◌<◌, ◌≤◌, ◌↔◌, length, All, IsErrOf, IfErr, IfOk, IfSome, List, MatchOption, OnOk, string_bytes};
+ghost use Rattle.tp_port.specs.Faults.{Answers, HasFault, IsFaultOf, IsRefusedFor};
 ghost use Rattle.tp_port.specs.Line.{IsFirstBad, IsGood, Line, Says, lines_of};
 ghost use Rattle.tp_port.specs.Replay.{queue_text};
 
 use crate::command::command_of;
 use crate::cut::first_line;
 use crate::engine::Engine;
-use crate::text::{ReadFault, TEXT_LIMIT, read_text};
+use crate::text::{ReadFault, read_text};
 use std::alloc::Global;
 use std::io::{Read, Write};
 use thiserror::Error;
+use tp_refusal::limit::TEXT_LIMIT;
 
 /// Why a queue file was not replayed.
 #[derive(Clone, Copy, Debug, PartialEq, Eq, Hash, Error)]
@@ -76,7 +77,7 @@ fn refusal_of(text: &[u8]) -> QueueFault
 
 /// The answers to the lines of a text.
 fn answers_to(alloc: Global, text: &[u8]) -> Result<String, QueueFault>
-    requires { length text.now ≤ TEXT_LIMIT }
+    requires { length text.now ≤ 1048576 }
     ensures ok { IfOk result (λ out. (lines : List Line) × Says text.now lines × (string_bytes out ≡ queue_text lines)) }
     ensures err { IfErr result (IsRefusedFor text.now) }
 {
@@ -108,6 +109,7 @@ fn answers_to(alloc: Global, text: &[u8]) -> Result<String, QueueFault>
 pub fn replay_text<W: Write>(alloc: Global, text: &[u8], writer: &mut W) -> Result<(), QueueFault>
     ensures written { OnOk result (Answers text.now (W.contents writer.old) (W.contents writer.new)) }
     ensures fault { IfErr result (IsFaultOf text.now) }
+    ensures limit { IsErrOf result QueueFault.Limit ↔ (1048576 < length text.now) }
     ensures unwritten { IfErr result (λ fault. (fault ≡ QueueFault.Write → ⊥) → writer.new ≡ writer.old) }
 {
     if text.len() > TEXT_LIMIT {
@@ -133,7 +135,8 @@ pub fn replay<R: Read, W: Write>(
     writer: &mut W,
 ) -> Result<(), QueueFault>
     ensures written { OnOk result (IfSome (R.remaining reader.old) (λ text. Answers text (W.contents writer.old) (W.contents writer.new))) }
-    ensures fault { IfErr result (λ fault. IfSome (R.remaining reader.old) (λ text. IsReadFaultOf text fault)) }
+    ensures short { OnOk result (IfSome (R.remaining reader.old) (λ text. length text ≤ 1048576)) }
+    ensures fault { IfErr result (HasFault (R.remaining reader.old) (R.remaining reader.new)) }
     ensures unwritten { IfErr result (λ fault. (fault ≡ QueueFault.Write → ⊥) → writer.new ≡ writer.old) }
 {
     match read_text(alloc, reader) {

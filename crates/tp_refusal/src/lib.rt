@@ -1,5 +1,6 @@
-//! What `tpr` refuses: each number and name, written once, and want of memory.
+//! What `tpr` refuses: each number and name, written once, want of memory, and how long a text may be.
 #![tactic(auto)]
 
+pub mod limit;
 pub mod memory;
 pub mod refusal;

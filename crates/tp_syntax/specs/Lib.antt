@@ -1,5 +1,6 @@
 pub mod Ahead
 pub mod Definitions
+pub mod Refusals
 pub mod Sequences
 pub mod Statements
 pub mod Templates

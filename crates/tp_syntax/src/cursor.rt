@@ -1,9 +1,10 @@
 //! What is left to read, and its first tokens.
-ghost use Rattle.std.specs.Prelude.{◌≡◌, ◌+◌, ◌≤◌, ◌∷◌, ◌++◌, length, IfOk, OnOk, string_bytes};
+ghost use Rattle.std.specs.Prelude.{◌≡◌, ◌+◌, ◌≤◌, ◌∷◌, ◌++◌, length, IfErr, IfOk, OnOk, string_bytes};
 ghost use Rattle.std.specs.Bool.{OnTrue, OnFalse};
 ghost use Rattle.tp_token.specs.Lexeme.{name, word, lexeme_of};
 ghost use Rattle.tp_syntax.specs.Ahead.{ahead, symbol_before, before};
 ghost use Rattle.tp_syntax.specs.Sequences.{end_lexemes};
+ghost use Rattle.tp_syntax.specs.Refusals.{IsOfGrammar};
 
 use std::alloc::Global;
 use tp_token::fault::ScriptFault;
@@ -19,7 +20,8 @@ pub(crate) struct Parser<'a, 't> {
 
 /// How many brackets may still be opened behind one more. 15 `Limit` at the line: none.
 pub(crate) fn below(left: u32, line: u32) -> Result<u32, ScriptFault>
-    ensures { IfOk result (λ inner. inner + 1 ≡ left) }
+    ensures value { IfOk result (λ inner. inner + 1 ≡ left) }
+    ensures fault { IfErr result IsOfGrammar }
 {
     if left == 0 {
         return Err(ScriptFault::limit(line));
@@ -32,6 +34,7 @@ impl<'a, 't> Parser<'a, 't> {
     pub fn take(&mut self) -> Result<&'a Placed<'t>, ScriptFault>
         ensures tokens { IfOk result (λ p. ahead self.old.rest.now ≡ before (lexeme_of p.now.token) (ahead self.new.rest.now)) }
         ensures shorter { OnOk result (length self.new.rest.now + 1 ≡ length self.old.rest.now) }
+        ensures fault { IfErr result IsOfGrammar }
     {
         let tokens = self.rest;
         if tokens.is_empty() {
@@ -45,6 +48,7 @@ impl<'a, 't> Parser<'a, 't> {
     pub fn symbol(&mut self, want: Symbol) -> Result<(), ScriptFault>
         ensures tokens { OnOk result (ahead self.old.rest.now ≡ symbol_before want (ahead self.new.rest.now)) }
         ensures shorter { OnOk result (length self.new.rest.now + 1 ≡ length self.old.rest.now) }
+        ensures fault { IfErr result IsOfGrammar }
     {
         let placed = self.take()?;
         match placed.token {
@@ -59,6 +63,7 @@ impl<'a, 't> Parser<'a, 't> {
         ensures tokens { OnOk result (ahead self.old.rest.now ≡ symbol_before want (ahead self.new.rest.now)) }
         ensures shorter { OnOk result (length self.new.rest.now + 1 ≡ length self.old.rest.now) }
         ensures inner { IfOk result (λ inner. inner + 1 ≡ left) }
+        ensures fault { IfErr result IsOfGrammar }
     {
         let line = self.line();
         self.symbol(want)?;
@@ -69,6 +74,7 @@ impl<'a, 't> Parser<'a, 't> {
     pub fn word(&mut self, want: Word) -> Result<(), ScriptFault>
         ensures tokens { OnOk result (ahead self.old.rest.now ≡ word want ∷ ahead self.new.rest.now) }
         ensures shorter { OnOk result (length self.new.rest.now + 1 ≡ length self.old.rest.now) }
+        ensures fault { IfErr result IsOfGrammar }
     {
         let placed = self.take()?;
         match placed.token {
@@ -81,6 +87,7 @@ impl<'a, 't> Parser<'a, 't> {
     pub fn name(&mut self, alloc: Global) -> Result<String, ScriptFault>
         ensures tokens { IfOk result (λ n. ahead self.old.rest.now ≡ name (string_bytes n) ∷ ahead self.new.rest.now) }
         ensures shorter { OnOk result (length self.new.rest.now + 1 ≡ length self.old.rest.now) }
+        ensures fault { IfErr result IsOfGrammar }
     {
         let placed = self.take()?;
         match placed.token {
@@ -93,6 +100,7 @@ impl<'a, 't> Parser<'a, 't> {
     pub fn same_name(&mut self, want: &String) -> Result<(), ScriptFault>
         ensures tokens { OnOk result (ahead self.old.rest.now ≡ name (string_bytes want.now) ∷ ahead self.new.rest.now) }
         ensures shorter { OnOk result (length self.new.rest.now + 1 ≡ length self.old.rest.now) }
+        ensures fault { IfErr result IsOfGrammar }
     {
         let placed = self.take()?;
         match placed.token {
@@ -208,6 +216,7 @@ impl<'a, 't> Parser<'a, 't> {
     pub fn end(&mut self, is_closed: bool) -> Result<bool, ScriptFault>
         ensures tokens { IfOk result (λ e. ahead self.old.rest.now ≡ end_lexemes e ++ ahead self.new.rest.now) }
         ensures shorter { OnOk result (length self.new.rest.now ≤ length self.old.rest.now) }
+        ensures fault { IfErr result IsOfGrammar }
     {
         if self.has_symbol(Symbol::Semicolon) {
             return Ok(true);

@@ -1,7 +1,8 @@
 //! Definitions and the module.
-ghost use Rattle.std.specs.Prelude.{◌≡◌, ◌+◌, ◌<◌, ◌≤◌, ◌∷◌, ◌++◌, length, IfOk, OnOk, string_bytes};
+ghost use Rattle.std.specs.Prelude.{◌≡◌, ◌+◌, ◌<◌, ◌≤◌, ◌∷◌, ◌++◌, length, IfErr, IfOk, OnOk, string_bytes};
 ghost use Rattle.tp_syntax.specs.Ahead.{ahead};
 ghost use Rattle.tp_syntax.specs.Definitions.{field_type_lexemes, field_types_lexemes, record_type_lexemes, list_type_lexemes, way_lexeme, types_lexemes, direction_lexemes, directions_lexemes, port_type_lexemes, declared_name_lexemes, declared_names_lexemes, port_declaration_lexemes, port_declarations_lexemes, component_type_lexemes, parameter_lexemes, parameters_lexemes, function_lexemes, end_component_lexeme, end_point_lexemes, ends_lexemes, setup_action_lexemes, setup_lexemes, setups_lexemes, arguments_lexemes, start_lexemes, starts_lexemes, all_done_lexemes, system_lexemes, test_case_lexemes, defined_lexemes, definition_lexemes, definitions_lexemes, module_lexemes};
+ghost use Rattle.tp_syntax.specs.Refusals.{IsOfGrammar};
 
 use crate::cursor::Parser;
 use crate::tree::{
@@ -19,6 +20,7 @@ impl<'a, 't> Parser<'a, 't> {
     fn declared_name(&mut self, alloc: Global) -> Result<DeclaredName, ScriptFault>
         ensures tokens { IfOk result (λ x. ahead self.old.rest.now ≡ declared_name_lexemes x ++ ahead self.new.rest.now) }
         ensures shorter { OnOk result (length self.new.rest.now < length self.old.rest.now) }
+        ensures fault { IfErr result IsOfGrammar }
     {
         let line = self.line();
         let name = self.name(alloc)?;
@@ -30,6 +32,7 @@ impl<'a, 't> Parser<'a, 't> {
     fn field_type(&mut self, alloc: Global) -> Result<FieldType, ScriptFault>
         ensures tokens { IfOk result (λ x. ahead self.old.rest.now ≡ field_type_lexemes x ++ ahead self.new.rest.now) }
         ensures shorter { OnOk result (length self.new.rest.now < length self.old.rest.now) }
+        ensures fault { IfErr result IsOfGrammar }
     {
         let type_name = self.type_name(alloc)?;
         let name = self.declared_name(alloc)?;
@@ -40,6 +43,7 @@ impl<'a, 't> Parser<'a, 't> {
     fn fields(&mut self, alloc: Global) -> Result<Vec<FieldType>, ScriptFault>
         ensures tokens { IfOk result (λ x. ahead self.old.rest.now ≡ field_types_lexemes x.items ++ ahead self.new.rest.now) }
         ensures shorter { OnOk result (length self.new.rest.now ≤ length self.old.rest.now) }
+        ensures fault { IfErr result IsOfGrammar }
     {
         let mut fields = Vec::new(alloc);
         if self.is_symbol_at(0, Symbol::RightBrace) {
@@ -59,6 +63,7 @@ impl<'a, 't> Parser<'a, 't> {
     fn record_type(&mut self, alloc: Global) -> Result<RecordType, ScriptFault>
         ensures tokens { IfOk result (λ x. ahead self.old.rest.now ≡ record_type_lexemes x ++ ahead self.new.rest.now) }
         ensures shorter { OnOk result (length self.new.rest.now < length self.old.rest.now) }
+        ensures fault { IfErr result IsOfGrammar }
     {
         self.word(Word::Type)?;
         self.word(Word::Record)?;
@@ -74,6 +79,7 @@ impl<'a, 't> Parser<'a, 't> {
     fn list_type(&mut self, alloc: Global) -> Result<ListType, ScriptFault>
         ensures tokens { IfOk result (λ x. ahead self.old.rest.now ≡ list_type_lexemes x ++ ahead self.new.rest.now) }
         ensures shorter { OnOk result (length self.new.rest.now < length self.old.rest.now) }
+        ensures fault { IfErr result IsOfGrammar }
     {
         self.word(Word::Type)?;
         self.word(Word::Record)?;
@@ -87,6 +93,7 @@ impl<'a, 't> Parser<'a, 't> {
     fn way(&mut self) -> Result<Way, ScriptFault>
         ensures tokens { IfOk result (λ x. ahead self.old.rest.now ≡ way_lexeme x ∷ ahead self.new.rest.now) }
         ensures shorter { OnOk result (length self.new.rest.now < length self.old.rest.now) }
+        ensures fault { IfErr result IsOfGrammar }
     {
         let placed = self.take()?;
         match &placed.token {
@@ -101,6 +108,7 @@ impl<'a, 't> Parser<'a, 't> {
     fn types(&mut self, alloc: Global) -> Result<Vec<TypeName>, ScriptFault>
         ensures tokens { IfOk result (λ x. ahead self.old.rest.now ≡ types_lexemes x.items ++ ahead self.new.rest.now) }
         ensures shorter { OnOk result (length self.new.rest.now < length self.old.rest.now) }
+        ensures fault { IfErr result IsOfGrammar }
     {
         let mut types = Vec::new(alloc);
         let first = self.type_name(alloc)?;
@@ -117,6 +125,7 @@ impl<'a, 't> Parser<'a, 't> {
     fn direction(&mut self, alloc: Global) -> Result<Direction, ScriptFault>
         ensures tokens { IfOk result (λ x. ahead self.old.rest.now ≡ direction_lexemes x ++ ahead self.new.rest.now) }
         ensures shorter { OnOk result (length self.new.rest.now < length self.old.rest.now) }
+        ensures fault { IfErr result IsOfGrammar }
     {
         let way = self.way()?;
         let types = self.types(alloc)?;
@@ -132,6 +141,7 @@ impl<'a, 't> Parser<'a, 't> {
     fn directions(&mut self, alloc: Global) -> Result<Vec<Direction>, ScriptFault>
         ensures tokens { IfOk result (λ x. ahead self.old.rest.now ≡ directions_lexemes x.items ++ ahead self.new.rest.now) }
         ensures shorter { OnOk result (length self.new.rest.now ≤ length self.old.rest.now) }
+        ensures fault { IfErr result IsOfGrammar }
     {
         let mut directions = Vec::new(alloc);
         'more: while !self.is_symbol_at(0, Symbol::RightBrace) {
@@ -146,6 +156,7 @@ impl<'a, 't> Parser<'a, 't> {
     fn port_type(&mut self, alloc: Global) -> Result<PortType, ScriptFault>
         ensures tokens { IfOk result (λ x. ahead self.old.rest.now ≡ port_type_lexemes x ++ ahead self.new.rest.now) }
         ensures shorter { OnOk result (length self.new.rest.now < length self.old.rest.now) }
+        ensures fault { IfErr result IsOfGrammar }
     {
         self.word(Word::Type)?;
         self.word(Word::Port)?;
@@ -164,6 +175,7 @@ impl<'a, 't> Parser<'a, 't> {
     fn names(&mut self, alloc: Global) -> Result<Vec<DeclaredName>, ScriptFault>
         ensures tokens { IfOk result (λ x. ahead self.old.rest.now ≡ declared_names_lexemes x.items ++ ahead self.new.rest.now) }
         ensures shorter { OnOk result (length self.new.rest.now < length self.old.rest.now) }
+        ensures fault { IfErr result IsOfGrammar }
     {
         let mut names = Vec::new(alloc);
         let first = self.declared_name(alloc)?;
@@ -180,6 +192,7 @@ impl<'a, 't> Parser<'a, 't> {
     fn port_declaration(&mut self, alloc: Global) -> Result<PortDeclaration, ScriptFault>
         ensures tokens { IfOk result (λ x. ahead self.old.rest.now ≡ port_declaration_lexemes x ++ ahead self.new.rest.now) }
         ensures shorter { OnOk result (length self.new.rest.now < length self.old.rest.now) }
+        ensures fault { IfErr result IsOfGrammar }
     {
         self.word(Word::Port)?;
         let type_name = self.name(alloc)?;
@@ -196,6 +209,7 @@ impl<'a, 't> Parser<'a, 't> {
     fn ports(&mut self, alloc: Global) -> Result<Vec<PortDeclaration>, ScriptFault>
         ensures tokens { IfOk result (λ x. ahead self.old.rest.now ≡ port_declarations_lexemes x.items ++ ahead self.new.rest.now) }
         ensures shorter { OnOk result (length self.new.rest.now ≤ length self.old.rest.now) }
+        ensures fault { IfErr result IsOfGrammar }
     {
         let mut ports = Vec::new(alloc);
         'more: while !self.is_symbol_at(0, Symbol::RightBrace) {
@@ -210,6 +224,7 @@ impl<'a, 't> Parser<'a, 't> {
     fn component_type(&mut self, alloc: Global) -> Result<ComponentType, ScriptFault>
         ensures tokens { IfOk result (λ x. ahead self.old.rest.now ≡ component_type_lexemes x ++ ahead self.new.rest.now) }
         ensures shorter { OnOk result (length self.new.rest.now < length self.old.rest.now) }
+        ensures fault { IfErr result IsOfGrammar }
     {
         self.word(Word::Type)?;
         self.word(Word::Component)?;
@@ -225,6 +240,7 @@ impl<'a, 't> Parser<'a, 't> {
     fn parameter(&mut self, alloc: Global) -> Result<Parameter, ScriptFault>
         ensures tokens { IfOk result (λ x. ahead self.old.rest.now ≡ parameter_lexemes x ++ ahead self.new.rest.now) }
         ensures shorter { OnOk result (length self.new.rest.now < length self.old.rest.now) }
+        ensures fault { IfErr result IsOfGrammar }
     {
         let type_name = self.name(alloc)?;
         let name = self.declared_name(alloc)?;
@@ -235,6 +251,7 @@ impl<'a, 't> Parser<'a, 't> {
     fn parameters(&mut self, alloc: Global) -> Result<Vec<Parameter>, ScriptFault>
         ensures tokens { IfOk result (λ x. ahead self.old.rest.now ≡ parameters_lexemes x.items ++ ahead self.new.rest.now) }
         ensures shorter { OnOk result (length self.new.rest.now ≤ length self.old.rest.now) }
+        ensures fault { IfErr result IsOfGrammar }
     {
         let mut parameters = Vec::new(alloc);
         if self.is_symbol_at(0, Symbol::RightParen) {
@@ -254,6 +271,7 @@ impl<'a, 't> Parser<'a, 't> {
     fn function(&mut self, alloc: Global, left: u32) -> Result<Function, ScriptFault>
         ensures tokens { IfOk result (λ x. ahead self.old.rest.now ≡ function_lexemes x ++ ahead self.new.rest.now) }
         ensures shorter { OnOk result (length self.new.rest.now < length self.old.rest.now) }
+        ensures fault { IfErr result IsOfGrammar }
     {
         self.word(Word::Function)?;
         let name = self.name(alloc)?;
@@ -280,6 +298,7 @@ impl<'a, 't> Parser<'a, 't> {
     fn end_component(&mut self, alloc: Global) -> Result<EndComponent, ScriptFault>
         ensures tokens { IfOk result (λ x. ahead self.old.rest.now ≡ end_component_lexeme x ∷ ahead self.new.rest.now) }
         ensures shorter { OnOk result (length self.new.rest.now < length self.old.rest.now) }
+        ensures fault { IfErr result IsOfGrammar }
     {
         let placed = self.take()?;
         match &placed.token {
@@ -299,6 +318,7 @@ impl<'a, 't> Parser<'a, 't> {
     fn end_point(&mut self, alloc: Global) -> Result<End, ScriptFault>
         ensures tokens { IfOk result (λ x. ahead self.old.rest.now ≡ end_point_lexemes x ++ ahead self.new.rest.now) }
         ensures shorter { OnOk result (length self.new.rest.now < length self.old.rest.now) }
+        ensures fault { IfErr result IsOfGrammar }
     {
         let component = self.end_component(alloc)?;
         self.symbol(Symbol::Colon)?;
@@ -311,6 +331,7 @@ impl<'a, 't> Parser<'a, 't> {
     fn ends(&mut self, alloc: Global) -> Result<(End, End), ScriptFault>
         ensures tokens { IfOk result (λ x. ahead self.old.rest.now ≡ ends_lexemes x.0 x.1 ++ ahead self.new.rest.now) }
         ensures shorter { OnOk result (length self.new.rest.now < length self.old.rest.now) }
+        ensures fault { IfErr result IsOfGrammar }
     {
         self.symbol(Symbol::LeftParen)?;
         let first = self.end_point(alloc)?;
@@ -325,6 +346,7 @@ impl<'a, 't> Parser<'a, 't> {
     fn creation(&mut self, alloc: Global) -> Result<SetupAction, ScriptFault>
         ensures tokens { IfOk result (λ x. ahead self.old.rest.now ≡ setup_action_lexemes x ++ ahead self.new.rest.now) }
         ensures shorter { OnOk result (length self.new.rest.now < length self.old.rest.now) }
+        ensures fault { IfErr result IsOfGrammar }
     {
         self.word(Word::Var)?;
         let type_name = self.name(alloc)?;
@@ -345,6 +367,7 @@ impl<'a, 't> Parser<'a, 't> {
     fn setup_action(&mut self, alloc: Global) -> Result<SetupAction, ScriptFault>
         ensures tokens { IfOk result (λ x. ahead self.old.rest.now ≡ setup_action_lexemes x ++ ahead self.new.rest.now) }
         ensures shorter { OnOk result (length self.new.rest.now < length self.old.rest.now) }
+        ensures fault { IfErr result IsOfGrammar }
     {
         if self.has_word(Word::Connect) {
             let (first, second) = self.ends(alloc)?;
@@ -362,6 +385,7 @@ impl<'a, 't> Parser<'a, 't> {
     fn setup(&mut self, alloc: Global) -> Result<Setup, ScriptFault>
         ensures tokens { IfOk result (λ x. ahead self.old.rest.now ≡ setup_lexemes x ++ ahead self.new.rest.now) }
         ensures shorter { OnOk result (length self.new.rest.now < length self.old.rest.now) }
+        ensures fault { IfErr result IsOfGrammar }
     {
         let line = self.line();
         let action = self.setup_action(alloc)?;
@@ -389,6 +413,7 @@ impl<'a, 't> Parser<'a, 't> {
     fn setups(&mut self, alloc: Global) -> Result<Vec<Setup>, ScriptFault>
         ensures tokens { IfOk result (λ x. ahead self.old.rest.now ≡ setups_lexemes x.items ++ ahead self.new.rest.now) }
         ensures shorter { OnOk result (length self.new.rest.now ≤ length self.old.rest.now) }
+        ensures fault { IfErr result IsOfGrammar }
     {
         let mut setups = Vec::new(alloc);
         'more: while self.is_setup() {
@@ -402,6 +427,7 @@ impl<'a, 't> Parser<'a, 't> {
     fn arguments(&mut self, alloc: Global) -> Result<Vec<ComponentName>, ScriptFault>
         ensures tokens { IfOk result (λ x. ahead self.old.rest.now ≡ arguments_lexemes x.items ++ ahead self.new.rest.now) }
         ensures shorter { OnOk result (length self.new.rest.now ≤ length self.old.rest.now) }
+        ensures fault { IfErr result IsOfGrammar }
     {
         let mut arguments = Vec::new(alloc);
         if self.is_symbol_at(0, Symbol::RightParen) {
@@ -421,6 +447,7 @@ impl<'a, 't> Parser<'a, 't> {
     fn start(&mut self, alloc: Global) -> Result<ComponentStart, ScriptFault>
         ensures tokens { IfOk result (λ x. ahead self.old.rest.now ≡ start_lexemes x ++ ahead self.new.rest.now) }
         ensures shorter { OnOk result (length self.new.rest.now < length self.old.rest.now) }
+        ensures fault { IfErr result IsOfGrammar }
     {
         let line = self.line();
         let component = self.name(alloc)?;
@@ -454,6 +481,7 @@ impl<'a, 't> Parser<'a, 't> {
     fn starts(&mut self, alloc: Global) -> Result<Vec<ComponentStart>, ScriptFault>
         ensures tokens { IfOk result (λ x. ahead self.old.rest.now ≡ starts_lexemes x.items ++ ahead self.new.rest.now) }
         ensures shorter { OnOk result (length self.new.rest.now ≤ length self.old.rest.now) }
+        ensures fault { IfErr result IsOfGrammar }
     {
         let mut starts = Vec::new(alloc);
         'more: while self.is_start() {
@@ -467,6 +495,7 @@ impl<'a, 't> Parser<'a, 't> {
     fn all_done(&mut self) -> Result<Option<AllDone>, ScriptFault>
         ensures tokens { IfOk result (λ x. ahead self.old.rest.now ≡ all_done_lexemes x ++ ahead self.new.rest.now) }
         ensures shorter { OnOk result (length self.new.rest.now ≤ length self.old.rest.now) }
+        ensures fault { IfErr result IsOfGrammar }
     {
         if !self.has_word(Word::All) {
             return Ok(None);
@@ -482,6 +511,7 @@ impl<'a, 't> Parser<'a, 't> {
     fn system(&mut self, alloc: Global) -> Result<Option<String>, ScriptFault>
         ensures tokens { IfOk result (λ x. ahead self.old.rest.now ≡ system_lexemes x ++ ahead self.new.rest.now) }
         ensures shorter { OnOk result (length self.new.rest.now ≤ length self.old.rest.now) }
+        ensures fault { IfErr result IsOfGrammar }
     {
         if !self.has_word(Word::System) {
             return Ok(None);
@@ -495,6 +525,7 @@ impl<'a, 't> Parser<'a, 't> {
     fn test_case(&mut self, alloc: Global, left: u32) -> Result<TestCase, ScriptFault>
         ensures tokens { IfOk result (λ x. ahead self.old.rest.now ≡ test_case_lexemes x ++ ahead self.new.rest.now) }
         ensures shorter { OnOk result (length self.new.rest.now < length self.old.rest.now) }
+        ensures fault { IfErr result IsOfGrammar }
     {
         self.word(Word::Testcase)?;
         let name = self.name(alloc)?;
@@ -528,6 +559,7 @@ impl<'a, 't> Parser<'a, 't> {
     fn defined(&mut self, alloc: Global, left: u32) -> Result<Defined, ScriptFault>
         ensures tokens { IfOk result (λ x. ahead self.old.rest.now ≡ defined_lexemes x ++ ahead self.new.rest.now) }
         ensures shorter { OnOk result (length self.new.rest.now < length self.old.rest.now) }
+        ensures fault { IfErr result IsOfGrammar }
     {
         match self.word_at(0) {
             Some(Word::Function) => {
@@ -547,6 +579,7 @@ impl<'a, 't> Parser<'a, 't> {
     fn defined_type(&mut self, alloc: Global) -> Result<Defined, ScriptFault>
         ensures tokens { IfOk result (λ x. ahead self.old.rest.now ≡ defined_lexemes x ++ ahead self.new.rest.now) }
         ensures shorter { OnOk result (length self.new.rest.now < length self.old.rest.now) }
+        ensures fault { IfErr result IsOfGrammar }
     {
         match self.word_at(1) {
             Some(Word::Port) => {
@@ -578,6 +611,7 @@ impl<'a, 't> Parser<'a, 't> {
     fn definition(&mut self, alloc: Global, left: u32) -> Result<Definition, ScriptFault>
         ensures tokens { IfOk result (λ x. ahead self.old.rest.now ≡ definition_lexemes x ++ ahead self.new.rest.now) }
         ensures shorter { OnOk result (length self.new.rest.now < length self.old.rest.now) }
+        ensures fault { IfErr result IsOfGrammar }
     {
         let line = self.line();
         let is_closed = !self.is_list_type();
@@ -594,6 +628,7 @@ impl<'a, 't> Parser<'a, 't> {
     fn definitions(&mut self, alloc: Global, left: u32) -> Result<Vec<Definition>, ScriptFault>
         ensures tokens { IfOk result (λ x. ahead self.old.rest.now ≡ definitions_lexemes x.items ++ ahead self.new.rest.now) }
         ensures shorter { OnOk result (length self.new.rest.now ≤ length self.old.rest.now) }
+        ensures fault { IfErr result IsOfGrammar }
     {
         let mut definitions = Vec::new(alloc);
         'more: while !self.is_symbol_at(0, Symbol::RightBrace) {
@@ -608,6 +643,7 @@ impl<'a, 't> Parser<'a, 't> {
     pub fn module(&mut self, alloc: Global, left: u32) -> Result<Module, ScriptFault>
         ensures tokens { IfOk result (λ x. ahead self.old.rest.now ≡ module_lexemes x ++ ahead self.new.rest.now) }
         ensures shorter { OnOk result (length self.new.rest.now < length self.old.rest.now) }
+        ensures fault { IfErr result IsOfGrammar }
     {
         let line = self.line();
         self.word(Word::Module)?;

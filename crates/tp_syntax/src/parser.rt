@@ -1,6 +1,7 @@
 //! From a text to its module.
-ghost use Rattle.std.specs.Prelude.{◌≡◌, ◌≤◌, IfOk, length};
+ghost use Rattle.std.specs.Prelude.{◌≡◌, ◌≤◌, IfErr, IfOk, OnOk, length};
 ghost use Rattle.tp_syntax.specs.Definitions.{IsReadAs};
+ghost use Rattle.tp_syntax.specs.Refusals.{HasTokens, IsUnread};
 
 use crate::cursor::Parser;
 use crate::tree::Module;
@@ -24,7 +25,9 @@ const BRACKETS: u32 = 32;
 ///   that would be the 33rd open one;
 /// - 50 where memory was refused.
 pub fn parse(alloc: Global, text: &[u8]) -> Result<Module, ScriptFault>
-    ensures { IfOk result (IsReadAs text.now) }
+    ensures read { IfOk result (IsReadAs text.now) }
+    ensures within { OnOk result (HasTokens text.now) }
+    ensures refused { IfErr result (IsUnread text.now) }
 {
     let tokens = lex(alloc, text)?;
     let last_line = last_line(text);

@@ -1,10 +1,11 @@
 //! Statements.
-ghost use Rattle.std.specs.Prelude.{◌≡◌, ◌+◌, ◌<◌, ◌≤◌, ◌∷◌, ◌++◌, length, IfOk, OnOk, string_bytes};
+ghost use Rattle.std.specs.Prelude.{◌≡◌, ◌+◌, ◌<◌, ◌≤◌, ◌∷◌, ◌++◌, length, IfErr, IfOk, OnOk, string_bytes};
 ghost use Rattle.tp_token.specs.Lexeme.{name, number, symbol, word};
 ghost use Rattle.tp_syntax.specs.Ahead.{ahead};
 ghost use Rattle.tp_syntax.specs.Sequences.{braced};
 ghost use Rattle.tp_syntax.specs.Values.{int_lexemes};
 ghost use Rattle.tp_syntax.specs.Statements.{component_lexemes, sent_lexemes, to_lexemes, send_lexemes, template_part, from_lexemes, named_part, redirect_lexemes, receive_lexemes, turns_lexemes, port_operation_lexeme, control_lexemes, all_ports_lexemes, verdict_lexeme, set_verdict_lexemes, variable_lexemes, variables_lexemes, action_lexemes, branch_lexemes, body_lexemes, counted_lexemes, else_branch_lexemes, otherwise_lexemes, statement_lexemes, statements_lexemes, branches_lexemes};
+ghost use Rattle.tp_syntax.specs.Refusals.{IsOfGrammar};
 
 use crate::cursor::Parser;
 use crate::tree::{
@@ -41,6 +42,7 @@ impl<'a, 't> Parser<'a, 't> {
     pub fn component(&mut self, alloc: Global) -> Result<ComponentName, ScriptFault>
         ensures tokens { IfOk result (λ c. ahead self.old.rest.now ≡ component_lexemes c ++ ahead self.new.rest.now) }
         ensures shorter { OnOk result (length self.new.rest.now < length self.old.rest.now) }
+        ensures fault { IfErr result IsOfGrammar }
     {
         let placed = self.take()?;
         match &placed.token {
@@ -58,6 +60,7 @@ impl<'a, 't> Parser<'a, 't> {
     fn sent(&mut self, alloc: Global, left: u32) -> Result<Sent, ScriptFault>
         ensures tokens { IfOk result (λ s. ahead self.old.rest.now ≡ sent_lexemes s ++ ahead self.new.rest.now) }
         ensures shorter { OnOk result (length self.new.rest.now < length self.old.rest.now) }
+        ensures fault { IfErr result IsOfGrammar }
     {
         if self.is_name_at(0) && self.is_symbol_at(1, Symbol::RightParen) {
             let name = self.name(alloc)?;
@@ -71,6 +74,7 @@ impl<'a, 't> Parser<'a, 't> {
     fn to_part(&mut self, alloc: Global) -> Result<Option<Destination>, ScriptFault>
         ensures tokens { IfOk result (λ d. ahead self.old.rest.now ≡ to_lexemes d ++ ahead self.new.rest.now) }
         ensures shorter { OnOk result (length self.new.rest.now ≤ length self.old.rest.now) }
+        ensures fault { IfErr result IsOfGrammar }
     {
         if !self.has_word(Word::To) {
             return Ok(None);
@@ -88,6 +92,7 @@ impl<'a, 't> Parser<'a, 't> {
     fn send(&mut self, alloc: Global, left: u32) -> Result<Send, ScriptFault>
         ensures tokens { IfOk result (λ s. ahead self.old.rest.now ≡ send_lexemes s ++ ahead self.new.rest.now) }
         ensures shorter { OnOk result (length self.new.rest.now < length self.old.rest.now) }
+        ensures fault { IfErr result IsOfGrammar }
     {
         let port = self.name(alloc)?;
         self.symbol(Symbol::Dot)?;
@@ -108,6 +113,7 @@ impl<'a, 't> Parser<'a, 't> {
     ) -> Result<Option<MessageTemplate>, ScriptFault>
         ensures tokens { IfOk result (λ t. ahead self.old.rest.now ≡ template_part t ++ ahead self.new.rest.now) }
         ensures shorter { OnOk result (length self.new.rest.now ≤ length self.old.rest.now) }
+        ensures fault { IfErr result IsOfGrammar }
     {
         if !self.is_symbol_at(0, Symbol::LeftParen) {
             return Ok(None);
@@ -122,6 +128,7 @@ impl<'a, 't> Parser<'a, 't> {
     fn from_part(&mut self, alloc: Global) -> Result<Option<ComponentName>, ScriptFault>
         ensures tokens { IfOk result (λ c. ahead self.old.rest.now ≡ from_lexemes c ++ ahead self.new.rest.now) }
         ensures shorter { OnOk result (length self.new.rest.now ≤ length self.old.rest.now) }
+        ensures fault { IfErr result IsOfGrammar }
     {
         if !self.has_word(Word::From) {
             return Ok(None);
@@ -134,6 +141,7 @@ impl<'a, 't> Parser<'a, 't> {
     fn named_part(&mut self, alloc: Global, want: Word) -> Result<Option<String>, ScriptFault>
         ensures tokens { IfOk result (λ n. ahead self.old.rest.now ≡ named_part want n ++ ahead self.new.rest.now) }
         ensures shorter { OnOk result (length self.new.rest.now ≤ length self.old.rest.now) }
+        ensures fault { IfErr result IsOfGrammar }
     {
         if !self.has_word(want) {
             return Ok(None);
@@ -147,6 +155,7 @@ impl<'a, 't> Parser<'a, 't> {
     fn redirect(&mut self, alloc: Global) -> Result<Redirect, ScriptFault>
         ensures tokens { IfOk result (λ r. ahead self.old.rest.now ≡ redirect_lexemes r ++ ahead self.new.rest.now) }
         ensures shorter { OnOk result (length self.new.rest.now ≤ length self.old.rest.now) }
+        ensures fault { IfErr result IsOfGrammar }
     {
         if !self.has_symbol(Symbol::Arrow) {
             return Ok(Redirect {
@@ -175,6 +184,7 @@ impl<'a, 't> Parser<'a, 't> {
     fn received(&mut self, alloc: Global, left: u32) -> Result<Received, ScriptFault>
         ensures tokens { IfOk result (λ r. ahead self.old.rest.now ≡ template_part r.template ++ (from_lexemes r.sender ++ (redirect_lexemes r.redirect ++ ahead self.new.rest.now))) }
         ensures shorter { OnOk result (length self.new.rest.now ≤ length self.old.rest.now) }
+        ensures fault { IfErr result IsOfGrammar }
     {
         let template = self.template_part(alloc, left)?;
         let sender = self.from_part(alloc)?;
@@ -191,6 +201,7 @@ impl<'a, 't> Parser<'a, 't> {
     fn receive(&mut self, alloc: Global, left: u32) -> Result<Receive, ScriptFault>
         ensures tokens { IfOk result (λ r. ahead self.old.rest.now ≡ receive_lexemes r ++ ahead self.new.rest.now) }
         ensures shorter { OnOk result (length self.new.rest.now < length self.old.rest.now) }
+        ensures fault { IfErr result IsOfGrammar }
     {
         let port = self.name(alloc)?;
         self.symbol(Symbol::Dot)?;
@@ -232,6 +243,7 @@ impl<'a, 't> Parser<'a, 't> {
     fn port_operation(&mut self) -> Result<PortOperation, ScriptFault>
         ensures tokens { IfOk result (λ o. ahead self.old.rest.now ≡ port_operation_lexeme o ∷ ahead self.new.rest.now) }
         ensures shorter { OnOk result (length self.new.rest.now < length self.old.rest.now) }
+        ensures fault { IfErr result IsOfGrammar }
     {
         let placed = self.take()?;
         match &placed.token {
@@ -248,6 +260,7 @@ impl<'a, 't> Parser<'a, 't> {
     fn control(&mut self, alloc: Global) -> Result<Control, ScriptFault>
         ensures tokens { IfOk result (λ c. ahead self.old.rest.now ≡ control_lexemes c ++ ahead self.new.rest.now) }
         ensures shorter { OnOk result (length self.new.rest.now < length self.old.rest.now) }
+        ensures fault { IfErr result IsOfGrammar }
     {
         let port = self.name(alloc)?;
         self.symbol(Symbol::Dot)?;
@@ -260,6 +273,7 @@ impl<'a, 't> Parser<'a, 't> {
     fn all_ports(&mut self) -> Result<PortOperation, ScriptFault>
         ensures tokens { IfOk result (λ o. ahead self.old.rest.now ≡ all_ports_lexemes o ++ ahead self.new.rest.now) }
         ensures shorter { OnOk result (length self.new.rest.now < length self.old.rest.now) }
+        ensures fault { IfErr result IsOfGrammar }
     {
         self.word(Word::All)?;
         self.word(Word::Port)?;
@@ -271,6 +285,7 @@ impl<'a, 't> Parser<'a, 't> {
     fn verdict(&mut self) -> Result<VerdictName, ScriptFault>
         ensures tokens { IfOk result (λ v. ahead self.old.rest.now ≡ verdict_lexeme v ∷ ahead self.new.rest.now) }
         ensures shorter { OnOk result (length self.new.rest.now < length self.old.rest.now) }
+        ensures fault { IfErr result IsOfGrammar }
     {
         let placed = self.take()?;
         match &placed.token {
@@ -288,6 +303,7 @@ impl<'a, 't> Parser<'a, 't> {
     fn set_verdict(&mut self, left: u32) -> Result<VerdictName, ScriptFault>
         ensures tokens { IfOk result (λ v. ahead self.old.rest.now ≡ set_verdict_lexemes v ++ ahead self.new.rest.now) }
         ensures shorter { OnOk result (length self.new.rest.now < length self.old.rest.now) }
+        ensures fault { IfErr result IsOfGrammar }
     {
         self.word(Word::Setverdict)?;
         self.open(Symbol::LeftParen, left)?;
@@ -301,6 +317,7 @@ impl<'a, 't> Parser<'a, 't> {
     fn variable(&mut self, alloc: Global) -> Result<Variable, ScriptFault>
         ensures tokens { IfOk result (λ v. ahead self.old.rest.now ≡ variable_lexemes v ++ ahead self.new.rest.now) }
         ensures shorter { OnOk result (length self.new.rest.now < length self.old.rest.now) }
+        ensures fault { IfErr result IsOfGrammar }
     {
         let line = self.line();
         self.word(Word::Var)?;
@@ -319,6 +336,7 @@ impl<'a, 't> Parser<'a, 't> {
     pub fn variables(&mut self, alloc: Global) -> Result<Vec<Variable>, ScriptFault>
         ensures tokens { IfOk result (λ v. ahead self.old.rest.now ≡ variables_lexemes v.items ++ ahead self.new.rest.now) }
         ensures shorter { OnOk result (length self.new.rest.now ≤ length self.old.rest.now) }
+        ensures fault { IfErr result IsOfGrammar }
     {
         let mut variables = Vec::new(alloc);
         'more: while self.is_word_at(0, Word::Var) {
@@ -334,6 +352,7 @@ impl<'a, 't> Parser<'a, 't> {
     fn turns(&mut self, alloc: Global, left: u32) -> Result<Turns, ScriptFault>
         ensures tokens { IfOk result (λ x. ahead self.old.rest.now ≡ turns_lexemes x (ahead self.new.rest.now)) }
         ensures shorter { OnOk result (length self.new.rest.now < length self.old.rest.now) }
+        ensures fault { IfErr result IsOfGrammar }
     {
         self.word(Word::For)?;
         self.open(Symbol::LeftParen, left)?;
@@ -352,6 +371,7 @@ impl<'a, 't> Parser<'a, 't> {
     fn step(&mut self, variable: &String) -> Result<i64, ScriptFault>
         ensures tokens { IfOk result (λ z. ahead self.old.rest.now ≡ symbol Symbol.Semicolon ∷ name (string_bytes variable.now) ∷ symbol Symbol.Less ∷ (int_lexemes z ++ symbol Symbol.Semicolon ∷ name (string_bytes variable.now) ∷ symbol Symbol.Assign ∷ name (string_bytes variable.now) ∷ symbol Symbol.Plus ∷ number 1 ∷ symbol Symbol.RightParen ∷ ahead self.new.rest.now)) }
         ensures shorter { OnOk result (length self.new.rest.now < length self.old.rest.now) }
+        ensures fault { IfErr result IsOfGrammar }
     {
         self.symbol(Symbol::Semicolon)?;
         self.same_name(variable)?;
@@ -371,6 +391,7 @@ impl<'a, 't> Parser<'a, 't> {
     fn one(&mut self) -> Result<(), ScriptFault>
         ensures tokens { OnOk result (ahead self.old.rest.now ≡ number 1 ∷ ahead self.new.rest.now) }
         ensures shorter { OnOk result (length self.new.rest.now < length self.old.rest.now) }
+        ensures fault { IfErr result IsOfGrammar }
     {
         let placed = self.take()?;
         match placed.token {
@@ -383,6 +404,7 @@ impl<'a, 't> Parser<'a, 't> {
     fn else_mark(&mut self, left: u32) -> Result<(), ScriptFault>
         ensures tokens { OnOk result (ahead self.old.rest.now ≡ symbol Symbol.LeftBracket ∷ word Word.Else ∷ symbol Symbol.RightBracket ∷ ahead self.new.rest.now) }
         ensures shorter { OnOk result (length self.new.rest.now < length self.old.rest.now) }
+        ensures fault { IfErr result IsOfGrammar }
     {
         self.open(Symbol::LeftBracket, left)?;
         self.word(Word::Else)?;
@@ -426,6 +448,7 @@ impl<'a, 't> Parser<'a, 't> {
     fn statement(&mut self, alloc: Global, left: u32) -> Result<Statement, ScriptFault>
         ensures tokens { IfOk result (λ s. ahead self.old.rest.now ≡ statement_lexemes s ++ ahead self.new.rest.now) }
         ensures shorter { OnOk result (length self.new.rest.now < length self.old.rest.now) }
+        ensures fault { IfErr result IsOfGrammar }
     {
         let line = self.line();
         let is_closed = self.is_closed();
@@ -444,6 +467,7 @@ impl<'a, 't> Parser<'a, 't> {
     fn action(&mut self, alloc: Global, left: u32) -> Result<Action, ScriptFault>
         ensures tokens { IfOk result (λ a. ahead self.old.rest.now ≡ action_lexemes a ++ ahead self.new.rest.now) }
         ensures shorter { OnOk result (length self.new.rest.now < length self.old.rest.now) }
+        ensures fault { IfErr result IsOfGrammar }
     {
         match self.beginning() {
             Beginning::Send => {
@@ -480,6 +504,7 @@ impl<'a, 't> Parser<'a, 't> {
     fn alt(&mut self, alloc: Global, left: u32) -> Result<Action, ScriptFault>
         ensures tokens { IfOk result (λ a. ahead self.old.rest.now ≡ action_lexemes a ++ ahead self.new.rest.now) }
         ensures shorter { OnOk result (length self.new.rest.now < length self.old.rest.now) }
+        ensures fault { IfErr result IsOfGrammar }
     {
         self.word(Word::Alt)?;
         let inner = self.open(Symbol::LeftBrace, left)?;
@@ -497,6 +522,7 @@ impl<'a, 't> Parser<'a, 't> {
     fn branches(&mut self, alloc: Global, left: u32) -> Result<Vec<Branch>, ScriptFault>
         ensures tokens { IfOk result (λ v. ahead self.old.rest.now ≡ branches_lexemes v.items ++ ahead self.new.rest.now) }
         ensures shorter { OnOk result (length self.new.rest.now ≤ length self.old.rest.now) }
+        ensures fault { IfErr result IsOfGrammar }
     {
         let mut branches = Vec::new(alloc);
         'more: while self.is_symbol_at(0, Symbol::LeftBracket) && !self.is_word_at(1, Word::Else) {
@@ -512,6 +538,7 @@ impl<'a, 't> Parser<'a, 't> {
     fn branch(&mut self, alloc: Global, left: u32) -> Result<Branch, ScriptFault>
         ensures tokens { IfOk result (λ b. ahead self.old.rest.now ≡ branch_lexemes b ++ ahead self.new.rest.now) }
         ensures shorter { OnOk result (length self.new.rest.now < length self.old.rest.now) }
+        ensures fault { IfErr result IsOfGrammar }
     {
         let line = self.line();
         self.open(Symbol::LeftBracket, left)?;
@@ -534,6 +561,7 @@ impl<'a, 't> Parser<'a, 't> {
     fn body(&mut self, alloc: Global, left: u32) -> Result<BranchBody, ScriptFault>
         ensures tokens { IfOk result (λ b. ahead self.old.rest.now ≡ body_lexemes b ++ ahead self.new.rest.now) }
         ensures shorter { OnOk result (length self.new.rest.now ≤ length self.old.rest.now) }
+        ensures fault { IfErr result IsOfGrammar }
     {
         if !self.is_symbol_at(0, Symbol::LeftBrace) {
             return Ok(BranchBody::Nothing);
@@ -548,6 +576,7 @@ impl<'a, 't> Parser<'a, 't> {
     fn otherwise(&mut self, alloc: Global, left: u32) -> Result<Option<ElseBranch>, ScriptFault>
         ensures tokens { IfOk result (λ e. ahead self.old.rest.now ≡ otherwise_lexemes e ++ ahead self.new.rest.now) }
         ensures shorter { OnOk result (length self.new.rest.now ≤ length self.old.rest.now) }
+        ensures fault { IfErr result IsOfGrammar }
     {
         if !self.is_symbol_at(0, Symbol::LeftBracket) {
             return Ok(None);
@@ -569,6 +598,7 @@ impl<'a, 't> Parser<'a, 't> {
     fn counted(&mut self, alloc: Global, left: u32) -> Result<Counted, ScriptFault>
         ensures tokens { IfOk result (λ f. ahead self.old.rest.now ≡ counted_lexemes f ++ ahead self.new.rest.now) }
         ensures shorter { OnOk result (length self.new.rest.now < length self.old.rest.now) }
+        ensures fault { IfErr result IsOfGrammar }
     {
         let turns = self.turns(alloc, left)?;
         let block = self.block(alloc, left)?;
@@ -581,6 +611,7 @@ impl<'a, 't> Parser<'a, 't> {
     fn block(&mut self, alloc: Global, left: u32) -> Result<Vec<Statement>, ScriptFault>
         ensures tokens { IfOk result (λ v. ahead self.old.rest.now ≡ braced (statements_lexemes v.items) ++ ahead self.new.rest.now) }
         ensures shorter { OnOk result (length self.new.rest.now < length self.old.rest.now) }
+        ensures fault { IfErr result IsOfGrammar }
     {
         let inner = self.open(Symbol::LeftBrace, left)?;
         let statements = self.statements(alloc, inner, false)?;
@@ -598,6 +629,7 @@ impl<'a, 't> Parser<'a, 't> {
     ) -> Result<Vec<Statement>, ScriptFault>
         ensures tokens { IfOk result (λ v. ahead self.old.rest.now ≡ statements_lexemes v.items ++ ahead self.new.rest.now) }
         ensures shorter { OnOk result (length self.new.rest.now ≤ length self.old.rest.now) }
+        ensures fault { IfErr result IsOfGrammar }
     {
         let mut statements = Vec::new(alloc);
         'more: while !self.is_end(is_case) {

@@ -1,9 +1,10 @@
 //! Templates.
-ghost use Rattle.std.specs.Prelude.{◌≡◌, ◌+◌, ◌<◌, ◌∷◌, ◌++◌, length, map, IfOk, OnOk};
+ghost use Rattle.std.specs.Prelude.{◌≡◌, ◌+◌, ◌<◌, ◌∷◌, ◌++◌, length, map, IfErr, IfOk, OnOk};
 ghost use Rattle.tp_token.specs.Lexeme.{symbol, word};
 ghost use Rattle.tp_syntax.specs.Ahead.{ahead};
 ghost use Rattle.tp_syntax.specs.Sequences.{by_commas, parenthesised};
 ghost use Rattle.tp_syntax.specs.Templates.{low_lexemes, high_lexemes, template_lexemes, template_field_lexemes, message_template_lexemes};
+ghost use Rattle.tp_syntax.specs.Refusals.{IsOfGrammar};
 
 use crate::cursor::{Parser, below};
 use crate::tree::{MessageTemplate, Template, TemplateField};
@@ -37,6 +38,7 @@ impl<'a, 't> Parser<'a, 't> {
     ) -> Result<MessageTemplate, ScriptFault>
         ensures tokens { IfOk result (λ m. ahead self.old.rest.now ≡ message_template_lexemes m ++ ahead self.new.rest.now) }
         ensures shorter { OnOk result (length self.new.rest.now < length self.old.rest.now) }
+        ensures fault { IfErr result IsOfGrammar }
     {
         let type_name = self.type_name(alloc)?;
         self.symbol(Symbol::Colon)?;
@@ -51,6 +53,7 @@ impl<'a, 't> Parser<'a, 't> {
     fn low(&mut self) -> Result<Option<i64>, ScriptFault>
         ensures tokens { IfOk result (λ b. ahead self.old.rest.now ≡ low_lexemes b ++ ahead self.new.rest.now) }
         ensures shorter { OnOk result (length self.new.rest.now < length self.old.rest.now) }
+        ensures fault { IfErr result IsOfGrammar }
     {
         if self.is_symbol_at(0, Symbol::Minus) && self.is_word_at(1, Word::Infinity) {
             self.symbol(Symbol::Minus)?;
@@ -65,6 +68,7 @@ impl<'a, 't> Parser<'a, 't> {
     fn high(&mut self) -> Result<Option<i64>, ScriptFault>
         ensures tokens { IfOk result (λ b. ahead self.old.rest.now ≡ high_lexemes b ++ ahead self.new.rest.now) }
         ensures shorter { OnOk result (length self.new.rest.now < length self.old.rest.now) }
+        ensures fault { IfErr result IsOfGrammar }
     {
         if self.has_word(Word::Infinity) {
             return Ok(None);
@@ -88,6 +92,7 @@ impl<'a, 't> Parser<'a, 't> {
     fn pattern(&mut self, alloc: Global) -> Result<Template, ScriptFault>
         ensures tokens { IfOk result (λ t. word Word.Pattern ∷ ahead self.old.rest.now ≡ template_lexemes t ++ ahead self.new.rest.now) }
         ensures shorter { OnOk result (length self.new.rest.now < length self.old.rest.now) }
+        ensures fault { IfErr result IsOfGrammar }
     {
         let placed = self.take()?;
         match &placed.token {
@@ -105,6 +110,7 @@ impl<'a, 't> Parser<'a, 't> {
     pub fn template(&mut self, alloc: Global, left: u32) -> Result<Template, ScriptFault>
         ensures tokens { IfOk result (λ t. ahead self.old.rest.now ≡ template_lexemes t ++ ahead self.new.rest.now) }
         ensures shorter { OnOk result (length self.new.rest.now < length self.old.rest.now) }
+        ensures fault { IfErr result IsOfGrammar }
     {
         let placed = self.take()?;
         match &placed.token {
@@ -148,6 +154,7 @@ impl<'a, 't> Parser<'a, 't> {
     fn alternatives(&mut self, alloc: Global, left: u32) -> Result<Template, ScriptFault>
         ensures tokens { IfOk result (λ t. symbol Symbol.LeftParen ∷ ahead self.old.rest.now ≡ template_lexemes t ++ ahead self.new.rest.now) }
         ensures shorter { OnOk result (length self.new.rest.now < length self.old.rest.now) }
+        ensures fault { IfErr result IsOfGrammar }
     {
         if self.is_range() {
             let low = self.low()?;
@@ -167,6 +174,7 @@ impl<'a, 't> Parser<'a, 't> {
     fn complement(&mut self, alloc: Global, left: u32) -> Result<Template, ScriptFault>
         ensures tokens { IfOk result (λ t. word Word.Complement ∷ ahead self.old.rest.now ≡ template_lexemes t ++ ahead self.new.rest.now) }
         ensures shorter { OnOk result (length self.new.rest.now < length self.old.rest.now) }
+        ensures fault { IfErr result IsOfGrammar }
     {
         let inner = self.open(Symbol::LeftParen, left)?;
         let templates = self.templates(alloc, inner)?;
@@ -180,6 +188,7 @@ impl<'a, 't> Parser<'a, 't> {
     fn template_entries(&mut self, alloc: Global, left: u32) -> Result<Template, ScriptFault>
         ensures tokens { IfOk result (λ t. symbol Symbol.LeftBrace ∷ ahead self.old.rest.now ≡ template_lexemes t ++ ahead self.new.rest.now) }
         ensures shorter { OnOk result (length self.new.rest.now < length self.old.rest.now) }
+        ensures fault { IfErr result IsOfGrammar }
     {
         if self.has_symbol(Symbol::RightBrace) {
             return Ok(Template::List(Vec::new(alloc)));
@@ -199,6 +208,7 @@ impl<'a, 't> Parser<'a, 't> {
     fn templates(&mut self, alloc: Global, left: u32) -> Result<Vec<Template>, ScriptFault>
         ensures tokens { IfOk result (λ v. ahead self.old.rest.now ≡ by_commas (map template_lexemes v.items) ++ ahead self.new.rest.now) }
         ensures shorter { OnOk result (length self.new.rest.now < length self.old.rest.now) }
+        ensures fault { IfErr result IsOfGrammar }
     {
         let mut templates = Vec::new(alloc);
         let first = self.template(alloc, left)?;
@@ -219,6 +229,7 @@ impl<'a, 't> Parser<'a, 't> {
     ) -> Result<Vec<TemplateField>, ScriptFault>
         ensures tokens { IfOk result (λ v. ahead self.old.rest.now ≡ by_commas (map template_field_lexemes v.items) ++ ahead self.new.rest.now) }
         ensures shorter { OnOk result (length self.new.rest.now < length self.old.rest.now) }
+        ensures fault { IfErr result IsOfGrammar }
     {
         let mut fields = Vec::new(alloc);
         let first = self.template_field(alloc, left)?;
@@ -236,6 +247,7 @@ impl<'a, 't> Parser<'a, 't> {
     fn template_field(&mut self, alloc: Global, left: u32) -> Result<TemplateField, ScriptFault>
         ensures tokens { IfOk result (λ f. ahead self.old.rest.now ≡ template_field_lexemes f ++ ahead self.new.rest.now) }
         ensures shorter { OnOk result (length self.new.rest.now < length self.old.rest.now) }
+        ensures fault { IfErr result IsOfGrammar }
     {
         let name = self.name(alloc)?;
         self.symbol(Symbol::Assign)?;

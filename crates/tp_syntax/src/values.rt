@@ -1,9 +1,10 @@
 //! Values, types and messages.
-ghost use Rattle.std.specs.Prelude.{◌≡◌, ◌+◌, ◌<◌, ◌∷◌, ◌++◌, length, map, pos, IfOk, OnOk};
+ghost use Rattle.std.specs.Prelude.{◌≡◌, ◌+◌, ◌<◌, ◌∷◌, ◌++◌, length, map, pos, IfErr, IfOk, OnOk};
 ghost use Rattle.tp_token.specs.Lexeme.{symbol};
 ghost use Rattle.tp_syntax.specs.Ahead.{ahead, before};
 ghost use Rattle.tp_syntax.specs.Sequences.{by_commas};
 ghost use Rattle.tp_syntax.specs.Values.{int_lexemes, type_lexemes, value_lexemes, value_field_lexemes, message_lexemes};
+ghost use Rattle.tp_syntax.specs.Refusals.{IsOfGrammar};
 
 use crate::cursor::{Parser, below};
 use crate::tree::{Message, TypeName, Value, ValueField};
@@ -18,7 +19,8 @@ const GREATEST: u64 = 9_223_372_036_854_775_807;
 /// The integer that a number is. 15 `Limit` at the line: it is 9223372036854775808, which needs a
 /// `-` before it.
 pub(crate) fn positive(number: u64, line: u32) -> Result<i64, ScriptFault>
-    ensures { IfOk result (λ z. z ≡ pos number) }
+    ensures value { IfOk result (λ z. z ≡ pos number) }
+    ensures fault { IfErr result IsOfGrammar }
 {
     if number > GREATEST {
         return Err(ScriptFault::limit(line));
@@ -31,6 +33,7 @@ impl<'a, 't> Parser<'a, 't> {
     pub fn negative(&mut self) -> Result<i64, ScriptFault>
         ensures tokens { IfOk result (λ z. before (symbol Symbol.Minus) (ahead self.old.rest.now) ≡ int_lexemes z ++ ahead self.new.rest.now) }
         ensures shorter { OnOk result (length self.new.rest.now + 1 ≡ length self.old.rest.now) }
+        ensures fault { IfErr result IsOfGrammar }
     {
         let placed = self.take()?;
         match placed.token {
@@ -45,6 +48,7 @@ impl<'a, 't> Parser<'a, 't> {
     pub fn integer(&mut self) -> Result<i64, ScriptFault>
         ensures tokens { IfOk result (λ z. ahead self.old.rest.now ≡ int_lexemes z ++ ahead self.new.rest.now) }
         ensures shorter { OnOk result (length self.new.rest.now < length self.old.rest.now) }
+        ensures fault { IfErr result IsOfGrammar }
     {
         let placed = self.take()?;
         match &placed.token {
@@ -58,6 +62,7 @@ impl<'a, 't> Parser<'a, 't> {
     pub fn type_name(&mut self, alloc: Global) -> Result<TypeName, ScriptFault>
         ensures tokens { IfOk result (λ t. ahead self.old.rest.now ≡ type_lexemes t ++ ahead self.new.rest.now) }
         ensures shorter { OnOk result (length self.new.rest.now < length self.old.rest.now) }
+        ensures fault { IfErr result IsOfGrammar }
     {
         let placed = self.take()?;
         match &placed.token {
@@ -77,6 +82,7 @@ impl<'a, 't> Parser<'a, 't> {
     pub fn message(&mut self, alloc: Global, left: u32) -> Result<Message, ScriptFault>
         ensures tokens { IfOk result (λ m. ahead self.old.rest.now ≡ message_lexemes m ++ ahead self.new.rest.now) }
         ensures shorter { OnOk result (length self.new.rest.now < length self.old.rest.now) }
+        ensures fault { IfErr result IsOfGrammar }
     {
         let type_name = self.type_name(alloc)?;
         self.symbol(Symbol::Colon)?;
@@ -90,6 +96,7 @@ impl<'a, 't> Parser<'a, 't> {
     pub fn value(&mut self, alloc: Global, left: u32) -> Result<Value, ScriptFault>
         ensures tokens { IfOk result (λ v. ahead self.old.rest.now ≡ value_lexemes v ++ ahead self.new.rest.now) }
         ensures shorter { OnOk result (length self.new.rest.now < length self.old.rest.now) }
+        ensures fault { IfErr result IsOfGrammar }
     {
         let placed = self.take()?;
         match &placed.token {
@@ -125,6 +132,7 @@ impl<'a, 't> Parser<'a, 't> {
     pub fn value_entries(&mut self, alloc: Global, left: u32) -> Result<Value, ScriptFault>
         ensures tokens { IfOk result (λ v. symbol Symbol.LeftBrace ∷ ahead self.old.rest.now ≡ value_lexemes v ++ ahead self.new.rest.now) }
         ensures shorter { OnOk result (length self.new.rest.now < length self.old.rest.now) }
+        ensures fault { IfErr result IsOfGrammar }
     {
         if self.has_symbol(Symbol::RightBrace) {
             return Ok(Value::List(Vec::new(alloc)));
@@ -144,6 +152,7 @@ impl<'a, 't> Parser<'a, 't> {
     pub fn values(&mut self, alloc: Global, left: u32) -> Result<Vec<Value>, ScriptFault>
         ensures tokens { IfOk result (λ v. ahead self.old.rest.now ≡ by_commas (map value_lexemes v.items) ++ ahead self.new.rest.now) }
         ensures shorter { OnOk result (length self.new.rest.now < length self.old.rest.now) }
+        ensures fault { IfErr result IsOfGrammar }
     {
         let mut values = Vec::new(alloc);
         let first = self.value(alloc, left)?;
@@ -160,6 +169,7 @@ impl<'a, 't> Parser<'a, 't> {
     pub fn value_fields(&mut self, alloc: Global, left: u32) -> Result<Vec<ValueField>, ScriptFault>
         ensures tokens { IfOk result (λ v. ahead self.old.rest.now ≡ by_commas (map value_field_lexemes v.items) ++ ahead self.new.rest.now) }
         ensures shorter { OnOk result (length self.new.rest.now < length self.old.rest.now) }
+        ensures fault { IfErr result IsOfGrammar }
     {
         let mut fields = Vec::new(alloc);
         let first = self.value_field(alloc, left)?;
@@ -177,6 +187,7 @@ impl<'a, 't> Parser<'a, 't> {
     pub fn value_field(&mut self, alloc: Global, left: u32) -> Result<ValueField, ScriptFault>
         ensures tokens { IfOk result (λ f. ahead self.old.rest.now ≡ value_field_lexemes f ++ ahead self.new.rest.now) }
         ensures shorter { OnOk result (length self.new.rest.now < length self.old.rest.now) }
+        ensures fault { IfErr result IsOfGrammar }
     {
         let name = self.name(alloc)?;
         self.symbol(Symbol::Assign)?;

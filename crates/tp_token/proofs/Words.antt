@@ -1,9 +1,13 @@
--- The reserved words by their lengths.
-use Rattle.std.proofs.Common.{◌≡◌, ◌≢◌, ℕ, true, false, List, [], ◌∷◌, length, filter, take, drop, suc, ◌&&◌, refl, ap, sym, ◌∙◌, inl, inr, Option, Some, if◌then◌else◌, ◌==◌}
+-- The reserved words by their lengths, and by their spelling.
+use Rattle.std.proofs.Common.{◌≡◌, ◌≢◌, ℕ, true, false, true≢false, List, [], ◌∷◌, length, filter, take, drop, suc, ◌&&◌, refl, ap, sym, ◌∙◌, inl, inr, Option, Some, map, subst, if◌then◌else◌, ◌==◌}
 use Rattle.std.specs.Str.{bytes_eq}
 use Rattle.std.proofs.lemmas.Bool.Decides.{eqb_tells}
+use Rattle.std.proofs.lemmas.Bool.{cases_Bool}
+use Rattle.std.proofs.lemmas.Slice.Eq.{bytes_eq-Decides}
+use Rattle.std.specs.Prelude.{is_some, unwrap_or}
 use Rattle.tp_token.specs.declared.word.Word.{Word}
-use Rattle.tp_token.specs.Word.{first_word, has_length, reserved, word_of}
+use Rattle.tp_token.specs.declared.word.Word.TheVariants as w
+use Rattle.tp_token.specs.Word.{WordsAreSpelled, first_word, has_length, reserved, word_of, word_spelling, words}
 
 -- texts of two lengths are different
 other_length : (a b : List ℕ) → length b ≢ length a → bytes_eq a b ≡ false
@@ -65,3 +69,71 @@ nine bs h = part 9 (drop 48 (take 49 reserved)) refl bs h
 pub ten : (bs : List ℕ) → length bs ≡ 10 → first_word bs (drop 49 reserved) ≡ word_of bs
 unfolding reserved
 ten bs h = part 10 (drop 49 reserved) refl bs h
+
+-- what is found among words is spelled so
+found_spelling : (bs : List ℕ) (word : Word) (ws : List Word) → first_word bs (map (λ v. (word_spelling v, v)) ws) ≡ Some word → bs ≡ word_spelling word
+found_spelling bs word [] e = absurd (true≢false (sym (ap is_some e)))
+found_spelling bs word (v ∷ ws) e = elim (cases_Bool (bytes_eq bs (word_spelling v))) [
+  | inl same ↦ (bytes_eq-Decides bs (word_spelling v)).0 same ∙ ap (λ (found : Option Word). word_spelling (unwrap_or found v)) (rw same at e)
+  | inr other ↦ found_spelling bs word ws (rw other at e)
+]
+
+-- each word is found
+known : (word : Word) → word_of (word_spelling word) ≡ Some word
+unfolding reserved
+known w.Module = refl
+known w.Type = refl
+known w.Record = refl
+known w.Of = refl
+known w.Port = refl
+known w.Message = refl
+known w.Component = refl
+known w.In = refl
+known w.Out = refl
+known w.Inout = refl
+known w.Function = refl
+known w.Testcase = refl
+known w.Runs = refl
+known w.On = refl
+known w.System = refl
+known w.Var = refl
+known w.Create = refl
+known w.Connect = refl
+known w.Map = refl
+known w.Mtc = refl
+known w.SelfWord = refl
+known w.Start = refl
+known w.Stop = refl
+known w.Halt = refl
+known w.Clear = refl
+known w.Send = refl
+known w.Receive = refl
+known w.Trigger = refl
+known w.Check = refl
+known w.To = refl
+known w.From = refl
+known w.Alt = refl
+known w.Else = refl
+known w.For = refl
+known w.Setverdict = refl
+known w.NoneWord = refl
+known w.Pass = refl
+known w.Inconc = refl
+known w.Fail = refl
+known w.Error = refl
+known w.All = refl
+known w.Done = refl
+known w.True = refl
+known w.False = refl
+known w.Integer = refl
+known w.Boolean = refl
+known w.Charstring = refl
+known w.Complement = refl
+known w.Pattern = refl
+known w.Infinity = refl
+known w.Value = refl
+known w.Sender = refl
+
+pub words_are_spelled : WordsAreSpelled
+unfolding reserved
+words_are_spelled bs word = (found_spelling bs word words, λ e. subst (λ (t : List ℕ). word_of t ≡ Some word) (sym e) (known word))

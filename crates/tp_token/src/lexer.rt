@@ -4,14 +4,13 @@ ghost use Rattle.std.specs.Option.{option_map};
 ghost use Rattle.tp_token.specs.Cut.{AreTokens, TokensAreUnique, newlines, placed};
 ghost use Rattle.tp_token.specs.Fault.{AreWithinLimits, GoodTextsAreAccepted, IsMemory, IsRefused};
 ghost use Rattle.tp_token.specs.Lexeme.{lexeme_of, line_of};
+ghost use Rattle.tp_token.specs.Word.{WordsAreSpelled};
 
 use crate::fault::ScriptFault;
 use crate::piece::piece;
 use crate::token::{Placed, Token};
 use std::alloc::Global;
-
-/// How many bytes a text may have.
-pub const LONGEST_TEXT: usize = 1_048_576;
+use tp_refusal::limit::TEXT_LIMIT;
 
 /// The tokens of the text, in order, each with its line: at each place the longest that can stand
 /// there. White space (bytes 9 to 13 and 32) and comments (`//` to the next byte 10 or the end of
@@ -28,10 +27,10 @@ pub const LONGEST_TEXT: usize = 1_048_576;
 pub fn lex<'t>(alloc: Global, text: &'t [u8]) -> Result<Vec<Placed<'t>>, ScriptFault>
     ensures tokens { IfOk result (λ v. AreTokens text.now (map line_of v.items)) }
     ensures limits { IfOk result (λ v. AreWithinLimits (map line_of v.items)) }
-    ensures short { OnOk result (length text.now ≤ LONGEST_TEXT) }
+    ensures short { OnOk result (length text.now ≤ 1048576) }
     ensures refused { IfErr result (IsRefused text.now) }
 {
-    if text.len() > LONGEST_TEXT {
+    if text.len() > TEXT_LIMIT {
         return Err(ScriptFault::limit(0));
     }
     let mut tokens = Vec::new(alloc);
@@ -60,6 +59,11 @@ pub fn good_texts_are_accepted()
     ensures { GoodTextsAreAccepted }
 {}
 
+/// The law that bytes spell a reserved word exactly where they are its spelling. It does nothing.
+pub fn words_are_spelled()
+    ensures { WordsAreSpelled }
+{}
+
 /// Adds the token, if there is one. 50 where memory was refused.
 fn add<'t>(
     tokens: &mut Vec<Placed<'t>>,
@@ -77,7 +81,7 @@ fn add<'t>(
 
 /// How many lines end in a piece. A token holds no line end, so that its bytes aren't looked at.
 fn lines_in(is_token: bool, piece: &[u8]) -> u32
-    requires short { length piece.now ≤ LONGEST_TEXT }
+    requires short { length piece.now ≤ 1048576 }
     requires token { IsTrue is_token → newlines piece.now ≡ 0 }
     ensures value { result ≡ newlines piece.now }
     ensures bound { result ≤ length piece.now }

@@ -1,8 +1,10 @@
 -- The outcome of mode check: what is printed of a script, and the status.
-use Rattle.std.specs.Prelude.{◌≡◌, ℕ, Option, List, codes}
-use Rattle.std.specs.Io.KnownBytes.{Appends}
+use Rattle.std.specs.Prelude.{◌≡◌, ℕ, ◌≤◌, ◌⊎◌, Option, List, length, codes, IfSome}
+use Rattle.std.specs.Io.KnownBytes.{Appends, Consumes}
 use Rattle.tp_syntax.specs.declared.tree.Module.{Module}
 use Rattle.tp_syntax.specs.Definitions.{IsReadAs}
+use Rattle.tp_syntax.specs.Refusals.{IsUnread}
+use Rattle.tp_port.specs.Reading.{IsFull}
 use Rattle.tp_port.specs.declared.text.ReadFault.{ReadFault}
 use Rattle.tp_port.specs.declared.text.ReadFault.TheVariants as read
 use Rattle.tp_refusal.specs.declared.refusal.Refusal.TheVariants as refusal
@@ -49,8 +51,33 @@ pub record IsRight (text : List ℕ) : Type 0 where
   pub made : Made
   pub test_case : IsTestCaseOf parsed made
 
--- the line of a fault with status 2 was added
-pub record IsNotAccepted (old new : Option (List ℕ)) : Type 0 where
+-- the text is refused so: it can't be read as a module, for this fault, or it is read as one and the checks refuse that
+abbrev pub IsScriptFaultOf : List ℕ → ScriptFault → Type 0
+IsScriptFaultOf text fault = IsUnread text fault ⊎ ((parsed : Module) × IsReadAs text parsed)
+
+-- the same of a text that is read first, where reading took so many bytes of it: memory may be wanting where the room for the text is full, whatever the text, and then for a text that isn't too long
+abbrev pub IsScriptFaultIn : List ℕ → ℕ → ScriptFault → Type 0
+IsScriptFaultIn text taken (script.Refused r line) = IsScriptFaultOf text (script.Refused r line)
+IsScriptFaultIn text taken (script.Memory m) = (taken ≤ 1048576) × (IsFull taken ⊎ (length text ≤ 1048576))
+
+-- and the reader may fail anywhere within the limit
+abbrev pub IsCheckFaultOf : List ℕ → ℕ → CheckFault → Type 0
+IsCheckFaultOf text taken fault.Read = taken ≤ 1048576
+IsCheckFaultOf text taken (fault.Script f) = IsScriptFaultIn text taken f
+
+-- the same of what the reader has, where that is known
+abbrev pub HasCheckFault : Option (List ℕ) → Option (List ℕ) → CheckFault → Type 0
+HasCheckFault old new fault =
+    (bytes : List ℕ) × Consumes old new bytes × IfSome old (λ text. IsCheckFaultOf text (length bytes) fault)
+
+-- the line of a fault was added that the text has which was read, and the status is the fault's
+pub record IsNotAccepted (known left old new : Option (List ℕ)) (status : ℕ) : Type 0 where
   pub fault : CheckFault
-  pub of_text : check_fault_status fault ≡ 2
+  pub found : HasCheckFault known left fault
+  pub code : status ≡ check_fault_status fault
   pub printed : Appends old new (check_fault_text fault)
+
+-- where the writer doesn't fail: status 0 and `accepted` for a text that is right, or the line and the status of its fault
+abbrev pub IsCheckAnswer : Option (List ℕ) → Option (List ℕ) → Option (List ℕ) → Option (List ℕ) → ℕ → Type 0
+IsCheckAnswer known left old new status =
+    ((status ≡ 0) × IfSome known IsRight × Appends old new accepted_text) ⊎ IsNotAccepted known left old new status

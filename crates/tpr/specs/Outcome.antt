@@ -1,5 +1,5 @@
 -- The outcome of a mode: what is printed of a fault, and the status.
-use Rattle.std.specs.Prelude.{◌≡◌, ℕ, Option, List, [], ◌++◌, codes, IfSome}
+use Rattle.std.specs.Prelude.{◌≡◌, ℕ, ◌⊎◌, Option, List, [], ◌++◌, codes, IfSome}
 use Rattle.std.specs.Fmt.{decimal}
 use Rattle.std.specs.Io.KnownBytes.{Appends}
 use Rattle.tp_refusal.specs.declared.refusal.Refusal.{Refusal}
@@ -7,7 +7,7 @@ use Rattle.tp_refusal.specs.declared.refusal.Refusal.TheVariants as refusal
 use Rattle.tp_refusal.specs.Label.{label}
 use Rattle.tp_port.specs.declared.replay.QueueFault.{QueueFault}
 use Rattle.tp_port.specs.declared.replay.QueueFault.TheVariants as fault
-use Rattle.tp_port.specs.Faults.{IsReadFaultOf}
+use Rattle.tp_port.specs.Faults.{Answers, HasFault}
 
 -- the number and the name
 abbrev pub label_text : Refusal → List ℕ
@@ -38,9 +38,20 @@ fault_status fault.Write = 3
 fault_status fault.Limit = 2
 fault_status fault.Memory = 3
 
--- the text of a fault with status 2 was added, and the text that was read has that fault
-pub record IsRefused (known old new : Option (List ℕ)) : Type 0 where
+-- a failed write has no line
+abbrev pub HasLine : QueueFault → Type 0
+HasLine fault.Write = ⊥
+HasLine _ = Unit {0}
+
+-- the line of a fault was added that the text has which was read, and the status is the fault's
+pub record IsRefused (known left old new : Option (List ℕ)) (status : ℕ) : Type 0 where
   pub fault : QueueFault
-  pub of_text : fault_status fault ≡ 2
-  pub found : IfSome known (λ text. IsReadFaultOf text fault)
+  pub is_told : HasLine fault
+  pub found : HasFault known left fault
+  pub code : status ≡ fault_status fault
   pub printed : Appends old new (fault_text fault)
+
+-- where the writer doesn't fail: status 0 and the answers to the text that the reader had, or the line and the status of its fault
+abbrev pub IsQueueAnswer : Option (List ℕ) → Option (List ℕ) → Option (List ℕ) → Option (List ℕ) → ℕ → Type 0
+IsQueueAnswer known left old new status =
+    ((status ≡ 0) × IfSome known (λ text. Answers text old new)) ⊎ IsRefused known left old new status

@@ -1,7 +1,7 @@
 //! Whether a script is right.
-ghost use Rattle.std.specs.Prelude.{◌≡◌, ◌⊎◌, IfSome, OnOk};
-ghost use Rattle.std.specs.Io.KnownBytes.{Appends, Keeps};
-ghost use Rattle.tpr.specs.Checked.{IsNotAccepted, IsRight, accepted_text, check_fault_status, check_fault_text};
+ghost use Rattle.std.specs.Prelude.{◌≡◌, IfErr, IfSome, OnOk, OnSome};
+ghost use Rattle.std.specs.Io.KnownBytes.{Appends};
+ghost use Rattle.tpr.specs.Checked.{HasCheckFault, IsCheckAnswer, IsRight, IsScriptFaultOf, accepted_text, check_fault_status, check_fault_text};
 
 use crate::modes::{
     ANSWERED, FAULTED, REFUSED, flushed, write_memory, write_refused, write_unread,
@@ -39,7 +39,8 @@ impl From<ReadFault> for CheckFault {
 
 /// Reads a text as a module, and checks it.
 fn check_text(alloc: Global, text: &[u8]) -> Result<(), ScriptFault>
-    ensures { OnOk result (IsRight text.now) }
+    ensures right { OnOk result (IsRight text.now) }
+    ensures fault { IfErr result (IsScriptFaultOf text.now) }
 {
     let parsed = parse(alloc, text)?;
     let _ = check(alloc, &parsed)?;
@@ -48,7 +49,8 @@ fn check_text(alloc: Global, text: &[u8]) -> Result<(), ScriptFault>
 
 /// Reads a script, and checks it.
 fn check_script<R: Read>(alloc: Global, reader: &mut R) -> Result<(), CheckFault>
-    ensures { OnOk result (IfSome (R.remaining reader.old) IsRight) }
+    ensures right { OnOk result (IfSome (R.remaining reader.old) IsRight) }
+    ensures fault { IfErr result (HasCheckFault (R.remaining reader.old) (R.remaining reader.new)) }
 {
     match read_text(alloc, reader) {
         Err(fault) => Err(CheckFault::from(fault)),
@@ -89,14 +91,14 @@ fn status_of(fault: CheckFault) -> u8
     }
 }
 
-/// Prints the line of a fault. The status is the fault's, and 3 where the writer failed.
-fn answer_check_fault<W: Write>(writer: &mut W, fault: CheckFault) -> u8
-    ensures printed { result ≡ REFUSED → IsNotAccepted (W.contents writer.old) (W.contents writer.new) }
-    ensures status { (result ≡ check_fault_status fault) ⊎ (result ≡ FAULTED) }
+/// Prints the line of a fault, and answers its status. `None` where the writer failed.
+fn answer_check_fault<W: Write>(writer: &mut W, fault: CheckFault) -> Option<u8>
+    ensures code { IfSome result (λ status. status ≡ check_fault_status fault) }
+    ensures printed { OnSome result (Appends (W.contents writer.old) (W.contents writer.new) (check_fault_text fault)) }
 {
     match write_check_fault(writer, fault) {
         Ok(()) => flushed(writer, status_of(fault)),
-        Err(_) => FAULTED,
+        Err(_) => None,
     }
 }
 
@@ -104,18 +106,15 @@ fn answer_check_fault<W: Write>(writer: &mut W, fault: CheckFault) -> u8
 ///
 /// The status is 0 where it is right; 2 where it was refused: `refused 2 Read`, or `refused CODE NAME line
 /// L` with 10 to 18 and 20 to 28, as [`parse`] and [`check`] say; 3 where memory was refused, `fault 50
-/// Memory`, or the writer failed, which prints nothing more.
-pub fn answer_check<R: Read, W: Write>(alloc: Global, reader: &mut R, writer: &mut W) -> u8
-    ensures right { result ≡ ANSWERED → IfSome (R.remaining reader.old) IsRight }
-    ensures accepted { result ≡ ANSWERED → Appends (W.contents writer.old) (W.contents writer.new) accepted_text }
-    ensures refused { result ≡ REFUSED → IsNotAccepted (W.contents writer.old) (W.contents writer.new) }
-    ensures only { (result ≡ ANSWERED) ⊎ (result ≡ REFUSED) ⊎ (result ≡ FAULTED) }
+/// Memory`. `None` where the writer failed; how much is printed then is open.
+pub fn answer_check<R: Read, W: Write>(alloc: Global, reader: &mut R, writer: &mut W) -> Option<u8>
+    ensures { IfSome result (IsCheckAnswer (R.remaining reader.old) (R.remaining reader.new) (W.contents writer.old) (W.contents writer.new)) }
 {
     match check_script(alloc, reader) {
         Err(fault) => answer_check_fault(writer, fault),
         Ok(()) => match write_accepted(writer) {
             Ok(()) => flushed(writer, ANSWERED),
-            Err(_) => FAULTED,
+            Err(_) => None,
         },
     }
 }

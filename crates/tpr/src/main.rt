@@ -1,7 +1,10 @@
 //! `tpr`: message ports of TTCN-3, replayed, checked and run.
 #![tactic(auto)]
 
+ghost use Rattle.std.specs.Prelude.{◌≡◌, IfSome};
+ghost use Rattle.tpr.specs.Checked.{IsCheckAnswer};
 ghost use Rattle.tpr.specs.Line.{IsOffered};
+ghost use Rattle.tpr.specs.Outcome.{IsQueueAnswer};
 
 mod checking;
 mod line;
@@ -11,7 +14,7 @@ mod tests;
 
 use checking::answer_check;
 use line::{Mode, line_of};
-use modes::{answer_fault, answer_queue};
+use modes::{FAULTED, answer_fault, answer_queue};
 use std::alloc::Global;
 use std::env::Env;
 use std::fs::File;
@@ -30,9 +33,16 @@ fn usage<R: Eprint>(rt: &R) -> u8 {
     USAGE
 }
 
-/// Answers in this mode.
-fn answer<R: Read, W: Write>(mode: Mode, alloc: Global, reader: &mut R, writer: &mut W) -> u8
+/// Answers in this mode. `None` where the writer failed.
+fn answer<R: Read, W: Write>(
+    mode: Mode,
+    alloc: Global,
+    reader: &mut R,
+    writer: &mut W,
+) -> Option<u8>
     requires { IsOffered mode }
+    ensures queue { mode ≡ Mode.Queue → IfSome result (IsQueueAnswer (R.remaining reader.old) (R.remaining reader.new) (W.contents writer.old) (W.contents writer.new)) }
+    ensures check { mode ≡ Mode.Check → IfSome result (IsCheckAnswer (R.remaining reader.old) (R.remaining reader.new) (W.contents writer.old) (W.contents writer.new)) }
 {
     match mode {
         Mode::Queue => answer_queue(alloc, reader, writer),
@@ -41,8 +51,13 @@ fn answer<R: Read, W: Write>(mode: Mode, alloc: Global, reader: &mut R, writer: 
     }
 }
 
-/// Answers the text of this file, or of standard input where no file is named.
-fn answer_file<R: AllocGlobal + Files + Input + Print>(rt: &R, mode: Mode, file: Option<&str>) -> u8
+/// Answers the text of this file, or of standard input where no file is named. `None` where the writer
+/// failed.
+fn answer_file<R: AllocGlobal + Files + Input + Print>(
+    rt: &R,
+    mode: Mode,
+    file: Option<&str>,
+) -> Option<u8>
     requires { IsOffered mode }
 {
     let Ok(mut writer) = BufWriter::new(rt.alloc(), io::writer(rt)) else {
@@ -63,16 +78,17 @@ fn words_of<R: Env + AllocGlobal>(rt: &R) -> io::Result<Vec<String>> {
     Ok(words)
 }
 
+/// The status is 3 where the writer failed.
 fn main(rt: HostRuntime) -> ExitCode {
     let status = match words_of(&rt) {
         Ok(words) => match line_of(words.as_slice()) {
             Some((mode, file)) => answer_file(&rt, mode, file),
-            None => usage(&rt),
+            None => Some(usage(&rt)),
         },
         Err(error) if error.kind() == ErrorKind::OutOfMemory => {
             answer_fault(&mut io::writer(&rt), QueueFault::Memory)
         }
-        Err(_) => usage(&rt),
+        Err(_) => Some(usage(&rt)),
     };
-    ExitCode::from(status)
+    ExitCode::from(status.unwrap_or(FAULTED))
 }

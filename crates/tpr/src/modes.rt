@@ -1,8 +1,7 @@
 //! The modes, over any reader and writer.
-ghost use Rattle.std.specs.Prelude.{◌≡◌, ◌⊎◌, IfSome, OnOk};
+ghost use Rattle.std.specs.Prelude.{◌≡◌, IfSome, OnOk, OnSome};
 ghost use Rattle.std.specs.Io.KnownBytes.{Appends, Keeps};
-ghost use Rattle.tp_port.specs.Faults.{Answers};
-ghost use Rattle.tpr.specs.Outcome.{IsRefused, fault_status, fault_text, memory_text, refused_text, unread_text};
+ghost use Rattle.tpr.specs.Outcome.{IsQueueAnswer, fault_status, fault_text, memory_text, refused_text, unread_text};
 
 use std::alloc::Global;
 use std::io;
@@ -54,14 +53,14 @@ fn write_fault<W: Write>(writer: &mut W, fault: QueueFault) -> io::Result<()>
     }
 }
 
-/// The status, or that of a fault where what was written can't be flushed.
-pub fn flushed<W: Write>(writer: &mut W, status: u8) -> u8
-    ensures status { (result ≡ status) ⊎ (result ≡ FAULTED) }
+/// The status, or `None` where what was written can't be flushed.
+pub fn flushed<W: Write>(writer: &mut W, status: u8) -> Option<u8>
+    ensures status { IfSome result (λ given. given ≡ status) }
     ensures kept { Keeps (W.contents writer.old) (W.contents writer.new) }
 {
     match writer.flush() {
-        Ok(()) => status,
-        Err(_) => FAULTED,
+        Ok(()) => Some(status),
+        Err(_) => None,
     }
 }
 
@@ -75,31 +74,29 @@ fn status_of(fault: QueueFault) -> u8
     }
 }
 
-/// Prints the line of a fault, if it has one. The status is the fault's, and 3 where the writer
-/// failed.
-pub fn answer_fault<W: Write>(writer: &mut W, fault: QueueFault) -> u8
-    ensures printed { result ≡ REFUSED → Appends (W.contents writer.old) (W.contents writer.new) (fault_text fault) }
-    ensures status { (result ≡ fault_status fault) ⊎ (result ≡ FAULTED) }
+/// Prints the line of a fault, if it has one, and answers its status. `None` where the writer failed.
+pub fn answer_fault<W: Write>(writer: &mut W, fault: QueueFault) -> Option<u8>
+    ensures code { IfSome result (λ status. status ≡ fault_status fault) }
+    ensures printed { OnSome result (Appends (W.contents writer.old) (W.contents writer.new) (fault_text fault)) }
 {
     match write_fault(writer, fault) {
         Ok(()) => flushed(writer, status_of(fault)),
-        Err(_) => FAULTED,
+        Err(_) => None,
     }
 }
 
 /// Reads a queue file, and prints the answers to its lines and what is left, or the line of its
-/// fault. Nothing is printed of the answers where there is a fault, but for a failed write.
+/// fault. Nothing is printed of the answers where there is a fault.
 ///
 /// The status is 0 where the file was answered; 2 where it was refused: `refused 2 Read`, or
-/// `refused 1 BadLine line L` or `refused 15 Limit line 0`; 3 where memory was refused,
-/// `fault 50 Memory`, or the writer failed, which prints nothing more.
-pub fn answer_queue<R: Read, W: Write>(alloc: Global, reader: &mut R, writer: &mut W) -> u8
-    ensures answered { result ≡ ANSWERED → IfSome (R.remaining reader.old) (λ text. Answers text (W.contents writer.old) (W.contents writer.new)) }
-    ensures refused { result ≡ REFUSED → IsRefused (R.remaining reader.old) (W.contents writer.old) (W.contents writer.new) }
-    ensures only { (result ≡ ANSWERED) ⊎ (result ≡ REFUSED) ⊎ (result ≡ FAULTED) }
+/// `refused 1 BadLine line L` or `refused 15 Limit line 0`; 3 where memory was refused, `fault 50
+/// Memory`. `None` where the writer failed; how much is printed then is open.
+pub fn answer_queue<R: Read, W: Write>(alloc: Global, reader: &mut R, writer: &mut W) -> Option<u8>
+    ensures { IfSome result (IsQueueAnswer (R.remaining reader.old) (R.remaining reader.new) (W.contents writer.old) (W.contents writer.new)) }
 {
     match replay(alloc, reader, writer) {
         Ok(()) => flushed(writer, ANSWERED),
+        Err(QueueFault::Write) => None,
         Err(fault) => answer_fault(writer, fault),
     }
 }

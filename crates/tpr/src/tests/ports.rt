@@ -9,7 +9,8 @@ use tp_port::event::{Env, Event, Status, TriggerAnswer};
 use tp_port::pattern::Pattern;
 use tp_port::queue::PortQueue;
 use tp_port::replay::{QueueFault, replay, replay_text};
-use tp_port::text::{ReadFault, TEXT_LIMIT, read_text};
+use tp_port::text::{ReadFault, read_text};
+use tp_refusal::limit::TEXT_LIMIT;
 
 fn env(sender: u32, number: u64, msg: i64) -> Env<i64> {
     Env {
@@ -170,6 +171,18 @@ fn failed_reads_are_told_and_interrupted_ones_repeated(rt: HostRuntime) -> Resul
 }
 
 #[test]
+fn want_of_memory_of_the_reader_is_a_failed_read(rt: HostRuntime) -> Result<(), Fail> {
+    let mut failing = OneByOne {
+        text: b"halt\n".as_slice(),
+        reads_left: 3,
+        kind: ErrorKind::OutOfMemory,
+    };
+    let refused = read_text(rt.alloc(), &mut failing);
+    assert!(rt; refused.is_err_and(|fault| fault == ReadFault::Read));
+    Ok(())
+}
+
+#[test]
 fn failed_writes_are_told(rt: HostRuntime) -> Result<(), Fail> {
     for room in 0..15 {
         let mut short = Short { room };
@@ -188,8 +201,10 @@ fn the_limit_is_allowed_and_one_more_is_not(rt: HostRuntime) -> Result<(), Fail>
     let whole = read_text(rt.alloc(), &mut text.as_slice())?;
     assert_eq!(rt; whole.len(), TEXT_LIMIT);
     let more = vec![in rt.alloc(); b'\n'; TEXT_LIMIT + 1]?;
-    let refused = read_text(rt.alloc(), &mut more.as_slice());
+    let mut rest = more.as_slice();
+    let refused = read_text(rt.alloc(), &mut rest);
     assert!(rt; refused.is_err_and(|fault| fault == ReadFault::Limit));
+    assert_eq!(rt; rest.len(), 0);
     let mut out = Vec::new(rt.alloc());
     let answer = replay_text(rt.alloc(), more.as_slice(), &mut out);
     assert_eq!(rt; answer, Err(QueueFault::Limit));

@@ -1,18 +1,16 @@
-use Rattle.std.proofs.Common.{◌≡◌, ℕ, ◌<◌, ◌≤◌, Option, Some, None, List, [], ◌++◌, length, take, ap, ◌∙◌, arith}
-use Rattle.std.specs.Prelude.{IfSome}
-use Rattle.std.specs.Option.{option_map}
-use Rattle.std.proofs.lemmas.List.{length-take, take_all}
+use Rattle.std.proofs.Common.{Some, rules, length-take-le, sym, subst}
+use Rattle.std.proofs.lemmas.List.{places}
+use Rattle.tp_port.specs.Reading.{EndsAt}
+use Rattle.std.proofs.KnownBytes.{Consumes-kept}
+use Rattle.tp_port.proofs.Taking.{ends_before, taken_more}
 use Rattle.tp_port.proofs.text.read_text.Goals as goal
 
--- what was read is all that there is, where the limit was not met
-whole_of : (known : Option (List ℕ)) (limit : ℕ) (start text : List ℕ) → start ≡ [] → IfSome (option_map (take limit) known) (λ xs. text ≡ start ++ xs) → length text < limit → IfSome known (λ all. text ≡ all)
-whole_of None limit start text none read short = tt
-whole_of (Some all) limit start text none read short =
-    let is : text ≡ take limit all = read ∙ ap (λ s. s ++ take limit all) none in
-    let fits : length all ≤ limit = omega (arith, ap length is ∙ length-take limit all) in
-    is ∙ take_all limit all fits
+pub loop-size-preserved : goal.loop-size-preserved
+loop-size-preserved g c =
+    let read = c.in-Ok.ensures in
+    (read.within, read.most, read.doubled, taken_more _ _ _ c.loop-size.text.items _ _ _ c.loop-size.invariant.3 read.front read.more)
 
-pub returns-in-Ok-clause-whole : goal.returns-in-Ok-clause-whole
-returns-in-Ok-clause-whole g c =
-    let read = rw (c.take-within.ensures.inner, c.take-within.ensures.limit) at c.in-Ok.ensures.bytes in
-    whole_of (g.R.Read.remaining c.args.reader.now) 1048577 _ _ c.new-text.ensures.items read (omega (arith, c.len.ensures, c.if-len-le-TEXT_LIMIT.true))
+pub returns-in-Err-clause-taken : goal.returns-in-Err-clause-taken
+returns-in-Err-clause-taken g c =
+    let long = length-take-le c.loop-size.size c.loop-size.text.items (search (rules, places)) in
+    (_, Consumes-kept _ _ _ _ c.loop-size.invariant.3 c.in-Err.ensures.kept, subst (EndsAt (Some c.in-Err.fault)) (sym long) (ends_before _ _ c.loop-size-test.true c.in-Err.ensures.fault c.in-Err.ensures.full))

@@ -13,8 +13,8 @@ nothing_left : (a b : List Lexeme) (ps : List Placed) → length ps ≡ 0 → a 
 nothing_left a b [] h e = e ∙ append-nil b
 nothing_left a b (p ∷ ps) h e = absurd (omega arith)
 
-pub returns : goal.returns
-returns c =
+pub returns-clause-read : goal.returns-clause-read
+returns-clause-read c =
     let none : length c.module.new.self.rest.now ≡ 0 = grind arith in (
       map line_of c.in_ok-tokens.tokens.items,
       c.in_ok-tokens.ensures.tokens,

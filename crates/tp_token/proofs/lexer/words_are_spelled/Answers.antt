@@ -1,0 +1,5 @@
+use Rattle.tp_token.proofs.Words.{words_are_spelled}
+use Rattle.tp_token.proofs.lexer.words_are_spelled.Goals as goal
+
+pub returns : goal.returns
+returns c = words_are_spelled

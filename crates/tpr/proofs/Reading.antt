@@ -1,0 +1,40 @@
+-- The faults of a script that is read and then checked.
+use Rattle.std.proofs.Common.{◌≡◌, ℕ, ◌≤◌, inl, inr, Option, Some, None, Result, Ok, Err, List, length, refl, ap, subst, arith}
+use Rattle.std.specs.Prelude.{IfSome, IfErr}
+use Rattle.std.proofs.lemmas.List.{length-append}
+use Rattle.tp_port.specs.declared.text.ReadFault.{ReadFault}
+use Rattle.tp_port.specs.declared.text.ReadFault.TheVariants as read
+use Rattle.tp_port.specs.Reading.{Takes}
+use Rattle.tp_token.specs.declared.fault.ScriptFault.{ScriptFault}
+use Rattle.tp_token.specs.declared.fault.ScriptFault.TheVariants as script
+use Rattle.tpr.specs.declared.checking.CheckFault.TheVariants as fault
+use Rattle.tp_syntax.specs.declared.tree.Module.{Module}
+use Rattle.tp_syntax.specs.Definitions.{IsReadAs}
+use Rattle.tpr.specs.Checked.{HasCheckFault, IsScriptFaultIn, IsScriptFaultOf, check_fault_of}
+
+-- a fault of reading
+pub reading_fault : (f : ReadFault) (old new : Option (List ℕ)) → Takes old new (Some f) → HasCheckFault old new (check_fault_of f)
+reading_fault read.Read None new taken = (taken.0, taken.1, tt)
+reading_fault read.Read (Some text) new taken = taken
+reading_fault read.Limit None new taken = (taken.0, taken.1, tt)
+reading_fault read.Limit (Some text) None taken = absurd taken.1
+reading_fault read.Limit (Some text) (Some rest) taken =
+    (taken.0, taken.1, inl (inl (inl (omega (arith, ap length taken.1, length-append taken.0 rest, taken.2), refl, refl))))
+reading_fault read.Memory None new taken = (taken.0, taken.1, tt)
+reading_fault read.Memory (Some text) new taken = (taken.0, taken.1, (taken.2.0, inl taken.2.1))
+
+-- a fault of the checks, of a text that was read
+script_fault : (f : ScriptFault) (text : List ℕ) (taken : ℕ) → length text ≤ 1048576 → taken ≤ 1048576 → IsScriptFaultOf text f → IsScriptFaultIn text taken f
+script_fault (script.Refused r line) text taken short few h = h
+script_fault (script.Memory m) text taken short few h = (few, inr short)
+
+pub checking_fault : (f : ScriptFault) (old new : Option (List ℕ)) (text : List ℕ) → IfSome old (λ all. text ≡ all) → length text ≤ 1048576
+    → Takes old new None → IsScriptFaultOf text f → HasCheckFault old new (fault.Script f)
+checking_fault f None new text is short taken h = (taken.0, taken.1, tt)
+checking_fault f (Some all) new text is short taken h =
+    (taken.0, taken.1, subst (λ (t : List ℕ). IsScriptFaultIn t (length taken.0) f) is (script_fault f text (length taken.0) short taken.2 h))
+
+-- whatever the checks refuse was read as a module
+pub any_fault : (r : Result (Unit {0}) ScriptFault) (text : List ℕ) (parsed : Module) → IsReadAs text parsed → IfErr r (IsScriptFaultOf text)
+any_fault (Ok x) text parsed read = tt
+any_fault (Err f) text parsed read = inr (parsed, read)
