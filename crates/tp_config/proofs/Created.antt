@@ -10,7 +10,6 @@ use Rattle.std.proofs.lemmas.List.Quantifiers.{all_pairs_push}
 use Rattle.tp_config.specs.declared.port_type.CompId.{CompId}
 use Rattle.tp_config.specs.declared.port_type.PortRef.{PortRef}
 use Rattle.tp_config.specs.declared.port_type.CompType.{CompType}
-use Rattle.tp_config.specs.declared.port_type.TheConstants.{COMPONENT_LIMIT, PORT_LIMIT}
 use Rattle.tp_config.specs.declared.creating.CreateFault.{CreateFault}
 use Rattle.tp_config.specs.declared.creating.CreateFault.TheVariants as trouble
 use Rattle.tp_config.specs.Setup.{Setup, PortDecl, Member, creating, empty_setup, is_system_member, names, ports_at}
@@ -25,7 +24,7 @@ use Rattle.tp_config.proofs.Order.{first_from_find, none_from_find}
 use Rattle.tp_config.proofs.Decide.{create_decides}
 use Rattle.tp_config.proofs.Grown.{create_allowed, ports_before, ports_kept, ports_past}
 
-pub keeps_empty : (types : List CompType) → All (λ t. length t.ports.entries ≤ PORT_LIMIT) types → Keeps (empty_setup (map ports_of types)) []
+pub keeps_empty : (types : List CompType) → All (λ t. length t.ports.entries ≤ 64) types → Keeps (empty_setup (map ports_of types)) []
 unfolding ports_at beside
 keeps_empty types few =
     record {
@@ -34,7 +33,7 @@ keeps_empty types few =
         connected_ports = λ k d n. absurd (omega arith);
         mapped_ports = λ k d n. absurd (omega arith);
         once = λ p i j d below n. absurd (omega arith);
-        few_ports = All-map (λ ports. length ports ≤ PORT_LIMIT) ports_of types (λ k d n. omega (arith, few k d n, length_ports (get_or types k d)));
+        few_ports = All-map (λ ports. length ports ≤ 64) ports_of types (λ k d n. omega (arith, few k d n, length_ports (get_or types k d)));
         few_components = omega arith;
         kinds = λ k d n. absurd (omega arith);
         names_differ = λ i j d n m. absurd (omega arith);
@@ -64,7 +63,7 @@ create_refused s m f h = refused_at s m f (first_from_find (create_test s.compon
 pub can_create : (s : Setup) (m : Member) → None ≡ find (create_test s.components m.name m.role) create_order → CanCreate s m
 can_create s m h =
     let none : AllByRecursion (λ f. ¬ CreateCause s m f) create_order = none_from_find (create_test s.components m.name m.role) (CreateCause s m) (create_decides s m) create_order (sym h) in
-    (none.0, elim (cases_lt (length s.components) COMPONENT_LIMIT) [ inl below ↦ below | inr full ↦ absurd (none.1.0 full) ])
+    (none.0, elim (cases_lt (length s.components) 64) [ inl below ↦ below | inr full ↦ absurd (none.1.0 full) ])
 
 -- an element of a list with one more
 get_or_before : {X : Type 0} (xs ys : List X) (k : ℕ) (d : X) → k < length xs → get_or (xs ++ ys) k d ≡ get_or xs k d

@@ -17,7 +17,6 @@ use Rattle.tp_config.specs.Setup.{Setup, Member, is_system_member, ins, outs}
 use Rattle.tp_config.specs.Allowed.{Directed}
 use Rattle.tp_config.specs.declared.creating.CreateFault.{CreateFault}
 use Rattle.tp_config.specs.declared.creating.CreateFault.TheVariants as trouble
-use Rattle.tp_config.specs.declared.port_type.TheConstants.{COMPONENT_LIMIT}
 use Rattle.tp_config.specs.Causes.{CreateCause, HasSystem}
 use Rattle.tp_config.specs.Tests.{are_among, create_test, has_name, has_system}
 
@@ -108,5 +107,5 @@ limit_decides m n = (leb-true m n, le-leb m n)
 pub create_decides : (s : Setup) (m : Member) (f : CreateFault) → Decides (create_test s.components m.name m.role f) (CreateCause s m f)
 create_decides s m trouble.Duplicate =
     Decides-or (has_name s.components m.name) (is_system_member m && has_system s.components) (name_decides s.components m.name) (Decides-and (is_system_member m) (has_system s.components) (itself (is_system_member m)) (system_decides s.components))
-create_decides s m trouble.Limit = limit_decides COMPONENT_LIMIT (length s.components)
+create_decides s m trouble.Limit = limit_decides 64 (length s.components)
 create_decides s m trouble.Memory = (λ e. absurd (cc), λ h. absurd h)

@@ -8,7 +8,6 @@ use Rattle.std.proofs.lemmas.List.Elements.{All-append, Contains-append_cases, C
 use Rattle.tp_config.specs.declared.port_type.CompId.{CompId}
 use Rattle.tp_config.specs.declared.port_type.PortRef.{PortRef}
 use Rattle.tp_config.specs.declared.port_type.RouteId.{RouteId}
-use Rattle.tp_config.specs.declared.port_type.TheConstants.{PORT_LIMIT}
 use Rattle.tp_config.specs.declared.routes.RouteFault.{RouteFault}
 use Rattle.tp_config.specs.Pairs.{partner, partners}
 use Rattle.tp_config.specs.Setup.{Setup, PortDecl, Member, IsPort, ports_at}
@@ -171,16 +170,16 @@ kept_from s now links more k same e p =
     ap (λ l. map (route_to p) (links_at l p)) e ∙ ap (map (route_to p)) (k.kept p) ∙ ap (λ t. map (route_to p) (beside t p)) same
 
 -- a component has few ports
-pub few_at : (s : Setup) → IsSetup s → (c : CompId) → length (ports_at s.types s.components c) ≤ PORT_LIMIT
+pub few_at : (s : Setup) → IsSetup s → (c : CompId) → length (ports_at s.types s.components c) ≤ 64
 unfolding ports_at
 few_at s l c = few_in s.types (slice_get s.components c.0) l.few_ports
   where
-    few_in : (ts : List (List PortDecl)) (o : Option Member) → All (λ (ports : List PortDecl). length ports ≤ PORT_LIMIT) ts → length (option_map_or (λ (m : Member). get_or ts m.kind []) o []) ≤ PORT_LIMIT
+    few_in : (ts : List (List PortDecl)) (o : Option Member) → All (λ (ports : List PortDecl). length ports ≤ 64) ts → length (option_map_or (λ (m : Member). get_or ts m.kind []) o []) ≤ 64
     few_in ts None few = omega arith
     few_in ts (Some m) few =
         elim (cases_lt m.kind (length ts)) [
           | inl below ↦ few m.kind [] below
-          | inr past ↦ subst (λ (ports : List PortDecl). length ports ≤ PORT_LIMIT) (sym (get_or_past ts m.kind [] past)) (omega arith)
+          | inr past ↦ subst (λ (ports : List PortDecl). length ports ≤ 64) (sym (get_or_past ts m.kind [] past)) (omega arith)
         ]
 
 -- a route that was chosen is one of the routes

@@ -1,7 +1,6 @@
 -- Which configurations are allowed (ES 201 873-1, 9.1 and 21.1).
 use Rattle.std.specs.Prelude.{◌≡◌, ◌≤◌, ◌<◌, ◌≢◌, true, false, List, length, All, AllPairs, Contains}
 use Rattle.tp_config.specs.declared.port_type.PortRef.{PortRef}
-use Rattle.tp_config.specs.declared.port_type.TheConstants.{COMPONENT_LIMIT, PORT_LIMIT}
 use Rattle.tp_config.specs.Setup.{Setup, PortDecl, Member, IsPort, is_system, is_system_member, ins, outs, connecting, mapping}
 use Rattle.tp_config.specs.Pairs.{partners}
 
@@ -57,8 +56,8 @@ pub record IsSetup (s : Setup) : Type 0 where
   pub mapped_ports : All (ArePorts s) s.mapped
   -- no pair is connected twice
   pub once : (p : PortRef) → AllPairs (λ q r. q ≢ r) (partners s.connected p)
-  pub few_ports : All (λ (ports : List PortDecl). length ports ≤ PORT_LIMIT) s.types
-  pub few_components : length s.components ≤ COMPONENT_LIMIT
+  pub few_ports : All (λ (ports : List PortDecl). length ports ≤ 64) s.types
+  pub few_components : length s.components ≤ 64
   -- each component's type is one of the configuration's
   pub kinds : All (λ (m : Member). m.kind < length s.types) s.components
   -- no two components have one name

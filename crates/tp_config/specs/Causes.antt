@@ -1,7 +1,6 @@
 -- The causes of refusals, and their order.
 use Rattle.std.specs.Prelude.{◌≡◌, ◌≢◌, ◌<◌, ◌≤◌, true, ◌⊎◌, List, [], ◌∷◌, length, Contains}
 use Rattle.tp_config.specs.declared.port_type.PortRef.{PortRef}
-use Rattle.tp_config.specs.declared.port_type.TheConstants.{COMPONENT_LIMIT}
 use Rattle.tp_config.specs.declared.creating.CreateFault.{CreateFault}
 use Rattle.tp_config.specs.declared.creating.CreateFault.TheVariants as trouble
 use Rattle.tp_config.specs.declared.connecting.ConnectFault.{ConnectFault}
@@ -32,12 +31,12 @@ IsTaken s m = Contains (names s) m.name ⊎ ((is_system_member m ≡ true) × Ha
 -- the cause of each refusal, whatever the others
 abbrev pub CreateCause : Setup → Member → CreateFault → Type 0
 CreateCause s m trouble.Duplicate = IsTaken s m
-CreateCause s m trouble.Limit = COMPONENT_LIMIT ≤ length s.components
+CreateCause s m trouble.Limit = 64 ≤ length s.components
 CreateCause s m trouble.Memory = ⊥
 
 -- the component is new, and there is room for it
 abbrev pub CanCreate : Setup → Member → Type 0
-CanCreate s m = (¬ IsTaken s m) × (length s.components < COMPONENT_LIMIT)
+CanCreate s m = (¬ IsTaken s m) × (length s.components < 64)
 
 -- why a create is refused: by the first cause that holds, or, where the component can be created, for want of memory
 abbrev pub CreateRefused : Setup → Member → CreateFault → Type 0

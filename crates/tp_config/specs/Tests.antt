@@ -5,7 +5,6 @@ use Rattle.std.specs.Str.{bytes_eq}
 use Rattle.tp_value.specs.declared.types.Ty.{Ty}
 use Rattle.tp_config.specs.declared.port_type.PortRef.{PortRef}
 use Rattle.tp_config.specs.declared.port_type.Role.{Role}
-use Rattle.tp_config.specs.declared.port_type.TheConstants.{COMPONENT_LIMIT}
 use Rattle.tp_config.specs.declared.creating.CreateFault.{CreateFault}
 use Rattle.tp_config.specs.declared.creating.CreateFault.TheVariants as trouble
 use Rattle.tp_config.specs.declared.connecting.ConnectFault.{ConnectFault}
@@ -28,7 +27,7 @@ has_system members = list_any is_system_member members
 -- the causes of a refused create
 abbrev pub create_test : List Member → List ℕ → Role → CreateFault → Bool
 create_test members name role trouble.Duplicate = has_name members name || (is_system_role role && has_system members)
-create_test members name role trouble.Limit = nat_le COMPONENT_LIMIT (length members)
+create_test members name role trouble.Limit = nat_le 64 (length members)
 create_test members name role trouble.Memory = false
 
 -- both or none

@@ -11,7 +11,7 @@ use crate::connecting::{ConnectFault, connect_fault};
 use crate::creating::{CreateFault, create_fault, place_of};
 use crate::links::Links;
 use crate::mapping::{MapFault, map_fault};
-use crate::port_type::{CompId, CompType, PORT_LIMIT, PortRef, Role, RouteId};
+use crate::port_type::{CompId, CompType, PortRef, Role, RouteId};
 use crate::routes::{RouteFault, choose, routes_in, routes_out};
 use std::alloc::Global;
 use std::marker::Model;
@@ -55,7 +55,7 @@ impl Config {
     /// A configuration with these component types, numbered from 0, no component and no pair. Takes no
     /// memory; later calls take it from `alloc`. Each type has at most 64 ports.
     pub fn new(alloc: Global, types: Vec<CompType>) -> Config
-        requires { All (λ t. length t.ports.entries ≤ PORT_LIMIT) types.items }
+        requires { All (λ t. length t.ports.entries ≤ 64) types.items }
         ensures empty { result ≡ empty_setup (map ports_of types.items) }
         ensures lawful { IsSetup result }
     {

@@ -6,7 +6,7 @@ ghost use Rattle.tp_config.specs.Links.{routes_kept};
 ghost use Rattle.tp_config.specs.Shape.{links_of};
 
 use crate::component::{Component, beside};
-use crate::port_type::{CompId, PORT_LIMIT, PortRef, RouteId};
+use crate::port_type::{CompId, PortRef, RouteId};
 use std::alloc::Global;
 use thiserror::Error;
 use tp_refusal::memory::Memory;
@@ -110,7 +110,7 @@ pub(crate) fn routes_in(
     comp: CompId,
     count: usize,
 ) -> Result<Vec<RouteId>, Memory>
-    requires { count ≤ PORT_LIMIT }
+    requires { count ≤ 64 }
     ensures { IfOk result (λ v. v.items ≡ routes_kept (map links_of components.now) comp count) }
 {
     let mut routes = Vec::new(alloc);
