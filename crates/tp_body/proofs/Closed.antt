@@ -181,7 +181,7 @@ module _ (scope : Scope) (variables : Variables) where
   sent_closed turns sendable (b.counter n k h l) = omega (arith, needed_turn k, slice_get_within turns k (string_bytes n) h.there)
   sent_closed turns sendable (b.held n k u a h l) = omega arith
 
-  wanted_closed : (turns : List (List ℕ)) (receivable : List Ty) {x : Option MessageTemplate} {y : RecvMsg} → IsWanted scope turns receivable x y → needed_by_wanted y ≤ length turns
+  pub wanted_closed : (turns : List (List ℕ)) (receivable : List Ty) {x : Option MessageTemplate} {y : RecvMsg} → IsWanted scope turns receivable x y → needed_by_wanted y ≤ length turns
   wanted_closed turns receivable b.every_message = omega arith
   wanted_closed turns receivable (b.matching x u r f l h) = template_closed scope.types.now turns h
 

@@ -13,3 +13,6 @@ pub mod Closed
 pub mod Typing
 pub mod Fitting
 pub mod Listed
+pub mod Playing
+pub mod Played
+pub mod PlayRules

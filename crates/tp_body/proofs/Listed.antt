@@ -1,5 +1,5 @@
 -- A type that a list has.
-use Rattle.std.proofs.Common.{◌≡◌, Bool, true, List, Contains, refl, sym, ap, ◌∙◌, ◌==◌}
+use Rattle.std.proofs.Common.{◌≡◌, true, List, Contains, refl, sym, ap, ◌∙◌}
 use Rattle.std.specs.List.{list_any}
 use Rattle.std.proofs.lemmas.Bool.Decides.{Decides-eqb}
 use Rattle.std.proofs.lemmas.List.Folds.{list_any_at}

@@ -12,6 +12,7 @@ use Rattle.tp_body.specs.declared.body.SendMsg.{SendMsg}
 use Rattle.tp_body.specs.declared.body.RecvMsg.{RecvMsg}
 use Rattle.tp_body.specs.declared.body.RecvMsg.TheVariants as wanted
 use Rattle.tp_body.specs.Messages.{IsValue, IsTemplate}
+use Rattle.tp_body.specs.Playable.{IsAlwaysTyped, IsAlwaysFitting, WantedFits}
 
 -- where a message stands for a value of the text, what it is filled to has its type
 abbrev pub IsTyped : SendMsg → Message → Type 0
@@ -22,3 +23,11 @@ abbrev pub IsFitting : RecvMsg → MsgTemplate → Type 0
 IsFitting (wanted.Of u r) (m.Of v t) = (types : Types) (turns : List (List ℕ)) (text : Template) → IsTemplate types turns u text r → Fits types v t
 IsFitting (wanted.Of u r) m.Any = ⊥
 IsFitting wanted.Any made = Unit {0}
+
+-- where a message has its type whatever the loop variables hold, what it is filled to has it
+abbrev pub HasItsType : SendMsg → Message → Type 0
+HasItsType message made = (types : Types) → IsAlwaysTyped types message → HasType types made.ty made.value
+
+-- where what is wanted fits its type whatever the loop variables hold, what it is filled to fits it
+abbrev pub FitsItsType : RecvMsg → MsgTemplate → Type 0
+FitsItsType wanted made = (types : Types) → IsAlwaysFitting types wanted → WantedFits types made

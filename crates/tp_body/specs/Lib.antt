@@ -6,3 +6,4 @@ pub mod Sizes
 pub mod Fills
 pub mod Closed
 pub mod Laws
+pub mod Playable

@@ -2,7 +2,7 @@
 ghost use Rattle.std.specs.Prelude.{◌≡◌, ◌≤◌, All, FitsSigned, IfOk, length, map};
 ghost use Rattle.std.specs.Int.{w64};
 ghost use Rattle.tp_body.specs.Fills.{filled, filled_template, filled_wanted, greatest, needed, needed_by_template, needed_by_wanted};
-ghost use Rattle.tp_body.specs.Laws.{IsTyped, IsFitting};
+ghost use Rattle.tp_body.specs.Laws.{FitsItsType, HasItsType, IsFitting, IsTyped};
 
 use crate::body::{RecvMsg, RecvTemplate, SendMsg, SendValue};
 use std::alloc::Global;
@@ -61,7 +61,8 @@ fn read_integers(integers: &[i64])
 
 /// The message that a send sends, where the loop variables around it hold these integers, the outermost
 /// first: one for each loop variable of which the message speaks (ES 201 873-1, 22.2.1). Under all types
-/// for which the send stands for a value of a text, the message's value has the message's type.
+/// for which the send stands for a value of a text, the message's value has the message's type; likewise
+/// under all types under which it has its type whatever the loop variables hold.
 ///
 /// 50 `Memory` only where an allocation was refused.
 pub fn fill_message(alloc: Global, message: &SendMsg, turns: &[i64]) -> Result<Message, Memory>
@@ -69,6 +70,7 @@ pub fn fill_message(alloc: Global, message: &SendMsg, turns: &[i64]) -> Result<M
     ensures ty { IfOk result (λ made. made.ty ≡ message.now.ty) }
     ensures value { IfOk result (λ made. made.value ≡ filled turns.now message.now.value) }
     ensures typed { IfOk result (IsTyped message.now) }
+    ensures played { IfOk result (HasItsType message.now) }
 {
     let value = fill_value(alloc, &message.value, turns)?;
     read_integers(turns);
@@ -138,13 +140,14 @@ fn fill_all(
 /// What a receiving operation wants, where the loop variables around it hold these integers, the
 /// outermost first: one for each loop variable of which the template speaks (ES 201 873-1, 15 and
 /// Annex B). Under all types for which the operation stands for a template of a text, what is made fits
-/// its type.
+/// its type; likewise under all types under which it fits its type whatever the loop variables hold.
 ///
 /// 50 `Memory` only where an allocation was refused.
 pub fn fill_template(alloc: Global, wanted: &RecvMsg, turns: &[i64]) -> Result<MsgTemplate, Memory>
     requires given { needed_by_wanted wanted.now ≤ length turns.now }
     ensures value { IfOk result (λ made. made ≡ filled_wanted turns.now wanted.now) }
     ensures fits { IfOk result (IsFitting wanted.now) }
+    ensures played { IfOk result (FitsItsType wanted.now) }
 {
     match wanted {
         RecvMsg::Any => Ok(MsgTemplate::Any),

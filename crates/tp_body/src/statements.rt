@@ -1,8 +1,9 @@
 //! What statements stand for.
-ghost use Rattle.std.specs.Prelude.{◌≡◌, ◌∷◌, ◌++◌, [], IfOk};
+ghost use Rattle.std.specs.Prelude.{◌≡◌, ◌∷◌, ◌++◌, [], IfOk, length};
 ghost use Rattle.tp_name.specs.Named.{texts};
 ghost use Rattle.tp_body.specs.Bodies.{AreBranches, IsAfter, IsBlock, IsBody, IsBranch, IsStatement};
 ghost use Rattle.tp_body.specs.Closed.{needed_around_all};
+ghost use Rattle.tp_body.specs.Playable.{IsPlayable, reference_count};
 
 use crate::body::{Body, Branch, Statement};
 use crate::lookup::find_port;
@@ -235,7 +236,8 @@ fn resolve_branches<'m>(
 ///
 /// The first fault in the order of the text is answered: 12 `Duplicate`, at the given line, which is that
 /// of the function, for a parameter that has the name of a port; then those of the variables; then those
-/// of the statements; 50. A body's statements speak of no loop variables but those around them.
+/// of the statements; 50. A body's statements speak of no loop variables but those around them, and of no
+/// other place that isn't there: the ports of the component type, the references and the variables.
 pub fn resolve_body(
     alloc: Global,
     scope: &Scope,
@@ -245,6 +247,8 @@ pub fn resolve_body(
 ) -> Result<Body, ScriptFault>
     ensures body { IfOk result (IsBody scope.now declared.now statements.now) }
     ensures closed { IfOk result (λ body. needed_around_all body.statements ≡ 0) }
+    ensures playable { let ports = length scope.now.ports.now.ports.entries in
+        IfOk result (IsPlayable scope.now.types.now ports (reference_count scope.now)) }
 {
     if !are_no_ports(scope) {
         return Err(refused(Refusal::Duplicate, line));

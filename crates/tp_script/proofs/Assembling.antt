@@ -30,7 +30,7 @@ use Rattle.tp_script.specs.Duties as d
 use Rattle.tp_script.specs.Duties.{Duty, Does}
 use Rattle.tp_script.specs.Parts as parts
 use Rattle.tp_script.specs.Parts.{known_in, body_in, duty_in, duty_of, IsPart, AreParts, part_count}
-use Rattle.tp_script.specs.TestCases.{known_of, AreKinds}
+use Rattle.tp_script.specs.TestCases.{known_of, AreKinds, IsTestCaseOf}
 
 -- a setup statement leaves the component types and the components
 step_keeps : (s t : Setup) (names : List (List ℕ)) (system : Option ℕ) (x : SetupAction) → IsStep s names system x t → (t.types ≡ s.types) × (length t.components ≡ length s.components)
@@ -46,14 +46,14 @@ makes_keeps system start xs s (one_more ys r x t before step) =
     (here.0 ∙ earlier.0, here.1 ∙ earlier.1)
 
 -- what stands in the other list at the place of an item
-zip_from : {A B : Type 0} (R : A → B → Type 0) (xs : List A) (ys : List B) (k : ℕ) (x : A) → AllZip R xs ys → slice_get xs k ≡ Some x → (y : B) × (slice_get ys k ≡ Some y) × R x y
+pub zip_from : {A B : Type 0} (R : A → B → Type 0) (xs : List A) (ys : List B) (k : ℕ) (x : A) → AllZip R xs ys → slice_get xs k ≡ Some x → (y : B) × (slice_get ys k ≡ Some y) × R x y
 zip_from R [] ys k x each e = absurd (cc)
 zip_from R (a ∷ xs) [] k x each e = absurd each
 zip_from R (a ∷ xs) (b ∷ ys) zero x each e = (b, refl, subst (λ z. R z b) (same_Some a x e) each.0)
 zip_from R (a ∷ xs) (b ∷ ys) (suc k) x each e = zip_from R xs ys k x each.1 e
 
 -- what an item of a list was made of
-mapped_from : {A B : Type 0} (f : A → B) (xs : List A) (k : ℕ) (y : B) → slice_get (map f xs) k ≡ Some y → (x : A) × (slice_get xs k ≡ Some x) × (f x ≡ y)
+pub mapped_from : {A B : Type 0} (f : A → B) (xs : List A) (k : ℕ) (y : B) → slice_get (map f xs) k ≡ Some y → (x : A) × (slice_get xs k ≡ Some x) × (f x ≡ y)
 mapped_from {A} {B} f xs k y e = by (slice_get xs k) refl (sym (slice_get-map f xs k) ∙ e) where
   by : (o : Option A) → slice_get xs k ≡ o → option_map f o ≡ Some y → (x : A) × (slice_get xs k ≡ Some x) × (f x ≡ y)
   by None is made = absurd (cc)
@@ -131,3 +131,18 @@ module _ (m : Module) (p : Prepared) (of : IsPreparedOf m p) where
         let from = mapped_from (duty_of bodies) list k duty e in
         subst (λ kn. Does kn (functions m) p.case.case.now p.starts k duty) known_is
         (subst (Does (known_in p) (functions m) p.case.case.now p.starts k) from.2 (part_does k from.0 (each k from.0 from.1)))
+
+    -- what the passes made is the test case of the module
+    pub test_case_of : (list : List (Option Part)) → AreParts p list → length list ≡ part_count p
+        → IsTestCaseOf m (record { config = p.config; types = p.types; duties = map (duty_of bodies) list })
+    test_case_of list each count = record {
+      case = p.case.case.now;
+      one_test_case = of.one_test_case;
+      types = of.types;
+      kinds = kinds;
+      config = of.config;
+      starts = p.starts;
+      starts_are = of.starts;
+      everyone = length-map list (duty_of bodies) ∙ count ∙ sym everyone;
+      does = does list each;
+    }

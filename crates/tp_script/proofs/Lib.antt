@@ -2,3 +2,6 @@ pub mod Numbering
 pub mod Functions
 pub mod Totals
 pub mod Assembling
+pub mod Readiness
+pub mod Routing
+pub mod Crossing

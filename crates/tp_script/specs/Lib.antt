@@ -3,3 +3,4 @@ pub mod Duties
 pub mod TestCases
 pub mod Parts
 pub mod Seen
+pub mod Ready

@@ -1,9 +1,12 @@
 //! The test case of a module.
-ghost use Rattle.std.specs.Prelude.{◌≡◌, None, length, map};
+ghost use Rattle.std.specs.Prelude.{◌≡◌, ◌≤◌, ◌<◌, None, IfSome, MatchOption, length, map};
 ghost use Rattle.std.specs.List.{slice_index_or};
 ghost use Rattle.std.specs.Option.{option_copied, option_map};
+ghost use Rattle.tp_config.specs.Allowed.{IsSetup};
+ghost use Rattle.tp_config.specs.Setup.{IsComponent};
 ghost use Rattle.tp_script.specs.TestCases.{duty_at};
 ghost use Rattle.tp_script.specs.Parts.{body_in, duty_of};
+ghost use Rattle.tp_script.specs.Ready.{CanDo, HasMain, HasNoSystem, IsReady, IsSystem};
 ghost use Rattle.tp_script.specs.Seen.{seen};
 
 use crate::bodies::Bodies;
@@ -17,6 +20,9 @@ use tp_value::types::Types;
 
 /// A test case whose module obeys the rules: its components and what each of them does. Contracts see the
 /// configuration, the types and each component's duty.
+///
+/// At every moment it can be executed: each component can do what it is there for, so that each port,
+/// reference, variable and loop variable of which its body speaks is there.
 #[derive(Drop)]
 pub struct TestCase {
     config: Config,
@@ -64,6 +70,27 @@ fn body_of(bodies: &Bodies, source: Source) -> Option<&Body>
     }
 }
 
+/// What the component of this number does. Takes no memory.
+fn conduct_of<'t>(
+    bodies: &'t Bodies,
+    parts: &'t [Option<Part>],
+    comp: CompId,
+) -> Option<Conduct<'t>>
+    ensures { let duties = map (duty_of bodies.now) parts.now in
+        option_map seen result ≡ slice_index_or duties comp.0 None }
+{
+    let Some(part) = part_at(parts, comp) else {
+        return None;
+    };
+    let Some(body) = body_of(bodies, part.source) else {
+        return None;
+    };
+    Some(Conduct {
+        body,
+        references: part.references.as_slice(),
+    })
+}
+
 impl Model for TestCase {
     ghost use Rattle.std.specs.Prelude.{map};
     ghost use Rattle.tp_script.specs.TestCases.{Made};
@@ -75,12 +102,18 @@ impl Model for TestCase {
 
     ghost coded = { Prim.hlevel (codes, statement_contract.the_row.coded) };
 
+    ghost use Rattle.tp_script.specs.Ready.{IsReady};
+
     ghost view = { λ t. record { config = t.config; types = t.types; duties = map (duty_of t.bodies) t.parts.items } };
+
+    ghost invariant = { λ t. IsReady (record { config = t.config; types = t.types; duties = map (duty_of t.bodies) t.parts.items }) };
 }
 
 impl TestCase {
     /// The test case of what the passes made.
     pub(crate) fn new(prepared: Prepared<'_>, behaviours: Behaviours) -> TestCase
+        requires { let duties = map (duty_of behaviours.bodies) behaviours.parts.items in
+            IsReady (record { config = prepared.config; types = prepared.types; duties = duties }) }
         ensures { result ≡ record { config = prepared.entry.config; types = prepared.entry.types; duties = map (duty_of behaviours.bodies) behaviours.parts.items } }
     {
         let Prepared { types, config, .. } = prepared;
@@ -97,9 +130,45 @@ impl TestCase {
     /// their order, and the test system interface where the test case has a `system` clause
     /// (ES 201 873-1, 9.1, 21.2.1). Takes no memory.
     pub fn components(&self) -> usize
-        ensures { result ≡ length self.now.config.components }
+        ensures count { result ≡ length self.now.config.components }
+        ensures few { result ≤ 64 }
+        ensures main { HasMain self.now.config }
+        ensures lawful { IsSetup self.now.config }
     {
         self.config.len()
+    }
+
+    /// The component of this number. Takes no memory.
+    pub fn component(&self, number: usize) -> CompId
+        requires { number < length self.now.config.components }
+        ensures number { result.0 ≡ number }
+        ensures there { IsComponent self.now.config result }
+    {
+        let _count = self.components();
+        CompId(number as u32)
+    }
+
+    /// The component `mtc`, which has number 0. Takes no memory.
+    pub fn mtc(&self) -> CompId
+        ensures number { result.0 ≡ 0 }
+        ensures there { IsComponent self.now.config result }
+    {
+        let _count = self.components();
+        CompId(0)
+    }
+
+    /// The component that is the test system interface, or `None` where none is (ES 201 873-1, 9.2). It is
+    /// the last one. Takes no memory.
+    pub fn system(&self) -> Option<CompId>
+        ensures { MatchOption result (HasNoSystem self.now.config) (IsSystem self.now.config) }
+    {
+        let count = self.components();
+        let last = CompId(count as u32 - 1);
+        if self.config.role(last).is_system() {
+            Some(last)
+        } else {
+            None
+        }
     }
 
     /// The configuration that the setup statements make. Takes no memory.
@@ -118,19 +187,11 @@ impl TestCase {
 
     /// What the component does: the test case's own body for `mtc`, that of its function for a component that
     /// is started, and that of `sut` for the test system interface. `None` for a test system interface
-    /// without `sut`, and where there is no such component. Takes no memory.
+    /// without `sut`, and where there is no such component. The component can do it. Takes no memory.
     pub fn body(&self, comp: CompId) -> Option<Conduct<'_>>
-        ensures { option_map seen result ≡ duty_at self.now comp.0 }
+        ensures duty { option_map seen result ≡ duty_at self.now comp.0 }
+        ensures can { IfSome result (λ c. CanDo self.now.config self.now.types comp.0 (seen c)) }
     {
-        let Some(part) = part_at(&self.parts, comp) else {
-            return None;
-        };
-        let Some(body) = body_of(&self.bodies, part.source) else {
-            return None;
-        };
-        Some(Conduct {
-            body,
-            references: part.references.as_slice(),
-        })
+        conduct_of(&self.bodies, &self.parts, comp)
     }
 }

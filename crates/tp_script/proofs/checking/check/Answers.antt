@@ -1,33 +1,26 @@
-use Rattle.std.proofs.Common.{◌≤◌, ◌∙◌, sum, map, sym, subst}
+use Rattle.std.proofs.Common.{◌≤◌, sym, subst}
 use Rattle.std.specs.List.{AllZip}
-use Rattle.std.proofs.lemmas.List.{length-map}
 use Rattle.tp_setup.specs.Definitions.{functions}
 use Rattle.tp_script.specs.Scopes.{IsMainBody, IsFunctionBody}
-use Rattle.tp_script.specs.Duties.{size_of_duty}
-use Rattle.tp_script.specs.Parts.{duty_of}
 use Rattle.tp_script.specs.TestCases.{IsTestCaseOf, size_of_all}
-use Rattle.tp_script.proofs.Assembling.{does, everyone, kinds, known_is}
+use Rattle.tp_script.proofs.Assembling.{kinds, known_is, test_case_of}
+use Rattle.tp_script.proofs.Readiness.{ready}
 use Rattle.tp_script.proofs.checking.check.Goals as goal
+
+-- the module obeys the rules, so that its test case can be executed
+pub new-requires : goal.new-requires
+new-requires c =
+    let made = c.in_ok-behaviours.ensures in
+    ready c.args.parsed.now _ c.in_ok-prepared.ensures.rules
+    (test_case_of c.args.parsed.now c.in_ok-prepared.prepared c.in_ok-prepared.ensures.made c.in_ok-behaviours.behaviours.bodies made.main made.functions
+    c.in_ok-behaviours.behaviours.parts.items made.parts made.count)
 
 pub returns-clause-made : goal.returns-clause-made
 returns-clause-made c =
-    let m = c.args.parsed.now in
-    let p = c.in_ok-prepared.prepared in
-    let of = c.in_ok-prepared.ensures.made in
-    let bodies = c.in_ok-behaviours.behaviours.bodies in
-    let parts = c.in_ok-behaviours.behaviours.parts.items in
-    subst (IsTestCaseOf m) (sym c.new.ensures)
-    (record {
-      case = p.case.case.now;
-      one_test_case = of.one_test_case;
-      types = of.types;
-      kinds = kinds m p of;
-      config = of.config;
-      starts = p.starts;
-      starts_are = of.starts;
-      everyone = length-map parts (duty_of bodies) ∙ c.in_ok-behaviours.ensures.count ∙ sym (everyone m p of);
-      does = does m p of bodies c.in_ok-behaviours.ensures.main c.in_ok-behaviours.ensures.functions parts c.in_ok-behaviours.ensures.parts;
-    })
+    let made = c.in_ok-behaviours.ensures in
+    subst (IsTestCaseOf c.args.parsed.now) (sym c.new.ensures)
+    (test_case_of c.args.parsed.now c.in_ok-prepared.prepared c.in_ok-prepared.ensures.made c.in_ok-behaviours.behaviours.bodies made.main made.functions
+    c.in_ok-behaviours.behaviours.parts.items made.parts made.count)
 
 pub returns-clause-well_formed : goal.returns-clause-well_formed
 returns-clause-well_formed c =
