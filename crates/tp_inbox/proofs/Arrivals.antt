@@ -13,7 +13,7 @@ use Rattle.tp_inbox.specs.declared.entry.Entry.TheVariants as entry
 use Rattle.tp_inbox.specs.declared.envelope.Envelope.{Envelope}
 use Rattle.tp_inbox.specs.History.{is_arrival, arrivals, arrival_on, arrived_on}
 use Rattle.tp_inbox.specs.Envelopes.{of, InOrder, AreRouted}
-use Rattle.tp_inbox.specs.Routed.{AreRoutes, meets, route_at, no_route, arrival_of, arrivals_of, IsArrivalOn, AreNumbered}
+use Rattle.tp_inbox.specs.Routed.{AreRoutes, route_at, no_route, arrival_of, arrivals_of, IsArrivalOn, AreNumbered}
 use Rattle.tp_inbox.proofs.Routes.{same_or_not}
 
 true_and : (a b : ℕ) (c d : ℕ) → (eqb a b && eqb c d) ≡ true → (a ≡ b) × (c ≡ d)
@@ -52,6 +52,10 @@ same_place comp ports routes r p q low few e =
     (either_way p q other)))
     (same_or_not p q)
 
+-- whether two routes have one port and one sender
+abbrev meets : RouteId → RouteId → Bool
+meets r q = (r.to.port == q.to.port) && (r.source.0 == q.source.0)
+
 meets_itself : (r : RouteId) → meets r r ≡ true
 meets_itself r = and_from (eqb r.to.port r.to.port) (eqb r.source.0 r.source.0) (eq-eqb r.to.port r.to.port refl) (eq-eqb r.source.0 r.source.0 refl)
 
@@ -79,40 +83,38 @@ on_only : (routes : List RouteId) (q : RouteId) (p : ℕ) → ((k : ℕ) → k <
 unfolding arrived_on
 on_only routes q p only [] of_these = refl
 on_only routes q p only (e ∷ es) of_these =
-    ap (λ b. cons_option (cond b (Some (e.number, e.message)) None) (filter_map (arrival_on q) (arrivals_of routes es))) (only e.place of_these.0)
-    ∙ ap (λ l. cons_option (cond (eqb p e.place) (Some (e.number, e.message)) None) l) (on_only routes q p only es of_these.1)
-    ∙ cons_cond (eqb p e.place) (e.number, e.message) (of p es)
+    ap (λ b. cons_option (cond b (Some (e.number, e.stamped)) None) (filter_map (arrival_on q) (arrivals_of routes es))) (only e.place of_these.0)
+    ∙ ap (λ l. cons_option (cond (eqb p e.place) (Some (e.number, e.stamped)) None) l) (on_only routes q p only es of_these.1)
+    ∙ cons_cond (eqb p e.place) (e.number, e.stamped) (of p es)
 
 -- what arrives on a route of the list is what its envelopes hold
 pub on_place : (comp : CompId) (ports : ℕ) (routes : List RouteId) → AreRoutes comp ports routes → (p : ℕ) → p < length routes → (es : List Envelope) → AreRouted (length routes) es → arrived_on (route_at routes p) (arrivals_of routes es) ≡ of p es
 on_place comp ports routes r p low es of_these = on_only routes (route_at routes p) p (λ k few. meets_places comp ports routes r p k low few) es of_these
 
-meets_as : (r q s : RouteId) → meets r q ≡ true → meets r s ≡ meets q s
-meets_as r q s e =
-    let same = true_and r.to.port q.to.port r.source.0 q.source.0 e in
-    λ i. (same.0 i == s.to.port) && (same.1 i == s.source.0)
-
--- what arrives on a route that meets one of the list
-pub on_met : (comp : CompId) (ports : ℕ) (routes : List RouteId) → AreRoutes comp ports routes → (q : RouteId) (p : ℕ) → p < length routes → meets q (route_at routes p) ≡ true → (es : List Envelope) → AreRouted (length routes) es → arrived_on q (arrivals_of routes es) ≡ of p es
-on_met comp ports routes r q p low met es of_these =
-    on_only routes q p (λ k few. meets_as q (route_at routes p) (route_at routes k) met ∙ meets_places comp ports routes r p k low few) es of_these
-
--- nothing arrives on a route that meets none of the list
-pub on_none : (routes : List RouteId) (q : RouteId) → ((p : ℕ) → p < length routes → meets q (route_at routes p) ≡ false) → (es : List Envelope) → AreRouted (length routes) es → arrived_on q (arrivals_of routes es) ≡ []
+-- on a route into the component that is none of the list nothing arrives
+pub on_none : (comp : CompId) (ports : ℕ) (routes : List RouteId) → AreRoutes comp ports routes → (q : RouteId) → q.to.comp ≡ comp → ((k : ℕ) → k < length routes → route_at routes k ≡ q → ⊥)
+    → (es : List Envelope) → AreRouted (length routes) es → arrived_on q (arrivals_of routes es) ≡ []
 unfolding arrived_on
-on_none routes q none [] of_these = refl
-on_none routes q none (e ∷ es) of_these =
-    ap (λ b. cons_option (cond b (Some (e.number, e.message)) None) (filter_map (arrival_on q) (arrivals_of routes es))) (none e.place of_these.0)
-    ∙ on_none routes q none es of_these.1
+on_none comp ports routes r q to apart [] of_these = refl
+on_none comp ports routes r q to apart (e ∷ es) of_these =
+    ap (λ b. cons_option (cond b (Some (e.number, e.stamped)) None) (filter_map (arrival_on q) (arrivals_of routes es))) (none (true_or_false (meets q (route_at routes e.place))))
+    ∙ on_none comp ports routes r q to apart es of_these.1
+  where
+    none : (meets q (route_at routes e.place) ≡ true) ⊎ (meets q (route_at routes e.place) ≡ false) → meets q (route_at routes e.place) ≡ false
+    none (inl met) =
+        let p = route_at routes e.place in
+        let same = true_and q.to.port p.to.port q.source.0 p.source.0 met in
+        absurd (apart e.place of_these.0 (sym (meeting comp q p to (r.here e.place no_route of_these.0) same.0 same.1)))
+    none (inr not_met) = not_met
 
 pub arrivals_are : (routes : List RouteId) (es : List Envelope) → arrivals (arrivals_of routes es) ≡ arrivals_of routes es
 unfolding arrivals
 arrivals_are routes [] = refl
 arrivals_are routes (e ∷ es) = ap (λ l. arrival_of routes e ∷ l) (arrivals_are routes es)
 
-pub arrivals_one : (port : ℕ) (env : Env Message) → arrivals (entry.Arrive port env ∷ []) ≡ entry.Arrive port env ∷ []
+pub arrivals_one : (port : ℕ) (env : Env Message) (stamp : ℕ) → arrivals (entry.Arrive port env stamp ∷ []) ≡ entry.Arrive port env stamp ∷ []
 unfolding arrivals
-arrivals_one port env = refl
+arrivals_one port env stamp = refl
 
 pub arrivals_none : arrivals [] ≡ []
 unfolding arrivals
@@ -127,7 +129,7 @@ unfolding arrived_on
 arrived_on-append r xs ys = filter_map-append (arrival_on r) xs ys
 
 no_arrival : (r : RouteId) (e : Entry) → is_arrival e ≡ false → arrival_on r e ≡ None
-no_arrival r (entry.Arrive p env) n = absurd (cc)
+no_arrival r (entry.Arrive p env stamp) n = absurd (cc)
 no_arrival r (entry.Took p env b) n = refl
 no_arrival r (entry.Found p env b) n = refl
 no_arrival r (entry.Dropped p env b) n = refl
@@ -135,7 +137,7 @@ no_arrival r (entry.Cleared p) n = refl
 no_arrival r (entry.Started p) n = refl
 no_arrival r (entry.Stopped p) n = refl
 no_arrival r (entry.Halted p) n = refl
-no_arrival r (entry.Sent q number message) n = refl
+no_arrival r (entry.Sent q number m) n = refl
 no_arrival r entry.Else n = refl
 no_arrival r (entry.Verdict v) n = refl
 no_arrival r (entry.Failed code) n = refl

@@ -5,7 +5,7 @@ use Rattle.std.specs.declared.vec.Vec.{Vec}
 use Rattle.std.proofs.lemmas.List.{get_or-map, map-append, length-map}
 use lib.Seq.{get_or-append_seam}
 use Rattle.crossbeam_queue.specs.Fifo.{Held}
-use Rattle.tp_value.specs.declared.message.Message.{Message}
+use Rattle.tp_inbox.specs.declared.stamped.Stamped.{Stamped}
 use Rattle.tp_config.specs.declared.port_type.CompId.{CompId}
 use Rattle.tp_config.specs.declared.port_type.RouteId.{RouteId}
 use Rattle.tp_inbox.specs.declared.entry.Entry.{Entry}
@@ -22,7 +22,7 @@ use Rattle.tp_inbox.proofs.Owners.{take_front, sound_joined, routed_rest}
 use Rattle.tp_inbox.proofs.Arrivals.{same_place, on_place, are_on, arrived_in, arrived_on-append}
 
 abbrev pub Sent : Type 0
-Sent = RouteId × List Message
+Sent = RouteId × List Stamped
 
 pub all_head : {A : Type 0} (P : A → Type 0) (x : A) (xs : List A) → All P (x ∷ xs) → P x
 all_head P x xs h = h 0 x (omega arith)
@@ -52,7 +52,7 @@ front_and_back all xs ys is = is ∙ ap (λ l. l ++ ys) (sym (front_is all xs ys
 route_of : (routes : List RouteId) (sent : List Sent) → map (λ s. s.0) sent ≡ routes → (k : ℕ) (d : Sent) → k < length sent → (slice_index_or sent k d).0 ≡ route_at routes k
 route_of routes sent is k d low = sym (get_or-map (λ (s : Sent). s.0) sent k d no_route low) ∙ ap (λ l. route_at l k) is
 
-ledger_of : (known : List (List Message)) (sent : List Sent) → known ≡ map (λ s. s.1) sent → (k : ℕ) (d : Sent) → k < length sent → (slice_index_or sent k d).1 ≡ slice_index_or known k []
+ledger_of : (known : List (List Stamped)) (sent : List Sent) → known ≡ map (λ s. s.1) sent → (k : ℕ) (d : Sent) → k < length sent → (slice_index_or sent k d).1 ≡ slice_index_or known k []
 ledger_of known sent is k d low = sym (get_or-map (λ (s : Sent). s.1) sent k d [] low) ∙ ap (λ l. slice_index_or l k []) (sym is)
 
 -- what the owner's pass knows, and the routes
@@ -94,7 +94,7 @@ rest_at hub v inbox drained rest sound made same is =
     subst (λ (i : Inbox). All (IsArrivalOn i.routes) rest) same back
 
 -- the owner's pass once the senders have joined, and the queue was looked at
-pub joined : (v u w : View) (known : List (List Message)) (n : ℕ) → Sound v → u ≡ owner_of v.made v.taken known → w ≡ u → Held n (Knows u)
+pub joined : (v u w : View) (known : List (List Stamped)) (n : ℕ) → Sound v → u ≡ owner_of v.made v.taken known → w ≡ u → Held n (Knows u)
     → Sound w × (w.made ≡ v.made) × (w.taken ≡ v.taken) × (w.known ≡ known)
 joined v u w known n s e same held = (
   sound_joined v u w known n s e same held,
@@ -115,6 +115,6 @@ hand_routed n m all hand same routed ends = routed_rest n m all (before all (one
 pub move_one : {A : Type 0} (all xs : List A) (x : A) (ys : List A) → all ≡ xs ++ x ∷ [] → all ++ ys ≡ xs ++ x ∷ ys
 move_one all xs x ys is = ap (λ l. l ++ ys) is ∙ append_assoc xs (x ∷ []) ys
 
-pub seen-push : {A : Type 0} (all xs : List (RouteId × Vec Message A)) (r : RouteId) (v : Vec Message A) (s : Sent) → all ≡ xs ++ (r, v) ∷ [] → r ≡ s.0 → v.items ≡ s.1 → seen_sent all ≡ seen_sent xs ++ s ∷ []
+pub seen-push : {A : Type 0} (all xs : List (RouteId × Vec Stamped A)) (r : RouteId) (v : Vec Stamped A) (s : Sent) → all ≡ xs ++ (r, v) ∷ [] → r ≡ s.0 → v.items ≡ s.1 → seen_sent all ≡ seen_sent xs ++ s ∷ []
 seen-push all xs r v s is route ledger =
     ap seen_sent is ∙ map-append (λ v. (v.0, v.1.items)) xs ((r, v) ∷ []) ∙ ap (λ x. seen_sent xs ++ x ∷ []) (λ i. (route i, ledger i))

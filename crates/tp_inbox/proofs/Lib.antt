@@ -1,4 +1,6 @@
 pub mod Tops
+pub mod Clocks
+pub mod Crossing
 pub mod Ports
 pub mod Routes
 pub mod Steps
@@ -7,5 +9,6 @@ pub mod Arrivals
 pub mod Places
 pub mod Owned
 pub mod Gathering
+pub mod Rests
 pub mod Made
 pub mod Senders

@@ -33,6 +33,11 @@ below_within s c (suc n) =
     (all_more (λ (r : RouteId). r.to.port < n) (λ (r : RouteId). r.to.port < suc n) (routes_below s c n) (λ r l. omega arith) (below_within s c n))
     (all_map (λ (r : RouteId). r.to.port < suc n) (λ q. route_to q p) (beside s p) (λ q. omega arith))
 
+-- the routes into a component lead to its ports
+pub routes_here : (s : Setup) (c : CompId) → All (λ (r : RouteId). r.to.comp ≡ c) (routes_into s c)
+unfolding routes_into
+routes_here s c = below_here s c (length (ports_at s.types s.components c))
+
 -- the routes into a component of a configuration
 pub routes_are : (s : Setup) (c : CompId) (routes : List RouteId) → routes ≡ routes_into s c → AreDistinct (routes_into s c) → AreRoutes c (length (ports_at s.types s.components c)) routes
 unfolding routes_into

@@ -1,8 +1,12 @@
 -- What an owner's fields say of what it has drained.
-use Rattle.std.proofs.Common.{◌≡◌, ℕ, suc, ◌+◌, ◌<◌, ◌≤◌, Bool, true, false, Option, Some, None, List, [], ◌∷◌, ◌++◌, length, set, get_or, cond, append_assoc, sym, ap, ◌∙◌, subst, arith}
+use Rattle.std.proofs.Common.{◌≡◌, ℕ, suc, ◌+◌, ◌<◌, ◌≤◌, ◌⊎◌, inl, inr, Bool, true, false, Option, Some, None, List, [], ◌∷◌, ◌++◌, length, set, get_or, cond, eqb, eq-eqb, append_assoc, sym, ap, ◌∙◌, subst, arith}
 use Rattle.std.specs.Prelude.{filter}
 use Rattle.std.specs.Arc.{arc_value}
 use Rattle.std.proofs.lemmas.List.{map-append, length-map}
+use Rattle.std.proofs.lemmas.Bool.{cases_Bool, eqb-true}
+use Rattle.std.proofs.lemmas.Option.{none-some}
+use Rattle.indexmap.specs.IndexMap.{get_by}
+use Rattle.tp_config.specs.declared.port_type.CompId.{CompId}
 use Rattle.tp_config.specs.declared.port_type.RouteId.{RouteId}
 use Rattle.tp_inbox.specs.declared.entry.Entry.{Entry}
 use Rattle.tp_inbox.specs.declared.envelope.Envelope.{Envelope}
@@ -11,12 +15,13 @@ use Rattle.tp_inbox.specs.declared.owner.Owner.TheInside as owner
 use Rattle.tp_inbox.specs.History.{is_arrival, arrivals, arrived_on}
 use Rattle.tp_inbox.specs.Desks.{Journal, adding_all}
 use Rattle.tp_inbox.specs.Envelopes.{of, one_of, before, EndsWith, AreCounts, AreRouted}
-use Rattle.tp_inbox.specs.Routed.{AreArrivals, arrival_of, arrivals_of, meets, route_at, no_route}
-use Rattle.tp_inbox.specs.Ledgers.{Inbox, Draining, IsDeskOf}
+use Rattle.tp_inbox.specs.Routed.{AreArrivals, arrival_of, arrivals_of, route_at, no_route}
+use Rattle.tp_inbox.specs.Places.{route_eq}
+use Rattle.tp_inbox.specs.Ledgers.{Inbox, Draining, IsDeskOf, drained_on}
 use Rattle.tp_inbox.specs.Ends.{IsOwner, drained_of, inbox_of}
 use Rattle.tp_inbox.proofs.Routes.{append_nil, length-of, counts_next}
 use Rattle.tp_inbox.proofs.Owners.{in_order_before, routed_before, arrived, ends_nothing, before_nothing}
-use Rattle.tp_inbox.proofs.Arrivals.{are_on, numbered_on, on_met, on_none}
+use Rattle.tp_inbox.proofs.Arrivals.{are_on, numbered_on, on_none, on_place}
 
 -- what an owner sees itself as
 abbrev pub seen : owner.Inside → Draining
@@ -92,16 +97,33 @@ adding_nothing d = λ i. record { comp = d.comp; ports = d.ports; log = sym (app
 pub adding_twice : (d : Journal) (xs ys : List Entry) → adding_all (adding_all d xs) ys ≡ adding_all d (xs ++ ys)
 adding_twice d xs ys = λ i. record { comp = d.comp; ports = d.ports; log = append_assoc d.log xs ys i }
 
--- how many of a route were drained
-pub counted_at : (s : owner.Inside) (v : Draining) (route : RouteId) (place n : ℕ) → IsOwner s → seen s ≡ v → place < length (arc_value s.hub).routes.items → meets route (route_at (arc_value s.hub).routes.items place) ≡ true → n ≡ get_or s.counts.items place 0 → n ≡ length (arrived_on route v.drained)
-counted_at s v route place n o is low met at =
+-- how many of a route that is found were drained
+pub counted_at : (s : owner.Inside) (v : Draining) (route : RouteId) (place n : ℕ) → IsOwner s → seen s ≡ v → get_by (route_eq route) s.places ≡ Some place → n ≡ get_or s.counts.items place 0 → n ≡ drained_on v route
+counted_at s v route place n o is found at =
     let hub = arc_value s.hub in
+    let routes = hub.routes.items in
+    let known = o.places.known route place found in
+    let low = known.0 in
     let routed = routed_before _ _ s.pass.me.view.client.taken (one_of s.hand) o.made o.sound.routed in
-    at ∙ o.counts.1 place low ∙ ap length (sym (on_met hub.comp hub.ports hub.routes.items hub.routed route place low met (moved s) routed))
-    ∙ ap (λ (x : Draining). length (arrived_on route x.drained)) is
+    let here : route.to.comp ≡ hub.comp = ap (λ (r : RouteId). r.to.comp) (sym known.1) ∙ hub.routed.here place no_route low in
+    at ∙ o.counts.1 place low ∙ ap length (sym (on_place hub.comp hub.ports routes hub.routed place low (moved s) routed)) ∙ ap (λ r. length (arrived_on r (drained_of s))) known.1
+    ∙ ap (λ b. cond b (length (arrived_on route (drained_of s))) 0) (sym (eq-eqb route.to.comp.0 hub.comp.0 (ap (λ (c : CompId). c.0) here)))
+    ∙ ap (λ (x : Draining). drained_on x route) is
 
-pub counted_none : (s : owner.Inside) (v : Draining) (route : RouteId) → IsOwner s → seen s ≡ v → ((k : ℕ) → k < length (arc_value s.hub).routes.items → meets route (route_at (arc_value s.hub).routes.items k) ≡ false) → 0 ≡ length (arrived_on route v.drained)
-counted_none s v route o is none =
-    let hub = arc_value s.hub in
-    let routed = routed_before _ _ s.pass.me.view.client.taken (one_of s.hand) o.made o.sound.routed in
-    ap length (sym (on_none hub.routes.items route none (moved s) routed)) ∙ ap (λ (x : Draining). length (arrived_on route x.drained)) is
+-- of a route that isn't found nothing was drained
+pub none_counted : (s : owner.Inside) (v : Draining) (route : RouteId) → IsOwner s → seen s ≡ v → get_by (route_eq route) s.places ≡ None → 0 ≡ drained_on v route
+none_counted s v route o is none = by (cases_Bool (eqb route.to.comp.0 hub.comp.0)) ∙ ap (λ (x : Draining). drained_on x route) is
+  where
+    hub : Hub
+    hub = arc_value s.hub
+
+    apart : (k : ℕ) → k < length hub.routes.items → route_at hub.routes.items k ≡ route → ⊥
+    apart k low same = none-some k (sym none ∙ ap (λ r. get_by (route_eq r) s.places) (sym same) ∙ o.places.found k low)
+
+    by : (eqb route.to.comp.0 hub.comp.0 ≡ true) ⊎ (eqb route.to.comp.0 hub.comp.0 ≡ false) → 0 ≡ drained_on (seen s) route
+    by (inl same) =
+        let to : route.to.comp ≡ hub.comp = λ i. record { 0 = eqb-true route.to.comp.0 hub.comp.0 same i } in
+        let routed = routed_before _ _ s.pass.me.view.client.taken (one_of s.hand) o.made o.sound.routed in
+        ap length (sym (on_none hub.comp hub.ports hub.routes.items hub.routed route to apart (moved s) routed))
+        ∙ ap (λ b. cond b (length (arrived_on route (drained_of s))) 0) (sym same)
+    by (inr other) = ap (λ b. cond b (length (arrived_on route (drained_of s))) 0) (sym other)

@@ -2,7 +2,7 @@
 use Rattle.std.proofs.Common.{◌≡◌, ℕ, zero, suc, ◌-◌, ◌<◌, Option, Some, None, List, [], ◌∷◌, ◌++◌, length, take, drop, take-append-drop, MatchOption, IfSome, refl, sym, ap, ◌∙◌, subst, length-append, arith}
 use Rattle.crossbeam_queue.specs.Fifo.{Held}
 use Rattle.tp_inbox.specs.declared.envelope.Envelope.{Envelope}
-use Rattle.tp_value.specs.declared.message.Message.{Message}
+use Rattle.tp_inbox.specs.declared.stamped.Stamped.{Stamped}
 use Rattle.tp_inbox.specs.declared.rule.View.{View}
 use Rattle.tp_inbox.specs.Envelopes.{of, InOrder, AreRouted, AreFronts, AreWhole, one_of, before, EndsWith}
 use Rattle.tp_inbox.specs.Rule.{owner_of, Takes, Knows, Sound}
@@ -54,7 +54,7 @@ at_some P None p = tt
 at_some P (Some x) p = p
 
 -- the owner's pass once the senders have joined, and the queue was looked at
-pub sound_joined : (v u w : View) (known : List (List Message)) (n : ℕ) → Sound v → u ≡ owner_of v.made v.taken known → w ≡ u → Held n (Knows u) → Sound w
+pub sound_joined : (v u w : View) (known : List (List Stamped)) (n : ℕ) → Sound v → u ≡ owner_of v.made v.taken known → w ≡ u → Held n (Knows u) → Sound w
 sound_joined v u w known n s e same held =
     subst Sound (sym (same ∙ e)) record {
       owner = refl;
@@ -63,7 +63,7 @@ sound_joined v u w known n s e same held =
       fronts = subst (λ (x : View). AreFronts x.taken x.known) e (fronts_of_known u held.0 held.2);
     }
 
-pub gathered : (v u w : View) (known : List (List Message)) (routes : ℕ) (hand : Option Envelope) (rest : List Envelope) → v.made ≡ routes → EndsWith v.taken (one_of hand) → rest ≡ [] → u ≡ owner_of v.made v.taken known → w ≡ u
+pub gathered : (v u w : View) (known : List (List Stamped)) (routes : ℕ) (hand : Option Envelope) (rest : List Envelope) → v.made ≡ routes → EndsWith v.taken (one_of hand) → rest ≡ [] → u ≡ owner_of v.made v.taken known → w ≡ u
     → (w.made ≡ routes) × (w.known ≡ known) × EndsWith w.taken (one_of hand ++ rest) × IfSome hand (λ _. rest ≡ [])
 gathered v u w known routes hand rest made ends none e same = (
   ap (λ (x : View). x.made) (same ∙ e) ∙ made,
@@ -72,8 +72,8 @@ gathered v u w known routes hand rest made ends none e same = (
   at_some (rest ≡ []) hand none,
 )
 
-pub fronts_split : (w : View) (known : List (List Message)) (kept : List Envelope) → Sound w → w.known ≡ known → EndsWith w.taken kept → AreFronts (before w.taken kept ++ kept) known
-fronts_split w known kept s k e = subst (λ (x : List Envelope × List (List Message)). AreFronts x.0 x.1) (λ i. (e i, k i)) s.fronts
+pub fronts_split : (w : View) (known : List (List Stamped)) (kept : List Envelope) → Sound w → w.known ≡ known → EndsWith w.taken kept → AreFronts (before w.taken kept ++ kept) known
+fronts_split w known kept s k e = subst (λ (x : List Envelope × List (List Stamped)). AreFronts x.0 x.1) (λ i. (e i, k i)) s.fronts
 
 pub routed_rest : (n m : ℕ) (all xs ys : List Envelope) → n ≡ m → all ≡ xs ++ ys → AreRouted n all → AreRouted m ys
 routed_rest n m all xs ys e is h = routed-back m xs ys (subst (λ (x : ℕ × List Envelope). AreRouted x.0 x.1) (λ i. (e i, is i)) h)

@@ -1,53 +1,53 @@
--- The place that a search finds.
-use Rattle.std.proofs.Common.{◌≡◌, ◌⊎◌, inl, inr, ℕ, zero, suc, ◌<◌, ◌≤◌, Bool, true, false, cond, Option, Some, None, List, [], ◌∷◌, length, get_or, MatchOption, refl, sym, ap, ◌∙◌, subst, ⊎_elim, arith}
-use Rattle.std.specs.Prelude.{nat_lt, position}
-use Rattle.std.proofs.lemmas.List.Sums.{position_or_len_is}
-use Rattle.std.proofs.lemmas.Bool.Decides.{nat_tests}
+-- Routes and their places, by a table.
+use Rattle.std.proofs.Common.{◌≡◌, ◌≢◌, ◌⊎◌, inl, inr, ℕ, ◌+◌, ◌<◌, true, false, cond, eqb, Some, List, length, sym, ap, ◌∙◌, arith}
+use Rattle.std.specs.Prelude.{◌&&◌, AllPairs}
+use Rattle.std.proofs.lemmas.Bool.{and_parts, eqb-true, cases_Bool, cases_order}
+use Rattle.std.proofs.lemmas.Option.{same_Some, none-some}
+use Rattle.indexmap.specs.IndexMap.{IndexMap, IsEmpty, Updates, get}
+use Rattle.std.specs.Map.{lookup}
+use Rattle.tp_config.specs.declared.port_type.RouteId.{RouteId}
+use Rattle.tp_inbox.specs.Routed.{route_at, no_route}
+use Rattle.tp_inbox.specs.Places.{AreFiled, route_eq}
 
-true_or_false : (b : Bool) → (b ≡ true) ⊎ (b ≡ false)
-true_or_false true = inl refl
-true_or_false false = inr refl
+-- routes of which `==` says that they are the same
+pub eq_same : (r q : RouteId) → route_eq r q ≡ true → r ≡ q
+eq_same r q e =
+    let h = and_parts (eqb r.source.0 q.source.0) (eqb r.to.comp.0 q.to.comp.0 && eqb r.to.port q.to.port) e in
+    let g = and_parts (eqb r.to.comp.0 q.to.comp.0) (eqb r.to.port q.to.port) h.1 in
+    let a : r.source.0 ≡ q.source.0 = eqb-true r.source.0 q.source.0 h.0 in
+    let b : r.to.comp.0 ≡ q.to.comp.0 = eqb-true r.to.comp.0 q.to.comp.0 g.0 in
+    let p : r.to.port ≡ q.to.port = eqb-true r.to.port q.to.port g.1 in
+    λ i. record { source = record { 0 = a i }; to = record { comp = record { 0 = b i }; port = p i } }
 
--- the first place that passes, or the length
-record IsFirst {X : Type 0} (f : X → Bool) (d : X) (xs : List X) (i : ℕ) : Type 0 where
-  pub within : i ≤ length xs
-  pub fails : (k : ℕ) → k < i → f (get_or xs k d) ≡ false
-  pub passes : i < length xs → f (get_or xs i d) ≡ true
+-- a table of nothing
+pub filed_none : {S : Type 0} (routes : List RouteId) (m : IndexMap RouteId ℕ S) → IsEmpty m → AreFiled 0 routes m
+filed_none routes m none = record {
+  found = λ k low. absurd (omega arith);
+  known = λ r k is. absurd (none-some k (sym (ap (lookup (route_eq r)) none) ∙ is));
+}
 
-first_later : {X : Type 0} (f : X → Bool) (d x : X) (xs : List X) (i : ℕ) → f x ≡ false → IsFirst f d xs i → IsFirst f d (x ∷ xs) (suc i)
-first_later f d x xs i no_ h = record {
-  within = (let w = h.within in omega arith);
-  fails = fails;
-  passes = λ l. h.passes (omega arith);
+-- the next route is filed at its place
+pub filed_next : {S : Type 0} (routes : List RouteId) (m after : IndexMap RouteId ℕ S) (n : ℕ) → AllPairs (λ (r q : RouteId). r ≢ q) routes → n < length routes
+    → AreFiled n routes m → Updates route_eq m after (route_at routes n) (Some n) → AreFiled (n + 1) routes after
+filed_next routes m after n apart low filed up = record {
+  found = λ k below. found k below (cases_order k n);
+  known = λ r k is. known r k is (cases_Bool (route_eq (route_at routes n) r));
 }
   where
-    fails : (k : ℕ) → k < suc i → f (get_or (x ∷ xs) k d) ≡ false
-    fails zero l = no_
-    fails (suc k) l = h.fails k (omega arith)
+    here : RouteId
+    here = route_at routes n
 
-first : {X : Type 0} (f : X → Bool) (d : X) (xs : List X) → (i : ℕ) × IsFirst f d xs i
-first f d [] = (0, record { within = omega arith; fails = λ k l. absurd (omega arith); passes = λ l. absurd (omega arith) })
-first f d (x ∷ xs) =
-    ⊎_elim
-    (λ (yes : f x ≡ true). (0, record { within = omega arith; fails = λ k l. absurd (omega arith); passes = λ l. yes }))
-    (λ (no_ : f x ≡ false). let r = first f d xs in (suc r.0, first_later f d x xs r.0 no_ r.1))
-    (true_or_false (f x))
+    other : (k : ℕ) → k < n → (route_eq here (route_at routes k) ≡ true) ⊎ (route_eq here (route_at routes k) ≡ false) → route_eq here (route_at routes k) ≡ false
+    other k less (inl same) = absurd (apart k n no_route less low (sym (eq_same here (route_at routes k) same)))
+    other k less (inr apart_) = apart_
 
-below_or_not : (i n : ℕ) → (i < n) ⊎ (n ≤ i)
-below_or_not i zero = inr (omega arith)
-below_or_not zero (suc n) = inl (omega arith)
-below_or_not (suc i) (suc n) = ⊎_elim (λ (l : i < n). inl (omega arith)) (λ (l : n ≤ i). inr (omega arith)) (below_or_not i n)
+    found : (k : ℕ) → k < n + 1 → (k ≡ n) ⊎ ((k < n) ⊎ (n < k)) → get route_eq after (route_at routes k) ≡ Some k
+    found k below (inl e) = ap (λ j. get route_eq after (route_at routes j)) e ∙ up.1 ∙ ap (λ j. Some j) (sym e)
+    found k below (inr (inl less)) = up.2 (route_at routes k) (other k less (cases_Bool (route_eq here (route_at routes k)))) ∙ filed.found k less
+    found k below (inr (inr more)) = absurd (omega arith)
 
-abbrev Tells : {X : Type 0} → (X → Bool) → X → List X → Option ℕ → Type 0
-Tells f d xs o = MatchOption o ((k : ℕ) → k < length xs → f (get_or xs k d) ≡ false) (λ p. (p < length xs) × (f (get_or xs p d) ≡ true))
-
-tells_at : {X : Type 0} (f : X → Bool) (d : X) (xs : List X) (i : ℕ) → IsFirst f d xs i → (b : Bool) → nat_lt i (length xs) ≡ b → Tells f d xs (cond b (Some i) None)
-tells_at f d xs i h true is = let l : i < length xs = grind (arith, nat_tests) in (l, h.passes l)
-tells_at f d xs i h false is = λ k low. h.fails k (let l : length xs ≤ i = grind (arith, nat_tests) in omega arith)
-
--- the place that was found passes, or none does
-pub position_tells : {X : Type 0} (f : X → Bool) (d : X) (xs : List X) (o : Option ℕ) → o ≡ position f xs → MatchOption o ((k : ℕ) → k < length xs → f (get_or xs k d) ≡ false) (λ p. (p < length xs) × (f (get_or xs p d) ≡ true))
-position_tells f d xs o is =
-    let r = first f d xs in
-    let at = position_or_len_is f xs r.0 d r.1.within r.1.fails r.1.passes in
-    subst (Tells f d xs) (sym (is ∙ ap (λ i. cond (nat_lt i (length xs)) (Some i) None) at)) (tells_at f d xs r.0 r.1 (nat_lt r.0 (length xs)) refl)
+    known : (r : RouteId) (k : ℕ) → get route_eq after r ≡ Some k → (route_eq here r ≡ true) ⊎ (route_eq here r ≡ false) → (k < n + 1) × (route_at routes k ≡ r)
+    known r k is (inl same) =
+        let at : n ≡ k = same_Some n k (sym (up.0 r ∙ ap (λ b. cond b (Some n) (get route_eq m r)) same) ∙ is) in
+        (omega (arith, at), ap (route_at routes) (sym at) ∙ eq_same here r same)
+    known r k is (inr differs) = let old = filed.known r k (sym (up.2 r differs) ∙ is) in (let less = old.0 in omega arith, old.1)

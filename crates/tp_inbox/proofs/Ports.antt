@@ -1,8 +1,10 @@
 -- The ports' queues keep to the history through each entry.
-use Rattle.std.proofs.Common.{◌≡◌, ◌≢◌, ◌⊎◌, inl, inr, ℕ, zero, suc, ◌<◌, true, cond, eqb, eq-eqb, ne_eqb, Option, Some, None, List, [], ◌∷◌, ◌++◌, length, set, get_or, replicate, refl, sym, ap, ◌∙◌, subst, ⊎_elim, arith}
-use Rattle.std.specs.Prelude.{slice_index_or}
+use Rattle.std.proofs.Common.{◌≡◌, ◌≢◌, ◌⊎◌, inl, inr, ℕ, zero, suc, ◌<◌, max, true, cond, eqb, eq-eqb, ne_eqb, Option, Some, None, List, [], ◌∷◌, ◌++◌, length, set, get_or, replicate, refl, sym, ap, ◌∙◌, subst, ⊎_elim, arith}
+use Rattle.std.specs.Prelude.{slice_index_or, All}
 use Rattle.std.specs.List.{filter_map, cons_option}
-use Rattle.std.proofs.lemmas.List.Elements.{filter_map-append}
+use Rattle.std.proofs.lemmas.List.Elements.{All-nil, All-push, filter_map-append}
+use Rattle.std.proofs.lemmas.Bool.{eqb-true}
+use Rattle.std.proofs.lemmas.Option.{cond_some}
 use native.Mathlib.Decide.{ℕ_discrete}
 use Rattle.std.proofs.lemmas.Grind.{get_or-set_at}
 use Rattle.std.proofs.lemmas.List.{get_or-set_other, length-set, get_or_read}
@@ -15,8 +17,9 @@ use Rattle.tp_port.proofs.Moves.{top_found}
 use Rattle.tp_value.specs.declared.message.Message.{Message}
 use Rattle.tp_inbox.specs.declared.entry.Entry.{Entry}
 use Rattle.tp_inbox.specs.declared.entry.Entry.TheVariants as entry
-use Rattle.tp_inbox.specs.History.{event_at, history_of}
-use Rattle.tp_inbox.specs.Desks.{IsKept, IsNote, Journal, Notes, adding, at_port, checked}
+use Rattle.tp_inbox.specs.History.{IsTimely, stamp_of, event_at, history_of}
+use Rattle.tp_inbox.proofs.Clocks.{clock_of-push, clocked-push, clocked_at_start}
+use Rattle.tp_inbox.specs.Desks.{IsKept, IsNote, IsWithin, Journal, Notes, adding, at_port, checked}
 
 either : {A : Type 0} → Dec A → A ⊎ (¬ A)
 either (yes e) = inl e
@@ -30,11 +33,11 @@ append_nil [] = refl
 append_nil (x ∷ xs) = ap (λ l. x ∷ l) (append_nil xs)
 
 names_none : (port : ℕ) (e : Entry) → IsNote e → event_at port e ≡ None
-names_none port (entry.Sent r number message) note = refl
+names_none port (entry.Sent r number m) note = refl
 names_none port entry.Else note = refl
 names_none port (entry.Verdict v) note = refl
 names_none port (entry.Failed code) note = refl
-names_none port (entry.Arrive p env) note = absurd note
+names_none port (entry.Arrive p env stamp) note = absurd note
 names_none port (entry.Took p env branch) note = absurd note
 names_none port (entry.Found p env branch) note = absurd note
 names_none port (entry.Dropped p env branch) note = absurd note
@@ -42,6 +45,41 @@ names_none port (entry.Cleared p) note = absurd note
 names_none port (entry.Started p) note = absurd note
 names_none port (entry.Stopped p) note = absurd note
 names_none port (entry.Halted p) note = absurd note
+
+-- an entry that a behaviour makes itself names no port that there isn't
+within_note : (n : ℕ) (e : Entry) → IsNote e → IsWithin n e
+within_note n (entry.Sent r number m) note = tt
+within_note n entry.Else note = tt
+within_note n (entry.Verdict v) note = tt
+within_note n (entry.Failed code) note = tt
+within_note n (entry.Arrive p env stamp) note = absurd note
+within_note n (entry.Took p env branch) note = absurd note
+within_note n (entry.Found p env branch) note = absurd note
+within_note n (entry.Dropped p env branch) note = absurd note
+within_note n (entry.Cleared p) note = absurd note
+within_note n (entry.Started p) note = absurd note
+within_note n (entry.Stopped p) note = absurd note
+within_note n (entry.Halted p) note = absurd note
+
+-- the port that an entry names, from the port at which it is something
+named_port : (n port p : ℕ) (x y : Event Message) → port < n → cond (eqb port p) (Some x) None ≡ Some y → p < n
+named_port n port p x y low is =
+    let same : port ≡ p = eqb-true port p (cond_some (eqb port p) x y is).0 in omega arith
+
+-- nor does an entry that is something at a port that there is
+within_event : (n port : ℕ) (e : Entry) (y : Event Message) → port < n → event_at port e ≡ Some y → IsWithin n e
+within_event n port (entry.Arrive p env stamp) y low is = named_port n port p (event.Arrive env) y low is
+within_event n port (entry.Took p env branch) y low is = named_port n port p (event.Took env) y low is
+within_event n port (entry.Found p env branch) y low is = named_port n port p (event.Found env) y low is
+within_event n port (entry.Dropped p env branch) y low is = named_port n port p (event.Dropped env) y low is
+within_event n port (entry.Cleared p) y low is = named_port n port p event.Cleared y low is
+within_event n port (entry.Started p) y low is = named_port n port p event.Started y low is
+within_event n port (entry.Stopped p) y low is = named_port n port p event.Stopped y low is
+within_event n port (entry.Halted p) y low is = named_port n port p event.Halted y low is
+within_event n port (entry.Sent r number m) y low is = tt
+within_event n port entry.Else y low is = tt
+within_event n port (entry.Verdict v) y low is = tt
+within_event n port (entry.Failed code) y low is = tt
 
 -- the history of a port, with one more entry
 history-push : (port : ℕ) (log : List Entry) (e : Entry) → history_of port (log ++ e ∷ []) ≡ history_of port log ++ filter_map (event_at port) (e ∷ [])
@@ -55,27 +93,33 @@ pub history-more : (port : ℕ) (log : List Entry) (e : Entry) (event : Event Me
 history-more port log e event some = history-push port log e ∙ ap (λ o. history_of port log ++ cons_option o []) some
 
 -- an entry that names no port keeps all of it
-pub kept_by_note : (queues : List (List (Event Message))) (log : List Entry) (e : Entry) → IsNote e → IsKept queues log → IsKept queues (log ++ e ∷ [])
-kept_by_note queues log e note k =
+pub kept_by_note : (queues : List (List (Event Message))) (clock later : ℕ) (log after : List Entry) (e : Entry)
+    → IsKept queues clock log → IsNote e → IsTimely log e → later ≡ max clock (stamp_of e) → after ≡ log ++ e ∷ [] → IsKept queues later after
+kept_by_note queues clock later log after e k note timely now grown =
     let same : (port : ℕ) → history_of port (log ++ e ∷ []) ≡ history_of port log = λ port. history-same port log e (names_none port e note) in
+    subst (IsKept queues later) (sym grown)
     record {
       histories = λ port low. k.histories port low ∙ sym (same port);
       lawful = λ port low. subst Lawful (sym (same port)) (k.lawful port low);
+      within = All-push (IsWithin (length queues)) log e k.within (within_note (length queues) e note);
+      time = now ∙ ap (λ c. max c (stamp_of e)) k.time ∙ sym (clock_of-push log e);
+      clocked = clocked-push log e k.clocked timely;
     }
 
 -- an entry that names this port, where the port's queue has its event more
-pub kept_at : (queues : List (List (Event Message))) (log after : List Entry) (port : ℕ) (e : Entry) (event : Event Message) (old new : List (Event Message))
-    → IsKept queues log → port < length queues → old ≡ get_or queues port old → new ≡ old ++ event ∷ []
-    → ((p : ℕ) → event_at p e ≡ cond (eqb p port) (Some event) None) → after ≡ log ++ e ∷ [] → Lawful new
-    → IsKept (set queues port new) after
-kept_at queues log after port e event old new k low at more names grown lawful =
+pub kept_at_time : (queues : List (List (Event Message))) (clock later : ℕ) (log after : List Entry) (port : ℕ) (e : Entry) (event : Event Message) (old new : List (Event Message))
+    → IsKept queues clock log → port < length queues → old ≡ get_or queues port old → new ≡ old ++ event ∷ []
+    → ((p : ℕ) → event_at p e ≡ cond (eqb p port) (Some event) None) → IsTimely log e → later ≡ max clock (stamp_of e) → after ≡ log ++ e ∷ [] → Lawful new
+    → IsKept (set queues port new) later after
+kept_at_time queues clock later log after port e event old new k low at more names timely now grown lawful =
     let here : (p : ℕ) → p ≡ port → new ≡ history_of p (log ++ e ∷ []) = λ p same.
     more ∙ ap (λ h. h ++ event ∷ []) (get_or_read queues port old low at [] ∙ k.histories port low ∙ ap (λ q. history_of q log) (sym same))
     ∙ sym (history-more p log e event (names p ∙ ap (λ b. cond b (Some event) None) (eq-eqb p port same))) in
     let there : (p : ℕ) → p ≢ port → history_of p (log ++ e ∷ []) ≡ history_of p log = λ p other.
     history-same p log e (names p ∙ ap (λ b. cond b (Some event) None) (ne_eqb p port other)) in
+    let within : IsWithin (length queues) e = within_event (length queues) port e event low (names port ∙ ap (λ b. cond b (Some event) None) (eq-eqb port port refl)) in
     let short : (p : ℕ) → p < length (set queues port new) → p < length queues = λ p below. omega (arith, length-set queues port new) in
-    subst (IsKept (set queues port new)) (sym grown)
+    subst (IsKept (set queues port new) later) (sym grown)
     record {
       histories = λ p below.
           ⊎_elim
@@ -87,7 +131,18 @@ kept_at queues log after port e event old new k low at more names grown lawful =
           (λ (same : p ≡ port). subst Lawful (here p same) lawful)
           (λ (other : p ≢ port). subst Lawful (sym (there p other)) (k.lawful p (short p below)))
           (same_or_not p port);
+      within = subst (λ n. All (IsWithin n) (log ++ e ∷ [])) (sym (length-set queues port new)) (All-push (IsWithin (length queues)) log e k.within within);
+      time = now ∙ ap (λ c. max c (stamp_of e)) k.time ∙ sym (clock_of-push log e);
+      clocked = clocked-push log e k.clocked timely;
     }
+
+-- and that has no stamp
+pub kept_at : (queues : List (List (Event Message))) (clock : ℕ) (log after : List Entry) (port : ℕ) (e : Entry) (event : Event Message) (old new : List (Event Message))
+    → IsKept queues clock log → port < length queues → old ≡ get_or queues port old → new ≡ old ++ event ∷ []
+    → ((p : ℕ) → event_at p e ≡ cond (eqb p port) (Some event) None) → IsTimely log e → stamp_of e ≡ 0 → after ≡ log ++ e ∷ [] → Lawful new
+    → IsKept (set queues port new) clock after
+kept_at queues clock log after port e event old new k low at more names timely none grown lawful =
+    kept_at_time queues clock clock log after port e event old new k low at more names timely (omega (arith, none)) grown lawful
 
 -- the log after an entry, which the code has as another value that is equal
 pub grown_by : (now was before : List Entry) (e f : Entry) → now ≡ was ++ f ∷ [] → was ≡ before → f ≡ e → now ≡ before ++ e ∷ []
@@ -103,11 +158,17 @@ at_replicate zero p = refl
 at_replicate (suc n) zero = refl
 at_replicate (suc n) (suc p) = at_replicate n p
 
-pub kept_at_start : (queues : List (List (Event Message))) (log : List Entry) (n : ℕ) → queues ≡ replicate n [] → log ≡ [] → IsKept queues log
+pub kept_at_start : (queues : List (List (Event Message))) (log : List Entry) (n : ℕ) → queues ≡ replicate n [] → log ≡ [] → IsKept queues 0 log
 unfolding history_of
 kept_at_start queues log n q l =
-    subst (λ (x : List (List (Event Message)) × List Entry). IsKept x.0 x.1) (λ i. (sym q i, sym l i))
-    record { histories = λ p low. at_replicate n p; lawful = λ p low. lawful_at_start _ }
+    subst (λ (x : List (List (Event Message)) × List Entry). IsKept x.0 0 x.1) (λ i. (sym q i, sym l i))
+    record {
+      histories = λ p low. at_replicate n p;
+      lawful = λ p low. lawful_at_start _;
+      within = All-nil (IsWithin (length (replicate n [])));
+      time = refl;
+      clocked = clocked_at_start;
+    }
 
 -- the top of a port stays where it was found
 pub top_stays : (port branch : ℕ) (d : Journal) (e : Env Message) → top (at_port (adding d (entry.Found port e branch)) port) ≡ top (at_port d port)
@@ -129,5 +190,5 @@ adding_is d was ports log e same p l =
     (λ i. record { comp = was.comp; ports = p i; log = l i }) ∙ ap (λ (x : Journal). adding x e) same
 
 -- the queue of a port has the port's history
-pub history_is : (queues : List (List (Event Message))) (log : List Entry) (port : ℕ) (old : List (Event Message)) → IsKept queues log → port < length queues → old ≡ get_or queues port old → old ≡ history_of port log
-history_is queues log port old k low at = get_or_read queues port old low at [] ∙ k.histories port low
+pub history_is : (queues : List (List (Event Message))) (clock : ℕ) (log : List Entry) (port : ℕ) (old : List (Event Message)) → IsKept queues clock log → port < length queues → old ≡ get_or queues port old → old ≡ history_of port log
+history_is queues clock log port old k low at = get_or_read queues port old low at [] ∙ k.histories port low

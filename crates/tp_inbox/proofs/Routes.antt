@@ -4,7 +4,7 @@ use native.Mathlib.Decide.{ℕ_discrete}
 use Rattle.std.proofs.lemmas.Grind.{get_or-set_at}
 use Rattle.std.proofs.lemmas.List.{get_or-set_other, length-set}
 use Rattle.tp_inbox.specs.declared.envelope.Envelope.{Envelope}
-use Rattle.tp_value.specs.declared.message.Message.{Message}
+use Rattle.tp_inbox.specs.declared.stamped.Stamped.{Stamped}
 use Rattle.tp_inbox.specs.History.{numbered}
 use Rattle.tp_inbox.specs.Envelopes.{of, InOrder, AreRouted, AreCounts}
 
@@ -15,29 +15,29 @@ either (no n) = inr n
 pub same_or_not : (p q : ℕ) → (p ≡ q) ⊎ (p ≢ q)
 same_or_not p q = either (ℕ_discrete p q)
 
-cond_append : (b : Bool) (x : ℕ × Message) (xs ys : List (ℕ × Message)) → cond b (x ∷ (xs ++ ys)) (xs ++ ys) ≡ cond b (x ∷ xs) xs ++ ys
+cond_append : (b : Bool) (x : ℕ × Stamped) (xs ys : List (ℕ × Stamped)) → cond b (x ∷ (xs ++ ys)) (xs ++ ys) ≡ cond b (x ∷ xs) xs ++ ys
 cond_append true x xs ys = refl
 cond_append false x xs ys = refl
 
 pub of-append : (p : ℕ) (xs ys : List Envelope) → of p (xs ++ ys) ≡ of p xs ++ of p ys
 of-append p [] ys = refl
-of-append p (x ∷ xs) ys = ap (λ l. cond (eqb p x.place) ((x.number, x.message) ∷ l) l) (of-append p xs ys) ∙ cond_append (eqb p x.place) (x.number, x.message) (of p xs) (of p ys)
+of-append p (x ∷ xs) ys = ap (λ l. cond (eqb p x.place) ((x.number, x.stamped) ∷ l) l) (of-append p xs ys) ∙ cond_append (eqb p x.place) (x.number, x.stamped) (of p xs) (of p ys)
 
-pub of-here : (p : ℕ) (e : Envelope) → p ≡ e.place → of p (e ∷ []) ≡ (e.number, e.message) ∷ []
-of-here p e h = ap (λ b. cond b ((e.number, e.message) ∷ []) []) (eq-eqb p e.place h)
+pub of-here : (p : ℕ) (e : Envelope) → p ≡ e.place → of p (e ∷ []) ≡ (e.number, e.stamped) ∷ []
+of-here p e h = ap (λ b. cond b ((e.number, e.stamped) ∷ []) []) (eq-eqb p e.place h)
 
 pub of-else : (p : ℕ) (e : Envelope) → p ≢ e.place → of p (e ∷ []) ≡ []
-of-else p e h = ap (λ b. cond b ((e.number, e.message) ∷ []) []) (ne_eqb p e.place h)
+of-else p e h = ap (λ b. cond b ((e.number, e.stamped) ∷ []) []) (ne_eqb p e.place h)
 
-pub numbered-snoc : (n : ℕ) (ms : List Message) (m : Message) → numbered n (ms ++ m ∷ []) ≡ numbered n ms ++ (n + length ms, m) ∷ []
+pub numbered-snoc : (n : ℕ) (ms : List Stamped) (m : Stamped) → numbered n (ms ++ m ∷ []) ≡ numbered n ms ++ (n + length ms, m) ∷ []
 numbered-snoc n [] m = λ i. (let e : n ≡ n + 0 = omega arith in e i, m) ∷ []
 numbered-snoc n (x ∷ xs) m = ap (λ l. (n, x) ∷ l) (numbered-snoc (n + 1) xs m ∙ ap (λ k. numbered (n + 1) xs ++ (k, m) ∷ []) (let e : n + 1 + length xs ≡ n + length (x ∷ xs) = omega arith in e))
 
-head_is : (x y : ℕ × Message) (xs ys : List (ℕ × Message)) → x ∷ xs ≡ y ∷ ys → (x ≡ y) × (xs ≡ ys)
+head_is : (x y : ℕ × Stamped) (xs ys : List (ℕ × Stamped)) → x ∷ xs ≡ y ∷ ys → (x ≡ y) × (xs ≡ ys)
 head_is x y xs ys e = (cc, cc)
 
 -- what begins a numbered list is numbered
-pub numbered-front : (n : ℕ) (ms : List Message) (xs ys : List (ℕ × Message)) → xs ++ ys ≡ numbered n ms → (ks : List Message) × (xs ≡ numbered n ks)
+pub numbered-front : (n : ℕ) (ms : List Stamped) (xs ys : List (ℕ × Stamped)) → xs ++ ys ≡ numbered n ms → (ks : List Stamped) × (xs ≡ numbered n ks)
 numbered-front n ms [] ys e = ([], refl)
 numbered-front n [] (x ∷ xs) ys e = absurd (cc)
 numbered-front n (m ∷ ms) (x ∷ xs) ys e = let h = head_is x (n, m) (xs ++ ys) (numbered (n + 1) ms) e in let r = numbered-front (n + 1) ms xs ys h.1 in (m ∷ r.0, λ i. h.0 i ∷ r.1 i)
@@ -66,25 +66,25 @@ append_nil [] = refl
 append_nil (x ∷ xs) = ap (λ l. x ∷ l) (append_nil xs)
 
 -- the last of a numbered list
-pub number_at_end : (n : ℕ) (xs : List (ℕ × Message)) (x : ℕ × Message) (ms : List Message) → xs ++ x ∷ [] ≡ numbered n ms → x.0 ≡ n + length xs
+pub number_at_end : (n : ℕ) (xs : List (ℕ × Stamped)) (x : ℕ × Stamped) (ms : List Stamped) → xs ++ x ∷ [] ≡ numbered n ms → x.0 ≡ n + length xs
 number_at_end n [] x [] e = absurd (cc)
-number_at_end n [] x (m ∷ ms) e = let h = head_is x (n, m) [] (numbered (n + 1) ms) e in let q : x.0 ≡ n = ap (λ (y : ℕ × Message). y.0) h.0 in omega arith
+number_at_end n [] x (m ∷ ms) e = let h = head_is x (n, m) [] (numbered (n + 1) ms) e in let q : x.0 ≡ n = ap (λ (y : ℕ × Stamped). y.0) h.0 in omega arith
 number_at_end n (y ∷ ys) x [] e = absurd (cc)
 number_at_end n (y ∷ ys) x (m ∷ ms) e = let h = head_is y (n, m) (ys ++ x ∷ []) (numbered (n + 1) ms) e in let q = number_at_end (n + 1) ys x ms h.1 in omega arith
 
 pub next_number : (xs : List Envelope) (e : Envelope) → InOrder (xs ++ e ∷ []) → e.number ≡ length (of e.place xs)
 next_number xs e h =
     let k = h e.place in
-    let q = number_at_end 0 (of e.place xs) (e.number, e.message) k.0 (ap (λ l. of e.place xs ++ l) (sym (of-here e.place e refl)) ∙ sym (of-append e.place xs (e ∷ [])) ∙ k.1) in
+    let q = number_at_end 0 (of e.place xs) (e.number, e.stamped) k.0 (ap (λ l. of e.place xs ++ l) (sym (of-here e.place e refl)) ∙ sym (of-append e.place xs (e ∷ [])) ∙ k.1) in
     omega arith
 
-length-cond : (b : Bool) (x : ℕ × Message) (l : List (ℕ × Message)) (n : ℕ) → length l ≤ n → length (cond b (x ∷ l) l) ≤ suc n
+length-cond : (b : Bool) (x : ℕ × Stamped) (l : List (ℕ × Stamped)) (n : ℕ) → length l ≤ n → length (cond b (x ∷ l) l) ≤ suc n
 length-cond true x l n h = omega arith
 length-cond false x l n h = omega arith
 
 pub length-of : (p : ℕ) (xs : List Envelope) → length (of p xs) ≤ length xs
 length-of p [] = omega arith
-length-of p (x ∷ xs) = length-cond (eqb p x.place) (x.number, x.message) (of p xs) (length xs) (length-of p xs)
+length-of p (x ∷ xs) = length-cond (eqb p x.place) (x.number, x.stamped) (of p xs) (length xs) (length-of p xs)
 
 pub counts_next : (n : ℕ) (counts : List ℕ) (xs : List Envelope) (e : Envelope) → AreCounts n counts xs → e.place < n → e.number ≡ length (of e.place xs) → AreCounts n (set counts e.place (e.number + 1)) (xs ++ e ∷ [])
 counts_next n counts xs e h low num = (
@@ -94,7 +94,7 @@ counts_next n counts xs e h low num = (
       (λ (same : p ≡ e.place).
       get_or-set_at counts e.place p (e.number + 1) 0 same (let q = h.0 in omega arith)
       ∙ (let q : e.number + 1 ≡ length (of e.place xs) + 1 = omega arith in q)
-      ∙ sym (length-append (of e.place xs) ((e.number, e.message) ∷ []))
+      ∙ sym (length-append (of e.place xs) ((e.number, e.stamped) ∷ []))
       ∙ ap length (ap (λ l. of e.place xs ++ l) (sym (of-here e.place e refl)) ∙ sym (of-append e.place xs (e ∷ [])) ∙ ap (λ q. of q (xs ++ e ∷ [])) (sym same)))
       (λ (diff : p ≢ e.place).
       get_or-set_other counts e.place p (e.number + 1) 0 diff ∙ h.1 p below

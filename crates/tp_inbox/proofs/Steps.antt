@@ -6,7 +6,7 @@ use lib.Seq.{get_or-append_seam}
 use Rattle.crossbeam_queue.specs.Fifo.{Pushes, Pops, Forks, Merges, Learns}
 use Rattle.crossbeam_queue.proofs.Lists.{at_set}
 use Rattle.tp_inbox.specs.declared.envelope.Envelope.{Envelope}
-use Rattle.tp_value.specs.declared.message.Message.{Message}
+use Rattle.tp_inbox.specs.declared.stamped.Stamped.{Stamped}
 use Rattle.tp_inbox.specs.declared.rule.View.{View}
 use Rattle.tp_inbox.specs.History.{numbered}
 use Rattle.tp_inbox.specs.Envelopes.{of, AreRouted}
@@ -68,25 +68,25 @@ begins = record {
 }
 
 -- what was taken out and is held, once e is put at the end
-put_whole : (taken items : List Envelope) (put : ℕ → List Message) (e : Envelope) (ms : List Message) → ((p : ℕ) → of p (taken ++ items) ≡ numbered 0 (put p)) → ms ≡ put e.place → e.number ≡ length ms → (p : ℕ) → of p (taken ++ (items ++ e ∷ [])) ≡ numbered 0 (at put e.place (ms ++ e.message ∷ []) p)
+put_whole : (taken items : List Envelope) (put : ℕ → List Stamped) (e : Envelope) (ms : List Stamped) → ((p : ℕ) → of p (taken ++ items) ≡ numbered 0 (put p)) → ms ≡ put e.place → e.number ≡ length ms → (p : ℕ) → of p (taken ++ (items ++ e ∷ [])) ≡ numbered 0 (at put e.place (ms ++ e.stamped ∷ []) p)
 put_whole taken items put e ms old mine num p =
     let apart : of p (taken ++ (items ++ e ∷ [])) ≡ of p (taken ++ items) ++ of p (e ∷ []) = ap (of p) (sym (append_assoc taken items (e ∷ []))) ∙ of-append p (taken ++ items) (e ∷ []) in
     ⊎_elim
     (λ (same : p ≡ e.place).
     apart ∙ ap (λ l. l ++ of p (e ∷ [])) (old p ∙ ap (λ q. numbered 0 (put q)) same ∙ ap (numbered 0) (sym mine)) ∙ ap (λ l. numbered 0 ms ++ l) (of-here p e same)
-    ∙ ap (λ k. numbered 0 ms ++ (k, e.message) ∷ []) (let n : e.number ≡ 0 + length ms = omega arith in n)
-    ∙ sym (numbered-snoc 0 ms e.message)
-    ∙ ap (numbered 0) (sym (at-here put e.place (ms ++ e.message ∷ []))) ∙ ap (λ q. numbered 0 (at put e.place (ms ++ e.message ∷ []) q)) (sym same))
+    ∙ ap (λ k. numbered 0 ms ++ (k, e.stamped) ∷ []) (let n : e.number ≡ 0 + length ms = omega arith in n)
+    ∙ sym (numbered-snoc 0 ms e.stamped)
+    ∙ ap (numbered 0) (sym (at-here put e.place (ms ++ e.stamped ∷ []))) ∙ ap (λ q. numbered 0 (at put e.place (ms ++ e.stamped ∷ []) q)) (sym same))
     (λ (other : p ≢ e.place).
     apart ∙ ap (λ l. of p (taken ++ items) ++ l) (of-else p e other) ∙ append_nil (of p (taken ++ items)) ∙ old p
-    ∙ ap (numbered 0) (sym (at-else put e.place (ms ++ e.message ∷ []) p other)))
+    ∙ ap (numbered 0) (sym (at-else put e.place (ms ++ e.stamped ∷ []) p other)))
     (same_or_not p e.place)
 
-pub sends : (n pass : ℕ) (ms : List Message) (e : Envelope) → e.number ≡ length ms → Pushes Delivers n pass (sender_of e.place ms) e (Puts (sender_of e.place ms) e)
+pub sends : (n pass : ℕ) (ms : List Stamped) (e : Envelope) → e.number ≡ length ms → Pushes Delivers n pass (sender_of e.place ms) e (Puts (sender_of e.place ms) e)
 sends n pass ms e num items views _ h here =
     let place = e.place in
     let mine = h.senders pass (sender_of place ms) here refl in
-    let more = ms ++ e.message ∷ [] in
+    let more = ms ++ e.stamped ∷ [] in
     let w = sender_of place more in
     let put = at h.put place more in (
       w,
@@ -111,7 +111,7 @@ sends n pass ms e num items views _ h here =
       refl,
     )
 
-pub takes : (pass made : ℕ) (taken : List Envelope) (known : List (List Message)) → Pops Delivers pass (owner_of made taken known) (Takes (owner_of made taken known))
+pub takes : (pass made : ℕ) (taken : List Envelope) (known : List (List Stamped)) → Pops Delivers pass (owner_of made taken known) (Takes (owner_of made taken known))
 takes pass made taken known e items views h here =
     let mine = h.owners pass (owner_of made taken known) here refl in
     let w = owner_of made (taken ++ e ∷ []) known in
@@ -136,12 +136,12 @@ takes pass made taken known e items views h here =
       (refl, (let l : e.place < h.made = low in let m : made ≡ h.made = mine.1 in omega arith), in_order-front (taken ++ e ∷ []) items (λ p. (h.put p, whole p)), λ p below. (of p items, sym (of-append p (taken ++ e ∷ []) items) ∙ whole p ∙ ap (numbered 0) (sym (mine.4 p below).1))),
     )
 
-pub learns : (pass made : ℕ) (taken : List Envelope) (known : List (List Message)) → Learns Delivers pass (owner_of made taken known) (Knows (owner_of made taken known))
+pub learns : (pass made : ℕ) (taken : List Envelope) (known : List (List Stamped)) → Learns Delivers pass (owner_of made taken known) (Knows (owner_of made taken known))
 learns pass made taken known items views h here p low =
     let mine = h.owners pass (owner_of made taken known) here refl in
     ap (λ l. of p (l ++ items)) mine.2 ∙ h.whole p ∙ ap (numbered 0) (sym (mine.4 p low).1)
 
-pub splits : (pass made : ℕ) (taken : List Envelope) (known : List (List Message)) → Forks Delivers pass (owner_of made taken known) (owner_of (made + 1) taken known) (sender_of made [])
+pub splits : (pass made : ℕ) (taken : List Envelope) (known : List (List Stamped)) → Forks Delivers pass (owner_of made taken known) (owner_of (made + 1) taken known) (sender_of made [])
 splits pass made taken known items views h here =
     let mine = h.owners pass (owner_of made taken known) here refl in
     let same : made ≡ h.made = mine.1 in
@@ -174,7 +174,7 @@ splits pass made taken known items views h here =
           (λ o. absurd (off o));
     }
 
-pub joins : (pass made : ℕ) (taken : List Envelope) (known : List (List Message)) (other : ℕ) (ms : List Message)
+pub joins : (pass made : ℕ) (taken : List Envelope) (known : List (List Stamped)) (other : ℕ) (ms : List Stamped)
     → Merges Delivers pass (owner_of made taken known) other (sender_of (length known) ms) (owner_of made taken (known ++ ms ∷ [])) spent
 joins pass made taken known other ms items views h here two there =
     let place = length known in
@@ -228,19 +228,19 @@ joins pass made taken known other ms items views h here two there =
     }
 
 -- the steps, at a view that is known
-pub sends_as : (n pass : ℕ) (v : View) (ms : List Message) (e : Envelope) → v ≡ sender_of e.place ms → e.number ≡ length ms → Pushes Delivers n pass v e (Puts v e)
+pub sends_as : (n pass : ℕ) (v : View) (ms : List Stamped) (e : Envelope) → v ≡ sender_of e.place ms → e.number ≡ length ms → Pushes Delivers n pass v e (Puts v e)
 sends_as n pass v ms e is num = subst (λ (u : View). Pushes Delivers n pass u e (Puts u e)) (sym is) (sends n pass ms e num)
 
-pub takes_as : (pass : ℕ) (v : View) (made : ℕ) (taken : List Envelope) (known : List (List Message)) → v ≡ owner_of made taken known → Pops Delivers pass v (Takes v)
+pub takes_as : (pass : ℕ) (v : View) (made : ℕ) (taken : List Envelope) (known : List (List Stamped)) → v ≡ owner_of made taken known → Pops Delivers pass v (Takes v)
 takes_as pass v made taken known is = subst (λ (u : View). Pops Delivers pass u (Takes u)) (sym is) (takes pass made taken known)
 
-pub learns_as : (pass : ℕ) (v : View) (made : ℕ) (taken : List Envelope) (known : List (List Message)) → v ≡ owner_of made taken known → Learns Delivers pass v (Knows v)
+pub learns_as : (pass : ℕ) (v : View) (made : ℕ) (taken : List Envelope) (known : List (List Stamped)) → v ≡ owner_of made taken known → Learns Delivers pass v (Knows v)
 learns_as pass v made taken known is = subst (λ (u : View). Learns Delivers pass u (Knows u)) (sym is) (learns pass made taken known)
 
-pub splits_as : (pass : ℕ) (v : View) (made : ℕ) (taken : List Envelope) (known : List (List Message)) → v ≡ owner_of made taken known → Forks Delivers pass v (owner_of (v.made + 1) v.taken v.known) (sender_of v.made [])
+pub splits_as : (pass : ℕ) (v : View) (made : ℕ) (taken : List Envelope) (known : List (List Stamped)) → v ≡ owner_of made taken known → Forks Delivers pass v (owner_of (v.made + 1) v.taken v.known) (sender_of v.made [])
 splits_as pass v made taken known is = subst (λ (u : View). Forks Delivers pass u (owner_of (u.made + 1) u.taken u.known) (sender_of u.made [])) (sym is) (splits pass made taken known)
 
-pub joins_as : (pass : ℕ) (v : View) (other : ℕ) (w : View) (made : ℕ) (taken : List Envelope) (known : List (List Message)) (place : ℕ) (ms : List Message)
+pub joins_as : (pass : ℕ) (v : View) (other : ℕ) (w : View) (made : ℕ) (taken : List Envelope) (known : List (List Stamped)) (place : ℕ) (ms : List Stamped)
     → v ≡ owner_of made taken known → w ≡ sender_of place ms → place ≡ length known → Merges Delivers pass v other w (owner_of v.made v.taken (v.known ++ w.put ∷ [])) spent
 joins_as pass v other w made taken known place ms is its at =
     subst (λ (x : View × View). Merges Delivers pass x.0 other x.1 (owner_of x.0.made x.0.taken (x.0.known ++ x.1.put ∷ [])) spent)

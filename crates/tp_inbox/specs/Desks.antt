@@ -1,5 +1,5 @@
 -- What contracts see of a desk, and what its calls answer and do.
-use Rattle.std.specs.Prelude.{◌≡◌, ℕ, ◌<◌, Bool, true, false, Option, Some, None, List, [], ◌∷◌, ◌++◌, length, slice_index_or}
+use Rattle.std.specs.Prelude.{◌≡◌, ℕ, ◌<◌, Bool, true, false, Option, Some, None, List, [], ◌∷◌, ◌++◌, length, slice_index_or, All}
 use Rattle.tp_port.specs.declared.event.Env.{Env}
 use Rattle.tp_port.specs.declared.event.Event.{Event}
 use Rattle.tp_port.specs.declared.event.TriggerAnswer.{TriggerAnswer}
@@ -10,7 +10,7 @@ use Rattle.tp_value.specs.declared.message.Message.{Message}
 use Rattle.tp_config.specs.declared.port_type.CompId.{CompId}
 use Rattle.tp_inbox.specs.declared.entry.Entry.{Entry}
 use Rattle.tp_inbox.specs.declared.entry.Entry.TheVariants as entry
-use Rattle.tp_inbox.specs.History.{history_of}
+use Rattle.tp_inbox.specs.History.{IsClocked, clock_of, history_of}
 
 -- a desk: whose it is, how many ports that component has, and its history
 pub record Journal : Type 0 where
@@ -28,11 +28,23 @@ adding_all d es = record d { log = d.log ++ es }
 
 -- an entry that a behaviour makes itself: it names no port
 abbrev pub IsNote : Entry → Type 0
-IsNote (entry.Sent r number message) = Unit {0}
+IsNote (entry.Sent r number m) = Unit {0}
 IsNote entry.Else = Unit {0}
 IsNote (entry.Verdict v) = Unit {0}
 IsNote (entry.Failed code) = Unit {0}
 IsNote _ = ⊥
+
+-- an entry that names a port names one of the first n
+abbrev pub IsWithin : ℕ → Entry → Type 0
+IsWithin n (entry.Arrive port env stamp) = port < n
+IsWithin n (entry.Took port env branch) = port < n
+IsWithin n (entry.Found port env branch) = port < n
+IsWithin n (entry.Dropped port env branch) = port < n
+IsWithin n (entry.Cleared port) = port < n
+IsWithin n (entry.Started port) = port < n
+IsWithin n (entry.Stopped port) = port < n
+IsWithin n (entry.Halted port) = port < n
+IsWithin n _ = Unit {0}
 
 -- the history of this port
 abbrev pub at_port : Journal → ℕ → List (Event Message)
@@ -59,7 +71,11 @@ abbrev pub Notes : (Message → Type 0) → Option ℕ → ℕ → ℕ → Journ
 Notes admits from port branch d true after = (e : Env Message) × Finds admits from (at_port d port) e × (after ≡ adding d (entry.Found port e branch))
 Notes admits from port branch d false after = FindsNone admits from (at_port d port) × (after ≡ d)
 
--- each port's queue has the history that the desk's log says, and each of these obeys the rules of a port
-pub record IsKept (queues : List (List (Event Message))) (log : List Entry) : Type 0 where
+-- each port's queue has the history that the desk's log says, and each of these obeys the rules of a port; the log names no other port; the
+-- clock is that of the log, in which each sending's stamp is above all stamps before it
+pub record IsKept (queues : List (List (Event Message))) (clock : ℕ) (log : List Entry) : Type 0 where
   pub histories : (port : ℕ) → port < length queues → slice_index_or queues port [] ≡ history_of port log
   pub lawful : (port : ℕ) → port < length queues → Lawful (history_of port log)
+  pub within : All (IsWithin (length queues)) log
+  pub time : clock ≡ clock_of log
+  pub clocked : IsClocked log

@@ -3,7 +3,7 @@ use Rattle.std.specs.Prelude.{◌≡◌, ◌<◌, ◌≤◌, List, [], length, m
 use Rattle.std.specs.Arc.{arc_value}
 use Rattle.crossbeam_queue.specs.SegTies.{IsSegPassOf}
 use Rattle.std.specs.declared.vec.Vec.{Vec}
-use Rattle.tp_value.specs.declared.message.Message.{Message}
+use Rattle.tp_inbox.specs.declared.stamped.Stamped.{Stamped}
 use Rattle.tp_config.specs.declared.port_type.RouteId.{RouteId}
 use Rattle.tp_inbox.specs.declared.hub.Hub.{Hub}
 use Rattle.tp_inbox.specs.declared.entry.Entry.{Entry}
@@ -12,6 +12,7 @@ use Rattle.tp_inbox.specs.declared.owner.Owner.TheInside as owner
 use Rattle.tp_inbox.specs.Envelopes.{one_of, before, EndsWith, AreCounts}
 use Rattle.tp_inbox.specs.Rule.{sender_of, Sound}
 use Rattle.tp_inbox.specs.Routed.{arrivals_of}
+use Rattle.tp_inbox.specs.Places.{AreFiled}
 use Rattle.tp_inbox.specs.Ledgers.{Inbox}
 
 -- the inbox whose ends share this
@@ -19,7 +20,7 @@ abbrev pub inbox_of : Hub → Inbox
 inbox_of h = record { comp = h.comp; ports = h.ports; routes = h.routes.items; queue = h.line }
 
 -- what senders have put, beside their routes
-abbrev pub seen_sent : {A : Type 0} → List (RouteId × Vec Message A) → List (RouteId × List Message)
+abbrev pub seen_sent : {A : Type 0} → List (RouteId × Vec Stamped A) → List (RouteId × List Stamped)
 seen_sent sent = map (λ v. (v.0, v.1.items)) sent
 
 -- a sender's pass is of its inbox's queue, and knows its place and what it has put
@@ -29,7 +30,7 @@ pub record IsSender (s : sender.Inside) : Type 0 where
   pub low : s.place < length (arc_value s.hub).routes.items
 
 -- an owner's pass is of its inbox's queue; what it has taken out is what was drained, and then what is in hand; the counts are those of
--- what was drained; and there is room for each sender that comes back, and for what is in hand
+-- what was drained, and each route's place among them is found; and there is room for each sender that comes back, and for what is in hand
 pub record IsOwner (s : owner.Inside) : Type 0 where
   pub pass : IsSegPassOf (arc_value s.hub).line s.pass
   pub sound : Sound s.pass.me.view.client
@@ -37,6 +38,7 @@ pub record IsOwner (s : owner.Inside) : Type 0 where
   pub known : s.pass.me.view.client.known ≡ []
   pub ends : EndsWith s.pass.me.view.client.taken (one_of s.hand)
   pub counts : AreCounts (length (arc_value s.hub).routes.items) s.counts.items (before s.pass.me.view.client.taken (one_of s.hand))
+  pub places : AreFiled (length (arc_value s.hub).routes.items) (arc_value s.hub).routes.items s.places
   pub sent : s.sent.items ≡ []
   pub sent_room : length (arc_value s.hub).routes.items ≤ vec_capacity s.sent
   pub rest : s.rest.items ≡ []

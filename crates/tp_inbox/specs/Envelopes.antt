@@ -1,17 +1,17 @@
 -- Envelopes, read route by route.
 use Rattle.std.specs.Prelude.{◌≡◌, ℕ, ◌<◌, ◌==◌, ◌-◌, cond, Option, Some, None, List, [], ◌∷◌, ◌++◌, length, take, slice_index_or}
 use Rattle.tp_inbox.specs.declared.envelope.Envelope.{Envelope}
-use Rattle.tp_value.specs.declared.message.Message.{Message}
+use Rattle.tp_inbox.specs.declared.stamped.Stamped.{Stamped}
 use Rattle.tp_inbox.specs.History.{numbered}
 
 -- the numbers and messages of the envelopes of route p, in order
-abbrev pub of : ℕ → List Envelope → List (ℕ × Message)
+abbrev pub of : ℕ → List Envelope → List (ℕ × Stamped)
 of p [] = []
-of p (e ∷ es) = cond (p == e.place) ((e.number, e.message) ∷ of p es) (of p es)
+of p (e ∷ es) = cond (p == e.place) ((e.number, e.stamped) ∷ of p es) (of p es)
 
 -- of each route the numbers are 0, 1, 2 and so on
 abbrev pub InOrder : List Envelope → Type 0
-InOrder es = (p : ℕ) → (ms : List Message) × (of p es ≡ numbered 0 ms)
+InOrder es = (p : ℕ) → (ms : List Stamped) × (of p es ≡ numbered 0 ms)
 
 -- each envelope is of one of the first n routes
 abbrev pub AreRouted : ℕ → List Envelope → Type 0
@@ -23,11 +23,11 @@ abbrev pub Begins : {A : Type 0} → List A → List A → Type 0
 Begins {A} xs ys = (rest : List A) × (xs ++ rest ≡ ys)
 
 -- of each of the first routes, what is among these envelopes begins what was put there
-abbrev pub AreFronts : List Envelope → List (List Message) → Type 0
+abbrev pub AreFronts : List Envelope → List (List Stamped) → Type 0
 AreFronts es ledgers = (p : ℕ) → p < length ledgers → Begins (of p es) (numbered 0 (slice_index_or ledgers p []))
 
 -- of each of the first routes, these envelopes are what was put there: numbered from 0, and with those messages
-abbrev pub AreWhole : List Envelope → List (List Message) → Type 0
+abbrev pub AreWhole : List Envelope → List (List Stamped) → Type 0
 AreWhole es ledgers = (p : ℕ) → p < length ledgers → of p es ≡ numbered 0 (slice_index_or ledgers p [])
 
 abbrev pub one_of : Option Envelope → List Envelope

@@ -1,17 +1,18 @@
 -- The history of a component, and what it says: of each port, of each route, and of what its behaviour did.
 -- A history is the whole list of the component's entries, the oldest first, which only grows; a definition filters that list.
-use Rattle.std.specs.Prelude.{ℕ, ◌+◌, Bool, true, false, not, ◌&&◌, ◌==◌, cond, Option, Some, None, List, [], ◌∷◌, filter}
+use Rattle.std.specs.Prelude.{◌≡◌, ℕ, ◌+◌, ◌<◌, max, Bool, true, false, not, ◌&&◌, ◌==◌, cond, Option, Some, None, List, [], ◌∷◌, filter, slice_get, take}
 use Rattle.std.specs.List.{filter_map}
 use Rattle.tp_port.specs.declared.event.Event.{Event}
 use Rattle.tp_port.specs.declared.event.Event.TheVariants as event
 use Rattle.tp_value.specs.declared.message.Message.{Message}
 use Rattle.tp_config.specs.declared.port_type.RouteId.{RouteId}
+use Rattle.tp_inbox.specs.declared.stamped.Stamped.{Stamped}
 use Rattle.tp_inbox.specs.declared.entry.Entry.{Entry}
 use Rattle.tp_inbox.specs.declared.entry.Entry.TheVariants as entry
 
 -- what an entry is at this port, if it names the port: the entry without port and branch
 abbrev pub event_at : ℕ → Entry → Option (Event Message)
-event_at port (entry.Arrive p env) = cond (port == p) (Some (event.Arrive env)) None
+event_at port (entry.Arrive p env stamp) = cond (port == p) (Some (event.Arrive env)) None
 event_at port (entry.Took p env branch) = cond (port == p) (Some (event.Took env)) None
 event_at port (entry.Found p env branch) = cond (port == p) (Some (event.Found env)) None
 event_at port (entry.Dropped p env branch) = cond (port == p) (Some (event.Dropped env)) None
@@ -26,7 +27,7 @@ unfoldable pub history_of : ℕ → List Entry → List (Event Message)
 history_of port k = filter_map (event_at port) k
 
 abbrev pub is_arrival : Entry → Bool
-is_arrival (entry.Arrive p env) = true
+is_arrival (entry.Arrive p env stamp) = true
 is_arrival _ = false
 
 -- what the component's own behaviour did: the history without the arrivals
@@ -40,22 +41,23 @@ arrivals k = filter is_arrival k
 abbrev pub same_route : RouteId → RouteId → Bool
 same_route r q = (r.source.0 == q.source.0) && (r.to.comp.0 == q.to.comp.0) && (r.to.port == q.to.port)
 
--- the number and the message, where the entry is a sending on this route
-abbrev pub sending_on : RouteId → Entry → Option (ℕ × Message)
-sending_on r (entry.Sent q number message) = cond (same_route r q) (Some (number, message)) None
+-- the number and the stamped message, where the entry is a sending on this route
+abbrev pub sending_on : RouteId → Entry → Option (ℕ × Stamped)
+sending_on r (entry.Sent q number m) = cond (same_route r q) (Some (number, m)) None
 sending_on r _ = None
 
 -- what the component sent on a route, in order, with the numbers
-unfoldable pub sent_on : RouteId → List Entry → List (ℕ × Message)
+unfoldable pub sent_on : RouteId → List Entry → List (ℕ × Stamped)
 sent_on r k = filter_map (sending_on r) k
 
--- the number and the message, where the entry is an arrival at the route's port from the route's sender
-abbrev pub arrival_on : RouteId → Entry → Option (ℕ × Message)
-arrival_on r (entry.Arrive p env) = cond ((r.to.port == p) && (r.source.0 == env.sender)) (Some (env.number, env.msg)) None
+-- the number and the stamped message, where the entry is an arrival at the route's port from the route's sender
+abbrev pub arrival_on : RouteId → Entry → Option (ℕ × Stamped)
+arrival_on r (entry.Arrive p env stamp) =
+    cond ((r.to.port == p) && (r.source.0 == env.sender)) (Some (env.number, record { stamp = stamp; message = env.msg })) None
 arrival_on r _ = None
 
 -- what came to the component on a route, in order, with the numbers
-unfoldable pub arrived_on : RouteId → List Entry → List (ℕ × Message)
+unfoldable pub arrived_on : RouteId → List Entry → List (ℕ × Stamped)
 arrived_on r k = filter_map (arrival_on r) k
 
 -- the number that stands beside a route, 0 where none does
@@ -63,7 +65,31 @@ abbrev pub count_of : RouteId → List (RouteId × ℕ) → ℕ
 count_of r [] = 0
 count_of r (c ∷ cs) = cond (same_route r c.0) c.1 (count_of r cs)
 
--- the messages, numbered from n
-abbrev pub numbered : ℕ → List Message → List (ℕ × Message)
+-- the stamped messages, numbered from n
+abbrev pub numbered : ℕ → List Stamped → List (ℕ × Stamped)
 numbered n [] = []
 numbered n (m ∷ ms) = (n, m) ∷ numbered (n + 1) ms
+
+-- the stamp of the message that the entry says was sent or came, 0 where it says neither
+abbrev pub stamp_of : Entry → ℕ
+stamp_of (entry.Arrive p env stamp) = stamp
+stamp_of (entry.Sent r number m) = m.stamp
+stamp_of _ = 0
+
+-- the greatest stamp in a history, 0 where it has none
+abbrev pub clock_of : List Entry → ℕ
+clock_of [] = 0
+clock_of (e ∷ es) = max (stamp_of e) (clock_of es)
+
+-- the entry may follow this history: the stamp of a sending is above all stamps before it
+abbrev pub IsTimely : List Entry → Entry → Type 0
+IsTimely k (entry.Sent r number m) = clock_of k < m.stamp
+IsTimely k _ = Unit {0}
+
+-- each entry may follow those before it: a message is sent with a greater stamp than all that were sent or came before it
+unfoldable pub IsClocked : List Entry → Type 0
+IsClocked k = (n : ℕ) (e : Entry) → slice_get k n ≡ Some e → IsTimely (take n k) e
+
+-- the message under the stamp that is next in this history
+abbrev pub next_of : List Entry → Message → Stamped
+next_of k m = record { stamp = clock_of k + 1; message = m }

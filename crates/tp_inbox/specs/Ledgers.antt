@@ -1,11 +1,12 @@
 -- What contracts see of an inbox's ends.
-use Rattle.std.specs.Prelude.{◌≡◌, ℕ, List, [], ◌∷◌, ◌++◌, map, All}
+use Rattle.std.specs.Prelude.{◌≡◌, ◌==◌, ℕ, cond, List, [], ◌∷◌, ◌++◌, length, map, All}
 use Rattle.std.specs.Global.{Global}
 use Rattle.crossbeam_queue.specs.SegTies.{SegId}
-use Rattle.tp_value.specs.declared.message.Message.{Message}
+use Rattle.tp_inbox.specs.declared.stamped.Stamped.{Stamped}
 use Rattle.tp_config.specs.declared.port_type.CompId.{CompId}
 use Rattle.tp_config.specs.declared.port_type.RouteId.{RouteId}
 use Rattle.tp_inbox.specs.declared.entry.Entry.{Entry}
+use Rattle.tp_inbox.specs.History.{arrived_on}
 use Rattle.tp_inbox.specs.Desks.{Journal}
 
 -- which inbox it is: whose, how many ports that component has, the routes into it, and its queue
@@ -19,7 +20,7 @@ pub record Inbox : Type 0 where
 pub record Sending : Type 0 where
   pub inbox : Inbox
   pub route : RouteId
-  pub ledger : List Message
+  pub ledger : List Stamped
 
 -- an owner: its inbox, and the arrivals that it has drained
 pub record Draining : Type 0 where
@@ -31,10 +32,14 @@ pub record Gathering : Type 0 where
   pub inbox : Inbox
   pub drained : List Entry
   pub kept : List Entry
-  pub sent : List (RouteId × List Message)
+  pub sent : List (RouteId × List Stamped)
+
+-- how many messages of the route were drained: none where it leads to another component than the inbox's
+abbrev pub drained_on : Draining → RouteId → ℕ
+drained_on d route = cond (route.to.comp.0 == d.inbox.comp.0) (length (arrived_on route d.drained)) 0
 
 -- a sender that has put one more message, nothing else changed
-abbrev pub putting : Sending → Message → Sending
+abbrev pub putting : Sending → Stamped → Sending
 putting s m = record s { ledger = s.ledger ++ m ∷ [] }
 
 -- a sender of this inbox that has put nothing
@@ -46,7 +51,7 @@ abbrev pub AreSenders : Inbox → List Sending → Type 0
 AreSenders inbox senders = All (λ (s : Sending). s.inbox ≡ inbox) senders × (map (λ (s : Sending). s.route) senders ≡ inbox.routes)
 
 -- what a sender has put, beside its route
-abbrev pub put_by : Sending → RouteId × List Message
+abbrev pub put_by : Sending → RouteId × List Stamped
 put_by s = (s.route, s.ledger)
 
 -- the desk is that of the inbox's component

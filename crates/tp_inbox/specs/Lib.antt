@@ -5,6 +5,7 @@ pub mod Lending
 pub mod Envelopes
 pub mod Rule
 pub mod Routed
+pub mod Places
 pub mod Ledgers
 pub mod Ends
 pub mod Gathers

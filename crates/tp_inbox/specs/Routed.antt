@@ -1,5 +1,5 @@
 -- The routes into a component, and the arrivals that envelopes of these routes make.
-use Rattle.std.specs.Prelude.{◌≡◌, ◌≢◌, ℕ, ◌<◌, ◌==◌, ◌&&◌, Bool, List, map, slice_index_or, All, AllPairs, Contains}
+use Rattle.std.specs.Prelude.{◌≡◌, ◌≢◌, ℕ, ◌<◌, List, map, slice_index_or, All, AllPairs, Contains}
 use Rattle.tp_port.specs.declared.event.Env.{Env}
 use Rattle.tp_value.specs.declared.message.Message.{Message}
 use Rattle.tp_config.specs.declared.port_type.CompId.{CompId}
@@ -7,6 +7,7 @@ use Rattle.tp_config.specs.declared.port_type.RouteId.{RouteId}
 use Rattle.tp_inbox.specs.declared.entry.Entry.{Entry}
 use Rattle.tp_inbox.specs.declared.entry.Entry.TheVariants as entry
 use Rattle.tp_inbox.specs.declared.envelope.Envelope.{Envelope}
+use Rattle.tp_inbox.specs.declared.stamped.Stamped.{Stamped}
 use Rattle.tp_inbox.specs.History.{numbered, arrived_on}
 use Rattle.tp_inbox.specs.Envelopes.{Begins}
 
@@ -24,33 +25,29 @@ no_route = record { source = record { 0 = 0 }; to = record { comp = record { 0 =
 abbrev pub route_at : List RouteId → ℕ → RouteId
 route_at routes place = slice_index_or routes place no_route
 
--- whether two routes have one port and one sender
-abbrev pub meets : RouteId → RouteId → Bool
-meets r q = (r.to.port == q.to.port) && (r.source.0 == q.source.0)
-
 -- what arrives where an envelope is moved
 abbrev pub env_of : List RouteId → Envelope → Env Message
-env_of routes e = record { sender = (route_at routes e.place).source.0; number = e.number; msg = e.message }
+env_of routes e = record { sender = (route_at routes e.place).source.0; number = e.number; msg = e.stamped.message }
 
 -- the entry that this makes
 abbrev pub arrival_of : List RouteId → Envelope → Entry
-arrival_of routes e = entry.Arrive (route_at routes e.place).to.port (env_of routes e)
+arrival_of routes e = entry.Arrive (route_at routes e.place).to.port (env_of routes e) e.stamped.stamp
 
 abbrev pub arrivals_of : List RouteId → List Envelope → List Entry
 arrivals_of routes es = map (arrival_of routes) es
 
 -- the entries that the rest of an inbox makes
-abbrev pub rest_arrivals : List (ℕ × Env Message) → List Entry
-rest_arrivals rest = map (λ x. entry.Arrive x.0 x.1) rest
+abbrev pub rest_arrivals : List (ℕ × Env Message × ℕ) → List Entry
+rest_arrivals rest = map (λ x. entry.Arrive x.0 x.1 x.2) rest
 
 -- an arrival on one of these routes
 abbrev pub IsArrivalOn : List RouteId → Entry → Type 0
-IsArrivalOn routes (entry.Arrive port env) = (r : RouteId) × Contains routes r × (r.to.port ≡ port) × (r.source.0 ≡ env.sender)
+IsArrivalOn routes (entry.Arrive port env stamp) = (r : RouteId) × Contains routes r × (r.to.port ≡ port) × (r.source.0 ≡ env.sender)
 IsArrivalOn routes _ = ⊥
 
 -- on each of these routes the arrivals are numbered from 0
 abbrev pub AreNumbered : List RouteId → List Entry → Type 0
-AreNumbered routes es = All (λ (r : RouteId). (ms : List Message) × (arrived_on r es ≡ numbered 0 ms)) routes
+AreNumbered routes es = All (λ (r : RouteId). (ms : List Stamped) × (arrived_on r es ≡ numbered 0 ms)) routes
 
 -- these are arrivals on these routes alone, and numbered from 0 on each
 pub record AreArrivals (routes : List RouteId) (es : List Entry) : Type 0 where
@@ -58,9 +55,9 @@ pub record AreArrivals (routes : List RouteId) (es : List Entry) : Type 0 where
   pub order : AreNumbered routes es
 
 -- on each of these routes the arrivals begin what was put there: in its order, and numbered from 0
-abbrev pub AreBegun : List Entry → List (RouteId × List Message) → Type 0
-AreBegun es sent = All (λ (s : RouteId × List Message). Begins (arrived_on s.0 es) (numbered 0 s.1)) sent
+abbrev pub AreBegun : List Entry → List (RouteId × List Stamped) → Type 0
+AreBegun es sent = All (λ (s : RouteId × List Stamped). Begins (arrived_on s.0 es) (numbered 0 s.1)) sent
 
 -- on each of these routes the arrivals are what was put there: all of it, in its order, and numbered from 0
-abbrev pub AreDelivered : List Entry → List (RouteId × List Message) → Type 0
-AreDelivered es sent = All (λ (s : RouteId × List Message). arrived_on s.0 es ≡ numbered 0 s.1) sent
+abbrev pub AreDelivered : List Entry → List (RouteId × List Stamped) → Type 0
+AreDelivered es sent = All (λ (s : RouteId × List Stamped). arrived_on s.0 es ≡ numbered 0 s.1) sent

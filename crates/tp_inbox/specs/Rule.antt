@@ -3,17 +3,17 @@ use Rattle.std.specs.Prelude.{◌≡◌, ℕ, ◌<◌, ◌≤◌, true, false, L
 use mathlib.Core.Option.{Option, some, none}
 use lib.ListN.{get_elem?}
 use Rattle.tp_inbox.specs.declared.envelope.Envelope.{Envelope}
-use Rattle.tp_value.specs.declared.message.Message.{Message}
+use Rattle.tp_inbox.specs.declared.stamped.Stamped.{Stamped}
 use Rattle.tp_inbox.specs.declared.rule.View.{View}
 use Rattle.tp_inbox.specs.History.{numbered}
 use Rattle.tp_inbox.specs.Envelopes.{of, InOrder, AreFronts, AreRouted}
 
 -- the pass of a sender: its route, and what it has put
-abbrev pub sender_of : ℕ → List Message → View
+abbrev pub sender_of : ℕ → List Stamped → View
 sender_of place put = record { sends = true; place = place; put = put; owns = false; made = 0; taken = []; known = [] }
 
 -- the pass of the owner: how many routes it has split off, what it has taken out, and the lists of those that have joined
-abbrev pub owner_of : ℕ → List Envelope → List (List Message) → View
+abbrev pub owner_of : ℕ → List Envelope → List (List Stamped) → View
 owner_of made taken known = record { sends = false; place = 0; put = []; owns = true; made = made; taken = taken; known = known }
 
 -- a pass that has joined
@@ -21,11 +21,11 @@ abbrev pub spent : View
 spent = record { sends = false; place = 0; put = []; owns = false; made = 0; taken = []; known = [] }
 
 -- what a sender's pass has to do with the whole: it alone has its route, and knows what was put there
-abbrev pub FitsSender : ℕ → (ℕ → Option ℕ) → (ℕ → List Message) → ℕ → View → Type 0
+abbrev pub FitsSender : ℕ → (ℕ → Option ℕ) → (ℕ → List Stamped) → ℕ → View → Type 0
 FitsSender made seat put pass v = v.sends ≡ true → (v.place < made) × (seat v.place ≡ some pass) × (v.put ≡ put v.place)
 
 -- the owner's, of which there is one: it knows what was taken out, how many routes there are, and what the first of them put, which have joined
-abbrev pub FitsOwner : ℕ → ℕ → (ℕ → Option ℕ) → (ℕ → List Message) → List Envelope → ℕ → View → Type 0
+abbrev pub FitsOwner : ℕ → ℕ → (ℕ → Option ℕ) → (ℕ → List Stamped) → List Envelope → ℕ → View → Type 0
 FitsOwner owner made seat put taken pass v =
     v.owns ≡ true
     → (pass ≡ owner) × (v.made ≡ made) × (v.taken ≡ taken) × (length v.known ≤ made)
@@ -36,7 +36,7 @@ pub record Delivers (items : List Envelope) (views : List View) : Type 0 where
   pub owner : ℕ
   pub made : ℕ
   pub seat : ℕ → Option ℕ
-  pub put : ℕ → List Message
+  pub put : ℕ → List Stamped
   pub taken : List Envelope
   pub whole : (p : ℕ) → of p (taken ++ items) ≡ numbered 0 (put p)
   pub routed : AreRouted made (taken ++ items)
@@ -49,7 +49,7 @@ abbrev pub Takes : View → Envelope → View → Type 0
 Takes v e w = (w ≡ owner_of v.made (v.taken ++ e ∷ []) v.known) × (e.place < v.made) × InOrder (v.taken ++ e ∷ []) × AreFronts (v.taken ++ e ∷ []) v.known
 
 abbrev pub Puts : View → Envelope → View → Type 0
-Puts v e w = w ≡ sender_of v.place (v.put ++ e.message ∷ [])
+Puts v e w = w ≡ sender_of v.place (v.put ++ e.stamped ∷ [])
 
 -- of each route that has joined, what was taken out and what the queue holds is what was put
 abbrev pub Knows : View → List Envelope → Type 0

@@ -1,20 +1,24 @@
 //! A component's desk: its ports and its history.
-ghost use Rattle.std.specs.Prelude.{◌≡◌, ◌∷◌, [], ℕ, ◌<◌, length, IfErr, IfOk, OnErr, OnOk};
+ghost use Rattle.std.specs.Prelude.{◌≡◌, ◌∷◌, [], ℕ, ◌+◌, ◌^◌, ◌<◌, ◌≤◌, All, SomeIff, length, IfErr, IfOk, OnErr, OnOk};
 ghost use Rattle.std.specs.Option.{option_copied};
 ghost use Rattle.std.specs.Borrow.{sem};
 ghost use Rattle.tp_port.specs.History.{Lawful, queued, status_of, top};
 ghost use Rattle.tp_port.specs.Answers.{Checks, halted_count};
 ghost use Rattle.tp_config.specs.Setup.{IsComponent, ports_at};
 ghost use Rattle.tp_inbox.specs.declared.entry.Entry.TheVariants as entry;
-ghost use Rattle.tp_inbox.specs.History.{arrivals};
-ghost use Rattle.tp_inbox.specs.Desks.{IsNote, Notes, Receives, Triggers, adding, at_port};
+ghost use Rattle.tp_inbox.specs.History.{IsClocked, IsTimely, arrivals, clock_of, next_of};
+ghost use Rattle.tp_inbox.specs.Desks.{IsNote, IsWithin, Notes, Receives, Triggers, adding, at_port};
 ghost use Rattle.tp_inbox.specs.Lending.{ends_checked};
+ghost use Rattle.tp_inbox.specs.Ledgers.{putting};
 
 use crate::calls;
 use crate::calls::Triggered;
 use crate::entry::Entry;
+use crate::sender::{PutFault, Sender};
+use crate::stamped::Stamped;
 use std::alloc::Global;
 use std::marker::Model;
+use std::sync::Wait;
 use tp_config::config::Config;
 use tp_config::port_type::CompId;
 use tp_port::event::{Env, TriggerAnswer};
@@ -34,6 +38,8 @@ pub struct Desk {
     ports: Vec<PortQueue<Message>>,
     /// The history.
     log: Vec<Entry>,
+    /// The greatest stamp in the history.
+    clock: u64,
     alloc: Global,
 }
 
@@ -49,7 +55,7 @@ impl Model for Desk {
 
     ghost view = { λ d. record { comp = d.comp; ports = length d.ports.items; log = d.log.items } };
 
-    ghost invariant = { λ d. IsKept d.ports.items d.log.items };
+    ghost invariant = { λ d. IsKept d.ports.items d.clock d.log.items };
 }
 
 /// How many ports a component of the configuration has.
@@ -58,6 +64,20 @@ pub(crate) fn port_count(config: &Config, comp: CompId) -> usize
     ensures { result ≡ length (ports_at config.now.types config.now.components comp) }
 {
     config.comp_type(comp).ports.len()
+}
+
+/// A message under this stamp, twice: what is put, and what is noted.
+///
+/// 50 `Memory` only where an allocation was refused.
+fn twins(alloc: Global, stamp: u64, message: &Message) -> Result<(Stamped, Stamped), Memory>
+    ensures { IfOk result (λ two. (two.0 ≡ record { stamp = stamp; message = message.now }) × (two.1 ≡ two.0)) }
+{
+    let put = Stamped {
+        stamp,
+        message: message.copy(alloc)?,
+    };
+    let noted = put.copy(alloc)?;
+    Ok((put, noted))
 }
 
 impl Desk {
@@ -86,17 +106,24 @@ impl Desk {
             comp,
             ports,
             log: Vec::new(alloc),
+            clock: 0,
             alloc,
         })
     }
 
-    /// A message comes to this port: [`PortQueue::arrive`] there, and an `Arrive` in the history.
+    /// A message comes to this port, with the stamp of its sending: [`PortQueue::arrive`] there, and an
+    /// `Arrive` in the history.
     ///
     /// 50 `Memory` where an allocation was refused: the envelope is handed back, and the desk is as
     /// before.
-    pub fn arrive(&mut self, port: u32, env: Env<Message>) -> Result<(), (Memory, Env<Message>)>
+    pub fn arrive(
+        &mut self,
+        port: u32,
+        env: Env<Message>,
+        stamp: u64,
+    ) -> Result<(), (Memory, Env<Message>)>
         requires { port < self.old.ports }
-        ensures ok { OnOk result (self.new ≡ adding self.old (entry.Arrive port env)) }
+        ensures ok { OnOk result (self.new ≡ adding self.old (entry.Arrive port env stamp)) }
         ensures err { IfErr result (λ back. (back.1 ≡ env) × (self.new ≡ self.old)) }
     {
         if self.log.reserve(1).is_err() {
@@ -107,7 +134,8 @@ impl Desk {
         };
         match self.ports[port as usize].arrive(env) {
             Ok(()) => {
-                self.log.push_reserved(Entry::Arrive(port, twin));
+                self.log.push_reserved(Entry::Arrive(port, twin, stamp));
+                self.clock = self.clock.max(stamp);
                 Ok(())
             }
             Err(back) => Err(back),
@@ -122,7 +150,7 @@ impl Desk {
         port: u32,
         wanted: &W,
         from: Option<u32>,
-        branch: u32,
+        branch: usize,
     ) -> Result<Option<Env<Message>>, Memory>
         requires { port < self.old.ports }
         ensures ok { IfOk result (λ answer. Receives (W.admits wanted.now) from port branch self.old answer self.new) }
@@ -148,7 +176,7 @@ impl Desk {
         port: u32,
         wanted: &W,
         from: Option<u32>,
-        branch: u32,
+        branch: usize,
     ) -> Result<TriggerAnswer<Message>, Memory>
         requires { port < self.old.ports }
         ensures ok { IfOk result (λ answer. Triggers (W.admits wanted.now) from port branch self.old answer self.new) }
@@ -178,7 +206,7 @@ impl Desk {
         port: u32,
         wanted: &W,
         from: Option<u32>,
-        branch: u32,
+        branch: usize,
     ) -> Result<Option<&Env<Message>>, Memory>
         requires { port < self.old.ports }
         ensures* after { sem 𝓛 (ends_checked port branch self.entry result) }
@@ -197,7 +225,7 @@ impl Desk {
         port: u32,
         wanted: &W,
         from: Option<u32>,
-        branch: u32,
+        branch: usize,
     ) -> Result<bool, Memory>
         requires { port < self.old.ports }
         ensures ok { IfOk result (λ found. Notes (W.admits wanted.now) from port branch self.old found self.new) }
@@ -281,20 +309,68 @@ impl Desk {
         Ok(ahead)
     }
 
-    /// Notes what the behaviour did itself: an entry `Sent`, `Else`, `Verdict` or `Failed`.
+    /// Notes what the behaviour did itself: an entry `Sent`, `Else`, `Verdict` or `Failed`. The stamp
+    /// of a sending is above all stamps before it, as [`Desk::stamp`] offers one.
     ///
     /// 50 `Memory` where an allocation was refused: the entry is handed back, and the desk is as
     /// before.
     pub fn note(&mut self, entry: Entry) -> Result<(), (Memory, Entry)>
-        requires { IsNote entry }
+        requires note { IsNote entry }
+        requires timely { IsTimely self.old.log entry }
         ensures ok { OnOk result (self.new ≡ adding self.old entry) }
         ensures err { IfErr result (λ back. (back.1 ≡ entry) × (self.new ≡ self.old)) }
     {
         if self.log.reserve(1).is_err() {
             return Err((Memory, entry));
         }
+        self.clock = self.clock.max(entry.stamp());
         self.log.push_reserved(entry);
         Ok(())
+    }
+
+    /// Sends a message: puts it with this sender, under the next stamp of the history, and notes it there. The
+    /// two are one: where it is put, it is noted.
+    ///
+    /// 15 `Limit` only where the sender's route has taken all that it takes; else 50 `Memory` where an
+    /// allocation was refused, or where no stamp is left. Nothing is put or noted then.
+    pub fn send<R: Wait>(
+        &mut self,
+        rt: &R,
+        sender: &mut Sender,
+        message: &Message,
+    ) -> Result<(), PutFault>
+        ensures desk { OnOk result (self.new ≡ adding self.old (entry.Sent sender.old.route
+            (length sender.old.ledger) (next_of self.old.log message.now))) }
+        ensures sender { OnOk result (sender.new ≡ putting sender.old (next_of self.old.log message.now)) }
+        ensures err { OnErr result ((self.new ≡ self.old) × (sender.new ≡ sender.old)) }
+        ensures limit { IfErr result (λ fault. fault ≡ PutFault.Limit → 100000 ≤ length sender.old.ledger) }
+    {
+        let route = sender.route();
+        let Some(stamp) = self.stamp() else {
+            return Err(PutFault::Memory);
+        };
+        let Ok((copy, noted)) = twins(self.alloc, stamp, message) else {
+            return Err(PutFault::Memory);
+        };
+        if self.log.reserve(1).is_err() {
+            return Err(PutFault::Memory);
+        }
+        match sender.put(rt, copy) {
+            Ok(number) => {
+                self.log.push_reserved(Entry::Sent(route, number, noted));
+                self.clock = stamp;
+                Ok(())
+            }
+            Err((fault, _)) => Err(fault),
+        }
+    }
+
+    /// The next stamp, one above the greatest in the history. None where the numbers are used up.
+    /// Takes no memory.
+    pub fn stamp(&self) -> Option<u64>
+        ensures { SomeIff result (clock_of self.now.log + 1 < 2 ^ 64) (clock_of self.now.log + 1) }
+    {
+        self.clock.checked_add(1)
     }
 
     /// Whose desk it is. Takes no memory.
@@ -315,6 +391,8 @@ impl Desk {
     pub fn log(&self) -> &[Entry]
         ensures history { result.now ≡ self.now.log }
         ensures lawful { (port : ℕ) → port < self.now.ports → Lawful (at_port self.now port) }
+        ensures within { All (IsWithin self.now.ports) self.now.log }
+        ensures clocked { IsClocked self.now.log }
     {
         self.log.as_slice()
     }

@@ -1,5 +1,5 @@
 //! What an inbox carries.
-use tp_value::message::Message;
+use crate::stamped::Stamped;
 
 /// A message on its way into a component.
 #[derive(Drop)]
@@ -8,6 +8,6 @@ pub(crate) struct Envelope {
     pub place: usize,
     /// Its number on its route, from 0.
     pub number: u64,
-    /// The message.
-    pub message: Message,
+    /// The message, with its stamp.
+    pub stamped: Stamped,
 }

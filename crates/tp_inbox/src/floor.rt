@@ -1,5 +1,5 @@
 //! The floor that all behaviours of a run stand on: how many live, and how many of them rest.
-ghost use Rattle.std.specs.Prelude.{◌≤◌};
+ghost use Rattle.std.specs.Prelude.{◌≡◌, ◌<◌, ◌≤◌, ◌↔◌, ◌+◌, ◌-◌, true, if◌then◌else◌};
 
 use std::alloc::Global;
 use std::sync::{Arc, Mutex, Wait};
@@ -14,8 +14,14 @@ struct Counts {
 }
 
 impl Counts {
-    /// One behaviour, which is awake, has ended. True where others live and all of them rest.
-    fn leave(&mut self) -> bool {
+    /// One behaviour, which is awake, has ended. True where others live and all of them rest. Where
+    /// nobody is awake nothing changes.
+    fn leave(&mut self) -> bool
+        ensures living { self.old.resting < self.old.living → self.new.living + 1 ≡ self.old.living }
+        ensures nobody { self.old.resting ≡ self.old.living → self.new.living ≡ self.old.living }
+        ensures resting { self.new.resting ≡ self.old.resting }
+        ensures all_rest { result ≡ true ↔ (self.old.resting < self.old.living) × (0 < self.new.living) × (self.new.resting ≡ self.new.living) }
+    {
         if self.resting >= self.living {
             return false;
         }
@@ -24,7 +30,11 @@ impl Counts {
     }
 
     /// One behaviour rests from now on. False where no other is awake: then it does not rest.
-    fn rest(&mut self) -> bool {
+    fn rest(&mut self) -> bool
+        ensures living { self.new.living ≡ self.old.living }
+        ensures rests { result ≡ true ↔ self.old.resting + 1 < self.old.living }
+        ensures resting { self.new.resting ≡ (if result then self.old.resting + 1 else self.old.resting) }
+    {
         if self.living == 0 || self.resting >= self.living - 1 {
             return false;
         }
@@ -33,7 +43,10 @@ impl Counts {
     }
 
     /// One behaviour rests no more.
-    fn rise(&mut self) {
+    fn rise(&mut self)
+        ensures living { self.new.living ≡ self.old.living }
+        ensures resting { self.new.resting ≡ self.old.resting - 1 }
+    {
         if self.resting > 0 {
             self.resting -= 1;
         }
@@ -74,5 +87,11 @@ impl Floor {
     /// One behaviour rests no more.
     pub(crate) fn rise<R: Wait>(&self, rt: &R) {
         self.counts.lock(rt).rise();
+    }
+
+    /// How many rest.
+    #[cfg(test)]
+    pub(crate) fn resting<R: Wait>(&self, rt: &R) -> u32 {
+        self.counts.lock(rt).resting
     }
 }

@@ -13,6 +13,7 @@ use crate::hub::Hub;
 use crate::owner::{Owner, take_out};
 use crate::rule::{Pass, Route, Take};
 use crate::sender::Sender;
+use crate::stamped::Stamped;
 use std::alloc::Global;
 use std::marker::Model;
 use std::sync::{Arc, Wait};
@@ -29,9 +30,9 @@ pub struct Gathered {
     hub: Arc<Hub, Global>,
     pass: Pass,
     /// What each sender has put.
-    sent: Vec<(RouteId, Vec<Message>)>,
-    /// What was taken out and not drained, with the ports where it arrives.
-    rest: Vec<(u32, Env<Message>)>,
+    sent: Vec<(RouteId, Vec<Stamped>)>,
+    /// What was taken out and not drained, with the ports where it arrives, and the stamps.
+    rest: Vec<(u32, Env<Message>, u64)>,
 }
 
 impl Model for Gathered {
@@ -56,18 +57,19 @@ impl Model for Gathered {
 /// What was put on each route, and what of it was still in the inbox.
 #[derive(Drop)]
 pub struct Settled {
-    /// For each route into the component, in order, the messages that its sender has put, in order.
-    pub sent: Vec<(RouteId, Vec<Message>)>,
-    /// What was still in the inbox, in order, with the port where each arrives.
-    pub rest: Vec<(u32, Env<Message>)>,
+    /// For each route into the component, in order, the messages that its sender has put, in order,
+    /// with their stamps.
+    pub sent: Vec<(RouteId, Vec<Stamped>)>,
+    /// What was still in the inbox, in order: the port where it arrives, what arrives, its stamp.
+    pub rest: Vec<(u32, Env<Message>, u64)>,
 }
 
 /// The envelope that was in hand, if any, as the first of the rest.
 fn with_hand(
     hub: &Hub,
-    mut rest: Vec<(u32, Env<Message>)>,
+    mut rest: Vec<(u32, Env<Message>, u64)>,
     hand: Option<Envelope>,
-) -> Vec<(u32, Env<Message>)>
+) -> Vec<(u32, Env<Message>, u64)>
     requires empty { rest.items ≡ [] }
     requires room { 1 ≤ vec_capacity rest }
     requires routed { AreRouted (length hub.now.routes.items) (one_of hand) }
@@ -84,6 +86,8 @@ fn with_hand(
 /// what was drained. Takes no memory.
 pub fn gather<R: Wait>(rt: &R, owner: Owner, senders: Vec<Sender>) -> Gathered
     requires { AreSenders owner.inbox senders.items }
+    ensures are { AreRoutes owner.inbox.comp owner.inbox.ports owner.inbox.routes }
+    ensures routed { All (IsArrivalOn owner.inbox.routes) owner.drained }
     ensures inbox { result.inbox ≡ owner.inbox }
     ensures drained { result.drained ≡ owner.drained }
     ensures sent { result.sent ≡ map put_by senders.items }
@@ -97,6 +101,7 @@ pub fn gather<R: Wait>(rt: &R, owner: Owner, senders: Vec<Sender>) -> Gathered
         rest,
         taken: _,
         counts: _,
+        places: _,
     } = owner;
     for sender in senders {
         let route = sender.route();

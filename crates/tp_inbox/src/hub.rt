@@ -1,26 +1,17 @@
 //! What the ends of one inbox share.
-ghost use Rattle.std.specs.Prelude.{◌≡◌, ◌<◌, length, position};
-ghost use Rattle.tp_inbox.specs.Routed.{AreRoutes, env_of, meets, route_at};
+ghost use Rattle.std.specs.Prelude.{◌≡◌, ◌<◌, length};
+ghost use Rattle.tp_inbox.specs.Routed.{AreRoutes, env_of, route_at};
 
+use crate::bell::Bell;
 use crate::envelope::Envelope;
 use crate::floor::Floor;
 use crate::rule::Line;
+use crate::stamped::Stamped;
 use std::alloc::Global;
-use std::sync::{Arc, Condvar, Mutex, Wait};
+use std::sync::{Arc, Condvar, Mutex, MutexGuard, Wait};
 use tp_config::port_type::{CompId, RouteId};
 use tp_port::event::Env;
 use tp_value::message::Message;
-
-/// What the lock of an inbox keeps. It keeps nothing of the messages.
-#[derive(Drop)]
-struct Bell {
-    /// How many pushes were announced.
-    announced: u64,
-    /// Whether the inbox was closed.
-    closed: bool,
-    /// Where the owner rests: it is woken once more than this were announced.
-    awaits: Option<u64>,
-}
 
 /// What a wait found.
 #[derive(Clone, Copy, Debug, PartialEq, Eq)]
@@ -34,6 +25,14 @@ pub enum Woken {
 }
 
 /// What an owner and its senders share: the queue, the routes into the component, and the bell.
+///
+/// A push comes before it is announced, and only what is announced wakes. An owner may so take out what
+/// isn't announced yet: it counts what it took, and waits for more than that, so that the announcement
+/// which comes later wakes nobody for what is gone. No waking is lost, since the owner looks and comes
+/// to rest under the one lock under which a push is announced: either it finds the announcement, or
+/// the announcement finds it at rest. Whoever ends a rest takes it from the floor under that same
+/// lock, and only then wakes: so a behaviour that is on its way back counts as awake. The floor's
+/// lock is taken inside the inbox's lock, never the other way round.
 pub(crate) struct Hub {
     /// The queue. It has a rule, and no lock.
     pub(crate) line: Line,
@@ -69,11 +68,7 @@ impl Hub {
             comp,
             ports,
             routes,
-            bell: Mutex::new(Bell {
-                announced: 0,
-                closed: false,
-                awaits: None,
-            }),
+            bell: Mutex::new(Bell::new()),
             rung: Condvar::new(),
             floor,
         }
@@ -81,82 +76,59 @@ impl Hub {
 
     /// Announces a push, and wakes the owner where it rests and has not taken this one out yet.
     pub(crate) fn announce<R: Wait>(&self, rt: &R) {
-        let mut guard = self.bell.lock(rt);
-        let bell = &mut *guard;
-        bell.announced = bell.announced.wrapping_add(1);
-        let wakes = match bell.awaits {
-            Some(taken) => bell.announced > taken,
-            None => false,
-        };
+        let mut bell = self.bell.lock(rt);
+        let wakes = bell.announce();
+        self.wake(rt, bell, wakes);
+    }
+
+    /// Closes the inbox, and wakes the owner where it rests.
+    pub(crate) fn close<R: Wait>(&self, rt: &R) {
+        let mut bell = self.bell.lock(rt);
+        let wakes = bell.close();
+        self.wake(rt, bell, wakes);
+    }
+
+    /// Lets the owner rise where it is to be woken, and wakes it. It wakes all that wait at this inbox: a
+    /// wait only borrows the owner, so that nothing here rules out that there are two.
+    fn wake<R: Wait>(&self, rt: &R, bell: MutexGuard<Bell>, wakes: bool) {
         if wakes {
-            bell.awaits = None;
             self.floor.rise(rt);
         }
-        drop(guard);
+        drop(bell);
         if wakes {
             self.rung.notify_all();
         }
     }
 
-    /// Closes the inbox, and wakes the owner where it rests.
-    pub(crate) fn close<R: Wait>(&self, rt: &R) {
-        let mut guard = self.bell.lock(rt);
-        let bell = &mut *guard;
-        bell.closed = true;
-        if bell.awaits.is_some() {
-            bell.awaits = None;
-            self.floor.rise(rt);
-        }
-        drop(guard);
-        self.rung.notify_all();
-    }
-
     /// Waits until more than `taken` pushes were announced or the inbox is closed, unless no other
     /// living behaviour is awake.
     pub(crate) fn wait_past<R: Wait>(&self, rt: &R, taken: u64) -> Woken {
-        let mut guard = self.bell.lock(rt);
-        let bell = &mut *guard;
-        if bell.announced > taken {
-            return Woken::Arrived;
+        let mut bell = self.bell.lock(rt);
+        if let Some(found) = bell.look(taken) {
+            return found;
         }
-        if bell.closed {
-            return Woken::Closed;
+        if let Some(last) = bell.rest(taken, self.floor.rest(rt)) {
+            return last;
         }
-        if !self.floor.rest(rt) {
-            return Woken::Last;
-        }
-        bell.awaits = Some(taken);
-        let bell = self
-            .rung
-            .wait_while(rt, guard, |bell| bell.awaits.is_some());
-        if bell.announced > taken {
-            Woken::Arrived
-        } else {
-            Woken::Closed
-        }
+        let bell = self.rung.wait_while(rt, bell, |bell| bell.rests());
+        bell.woken(taken)
     }
 
-    /// The place of the route that has this one's port and sender, if one has.
-    pub(crate) fn place_of(&self, route: RouteId) -> Option<usize>
-        ensures { result ≡ position (meets route) self.now.routes.items }
-    {
-        self.routes.iter().position(|other| route.to.port == other.to.port
-            && route.source.0 == other.source.0)
-    }
-
-    /// The port to which an envelope goes, and what arrives there.
-    pub(crate) fn addressed(&self, envelope: Envelope) -> (u32, Env<Message>)
+    /// The port to which an envelope goes, what arrives there, and its stamp.
+    pub(crate) fn addressed(&self, envelope: Envelope) -> (u32, Env<Message>, u64)
         requires { envelope.place < length self.now.routes.items }
         ensures port { result.0 ≡ (route_at self.now.routes.items envelope.place).to.port }
         ensures env { result.1 ≡ env_of self.now.routes.items envelope }
+        ensures stamp { result.2 ≡ envelope.stamped.stamp }
     {
         let route = self.routes[envelope.place];
+        let Stamped { stamp, message } = envelope.stamped;
         let env = Env {
             sender: route.source.0,
             number: envelope.number,
-            msg: envelope.message,
+            msg: message,
         };
-        (route.to.port, env)
+        (route.to.port, env, stamp)
     }
 }
 

@@ -1,6 +1,7 @@
 //! One component's inbox and desk, and the floor that all behaviours of a run stand on.
 #![tactic(auto)]
 
+mod bell;
 mod calls;
 pub mod desk;
 pub mod entry;
@@ -13,6 +14,11 @@ pub mod owner;
 mod rule;
 pub mod sender;
 #[cfg(test)]
+mod sends;
+pub mod stamped;
+#[cfg(test)]
 mod tests;
 #[cfg(test)]
 mod threads;
+#[cfg(test)]
+mod wakings;

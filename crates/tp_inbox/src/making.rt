@@ -1,9 +1,11 @@
 //! How an inbox is made.
-ghost use Rattle.std.specs.Prelude.{◌≡◌, [], IfOk, length, map};
+ghost use Rattle.std.specs.Prelude.{◌≡◌, ◌≢◌, [], AllPairs, IfOk, length, map};
 ghost use Rattle.tp_config.specs.Setup.{IsComponent, ports_at};
+ghost use Rattle.tp_config.specs.declared.port_type.RouteId.{RouteId};
 ghost use Rattle.tp_config.specs.Routes.{routes_into};
 ghost use Rattle.tp_inbox.specs.Rule.{owner_of};
 ghost use Rattle.tp_inbox.specs.Routed.{AreRoutes};
+ghost use Rattle.tp_inbox.specs.Places.{AreFiled};
 ghost use Rattle.tp_inbox.specs.Ledgers.{AreSenders, new_sender};
 ghost use Rattle.tp_inbox.specs.Ends.{inbox_of};
 ghost use Rattle.crossbeam_queue.specs.SegTies.{IsSegPassOf};
@@ -15,6 +17,7 @@ use crate::hub::Hub;
 use crate::owner::{Closer, Owner};
 use crate::rule::{Line, Pass, Route};
 use crate::sender::Sender;
+use indexmap::IndexMap;
 use std::alloc::Global;
 use std::sync::Arc;
 use tp_config::config::Config;
@@ -28,6 +31,19 @@ fn routes_of(config: &Config, comp: CompId) -> Result<Vec<RouteId>, Memory>
 {
     let routes = config.routes_into(comp)?;
     Ok(routes)
+}
+
+/// The place of each of these routes.
+fn places_of(alloc: Global, routes: &[RouteId]) -> Result<IndexMap<RouteId, usize>, Memory>
+    requires { AllPairs (λ (r q : RouteId). r ≢ q) routes.now }
+    ensures { IfOk result (λ places. AreFiled (length routes.now) routes.now places) }
+{
+    let count = routes.len();
+    let mut places = IndexMap::with_capacity(alloc, count)?;
+    for place in 0..count {
+        places.insert(routes[place], place)?;
+    }
+    Ok(places)
 }
 
 /// A sender for each route, in their order, with passes that are split off this one.
@@ -76,6 +92,7 @@ pub fn inbox(
     let routes = routes_of(config, comp)?;
     let count = routes.len();
     let counts = Vec::from_elem(alloc, 0, count)?;
+    let places = places_of(alloc, routes.as_slice())?;
     let sent = Vec::with_capacity(alloc, count)?;
     let rest = Vec::with_capacity(alloc, 1)?;
     let floor = Arc::try_clone(floor)?;
@@ -92,6 +109,7 @@ pub fn inbox(
         hand: None,
         taken: 0,
         counts,
+        places,
         sent,
         rest,
     };

@@ -1,18 +1,20 @@
 //! The owner of an inbox.
-ghost use Rattle.std.specs.Prelude.{◌≡◌, ◌++◌, ◌∷◌, [], List, length, IfOk, OnErr, OnOk, MatchOption};
+ghost use Rattle.std.specs.Prelude.{◌≡◌, ◌++◌, ◌∷◌, ◌<◌, [], List, length, IfOk, OnErr, OnOk, MatchOption, option_map};
 ghost use Rattle.crossbeam_queue.specs.SegTies.{IsSegPassOf};
 ghost use Rattle.tp_inbox.specs.declared.entry.Entry.{Entry};
-ghost use Rattle.tp_inbox.specs.History.{arrivals, arrived_on};
+ghost use Rattle.tp_inbox.specs.History.{arrivals};
 ghost use Rattle.tp_inbox.specs.Desks.{adding_all};
 ghost use Rattle.tp_inbox.specs.Envelopes.{AreWhole};
 ghost use Rattle.tp_inbox.specs.Rule.{Sound};
 ghost use Rattle.tp_inbox.specs.Routed.{AreArrivals};
-ghost use Rattle.tp_inbox.specs.Ledgers.{IsDeskOf};
+ghost use Rattle.tp_inbox.specs.Ledgers.{IsDeskOf, drained_on};
 
 use crate::desk::Desk;
 use crate::envelope::Envelope;
 use crate::hub::{Hub, Woken};
 use crate::rule::{Line, Pass, Take};
+use crate::stamped::Stamped;
+use indexmap::IndexMap;
 use std::alloc::Global;
 use std::marker::Model;
 use std::sync::{Arc, Wait};
@@ -33,10 +35,12 @@ pub struct Owner {
     pub(crate) taken: u64,
     /// How many envelopes of each route were drained.
     pub(crate) counts: Vec<u64>,
+    /// The place of each route.
+    pub(crate) places: IndexMap<RouteId, usize>,
     /// Room for what each sender has put.
-    pub(crate) sent: Vec<(RouteId, Vec<Message>)>,
+    pub(crate) sent: Vec<(RouteId, Vec<Stamped>)>,
     /// Room for what is still in the inbox at the end.
-    pub(crate) rest: Vec<(u32, Env<Message>)>,
+    pub(crate) rest: Vec<(u32, Env<Message>, u64)>,
 }
 
 impl Model for Owner {
@@ -66,6 +70,16 @@ pub(crate) fn take_out<R: Wait>(rt: &R, line: &Line, pass: &mut Pass) -> Option<
     ensures found { MatchOption result ((pass.new.me.view.client.taken ≡ pass.old.me.view.client.taken) × AreWhole pass.new.me.view.client.taken pass.new.me.view.client.known) (λ e. pass.new.me.view.client.taken ≡ pass.old.me.view.client.taken ++ e ∷ []) }
 {
     line.pop_as::<Take, R>(rt, pass)
+}
+
+/// What a wait finds at once where there is an envelope in hand.
+fn in_hand(hand: &Option<Envelope>) -> Option<Woken>
+    ensures { result ≡ option_map (λ _. Woken.Arrived) hand.now }
+{
+    if hand.is_some() {
+        return Some(Woken::Arrived);
+    }
+    None
 }
 
 impl Owner {
@@ -98,8 +112,8 @@ impl Owner {
             return Ok(());
         };
         let (place, number) = (envelope.place, envelope.number);
-        let (port, env) = self.hub.addressed(envelope);
-        match desk.arrive(port, env) {
+        let (port, env, stamp) = self.hub.addressed(envelope);
+        match desk.arrive(port, env, stamp) {
             Ok(()) => {
                 // The history holds this arrival, so that its number is below its length.
                 let _held = desk.entries();
@@ -110,7 +124,10 @@ impl Owner {
                 self.hand = Some(Envelope {
                     place,
                     number: back.number,
-                    message: back.msg,
+                    stamped: Stamped {
+                        stamp,
+                        message: back.msg,
+                    },
                 });
                 Err(memory)
             }
@@ -140,13 +157,13 @@ impl Owner {
         unreachable!()
     }
 
-    /// How many messages of a route this owner has drained, over all drains; 0 for a route that does
-    /// not lead into this inbox. Takes no memory.
+    /// How many messages of this route this owner has drained, over all drains: none of a route that
+    /// leads to another component. Looks at no history. Takes no memory.
     pub fn drained(&self, route: RouteId) -> u64
-        ensures { result ≡ length (arrived_on route self.now.drained) }
+        ensures { result ≡ drained_on self.now route }
     {
-        match self.hub.place_of(route) {
-            Some(place) => self.counts[place],
+        match self.places.get(&route) {
+            Some(place) => self.counts[*place],
             None => 0,
         }
     }
@@ -154,8 +171,8 @@ impl Owner {
     /// Waits until the inbox holds a message, or is closed, or no other living behaviour is awake.
     /// A message that a drain could not move counts as in the inbox. Takes no memory.
     pub fn wait<R: Wait>(&self, rt: &R) -> Woken {
-        if self.hand.is_some() {
-            return Woken::Arrived;
+        if let Some(found) = in_hand(&self.hand) {
+            return found;
         }
         self.hub.wait_past(rt, self.taken)
     }

@@ -4,10 +4,10 @@
 //! what the owner has taken out, followed by what the queue holds, is what the sender has put, in its
 //! order, numbered from 0. It holds between any two steps of any threads.
 use crate::envelope::Envelope;
+use crate::stamped::Stamped;
 use crossbeam_queue::protocol::{Join, Lesson, Outcome, Protocol, Split};
 use crossbeam_queue::{RuledSegQueue, SegPass};
 use std::collections::LinkedList;
-use tp_value::message::Message;
 
 /// What a pass knows. No value of it is made: it stands in contracts alone.
 pub(crate) struct View {
@@ -16,7 +16,7 @@ pub(crate) struct View {
     /// The place of the sender's route.
     pub place: usize,
     /// What the sender has put, in its order.
-    pub put: LinkedList<Message>,
+    pub put: LinkedList<Stamped>,
     /// It is the owner's.
     pub owns: bool,
     /// How many routes the owner has split off.
@@ -24,7 +24,7 @@ pub(crate) struct View {
     /// What the owner has taken out, in order.
     pub taken: LinkedList<Envelope>,
     /// What the senders that have joined had put, route by route.
-    pub known: LinkedList<LinkedList<Message>>,
+    pub known: LinkedList<LinkedList<Stamped>>,
 }
 
 /// The rule itself.

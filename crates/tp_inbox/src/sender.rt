@@ -5,13 +5,13 @@ ghost use Rattle.tp_inbox.specs.Ledgers.{putting};
 use crate::envelope::Envelope;
 use crate::hub::Hub;
 use crate::rule::{Pass, Put};
+use crate::stamped::Stamped;
 use std::alloc::Global;
 use std::marker::Model;
 use std::sync::{Arc, Wait};
 use thiserror::Error;
 use tp_config::port_type::RouteId;
 use tp_port::payload::Payload;
-use tp_value::message::Message;
 
 /// How many messages a route takes.
 pub const ROUTE_LIMIT: usize = 100_000;
@@ -28,7 +28,7 @@ pub enum PutFault {
 }
 
 /// The sender on one route into an inbox, seen by contracts as its inbox, its route and its ledger:
-/// the list of the messages that it has put, in order.
+/// the list of the messages that it has put, in order, with their stamps.
 ///
 /// It may be moved into a thread of its own. There is no order between what different senders put.
 #[derive(Drop)]
@@ -36,7 +36,7 @@ pub struct Sender {
     pub(crate) hub: Arc<Hub, Global>,
     pub(crate) pass: Pass,
     pub(crate) place: usize,
-    pub(crate) sent: Vec<Message>,
+    pub(crate) sent: Vec<Stamped>,
     pub(crate) alloc: Global,
 }
 
@@ -59,44 +59,44 @@ impl Model for Sender {
 }
 
 impl Sender {
-    /// Puts a message into the inbox, and answers its number on its route, from 0. The message is
-    /// held by the inbox from then on, behind all that this sender has put before, until the owner
-    /// takes it out; the ledger keeps a copy.
+    /// Puts a stamped message into the inbox, and answers its number on its route, from 0. The inbox
+    /// holds it from then on, behind all that this sender has put before, until the owner takes it
+    /// out; the ledger keeps a copy.
     ///
     /// 15 `Limit` where the route has taken [`ROUTE_LIMIT`] messages; else 50 `Memory` where an
     /// allocation was refused. Either hands the message back, and the sender and the inbox are as
     /// before.
-    pub fn put<R: Wait>(&mut self, rt: &R, message: Message) -> Result<u64, (PutFault, Message)>
+    pub fn put<R: Wait>(&mut self, rt: &R, stamped: Stamped) -> Result<u64, (PutFault, Stamped)>
         ensures same { (self.new.inbox ≡ self.old.inbox) × (self.new.route ≡ self.old.route) }
         ensures number { IfOk result (λ number. number ≡ length self.old.ledger) }
-        ensures ok { OnOk result (self.new ≡ putting self.old message) }
-        ensures room { OnOk result (length self.old.ledger < ROUTE_LIMIT) }
-        ensures err { IfErr result (λ back. (back.1 ≡ message) × (self.new ≡ self.old)) }
-        ensures limit { IfErr result (λ back. back.0 ≡ PutFault.Limit ↔ ROUTE_LIMIT ≤ length self.old.ledger) }
+        ensures ok { OnOk result (self.new ≡ putting self.old stamped) }
+        ensures room { OnOk result (length self.old.ledger < 100000) }
+        ensures err { IfErr result (λ back. (back.1 ≡ stamped) × (self.new ≡ self.old)) }
+        ensures limit { IfErr result (λ back. back.0 ≡ PutFault.Limit ↔ 100000 ≤ length self.old.ledger) }
     {
         let number = self.sent.len();
         if number >= ROUTE_LIMIT {
-            return Err((PutFault::Limit, message));
+            return Err((PutFault::Limit, stamped));
         }
-        let Ok(copy) = message.copy(self.alloc) else {
-            return Err((PutFault::Memory, message));
+        let Ok(copy) = stamped.copy(self.alloc) else {
+            return Err((PutFault::Memory, stamped));
         };
         if self.sent.reserve(1).is_err() {
-            return Err((PutFault::Memory, message));
+            return Err((PutFault::Memory, stamped));
         }
         let envelope = Envelope {
             place: self.place,
             number: number as u64,
-            message: copy,
+            stamped: copy,
         };
         let line = &self.hub.line;
         match line.push_as::<Put, R>(rt, &mut self.pass, envelope) {
             Ok(()) => {
-                self.sent.push_reserved(message);
+                self.sent.push_reserved(stamped);
                 self.hub.announce(rt);
                 Ok(number as u64)
             }
-            Err(_) => Err((PutFault::Memory, message)),
+            Err(_) => Err((PutFault::Memory, stamped)),
         }
     }
 

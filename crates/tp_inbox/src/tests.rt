@@ -1,6 +1,7 @@
 //! The calls on worked values, what a wait answers where nobody else is there, and refused memory.
-ghost use Rattle.std.specs.Prelude.{◌≡◌, ◌≤◌, IfOk, length};
+ghost use Rattle.std.specs.Prelude.{◌≡◌, ◌<◌, ◌≤◌, IfOk, length};
 ghost use Rattle.tp_inbox.specs.Desks.{IsNote};
+ghost use Rattle.tp_inbox.specs.History.{IsTimely};
 
 use crate::desk::Desk;
 use crate::entry::Entry;
@@ -10,6 +11,7 @@ use crate::hub::Woken;
 use crate::making::inbox;
 use crate::owner::{Closer, Owner};
 use crate::sender::{PutFault, ROUTE_LIMIT, Sender};
+use crate::stamped::Stamped;
 use indexmap::IndexMap;
 use std::alloc::Global;
 use std::marker::Model;
@@ -18,7 +20,7 @@ use std::test::Fail;
 use tp_config::config::Config;
 use tp_config::port_type::{CompId, CompType, PORT_LIMIT, PortRef, PortType, Role, RouteId};
 use tp_config::type_list::TypeList;
-use tp_port::event::TriggerAnswer;
+use tp_port::event::{Env, TriggerAnswer};
 use tp_refusal::memory::Memory;
 use tp_value::items::Items;
 use tp_value::message::{Message, MsgTemplate};
@@ -35,12 +37,25 @@ pub(crate) fn integer(n: i64) -> Message {
     }
 }
 
+/// The message `integer:n`, whose stamp is n without its sign.
+pub(crate) fn stamped(n: i64) -> Stamped {
+    Stamped {
+        stamp: n.unsigned_abs(),
+        message: integer(n),
+    }
+}
+
 /// Whether the message is `integer:n`.
 fn is_integer(message: &Message, n: i64) -> bool {
     match &message.value {
         Value::Int(value) => message.ty == Ty::Integer && *value == n,
         _ => false,
     }
+}
+
+/// Whether it is `integer:n` with that stamp.
+pub(crate) fn is_stamped(stamped: &Stamped, n: i64) -> bool {
+    stamped.stamp == n.unsigned_abs() && is_integer(&stamped.message, n)
 }
 
 /// What `integer:?` wants.
@@ -189,11 +204,11 @@ pub(crate) fn ends_of(
 
 impl Ends {
     /// Puts `integer:n` on the route at this place.
-    fn put<R: Wait>(&mut self, rt: &R, place: usize, n: i64) -> Result<u64, (PutFault, Message)> {
+    fn put<R: Wait>(&mut self, rt: &R, place: usize, n: i64) -> Result<u64, (PutFault, Stamped)> {
         if place >= self.senders.len() {
-            return Err((PutFault::Memory, integer(n)));
+            return Err((PutFault::Memory, stamped(n)));
         }
-        self.senders[place].put(rt, integer(n))
+        self.senders[place].put(rt, stamped(n))
     }
 
     pub(crate) fn drain<R: Wait>(&mut self, rt: &R) -> Result<u64, Memory> {
@@ -257,11 +272,11 @@ impl Ends {
     }
 }
 
-/// Whether the messages are `integer:n` with n from `first` on.
-pub(crate) fn count_up(messages: &[Message], first: i64) -> bool {
+/// Whether the messages are `integer:n` with n from `first` on, and their stamps those numbers.
+pub(crate) fn count_up(messages: &[Stamped], first: i64) -> bool {
     let mut wanted = first;
     for message in messages {
-        if !is_integer(message, wanted) {
+        if !is_stamped(message, wanted) {
             return false;
         }
         wanted = wanted.wrapping_add(1);
@@ -273,7 +288,7 @@ pub(crate) fn count_up(messages: &[Message], first: i64) -> bool {
 pub(crate) fn arrivals_from(log: &[Entry], sender: u32) -> Option<u64> {
     let mut wanted = 0u64;
     for entry in log {
-        if let Entry::Arrive(0, env) = entry {
+        if let Entry::Arrive(0, env, _) = entry {
             if env.sender == sender {
                 if env.number != wanted {
                     return None;
@@ -311,8 +326,9 @@ fn is_row(settled: &Settled, desk: &Desk) -> bool {
             return false;
         }
     }
-    for (port, env) in &settled.rest {
-        if *port != 0 || env.sender != 0 || env.number != 2 || !is_integer(&env.msg, 6) {
+    for (port, env, stamp) in &settled.rest {
+        let is_last = env.number == 2 && *stamp == 6 && is_integer(&env.msg, 6);
+        if *port != 0 || env.sender != 0 || !is_last {
             return false;
         }
     }
@@ -333,7 +349,8 @@ fn one_route(rt: HostRuntime) -> Result<(), Fail> {
     Ok(())
 }
 
-/// A sender tells its route, and the owner how many it has drained of a route.
+/// A sender tells its route, and the owner how many it has drained of a route: none of one into another
+/// component's port of that number, and none of another sender's.
 #[test]
 fn routes_are_told(rt: HostRuntime) -> Result<(), Fail> {
     let (mut ends, _floor) = two(rt.alloc())?;
@@ -341,11 +358,12 @@ fn routes_are_told(rt: HostRuntime) -> Result<(), Fail> {
     assert_eq!(rt; ends.drain(&rt)?, 1);
     assert_eq!(rt; ends.route(0), Some(way()));
     assert_eq!(rt; ends.drained(way()), 1);
-    let other = RouteId {
-        source: CompId(1),
-        to: way().to,
-    };
-    assert_eq!(rt; ends.drained(other), 0);
+    let mut elsewhere = way();
+    elsewhere.to.comp = CompId(2);
+    assert_eq!(rt; ends.drained(elsewhere), 0);
+    let mut of_another = way();
+    of_another.source = CompId(1);
+    assert_eq!(rt; ends.drained(of_another), 0);
     Ok(())
 }
 
@@ -377,7 +395,7 @@ fn a_route_has_a_limit(rt: HostRuntime) -> Result<(), Fail> {
         Ok(_) => assert!(rt; false),
         Err((fault, back)) => {
             assert_eq!(rt; fault, PutFault::Limit);
-            assert!(rt; is_integer(&back, 7));
+            assert!(rt; is_stamped(&back, 7));
         }
     }
     assert_eq!(rt; ends.count(0), 100_000);
@@ -417,13 +435,14 @@ enum Call {
     Clear,
     Stop,
     Start,
+    Send,
     Else,
     Verdict,
     Failed,
 }
 
 /// The calls of the test, in order.
-const CALLS: [Call; 12] = [
+const CALLS: [Call; 13] = [
     Call::ReceiveOther,
     Call::Check,
     Call::Receive,
@@ -433,15 +452,16 @@ const CALLS: [Call; 12] = [
     Call::Clear,
     Call::Stop,
     Call::Start,
+    Call::Send,
     Call::Else,
     Call::Verdict,
     Call::Failed,
 ];
 
 /// Whether the entry is of this kind, at port 0 and in this branch if it has one.
-fn is_at(entry: &Entry, name: &str, branch: u32) -> bool {
+fn is_at(entry: &Entry, name: &str, branch: usize) -> bool {
     match entry {
-        Entry::Arrive(0, _) => name == "arrive",
+        Entry::Arrive(0, _, _) => name == "arrive",
         Entry::Took(0, _, at) => name == "took" && *at == branch,
         Entry::Found(0, _, at) => name == "found" && *at == branch,
         Entry::Dropped(0, _, at) => name == "dropped" && *at == branch,
@@ -449,6 +469,7 @@ fn is_at(entry: &Entry, name: &str, branch: u32) -> bool {
         Entry::Started(0) => name == "started",
         Entry::Stopped(0) => name == "stopped",
         Entry::Halted(0) => name == "halted",
+        Entry::Sent(_, 0, stamped) => name == "sent" && stamped.stamp == 4,
         Entry::Else => name == "else",
         Entry::Verdict(verdict) => name == "verdict" && *verdict == Verdict::Pass,
         Entry::Failed(code) => name == "failed" && *code == 40,
@@ -476,7 +497,7 @@ impl Ported {
         &mut self,
         wanted: &MsgTemplate,
         from: Option<u32>,
-        branch: u32,
+        branch: usize,
     ) -> Result<Option<u64>, Memory> {
         let took = self.desk.receive(0, wanted, from, branch)?;
         Ok(took.map(|env| env.number))
@@ -487,7 +508,7 @@ impl Ported {
         &mut self,
         wanted: &MsgTemplate,
         from: Option<u32>,
-        branch: u32,
+        branch: usize,
     ) -> Result<Option<u64>, Memory> {
         let found = self.desk.check(0, wanted, from, branch)?;
         Ok(found.map(|env| env.number))
@@ -498,7 +519,7 @@ impl Ported {
         &mut self,
         wanted: &MsgTemplate,
         from: Option<u32>,
-        branch: u32,
+        branch: usize,
     ) -> Result<Option<(bool, u64)>, Memory> {
         match self.desk.trigger(0, wanted, from, branch)? {
             TriggerAnswer::Took(env) => Ok(Some((true, env.number))),
@@ -522,6 +543,7 @@ impl Ported {
             ("cleared", 0),
             ("stopped", 0),
             ("started", 0),
+            ("sent", 0),
             ("else", 0),
             ("verdict", 0),
             ("failed", 0),
@@ -551,15 +573,36 @@ impl Ported {
                 Ok(!self.desk.queue(0).may_send())
             }
             Call::Start => Ok(self.desk.start(0)? == 0),
+            Call::Send => self.send(),
             Call::Else => self.note(Entry::Else),
             Call::Verdict => self.note(Entry::Verdict(Verdict::Pass)),
             Call::Failed => self.note(Entry::Failed(40)),
         }
     }
 
+    /// Notes a sending with the next stamp. True where it was noted.
+    fn send(&mut self) -> Result<bool, Memory> {
+        let Some(stamp) = self.desk.stamp() else {
+            return Ok(false);
+        };
+        let message = integer(7);
+        self.note(Entry::Sent(way(), 0, Stamped { stamp, message }))
+    }
+
+    /// A message comes with this stamp. True where there was memory for it.
+    fn arrive(&mut self, stamp: u64) -> bool {
+        let env = Env {
+            sender: 0,
+            number: 0,
+            msg: integer(7),
+        };
+        self.desk.arrive(0, env, stamp).is_ok()
+    }
+
     /// True where the entry was noted.
     fn note(&mut self, entry: Entry) -> Result<bool, Memory>
-        requires { IsNote entry }
+        requires note { IsNote entry }
+        requires timely { IsTimely self.old.desk.log entry }
     {
         match self.desk.note(entry) {
             Ok(()) => Ok(true),
@@ -577,11 +620,26 @@ impl Ported {
     }
 }
 
+/// The next stamp is one above the greatest that came, and there is none above the last number.
+#[test]
+fn stamps_are_used_up(rt: HostRuntime) -> Result<(), Fail> {
+    let (ends, _floor) = two(rt.alloc())?;
+    let mut desk = Ported::new(ends.into_desk())?;
+    assert_eq!(rt; desk.desk.stamp(), Some(1));
+    assert!(rt; desk.arrive(20) && desk.arrive(7));
+    assert_eq!(rt; desk.desk.stamp(), Some(21));
+    assert!(rt; desk.send()?);
+    assert_eq!(rt; desk.desk.stamp(), Some(22));
+    assert!(rt; desk.arrive(u64::MAX));
+    assert_eq!(rt; desk.desk.stamp(), None);
+    Ok(())
+}
+
 /// Puts `integer:n`, a second time where memory is refused. Answers whether it has this number.
 fn put_again<R: Wait>(rt: &R, ends: &mut Ends, n: i64, number: u64) -> bool {
     match ends.put(rt, 0, n) {
         Ok(given) => given == number,
-        Err((PutFault::Memory, back)) if is_integer(&back, n) => {
+        Err((PutFault::Memory, back)) if is_stamped(&back, n) => {
             ends.count(0) == number && ends.put(rt, 0, n).ok() == Some(number)
         }
         Err(_) => false,

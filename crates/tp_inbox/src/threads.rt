@@ -1,18 +1,16 @@
-//! Threads that put while the owner drains, and what waits answer in several threads.
+//! Threads that put while the owner drains.
 ghost use Rattle.std.specs.Prelude.{◌≡◌, IfOk, map};
 
 use crate::floor::Floor;
 use crate::gathered::Settled;
-use crate::hub::Woken;
-use crate::owner::Closer;
 use crate::sender::Sender;
-use crate::tests::{Ends, Post, arrivals_from, count_up, ends_of, integer, star, two};
+use crate::tests::{Ends, Post, arrivals_from, count_up, ends_of, stamped, star};
 use std::alloc::{AllocError, Global};
 use std::snapshot::Snapshot;
-use std::sync::{Arc, Wait};
+use std::sync::Wait;
 use std::test::Fail;
 use std::thread;
-use std::thread::{JoinHandle, Promise, PromisedHandle, Threads};
+use std::thread::{Promise, PromisedHandle, Threads};
 use tp_config::port_type::CompId;
 use tp_refusal::memory::Memory;
 
@@ -37,7 +35,7 @@ fn put_all<R: Wait>(rt: &R, mut sender: Sender) -> Sender
     ensures { (result.inbox ≡ sender.inbox) × (result.route ≡ sender.route) }
 {
     for n in 0..EACH {
-        if sender.put(rt, integer(n as i64)).is_err() {
+        if sender.put(rt, stamped(n as i64)).is_err() {
             return sender;
         }
     }
@@ -124,7 +122,7 @@ fn are_whole(settled: &Settled) -> bool {
 /// How many of the rest are of this sender.
 fn rest_from(settled: &Settled, sender: u32) -> u64 {
     let mut count = 0u64;
-    for (_, env) in &settled.rest {
+    for (_, env, _) in &settled.rest {
         if env.sender == sender {
             count = count.wrapping_add(1);
         }
@@ -170,91 +168,5 @@ fn three_threads_put(rt: HostRuntime) -> Result<(), Fail> {
 fn eight_threads_put(rt: HostRuntime) -> Result<(), Fail> {
     let names = ["m", "a", "b", "c", "d", "e", "f", "g", "h"];
     assert!(rt; all_arrive(rt, rt.alloc(), names.as_slice())?);
-    Ok(())
-}
-
-/// Leaves the floor, and where all others rest, puts a message: then somebody waits for it. Answers
-/// whether all others rested.
-fn leave_and_put<R: Wait>(rt: &R, floor: &Floor, mut sender: Sender) -> bool {
-    for _ in 0..100 {
-        thread::yield_now();
-    }
-    let all_rest = floor.leave(rt);
-    if all_rest && sender.put(rt, integer(1)).is_err() {
-        let _ = sender.put(rt, integer(1));
-    }
-    all_rest
-}
-
-/// Has that done in a thread of its own.
-fn put_elsewhere<R>(
-    rt: R,
-    floor: Arc<Floor, Global>,
-    sender: Sender,
-) -> Result<JoinHandle<bool>, AllocError>
-where
-    R: Threads + Wait + Copy + Send + 'static,
-{
-    Ok(thread::spawn(&rt, move || leave_and_put(&rt, &floor, sender))?)
-}
-
-/// Leaves the floor, and where all others rest, closes the inbox. Answers whether all others rested.
-fn leave_and_close<R: Wait>(rt: &R, floor: &Floor, closer: Closer) -> bool {
-    for _ in 0..100 {
-        thread::yield_now();
-    }
-    let all_rest = floor.leave(rt);
-    if all_rest {
-        closer.close(rt);
-    }
-    all_rest
-}
-
-/// The last of two behaviours that is awake is told so, whether it leaves or waits. The one that waits
-/// is woken by a put.
-#[test]
-fn a_put_wakes(rt: HostRuntime) -> Result<(), Fail> {
-    let (ends, floor) = two(rt.alloc())?;
-    let Ends {
-        post,
-        mut senders,
-        closer: _,
-    } = ends;
-    if let Some(sender) = senders.pop() {
-        let child = put_elsewhere(rt, floor, sender)?;
-        let woken = post.wait(&rt);
-        let all_rested = child.join(&rt);
-        assert!(rt;
-            woken
-                == if all_rested {
-                    Woken::Arrived
-                } else {
-                    Woken::Last
-                }
-        );
-    }
-    Ok(())
-}
-
-/// The one that waits is woken by a closing.
-#[test]
-fn a_closing_wakes(rt: HostRuntime) -> Result<(), Fail> {
-    let (ends, floor) = two(rt.alloc())?;
-    let Ends {
-        post,
-        senders: _,
-        closer,
-    } = ends;
-    let child = thread::spawn(&rt, move || leave_and_close(&rt, &floor, closer))?;
-    let woken = post.wait(&rt);
-    let all_rested = child.join(&rt);
-    assert!(rt;
-        woken
-            == if all_rested {
-                Woken::Closed
-            } else {
-                Woken::Last
-            }
-    );
     Ok(())
 }

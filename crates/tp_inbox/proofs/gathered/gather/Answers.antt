@@ -4,17 +4,18 @@ use Rattle.std.specs.Prelude.{All}
 use Rattle.std.specs.Vec.Iter.{into_iter_items}
 use Rattle.std.specs.Arc.{arc_value}
 use Rattle.std.proofs.lemmas.List.{length-map, map-append}
-use Rattle.tp_value.specs.declared.message.Message.{Message}
+use Rattle.tp_inbox.specs.declared.stamped.Stamped.{Stamped}
 use Rattle.tp_config.specs.declared.port_type.RouteId.{RouteId}
 use Rattle.tp_inbox.specs.declared.hub.Hub.{Hub}
 use Rattle.tp_inbox.specs.declared.rule.View.{View}
 use Rattle.tp_inbox.specs.Envelopes.{AreRouted, one_of, before}
 use Rattle.tp_inbox.specs.Rule.{owner_of}
-use Rattle.tp_inbox.specs.Routed.{arrivals_of, rest_arrivals, route_at}
-use Rattle.tp_inbox.specs.Ledgers.{Inbox, Sending, put_by}
+use Rattle.tp_inbox.specs.Routed.{AreRoutes, arrivals_of, rest_arrivals, route_at}
+use Rattle.tp_inbox.specs.Ledgers.{Draining, Inbox, Sending, put_by}
 use Rattle.tp_inbox.specs.Ends.{inbox_of, seen_sent}
 use Rattle.tp_inbox.proofs.Steps.{joins_as}
 use Rattle.tp_inbox.proofs.Routes.{append_nil}
+use Rattle.tp_inbox.proofs.Owned.{owner_arrivals}
 use Rattle.tp_inbox.proofs.Gathering.{Knowing, Sent, all_head, all_tail, next_place, begun_at, joined, taken_apart, hand_routed, front_and_back, move_one, seen-push}
 use Rattle.tp_inbox.proofs.gathered.gather.Goals as goal
 
@@ -45,7 +46,7 @@ loop-sender-preserved g c =
     let ss = seen_sent c.loop-sender.sent.items in
     let made = c.owner.inside.pass.me.view.client.made in
     let taken = c.owner.inside.pass.me.view.client.taken in
-    let known : List (List Message) = map (λ (x : Sent). x.1) ss in
+    let known : List (List Stamped) = map (λ (x : Sent). x.1) ss in
     let ledger : c.sender.inside.sent.items ≡ s.ledger = ap (λ (x : Sending). x.ledger) c.sender.view_is in
     let grown = seen-push c.push_reserved.new.self.items c.loop-sender.sent.items c.route-route.result c.sender.inside.sent (put_by s) c.push_reserved.ensures.items c.route-route.ensures ledger in
     let left_routes = map (λ (x : Sending). x.route) left in
@@ -69,7 +70,7 @@ with_hand-rest-requires-clause-routed g c =
     (hand_routed _ _ c.owner.inside.pass.me.view.client.taken c.owner.inside.hand owner.made owner.sound.routed owner.ends)
 
 -- what the owner's pass knows, and what was taken out
-known_all : (g : _) (c : goal.After-drop-owner-inside g) → Knowing (arc_value c.owner.inside.hub) c.len_as.new.pass.me.view.client (seen_sent c.loop-sender.sent.items)
+known_all : (g : _) (c : goal.After-drop-owner-inside-5 g) → Knowing (arc_value c.owner.inside.hub) c.len_as.new.pass.me.view.client (seen_sent c.loop-sender.sent.items)
     × (arrivals_of (arc_value c.owner.inside.hub).routes.items c.len_as.new.pass.me.view.client.taken
     ≡ arrivals_of (arc_value c.owner.inside.hub).routes.items (before c.owner.inside.pass.me.view.client.taken (one_of c.owner.inside.hand)) ++ rest_arrivals c.with_hand-rest.result.items)
 known_all g c =
@@ -101,6 +102,12 @@ invariant_of-result g c =
       routes = k.0.routes;
       ends = front_and_back _ _ (rest_arrivals c.with_hand-rest.result.items) k.1;
     }
+
+pub returns-clause-are : goal.returns-clause-are
+returns-clause-are g c = subst (λ (d : Draining). AreRoutes d.inbox.comp d.inbox.ports d.inbox.routes) c.owner.view_is (arc_value c.owner.inside.hub).routed
+
+pub returns-clause-routed : goal.returns-clause-routed
+returns-clause-routed g c = (owner_arrivals c.owner.inside _ c.owner.invariant c.owner.view_is).routed
 
 pub returns-clause-begun : goal.returns-clause-begun
 returns-clause-begun g c =

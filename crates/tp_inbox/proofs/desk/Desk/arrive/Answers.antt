@@ -2,13 +2,13 @@ use Rattle.std.proofs.Common.{ap, refl, arith}
 use Rattle.tp_port.specs.declared.event.Event.TheVariants as event
 use Rattle.tp_inbox.specs.declared.entry.Entry.TheVariants as entry
 use Rattle.tp_inbox.specs.Desks.{Journal}
-use Rattle.tp_inbox.proofs.Ports.{kept_at, grown_by}
+use Rattle.tp_inbox.proofs.Ports.{kept_at_time, grown_by}
 use Rattle.tp_inbox.proofs.desk.Desk.arrive.Goals as goal
 
 pub invariant_of-self-in-Ok-arrive : goal.invariant_of-self-in-Ok-arrive
 invariant_of-self-in-Ok-arrive c =
-    kept_at _ _ _ c.args.port (entry.Arrive c.args.port c.args.env) (event.Arrive c.args.env) _ _ c.self.invariant
+    kept_at_time _ _ _ _ _ c.args.port (entry.Arrive c.args.port c.args.env c.args.stamp) (event.Arrive c.args.env) _ _ c.self.invariant
     (omega (arith, c.requires, ap (λ (d : Journal). d.ports) c.self.view_is))
-    c.index_mut.ensures.value c.in-Ok-arrive.ensures.ok (λ p. refl)
-    (grown_by _ _ _ _ _ c.push_reserved.ensures.items c.reserve.ensures.items (ap (entry.Arrive c.args.port) c.in-Ok.ensures))
+    c.index_mut.ensures.value c.in-Ok-arrive.ensures.ok (λ p. refl) tt c.max-self-inside.ensures
+    (grown_by _ _ _ _ _ c.push_reserved.ensures.items c.reserve.ensures.items (ap (λ e. entry.Arrive c.args.port e c.args.stamp) c.in-Ok.ensures))
     c.arrive.ensures.lawful

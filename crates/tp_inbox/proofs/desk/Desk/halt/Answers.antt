@@ -7,8 +7,8 @@ use Rattle.tp_inbox.proofs.desk.Desk.halt.Goals as goal
 
 pub invariant_of-self-2 : goal.invariant_of-self-2
 invariant_of-self-2 c =
-    kept_at _ _ _ c.args.port (entry.Halted c.args.port) event.Halted _ _ c.self.invariant
+    kept_at _ _ _ _ c.args.port (entry.Halted c.args.port) event.Halted _ _ c.self.invariant
     (omega (arith, c.requires, ap (λ (d : Journal). d.ports) c.self.view_is))
-    c.index_mut.ensures.value c.in_ok-ahead.ensures.ok (λ p. refl)
+    c.index_mut.ensures.value c.in_ok-ahead.ensures.ok (λ p. refl) tt refl
     (grown_by _ _ _ _ _ c.push_reserved.ensures.items c.reserve.ensures.items refl)
     c.halt.ensures.lawful

@@ -8,8 +8,8 @@ use Rattle.tp_inbox.proofs.desk.Desk.receive.Goals as goal
 pub invariant_of-self-in-Some : goal.invariant_of-self-in-Some
 invariant_of-self-in-Some g c =
     let took = rw c.in-Some.is at c.in_ok-env.ensures.ok in
-    kept_at _ _ _ c.args.port (entry.Took c.args.port c.in-Some.env c.args.branch) (event.Took c.in-Some.env) _ _ c.self.invariant
+    kept_at _ _ _ _ c.args.port (entry.Took c.args.port c.in-Some.env c.args.branch) (event.Took c.in-Some.env) _ _ c.self.invariant
     (omega (arith, c.requires, ap (λ (d : Journal). d.ports) c.self.view_is))
-    c.index_mut-queue.ensures.value took.2 (λ p. refl)
+    c.index_mut-queue.ensures.value took.2 (λ p. refl) tt refl
     (grown_by _ _ _ _ _ c.push_reserved.ensures.items c.reserve.ensures.items (ap (λ e. entry.Took c.args.port e c.args.branch) took.1))
     c.receive.ensures.lawful

@@ -47,6 +47,7 @@ invariant_of-self-in-Ok c =
       known = was.known;
       ends = ends-none _ _ c.in-Some.ensures.after;
       counts = counts-push _ _ _ _ c.in-Some.envelope _ c.in-Some.ensures.after h.2 was.counts h.0 h.1;
+      places = was.places;
       sent = was.sent;
       sent_room = was.sent_room;
       rest = was.rest;
@@ -60,12 +61,12 @@ returns-in-Ok-clause-ok c =
     let e = c.in-Some.envelope in
     let port = c.addressed-port.ensures.port ∙ ap (λ (x : Hub). (route_at x.routes.items e.place).to.port) c.deref.ensures in
     let env = c.addressed-port.ensures.env ∙ ap (λ (x : Hub). env_of x.routes.items e) c.deref.ensures in
-    let x = entry.Arrive c.addressed-port.result.0 c.addressed-port.result.1 in
-    let is : x ≡ arrival_of routes e = λ i. entry.Arrive (port i) (env i) in (
+    let x = entry.Arrive c.addressed-port.result.0 c.addressed-port.result.1 c.addressed-port.result.2 in
+    let is : x ≡ arrival_of routes e = λ i. entry.Arrive (port i) (env i) (c.addressed-port.ensures.stamp i) in (
       x ∷ [],
       c.in-Ok.ensures.ok,
       drained-push routes _ _ e _ x c.in-Some.ensures.after h.2 is ∙ ap (λ (d : Draining). d.drained ++ x ∷ []) c.self.view_is,
-      arrivals_one c.addressed-port.result.0 c.addressed-port.result.1,
+      arrivals_one c.addressed-port.result.0 c.addressed-port.result.1 c.addressed-port.result.2,
     )
 
 pub returns-in_default-clause-ok : goal.returns-in_default-clause-ok

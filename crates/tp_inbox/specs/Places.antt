@@ -1,0 +1,15 @@
+-- The places of routes in a list, by a table.
+use Rattle.std.specs.Prelude.{◌≡◌, ◌<◌, ℕ, Bool, Some, List}
+use Rattle.indexmap.specs.IndexMap.{IndexMap, get}
+use Rattle.tp_config.specs.declared.port_type.RouteId.{RouteId}
+use Rattle.tp_config.specs.contracts.port_type.RouteIdPartialEq.TheImpl.{eq-value}
+use Rattle.tp_inbox.specs.Routed.{route_at}
+
+-- what `==` answers of two routes
+abbrev pub route_eq : RouteId → RouteId → Bool
+route_eq = eq-value.it
+
+-- each of the first n of these routes is found at its place, and no other route is found
+pub record AreFiled {S : Type 0} (n : ℕ) (routes : List RouteId) (places : IndexMap RouteId ℕ S) : Type 0 where
+  pub found : (k : ℕ) → k < n → get route_eq places (route_at routes k) ≡ Some k
+  pub known : (r : RouteId) (k : ℕ) → get route_eq places r ≡ Some k → (k < n) × (route_at routes k ≡ r)
