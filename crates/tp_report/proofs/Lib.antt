@@ -1,0 +1,5 @@
+mod Worst
+mod Naming
+mod Deciding
+mod Pieces
+mod Known

@@ -1,0 +1,30 @@
+use Rattle.std.proofs.Common.{◌<◌, length, subst, sym, arith}
+use Rattle.std.specs.Prelude.{All}
+use Rattle.tp_port.specs.History.{queued}
+use Rattle.tp_config.specs.Setup.{IsComponent, IsPort, ports_at}
+use Rattle.tp_config.specs.Allowed.{IsSetup}
+use Rattle.tp_config.proofs.RouteLaws.{few_at}
+use Rattle.tp_report.specs.Lines.{port_of, sender_of}
+use Rattle.tp_report.proofs.Known.{port_there, senders}
+use Rattle.tp_report.proofs.Pieces.{left_more}
+use Rattle.tp_report.proofs.left.write_left.Goals as goal
+
+pub overflow_cast-port : goal.overflow_cast-port
+overflow_cast-port g c =
+    let few = few_at c.args.test_case.now.config (subst IsSetup c.config.ensures c.len-lawful.ensures.lawful) c.args.desk.now.comp in
+    omega (arith, few, c.requires.own.ports, c.port_count-place-end.ensures)
+
+pub write_queued-requires-clause-port : goal.write_queued-requires-clause-port
+write_queued-requires-clause-port g c =
+    let s = c.args.test_case.now.config in
+    let within : c.loop-place.place < length (ports_at s.types s.components c.args.desk.now.comp) = omega (arith, c.requires.own.ports, c.port_count-place-end.ensures) in
+    subst (λ comp. IsPort s (port_of comp c.loop-place.place)) (sym c.comp-comp.ensures) (port_there s c.args.desk.now.comp c.loop-place.place within)
+
+pub write_queued-requires-clause-senders : goal.write_queued-requires-clause-senders
+write_queued-requires-clause-senders g c =
+    let s = c.args.test_case.now.config in
+    subst (λ h. All (λ e. IsComponent s (sender_of e)) (queued h)) (sym c.queue.ensures) (senders s c.args.desk.now.comp c.loop-place.place c.args.desk.now.log c.requires.own.known)
+
+pub loop-place-preserved : goal.loop-place-preserved
+loop-place-preserved g c =
+    left_more c.args.test_case.now c.args.desk.now c.loop-place.place c.comp-comp.result c.queue.result.now c.comp-comp.ensures c.queue.ensures _ _ _ c.loop-place.invariant c.in_ok-write_queued.ensures

@@ -1,0 +1,5 @@
+use Rattle.tp_report.proofs.Worst.{no_entry}
+use Rattle.tp_report.proofs.verdicts.local_verdict.Goals as goal
+
+pub loop-entry-init : goal.loop-entry-init
+loop-entry-init c = no_entry

@@ -1,0 +1,5 @@
+use Rattle.tp_report.proofs.Worst.{no_component}
+use Rattle.tp_report.proofs.verdicts.overall_verdict.Goals as goal
+
+pub loop-component-init : goal.loop-component-init
+loop-component-init c = no_component

@@ -1,0 +1,8 @@
+use Rattle.std.proofs.Common.{take}
+use Rattle.std.specs.List.{flat_map}
+use Rattle.std.specs.Io.KnownBytes.{Appends}
+use Rattle.tp_report.specs.Reports.{component_text}
+use Rattle.tp_report.proofs.writing.write_components.Given as goal
+
+abbrev pub invariant-loop-component : goal.invariant-loop-component
+invariant-loop-component g l = Appends (g.W.Write.contents l.initial.out) (g.W.Write.contents l.out) (flat_map (component_text l.test_case) (take l.component-index l.components))

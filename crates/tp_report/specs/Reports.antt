@@ -1,0 +1,64 @@
+-- The text of a report, and which reports have one.
+use Rattle.std.specs.Prelude.{◌≡◌, ℕ, List, ◌++◌, Some, All, codes, length, slice_get}
+use Rattle.std.specs.List.{flat_map}
+use Rattle.tp_port.specs.declared.event.Env.{Env}
+use Rattle.tp_value.specs.declared.message.Message.{Message}
+use Rattle.tp_config.specs.declared.port_type.CompId.{CompId}
+use Rattle.tp_config.specs.Setup.{Setup, IsComponent, IsPort, ports_at}
+use Rattle.tp_script.specs.TestCases.{Made}
+use Rattle.tp_inbox.specs.declared.entry.Entry.{Entry}
+use Rattle.tp_inbox.specs.declared.entry.Entry.TheVariants as entry
+use Rattle.tp_inbox.specs.Desks.{Journal}
+use Rattle.tp_report.specs.declared.report.CompReport.{CompReport}
+use Rattle.tp_report.specs.declared.report.Report.{Report}
+use Rattle.tp_report.specs.Lines.{port_of, sender_of, heading, entry_text, end_text, verdict_line, left_below}
+
+-- one component: its name, what its behaviour did, how it ended, its verdict, and what is left at its ports
+unfoldable pub component_text : Made → CompReport → List ℕ
+component_text made x =
+    heading made x.desk.comp
+    ++ (flat_map (entry_text made x.desk.comp) x.desk.log
+    ++ (end_text x.ending
+    ++ (verdict_line (codes "verdict") x.verdict
+    ++ left_below made x.desk x.desk.ports)))
+
+-- **the text of a report**: its components in their order, and the overall verdict
+unfoldable pub report_text : Made → Report → List ℕ
+report_text made report = flat_map (component_text made) report.components.items ++ verdict_line (codes "result") report.result
+
+-- the port of the component, and the sender of the message there, are of the configuration
+abbrev pub AreOf : Setup → CompId → ℕ → Env Message → Type 0
+AreOf s c port e = IsPort s (port_of c port) × IsComponent s (sender_of e)
+
+-- what an entry of the component names is of the configuration: its route's receiving port, its port, its sender
+abbrev pub IsKnown : Setup → CompId → Entry → Type 0
+IsKnown s c (entry.Arrive port e stamp) = AreOf s c port e
+IsKnown s c (entry.Took port e branch) = AreOf s c port e
+IsKnown s c (entry.Found port e branch) = AreOf s c port e
+IsKnown s c (entry.Dropped port e branch) = AreOf s c port e
+IsKnown s c (entry.Cleared port) = IsPort s (port_of c port)
+IsKnown s c (entry.Started port) = IsPort s (port_of c port)
+IsKnown s c (entry.Stopped port) = IsPort s (port_of c port)
+IsKnown s c (entry.Halted port) = IsPort s (port_of c port)
+IsKnown s c (entry.Sent route number stamped) = IsPort s route.to
+IsKnown s c _ = Unit {0}
+
+-- the desk is that of the component, and its entries name what is of the configuration
+pub record IsDeskIn (s : Setup) (c : CompId) (d : Journal) : Type 0 where
+  pub comp : d.comp ≡ c
+  pub ports : d.ports ≡ length (ports_at s.types s.components c)
+  pub known : All (IsKnown s c) d.log
+
+-- this is reported of a component of the configuration
+abbrev pub IsPresent : Setup → CompReport → Type 0
+IsPresent s x = IsComponent s x.desk.comp × IsDeskIn s x.desk.comp x.desk
+
+-- each has the desk of the component at its place
+abbrev pub AreOwn : Setup → List CompReport → Type 0
+AreOwn s xs = (c : CompId) (x : CompReport) → slice_get xs c.0 ≡ Some x → IsDeskIn s c x.desk
+
+-- the report has a text: it has the components of the configuration in their order, each with its own desk, and every route, port and sender in its
+-- entries is one of the configuration
+pub record IsReportable (s : Setup) (report : Report) : Type 0 where
+  pub everyone : length report.components.items ≡ length s.components
+  pub each : AreOwn s report.components.items

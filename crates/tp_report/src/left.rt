@@ -1,0 +1,60 @@
+//! What is left in a component's queues.
+ghost use Rattle.std.specs.Prelude.{All, OnOk, codes};
+ghost use Rattle.std.specs.List.{flat_map};
+ghost use Rattle.std.specs.Io.KnownBytes.{Appends};
+ghost use Rattle.tp_port.specs.History.{queued};
+ghost use Rattle.tp_config.specs.Setup.{IsComponent, IsPort};
+ghost use Rattle.tp_report.specs.Lines.{envelope_line, left_below, sender_of};
+ghost use Rattle.tp_report.specs.Reports.{IsDeskIn};
+
+use crate::lines::write_envelope;
+use std::io::Write;
+use tp_config::port_type::PortRef;
+use tp_inbox::desk::Desk;
+use tp_port::queue::PortQueue;
+use tp_script::TestCase;
+use tp_value::message::Message;
+use tp_value::writing::WriteFault;
+
+/// Writes what is left at a port, the oldest first.
+fn write_queued<W: Write>(
+    test_case: &TestCase,
+    port: PortRef,
+    queue: &PortQueue<Message>,
+    out: &mut W,
+) -> Result<(), WriteFault>
+    requires port { IsPort test_case.now.config port }
+    requires senders { All (λ e. IsComponent test_case.now.config (sender_of e)) (queued queue.now) }
+    ensures { OnOk result (Appends (W.contents out.old) (W.contents out.new)
+        (flat_map (envelope_line test_case.now (codes "left") port) (queued queue.now))) }
+{
+    for place in 0..queue.queued_len() {
+        if let Some(env) = queue.queued_at(place) {
+            write_envelope(test_case, b"left", port, env, out)?;
+        }
+    }
+    Ok(())
+}
+
+/// Writes what is left at the ports of the component, in declared order.
+pub fn write_left<W: Write>(
+    test_case: &TestCase,
+    desk: &Desk,
+    out: &mut W,
+) -> Result<(), WriteFault>
+    requires own { IsDeskIn test_case.now.config desk.now.comp desk.now }
+    ensures { OnOk result (Appends (W.contents out.old) (W.contents out.new)
+        (left_below test_case.now desk.now desk.now.ports)) }
+{
+    // It says that no component has many ports.
+    let _lawful = test_case.config().len();
+    let comp = desk.comp();
+    for place in 0..desk.port_count() {
+        let port = PortRef {
+            comp,
+            port: place as u32,
+        };
+        write_queued(test_case, port, desk.queue(port.port), out)?;
+    }
+    Ok(())
+}

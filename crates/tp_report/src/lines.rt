@@ -1,0 +1,141 @@
+//! The lines of a report, kind by kind.
+ghost use Rattle.std.specs.Prelude.{◌∷◌, [], OnOk};
+ghost use Rattle.std.specs.Fmt.{decimal};
+ghost use Rattle.std.specs.Io.KnownBytes.{Appends};
+ghost use Rattle.tp_config.specs.Setup.{IsComponent, IsPort};
+ghost use Rattle.tp_report.specs.Words.{message_text, rest_of_line};
+ghost use Rattle.tp_report.specs.Lines.{code_line, end_text, envelope_line, heading, port_line, sender_of, sent_line, verdict_line};
+
+use crate::ending::End;
+use crate::words::{
+    put, verdict_word, write_component_name, write_full_name, write_message, write_number,
+    write_port_name,
+};
+use std::io::Write;
+use tp_config::port_type::{CompId, PortRef, RouteId};
+use tp_port::event::Env;
+use tp_script::TestCase;
+use tp_value::message::Message;
+use tp_value::types::Types;
+use tp_value::verdict::Verdict;
+use tp_value::writing::WriteFault;
+
+/// Writes the name of a component, as the first of its lines.
+pub fn write_heading<W: Write>(
+    test_case: &TestCase,
+    comp: CompId,
+    out: &mut W,
+) -> Result<(), WriteFault>
+    requires { IsComponent test_case.now.config comp }
+    ensures { OnOk result (Appends (W.contents out.old) (W.contents out.new)
+        (heading test_case.now comp)) }
+{
+    put(b"component ", out)?;
+    write_component_name(test_case.config(), comp, out)?;
+    put(b"\n", out)
+}
+
+/// Writes a word and a verdict.
+pub fn write_verdict<W: Write>(word: &[u8], verdict: Verdict, out: &mut W) -> Result<(), WriteFault>
+    ensures { OnOk result (Appends (W.contents out.old) (W.contents out.new)
+        (verdict_line word.now verdict)) }
+{
+    put(word, out)?;
+    put(b" ", out)?;
+    put(verdict_word(verdict), out)?;
+    put(b"\n", out)
+}
+
+/// Writes a word and the number of a refusal.
+pub fn write_code<W: Write>(word: &[u8], code: u8, out: &mut W) -> Result<(), WriteFault>
+    ensures { OnOk result (Appends (W.contents out.old) (W.contents out.new)
+        (code_line word.now code)) }
+{
+    put(word, out)?;
+    put(b" ", out)?;
+    write_number(code as u64, out)?;
+    put(b"\n", out)
+}
+
+/// Writes how a behaviour ended.
+pub fn write_end<W: Write>(ending: End, out: &mut W) -> Result<(), WriteFault>
+    ensures { OnOk result (Appends (W.contents out.old) (W.contents out.new) (end_text ending)) }
+{
+    match ending {
+        End::Done => put(b"end done\n", out),
+        End::Error(code) => write_code(b"end error", code, out),
+        End::Waiting => put(b"end waiting\n", out),
+    }
+}
+
+/// Writes a word and a port.
+pub fn write_port<W: Write>(
+    test_case: &TestCase,
+    word: &[u8],
+    port: PortRef,
+    out: &mut W,
+) -> Result<(), WriteFault>
+    requires { IsPort test_case.now.config port }
+    ensures { OnOk result (Appends (W.contents out.old) (W.contents out.new)
+        (port_line test_case.now word.now port)) }
+{
+    put(word, out)?;
+    put(b" ", out)?;
+    write_port_name(test_case.config(), port, out)?;
+    put(b"\n", out)
+}
+
+/// Writes the rest of a line on a message: its number and the message.
+fn write_rest<W: Write>(
+    types: &Types,
+    number: u64,
+    message: &Message,
+    out: &mut W,
+) -> Result<(), WriteFault>
+    ensures { OnOk result (Appends (W.contents out.old) (W.contents out.new)
+        (rest_of_line (decimal number ∷ message_text types.now message.now ∷ []))) }
+{
+    put(b" ", out)?;
+    write_number(number, out)?;
+    put(b" ", out)?;
+    write_message(types, message, out)?;
+    put(b"\n", out)
+}
+
+/// Writes a word, a port and a message there.
+pub fn write_envelope<W: Write>(
+    test_case: &TestCase,
+    word: &[u8],
+    port: PortRef,
+    env: &Env<Message>,
+    out: &mut W,
+) -> Result<(), WriteFault>
+    requires port { IsPort test_case.now.config port }
+    requires sender { IsComponent test_case.now.config (sender_of env.now) }
+    ensures { OnOk result (Appends (W.contents out.old) (W.contents out.new)
+        (envelope_line test_case.now word.now port env.now)) }
+{
+    put(word, out)?;
+    put(b" ", out)?;
+    write_port_name(test_case.config(), port, out)?;
+    put(b" ", out)?;
+    write_component_name(test_case.config(), CompId(env.sender), out)?;
+    write_rest(test_case.types(), env.number, &env.msg, out)
+}
+
+/// Writes what was sent.
+pub fn write_sent<W: Write>(
+    test_case: &TestCase,
+    route: RouteId,
+    number: u64,
+    message: &Message,
+    out: &mut W,
+) -> Result<(), WriteFault>
+    requires { IsPort test_case.now.config route.to }
+    ensures { OnOk result (Appends (W.contents out.old) (W.contents out.new)
+        (sent_line test_case.now route number message.now)) }
+{
+    put(b"sent ", out)?;
+    write_full_name(test_case.config(), route.to, out)?;
+    write_rest(test_case.types(), number, message, out)
+}

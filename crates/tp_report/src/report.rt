@@ -1,0 +1,29 @@
+//! What a run reports.
+use crate::ending::End;
+use tp_config::port_type::RouteId;
+use tp_inbox::desk::Desk;
+use tp_value::verdict::Verdict;
+
+/// What a run reports of one component.
+#[derive(Drop)]
+pub struct CompReport {
+    /// Its name.
+    pub name: String,
+    /// Its ports and its history, to which what was still in its inbox is added as arrivals.
+    pub desk: Desk,
+    /// How its behaviour ended.
+    pub ending: End,
+    /// Its local verdict.
+    pub verdict: Verdict,
+    /// For each route into the component, in their order, how many messages its sender has put on it.
+    pub counts: Vec<(RouteId, u64)>,
+}
+
+/// What a run reports: its components in the test case's order, and the overall verdict.
+#[derive(Drop)]
+pub struct Report {
+    /// The components.
+    pub components: Vec<CompReport>,
+    /// The overall verdict.
+    pub result: Verdict,
+}

@@ -1,0 +1,143 @@
+//! The words of a report's lines.
+ghost use Rattle.std.specs.Prelude.{◌≡◌, OnOk, codes};
+ghost use Rattle.std.specs.Fmt.{decimal};
+ghost use Rattle.std.specs.Io.KnownBytes.{Appends};
+ghost use Rattle.tp_config.specs.Setup.{IsComponent, IsPort};
+ghost use Rattle.tp_report.specs.Typed.{is_typed};
+ghost use Rattle.tp_report.specs.Words.{component_name, full_name, message_text, port_name, type_name, verdict_word};
+
+use itoa::Buffer;
+use std::io::Write;
+use tp_config::config::Config;
+use tp_config::port_type::{CompId, PortRef};
+use tp_value::message::Message;
+use tp_value::types::{Ty, Types};
+use tp_value::typing::has_type;
+use tp_value::verdict::Verdict;
+use tp_value::writing::{WriteFault, write_value};
+
+/// Writes these bytes.
+pub fn put<W: Write>(bytes: &[u8], out: &mut W) -> Result<(), WriteFault>
+    ensures { OnOk result (Appends (W.contents out.old) (W.contents out.new) bytes.now) }
+{
+    match out.write_all(bytes) {
+        Ok(()) => Ok(()),
+        Err(_) => Err(WriteFault),
+    }
+}
+
+/// Writes a number.
+pub fn write_number<W: Write>(number: u64, out: &mut W) -> Result<(), WriteFault>
+    ensures { OnOk result (Appends (W.contents out.old) (W.contents out.new) (decimal number)) }
+{
+    let mut buffer = Buffer::new();
+    put(buffer.format(number).as_bytes(), out)
+}
+
+/// Writes the name of a component.
+pub fn write_component_name<W: Write>(
+    config: &Config,
+    comp: CompId,
+    out: &mut W,
+) -> Result<(), WriteFault>
+    requires { IsComponent config.now comp }
+    ensures { OnOk result (Appends (W.contents out.old) (W.contents out.new)
+        (component_name config.now comp)) }
+{
+    put(config.name(comp).as_bytes(), out)
+}
+
+/// The name of a port.
+fn port_name(config: &Config, port: PortRef) -> &[u8]
+    requires { IsPort config.now port }
+    ensures { result.now ≡ port_name config.now port }
+{
+    match config
+        .comp_type(port.comp)
+        .ports
+        .get_index(port.port as usize)
+    {
+        Some((name, _)) => name.as_bytes(),
+        None => &[],
+    }
+}
+
+/// Writes the name of a port.
+pub fn write_port_name<W: Write>(
+    config: &Config,
+    port: PortRef,
+    out: &mut W,
+) -> Result<(), WriteFault>
+    requires { IsPort config.now port }
+    ensures { OnOk result (Appends (W.contents out.old) (W.contents out.new)
+        (port_name config.now port)) }
+{
+    put(port_name(config, port), out)
+}
+
+/// Writes the names of a component and of a port of it.
+pub fn write_full_name<W: Write>(
+    config: &Config,
+    port: PortRef,
+    out: &mut W,
+) -> Result<(), WriteFault>
+    requires { IsPort config.now port }
+    ensures { OnOk result (Appends (W.contents out.old) (W.contents out.new)
+        (full_name config.now port)) }
+{
+    write_component_name(config, port.comp, out)?;
+    put(b".", out)?;
+    write_port_name(config, port, out)
+}
+
+/// The name of a type.
+fn type_name(types: &Types, ty: Ty) -> &[u8]
+    ensures { result.now ≡ type_name types.now ty }
+{
+    match ty {
+        Ty::Integer => b"integer",
+        Ty::Boolean => b"boolean",
+        Ty::Charstring => b"charstring",
+        Ty::Named(number) => match types.name(number) {
+            Some(name) => name.as_bytes(),
+            None => &[],
+        },
+    }
+}
+
+/// Whether the message's value has its type.
+fn is_typed(types: &Types, message: &Message) -> bool
+    ensures { result ≡ is_typed types.now message.now.ty message.now.value }
+{
+    has_type(types, message.ty, &message.value)
+}
+
+/// Writes a message: its type and its value, or `-` where the value hasn't the type.
+pub fn write_message<W: Write>(
+    types: &Types,
+    message: &Message,
+    out: &mut W,
+) -> Result<(), WriteFault>
+    ensures { OnOk result (Appends (W.contents out.old) (W.contents out.new)
+        (message_text types.now message.now)) }
+{
+    if !is_typed(types, message) {
+        return put(b"-", out);
+    }
+    put(type_name(types, message.ty), out)?;
+    put(b":", out)?;
+    write_value(types, message.ty, &message.value, out)
+}
+
+/// The word for a verdict.
+pub fn verdict_word(verdict: Verdict) -> &'static [u8]
+    ensures { result.now ≡ verdict_word verdict }
+{
+    match verdict {
+        Verdict::None => b"none",
+        Verdict::Pass => b"pass",
+        Verdict::Inconc => b"inconc",
+        Verdict::Fail => b"fail",
+        Verdict::Error => b"error",
+    }
+}
