@@ -1,0 +1,20 @@
+pub mod Moments
+mod Looks
+mod Outboxes
+mod Entries
+mod Manned
+mod Noted
+mod Chosen
+mod Acted
+mod Sent
+mod Variables
+mod Routed
+mod Stayed
+mod Placed
+mod Decided
+mod Stepped
+mod Received
+mod Executed
+mod Turned
+mod Branched
+mod Begun

@@ -1,0 +1,27 @@
+-- How what a statement comes to is put together.
+use Rattle.std.proofs.Common.{◌≡◌, ◌∙◌, ℕ, List, [], ◌∷◌, ◌++◌, ap}
+use Rattle.std.proofs.lemmas.List.{append_assoc}
+use Rattle.tp_body.specs.declared.body.Sending.{Sending}
+use Rattle.tp_body.specs.declared.body.Statement.TheVariants as b
+use Rattle.tp_inbox.specs.declared.entry.Entry.{Entry}
+use Rattle.tp_inbox.specs.declared.entry.Entry.TheVariants as entry
+use Rattle.tp_report.specs.declared.ending.End.TheVariants as ending
+use Rattle.tp_behaviour.specs.Ends.{StopsWithin}
+use Rattle.tp_behaviour.specs.Held.{Role, Values}
+use Rattle.tp_behaviour.specs.Moments.{Moment, moments}
+use Rattle.tp_behaviour.specs.Seen.{Grew}
+use Rattle.tp_behaviour.specs.Sends.{Sends}
+use Rattle.std.specs.Prelude.{Some}
+
+-- a send that fails ends the behaviour
+pub failed : (r : Role) (vs : Values) (x : Sending) (code : ℕ) (k n : List Entry) → Sends r vs x (Some code) k n
+    → Grew (λ ts. (whole : List Entry) → StopsWithin r whole (ending.Error code) vs.turns vs.variables (b.Send x) ts) k n
+failed r vs x code k n grew =
+    let t = grew.2.0 in
+    let u : Moment = record { before = t.before; entry = entry.Failed code } in
+    let same : t ≡ u = λ i. record { before = t.before; entry = grew.2.2.1 i } in
+    (u ∷ [], grew.1 ∙ ap (λ ts. moments k ++ ts) (grew.2.1 ∙ ap (λ v. v ∷ []) same), λ whole. StopsWithin.fails vs.turns vs.variables x t.before code grew.2.2.0)
+
+-- what grew twice
+pub grew_on : (p q w : List Moment → Type 0) (k l n : List Entry) → ((ts us : List Moment) → p ts → q us → w (ts ++ us)) → Grew p k l → Grew q l n → Grew w k n
+grew_on p q w k l n go g h = (g.0 ++ h.0, h.1 ∙ ap (λ ts. ts ++ h.0) g.1 ∙ append_assoc (moments k) g.0 h.0, go g.0 h.0 g.2 h.2)

@@ -1,0 +1,18 @@
+-- The variables are set as the chosen branch says.
+use Rattle.std.proofs.Common.{get_or}
+use Rattle.std.proofs.lemmas.Option.{slice_get-get_or}
+use Rattle.tp_behaviour.specs.Outcomes.{depth_of, stage_at}
+use Rattle.tp_behaviour.proofs.Placed.{receives_at}
+use Rattle.tp_behaviour.proofs.deciding.enter.Goals as goal
+
+pub redirect-requires-clause-can : goal.redirect-requires-clause-can
+redirect-requires-clause-can c =
+    receives_at (stage_at c.args.post.now) (depth_of c.args.state.now) c.args.branches.now c.args.place c.index-branches-place.result c.requires.can c.requires.there
+
+-- they are those of the branch at this place
+pub returns-clause-set : goal.returns-clause-set
+returns-clause-set c = record {
+  branch = get_or c.args.branches.now c.args.place c.index-branches-place.result;
+  there = slice_get-get_or c.args.branches.now c.args.place c.index-branches-place.result c.requires.there;
+  set = c.redirect.ensures.set;
+}

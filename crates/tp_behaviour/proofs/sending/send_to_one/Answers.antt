@@ -1,0 +1,6 @@
+use Rattle.std.proofs.Common.{inr}
+use Rattle.tp_behaviour.specs.Ends.{IsFailure}
+use Rattle.tp_behaviour.proofs.sending.send_to_one.Goals as goal
+
+pub fail-requires-clause-cause : goal.fail-requires-clause-cause
+fail-requires-clause-cause g c = IsFailure.not_set c.requires.started (inr c.in-None.ensures)

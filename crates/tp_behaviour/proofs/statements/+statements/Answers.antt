@@ -1,0 +1,234 @@
+-- The parts of a path follow one another: statements, blocks of branches, turns.
+use Rattle.std.proofs.Common.{◌≡◌, ◌∙◌, ◌+◌, ◌+ℤ◌, ◌<ℤ◌, ◌≤ℤ◌, ◌++◌, ◌∷◌, [], get_or, length, of_z, pos, refl, to_z, w64, ap, sym, subst, SFits, arith, rules}
+use Rattle.std.proofs.lemmas.Int.{ints, to_z-of_z}
+use Rattle.std.proofs.lemmas.Option.{slice_get-get_or, slice_get_within}
+use Rattle.std.proofs.lemmas.Result.{IfOk-weaker}
+use Rattle.std.specs.Prelude.{List}
+use Rattle.tp_body.specs.declared.body.Statement.{Statement}
+use Rattle.tp_body.specs.declared.body.Statement.TheVariants as b
+use Rattle.tp_body.specs.Playable.{CanEnterAll, CanPlayAll}
+use Rattle.tp_body.specs.Sizes.{turns_between}
+use Rattle.tp_body.proofs.PlayRules.{plays_alt, plays_control, plays_else, plays_for, plays_receive, plays_send}
+use Rattle.tp_behaviour.specs.declared.outcome.Outcome.TheVariants as outcome
+use Rattle.tp_behaviour.specs.declared.deciding.Way.TheVariants as way
+use Rattle.tp_behaviour.specs.Outcomes.{Executed, Stepped, depth_of, stage_at}
+use Rattle.tp_behaviour.specs.Parts.{Decided, ExecutedIn, IsWayOf, Turned}
+use Rattle.tp_behaviour.proofs.Branched.{step_branch, step_else, step_for, step_waits}
+use Rattle.tp_behaviour.proofs.Executed.{passed_all, passed_more, passed_start, passed_stop}
+use Rattle.tp_behaviour.proofs.Placed.{plays_at, plays_block}
+use Rattle.tp_behaviour.proofs.Stayed.{same_on, waits_from}
+use Rattle.tp_behaviour.proofs.Turned.{made_all, made_start, made_more, made_stop, none_there, turned_as, turned_empty}
+use Rattle.tp_behaviour.proofs.statements.+statements.Goals as goal
+
+-- one statement after the other
+pub execute-loop-statement-init : goal.execute-loop-statement-init
+execute-loop-statement-init g t c = record {
+  manned = c.requires.manned;
+  same = record { inbox = refl; ends = refl };
+  held = c.requires.held;
+  turns = refl;
+  passed = passed_start c.args.post.now c.args.block.now c.args.station.now c.args.state.now;
+}
+
+pub execute-step-requires-clause-can : goal.execute-step-requires-clause-can
+execute-step-requires-clause-can g t c κs within =
+    plays_at (stage_at c.args.post.now) (depth_of c.loop-statement.state) (depth_of c.args.state.now) c.args.block.now c.loop-statement.statement-index c.statement-item.result
+    (ap length c.loop-statement.invariant.turns) c.loop-statement-test.true c.statement-item.is c.requires.can
+
+pub execute-loop-statement-preserved : goal.execute-loop-statement-preserved
+execute-loop-statement-preserved g t c =
+    let step = c.in_ok-stop.ensures in
+    let done : Stepped c.args.post.now c.statement-item.result outcome.Done c.loop-statement.station c.loop-statement.state c.step.new.station c.step.new.state = rw c.in-Done.is at step.ended in
+    record {
+      manned = step.manned;
+      same = same_on c.args.station.now c.loop-statement.station c.step.new.station c.loop-statement.invariant.same step.same;
+      held = step.held;
+      turns = step.turns ∙ c.loop-statement.invariant.turns;
+      passed =
+          passed_more c.args.post.now c.args.block.now c.loop-statement.statement-index c.statement-item.result c.args.station.now c.args.state.now c.loop-statement.station c.loop-statement.state
+          c.step.new.station c.step.new.state c.loop-statement.invariant.turns c.loop-statement-test.true c.statement-item.is c.loop-statement.invariant.passed done;
+    }
+
+pub execute-returns-in_default-clause-ended : goal.execute-returns-in_default-clause-ended
+execute-returns-in_default-clause-ended g t c =
+    passed_stop c.args.post.now c.args.block.now c.loop-statement.statement-index c.statement-item.result c.in_ok-stop.stop c.args.station.now c.args.state.now
+    c.loop-statement.station c.loop-statement.state c.step.new.station c.step.new.state c.in_default.not-Done
+    c.loop-statement.invariant.turns c.loop-statement-test.true c.statement-item.is c.loop-statement.invariant.passed c.in_ok-stop.ensures.ended
+
+pub execute-returns-clause-ended : goal.execute-returns-clause-ended
+execute-returns-clause-ended g t c =
+    passed_all c.args.post.now c.args.block.now c.loop-statement.statement-index c.args.station.now c.args.state.now c.loop-statement.station c.loop-statement.state
+    c.loop-statement-test.false c.loop-statement.invariant.passed
+
+-- the ports are the same throughout
+pub execute-returns-in_default-clause-within : goal.execute-returns-in_default-clause-within
+execute-returns-in_default-clause-within g t c =
+    waits_from c.args.post.now c.args.station.now c.loop-statement.station c.in_ok-stop.stop c.requires.manned c.loop-statement.invariant.manned c.in_ok-stop.ensures.within
+
+-- the block of a branch
+pub branch-execute-requires-clause-can : goal.branch-execute-requires-clause-can
+branch-execute-requires-clause-can g t c κs within =
+    subst (CanPlayAll (stage_at c.args.post.now) (depth_of c.args.state.now)) (sym c.as_slice-block.ensures)
+    (plays_block (stage_at c.args.post.now) (depth_of c.args.state.now) c.args.branches.now c.args.place c.index-branches-place.result c.requires.can c.requires.within)
+
+pub branch-returns-clause-ended : goal.branch-returns-clause-ended
+branch-returns-clause-ended g t c =
+    let x = get_or c.args.branches.now c.args.place c.index-branches-place.result in
+    IfOk-weaker c.execute.result _ _
+    (λ o h. (
+      x,
+      slice_get-get_or c.args.branches.now c.args.place c.index-branches-place.result c.requires.within,
+      subst (λ (l : List Statement). Executed c.args.post.now l o c.args.station.now c.args.state.now c.execute.new.station c.execute.new.state) c.as_slice-block.ensures h,
+    ))
+    c.execute.ensures.ended
+
+-- each statement
+pub step-play_send-requires-clause-can : goal.step-play_send-requires-clause-can
+step-play_send-requires-clause-can g t c =
+    plays_send (stage_at c.args.post.now) (depth_of c.args.state.now) c.args.statement.now c.in-Send.sending c.in-Send.is c.requires.can
+
+pub step-receive-requires-clause-can : goal.step-receive-requires-clause-can
+step-receive-requires-clause-can g t c κs within =
+    plays_receive (stage_at c.args.post.now) (depth_of c.args.state.now) c.args.statement.now c.in-Receive.receiving c.in-Receive.is c.requires.can
+
+pub step-play_control-requires-clause-within : goal.step-play_control-requires-clause-within
+step-play_control-requires-clause-within g t c κs within =
+    plays_control (stage_at c.args.post.now) (depth_of c.args.state.now) c.args.statement.now c.in-Control.port c.in-Control.operation c.in-Control.is c.requires.can
+
+pub step-decide-requires-clause-can : goal.step-decide-requires-clause-can
+step-decide-requires-clause-can g t c κs within =
+    subst (CanEnterAll (stage_at c.args.post.now) (depth_of c.args.state.now)) (sym c.as_slice-branches.ensures)
+    (plays_alt (stage_at c.args.post.now) (depth_of c.args.state.now) c.args.statement.now c.in-Alt.branches c.in-Alt.otherwise c.in-Alt.is c.requires.can)
+
+pub step-branch-rt-requires-clause-within : goal.step-branch-rt-requires-clause-within
+step-branch-rt-requires-clause-within g t c κs within =
+    let there : IsWayOf c.as_slice-branches.result.now (way.Branch c.in-Branch.place) = rw c.in-Branch.is at c.in_ok-place-in-Alt.ensures.there in
+    slice_get_within c.as_slice-branches.result.now c.in-Branch.place there.0 there.1
+
+pub step-branch-rt-requires-clause-can : goal.step-branch-rt-requires-clause-can
+step-branch-rt-requires-clause-can g t c κs within =
+    subst (λ n. CanEnterAll (stage_at c.args.post.now) n c.as_slice-branches.result.now) (sym (ap length c.in_ok-place-in-Alt.ensures.turns))
+    (subst (CanEnterAll (stage_at c.args.post.now) (depth_of c.args.state.now)) (sym c.as_slice-branches.ensures)
+    (plays_alt (stage_at c.args.post.now) (depth_of c.args.state.now) c.args.statement.now c.in-Alt.branches c.in-Alt.otherwise c.in-Alt.is c.requires.can))
+
+pub step-execute-requires-clause-can : goal.step-execute-requires-clause-can
+step-execute-requires-clause-can g t c κs within =
+    let whole = c.in-Alt.is ∙ ap (λ o. b.Alt c.in-Alt.branches o) c.in-Some.is in
+    subst (λ n. CanPlayAll (stage_at c.args.post.now) n c.as_slice.result.now) (sym (ap length c.in_ok-place-in-Alt.ensures.turns))
+    (subst (CanPlayAll (stage_at c.args.post.now) (depth_of c.args.state.now)) (sym c.as_slice.ensures)
+    (plays_else (stage_at c.args.post.now) (depth_of c.args.state.now) c.args.statement.now c.in-Alt.branches c.in-Some.block whole c.requires.can))
+
+pub step-turns-requires-clause-can : goal.step-turns-requires-clause-can
+step-turns-requires-clause-can g t c κs within =
+    subst (CanPlayAll (stage_at c.args.post.now) (depth_of c.args.state.now + 1)) (sym c.as_slice-block.ensures)
+    (plays_for (stage_at c.args.post.now) (depth_of c.args.state.now) c.args.statement.now c.in-For.first c.in-For.bound c.in-For.block c.in-For.is c.requires.can)
+
+pub step-returns-in-Branch-clause-ended : goal.step-returns-in-Branch-clause-ended
+step-returns-in-Branch-clause-ended g t c =
+    let decide = c.in_ok-place-in-Alt.ensures in
+    let decided : Decided c.args.post.now c.as_slice-branches.result.now c.is_some-has_else.result (way.Branch c.in-Branch.place) c.args.station.now c.args.state.now c.decide.new.station c.decide.new.state
+    = rw c.in-Branch.is at decide.decided in
+    IfOk-weaker c.branch-rt.result _ _
+    (λ o h. step_branch c.args.post.now c.args.statement.now c.in-Alt.branches c.as_slice-branches.result.now c.in-Alt.otherwise c.is_some-has_else.result c.in-Branch.place o
+    c.args.station.now c.args.state.now c.decide.new.station c.decide.new.state c.branch-rt.new.station c.branch-rt.new.state
+    c.in-Alt.is c.as_slice-branches.ensures decide.turns decided h)
+    c.branch-rt.ensures.ended
+
+pub step-returns-in-Some-clause-ended : goal.step-returns-in-Some-clause-ended
+step-returns-in-Some-clause-ended g t c =
+    let decide = c.in_ok-place-in-Alt.ensures in
+    let decided : Decided c.args.post.now c.as_slice-branches.result.now c.is_some-has_else.result way.Else c.args.station.now c.args.state.now c.decide.new.station c.decide.new.state
+    = rw c.in-Else.is at decide.decided in
+    IfOk-weaker c.execute.result _ _
+    (λ o h. step_else c.args.post.now c.args.statement.now c.in-Alt.branches c.as_slice-branches.result.now c.in-Alt.otherwise c.in-Some.block c.as_slice.result.now c.is_some-has_else.result o
+    c.args.station.now c.args.state.now c.decide.new.station c.decide.new.state c.execute.new.station c.execute.new.state
+    c.in-Alt.is c.in-Some.is c.as_slice-branches.ensures c.as_slice.ensures decide.turns decided h)
+    c.execute.ensures.ended
+
+pub step-returns-in-Waits-clause-ended : goal.step-returns-in-Waits-clause-ended
+step-returns-in-Waits-clause-ended g t c =
+    let decide = c.in_ok-place-in-Alt.ensures in
+    let decided : Decided c.args.post.now c.as_slice-branches.result.now c.is_some-has_else.result (way.Waits c.in-Waits.guards) c.args.station.now c.args.state.now c.decide.new.station c.decide.new.state
+    = rw c.in-Waits.is at decide.decided in
+    step_waits c.args.post.now c.args.statement.now c.in-Alt.branches c.as_slice-branches.result.now c.in-Alt.otherwise c.is_some-has_else.result c.in-Waits.guards
+    c.args.station.now c.args.state.now c.decide.new.station c.decide.new.state c.in-Alt.is c.as_slice-branches.ensures c.is_some-has_else.ensures decided
+
+pub step-returns-in-For-clause-ended : goal.step-returns-in-For-clause-ended
+step-returns-in-For-clause-ended g t c =
+    let low : SFits w64 c.in-For.first = search rules in
+    let high : SFits w64 c.in-For.bound = search rules in
+    let first = to_z w64 (of_z w64 c.in-For.first) in
+    let bound = to_z w64 (of_z w64 c.in-For.bound) in
+    IfOk-weaker c.turns.result
+    (λ o. Turned c.args.post.now first c.as_slice-block.result.now (turns_between first bound) o c.args.station.now c.args.state.now c.turns.new.station c.turns.new.state)
+    (λ o. Stepped c.args.post.now c.args.statement.now o c.args.station.now c.args.state.now c.turns.new.station c.turns.new.state)
+    (λ o h. step_for c.args.post.now c.args.statement.now c.in-For.first c.in-For.bound first bound c.in-For.block c.as_slice-block.result.now o
+    c.args.station.now c.args.state.now c.turns.new.station c.turns.new.state c.in-For.is (to_z-of_z w64 c.in-For.first low) (to_z-of_z w64 c.in-For.bound high) c.as_slice-block.ensures h)
+    c.turns.ensures.ended
+
+-- the turns of a `for`
+pub turns-returns-then-is_empty-clause-ended : goal.turns-returns-then-is_empty-clause-ended
+turns-returns-then-is_empty-clause-ended g t c =
+    turned_empty c.args.post.now c.args.first c.args.block.now (turns_between c.args.first c.args.bound) c.args.station.now c.args.state.now (none_there c.args.block.now c.if-is_empty.ensures)
+
+pub turns-loop-value-init : goal.turns-loop-value-init
+turns-loop-value-init g t c = record {
+  manned = c.requires.manned;
+  same = record { inbox = refl; ends = refl };
+  held = c.requires.held;
+  turns = refl;
+  made = made_start c.args.post.now _ _ c.args.block.now c.args.station.now c.args.state.now;
+}
+
+pub turns-loop-value-preserved : goal.turns-loop-value-preserved
+turns-loop-value-preserved g t c =
+    let turn = c.in_ok-outcome.ensures in
+    let first = to_z w64 (of_z w64 c.args.first) in
+    let bound = to_z w64 (of_z w64 c.args.bound) in
+    let value = to_z w64 c.loop-value.value-bits in
+    let next = to_z w64 (of_z w64 (value +ℤ pos 1)) in
+    let below : value <ℤ bound = grind (arith, ints) in
+    let is : next ≡ value +ℤ pos 1 = omega (arith, ints) in
+    let done : ExecutedIn c.args.post.now (c.loop-value.state.turns.items ++ value ∷ []) c.args.block.now outcome.Done c.loop-value.station c.loop-value.state c.turn.new.station c.turn.new.state
+    = rw c.in-Done.is at turn.ended in
+    record {
+      manned = turn.manned;
+      same = same_on c.args.station.now c.loop-value.station c.turn.new.station c.loop-value.invariant.same turn.same;
+      held = turn.held;
+      turns = turn.turns ∙ c.loop-value.invariant.turns;
+      made =
+          made_more c.args.post.now first value bound next c.args.block.now c.args.station.now c.args.state.now c.loop-value.station c.loop-value.state c.turn.new.station c.turn.new.state
+          c.loop-value.invariant.turns below is c.loop-value.invariant.made done;
+    }
+
+pub turns-returns-in_default-clause-same : goal.turns-returns-in_default-clause-same
+turns-returns-in_default-clause-same g t c =
+    same_on c.args.station.now c.loop-value.station c.turn.new.station c.loop-value.invariant.same c.in_ok-outcome.ensures.same
+
+pub turns-returns-in_default-clause-turns : goal.turns-returns-in_default-clause-turns
+turns-returns-in_default-clause-turns g t c = c.in_ok-outcome.ensures.turns ∙ c.loop-value.invariant.turns
+
+pub turns-returns-in_default-clause-ended : goal.turns-returns-in_default-clause-ended
+turns-returns-in_default-clause-ended g t c =
+    let first = to_z w64 (of_z w64 c.args.first) in
+    let bound = to_z w64 (of_z w64 c.args.bound) in
+    let value = to_z w64 c.loop-value.value-bits in
+    let below : value <ℤ bound = grind (arith, ints) in
+    turned_as c.args.post.now c.in_ok-outcome.outcome c.args.block.now first c.args.first bound c.args.bound c.args.station.now c.args.state.now c.turn.new.station c.turn.new.state
+    (to_z-of_z w64 c.args.first c.ranges.first) (to_z-of_z w64 c.args.bound c.ranges.bound)
+    (made_stop c.args.post.now first value bound c.args.block.now c.in_ok-outcome.outcome c.args.station.now c.args.state.now c.loop-value.station c.loop-value.state
+    c.turn.new.station c.turn.new.state c.in_default.not-Done c.loop-value.invariant.turns below c.loop-value.invariant.made c.in_ok-outcome.ensures.ended)
+
+pub turns-returns-in_default-clause-within : goal.turns-returns-in_default-clause-within
+turns-returns-in_default-clause-within g t c =
+    waits_from c.args.post.now c.args.station.now c.loop-value.station c.in_ok-outcome.outcome c.requires.manned c.loop-value.invariant.manned c.in_ok-outcome.ensures.within
+
+pub turns-returns-clause-ended : goal.turns-returns-clause-ended
+turns-returns-clause-ended g t c =
+    let first = to_z w64 (of_z w64 c.args.first) in
+    let bound = to_z w64 (of_z w64 c.args.bound) in
+    let value = to_z w64 c.loop-value.value-bits in
+    let above : bound ≤ℤ value = grind (arith, ints) in
+    turned_as c.args.post.now outcome.Done c.args.block.now first c.args.first bound c.args.bound c.args.station.now c.args.state.now c.loop-value.station c.loop-value.state
+    (to_z-of_z w64 c.args.first c.ranges.first) (to_z-of_z w64 c.args.bound c.ranges.bound)
+    (made_all c.args.post.now first value bound c.args.block.now c.args.station.now c.args.state.now c.loop-value.station c.loop-value.state above c.loop-value.invariant.made)

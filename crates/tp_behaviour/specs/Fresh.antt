@@ -1,0 +1,24 @@
+-- That an operation on its ports sees what the component has sent to itself before.
+use Rattle.std.specs.Prelude.{◌≡◌, List, All, length}
+use Rattle.tp_config.specs.declared.port_type.CompId.{CompId}
+use Rattle.tp_config.specs.declared.port_type.RouteId.{RouteId}
+use Rattle.tp_inbox.specs.declared.entry.Entry.{Entry}
+use Rattle.tp_inbox.specs.declared.entry.Entry.TheVariants as entry
+use Rattle.tp_inbox.specs.History.{sent_on, arrived_on}
+use Rattle.tp_behaviour.specs.Moments.{Moment, moments}
+
+-- the entry looks at the ports' queues, or works on one
+abbrev pub LooksAtPorts : Entry → Type 0
+LooksAtPorts (entry.Sent r n m) = ⊥
+LooksAtPorts (entry.Verdict v) = ⊥
+LooksAtPorts (entry.Failed c) = ⊥
+LooksAtPorts (entry.Arrive p e s) = ⊥
+LooksAtPorts _ = Unit {0}
+
+-- as much has come to the component from itself, on each route, as it has sent to itself
+abbrev pub HasOwn : CompId → List Entry → Type 0
+HasOwn c k = (r : RouteId) → r.source ≡ c → r.to.comp ≡ c → length (arrived_on r k) ≡ length (sent_on r k)
+
+-- so it is before each entry that looks at ports: each operation begins with a drain (22.2 to 22.5)
+abbrev pub Fresh : CompId → List Entry → Type 0
+Fresh c k = All (λ (t : Moment). LooksAtPorts t.entry → HasOwn c t.before) (moments k)

@@ -1,0 +1,13 @@
+pub mod Moments
+pub mod Choices
+pub mod Looks
+pub mod Held
+pub mod Paths
+pub mod Fresh
+pub mod Outboxes
+pub mod Stations
+pub mod Seen
+pub mod Sends
+pub mod Ends
+pub mod Outcomes
+pub mod Parts

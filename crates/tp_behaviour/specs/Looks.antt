@@ -1,0 +1,36 @@
+-- What trying the branches of an `alt` comes to.
+use Rattle.std.specs.Prelude.{◌≡◌, ℕ, Bool, Some, List}
+use Rattle.tp_port.specs.declared.event.Env.{Env}
+use Rattle.tp_port.specs.History.{top}
+use Rattle.tp_port.specs.Answers.{Finds, Satisfies}
+use Rattle.tp_value.specs.declared.message.Message.{Message}
+use Rattle.tp_value.specs.Admits.{Admits}
+use Rattle.tp_syntax.specs.declared.tree.ReceiveKind.TheVariants as kind
+use Rattle.tp_inbox.specs.declared.entry.Entry.{Entry}
+use Rattle.tp_inbox.specs.declared.entry.Entry.TheVariants as entry
+use Rattle.tp_inbox.specs.Desks.{Journal, adding, at_port}
+use Rattle.tp_behaviour.specs.declared.choice.Guard.{Guard}
+use Rattle.tp_behaviour.specs.declared.choice.Sight.{Sight}
+use Rattle.tp_behaviour.specs.declared.choice.Sight.TheVariants as sight
+use Rattle.tp_behaviour.specs.Moments.{Moment}
+use Rattle.tp_behaviour.specs.Choices.{IsOpen, NoneOpen, IsChoice, IsDrop, chosen}
+
+-- what trying the branch at place i came to, and the desk after it
+abbrev pub Tried : Guard → ℕ → Journal → Sight → Journal → Type 0
+Tried g i d (sight.Taken j e) after = (j ≡ i) × Finds (Admits g.wanted) g.sender (at_port d g.port) e × (after ≡ adding d (chosen g.kind g.port e i))
+Tried g i d sight.Discarded after =
+    (e : Env Message) × (g.kind ≡ kind.Trigger) × (top (at_port d g.port) ≡ Some e) × ¬ Satisfies (Admits g.wanted) g.sender e
+    × (after ≡ adding d (entry.Dropped g.port e i))
+Tried g i d sight.Nothing after = (¬ IsOpen d.log g) × (after ≡ d)
+
+-- the moment of an entry that is added to this desk
+abbrev pub moment : Journal → Entry → Moment
+moment d t = record { before = d.log; entry = t }
+
+-- what trying all branches came to, and the desk after it: the choice of a branch, a message that a `trigger` discarded, or nothing, where no
+-- branch is open
+abbrev pub Looked : List Guard → Journal → Sight → Journal → Type 0
+Looked gs d (sight.Taken i e) after =
+    (t : Entry) × ((has_else : Bool) → IsChoice gs has_else (moment d t) (Some (i, e))) × (after ≡ adding d t)
+Looked gs d sight.Discarded after = (t : Entry) × IsDrop gs (moment d t) × (after ≡ adding d t)
+Looked gs d sight.Nothing after = NoneOpen d.log gs × (after ≡ d)

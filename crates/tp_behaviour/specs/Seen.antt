@@ -1,0 +1,50 @@
+-- What one look at the branches of an `alt` comes to, and what the `alt` does.
+use Rattle.std.specs.Prelude.{◌≡◌, ℤ, Bool, true, false, Option, Some, None, List, [], ◌∷◌, ◌++◌, All}
+use Rattle.tp_config.specs.declared.port_type.CompId.{CompId}
+use Rattle.tp_body.specs.declared.body.Statement.{Statement}
+use Rattle.tp_inbox.specs.declared.entry.Entry.{Entry}
+use Rattle.tp_inbox.specs.Desks.{Journal}
+use Rattle.tp_behaviour.specs.declared.choice.Guard.{Guard}
+use Rattle.tp_behaviour.specs.declared.choice.Sight.{Sight}
+use Rattle.tp_behaviour.specs.declared.choice.Sight.TheVariants as sight
+use Rattle.tp_behaviour.specs.declared.choosing.Choice.{Choice}
+use Rattle.tp_behaviour.specs.declared.choosing.Choice.TheVariants as choice
+use Rattle.tp_behaviour.specs.declared.held.Held.{Held}
+use Rattle.tp_behaviour.specs.Moments.{Moment, moments}
+use Rattle.tp_behaviour.specs.Held.{Role}
+use Rattle.tp_behaviour.specs.Looks.{moment}
+use Rattle.tp_behaviour.specs.Paths.{IsStep}
+use Rattle.tp_behaviour.specs.Choices.{NoneOpen, IsChoice, IsDrop}
+use Rattle.tp_behaviour.specs.Fresh.{HasOwn}
+
+-- from one history to the other the trace grew by moments of which this holds
+abbrev pub Grew : (List Moment → Type 0) → List Entry → List Entry → Type 0
+Grew p before after = (ts : List Moment) × (moments after ≡ moments before ++ ts) × p ts
+
+-- one moment, of which this holds
+abbrev pub One : (Moment → Type 0) → List Moment → Type 0
+One p ts = (t : Moment) × (ts ≡ t ∷ []) × p t
+
+-- one moment more: that of this entry
+abbrev pub Adds : Journal → Entry → Journal → Type 0
+Adds before e after = moments after.log ≡ moments before.log ++ moment before e ∷ []
+
+-- a path of the statement, whatever loop variables and variables hold, and they stay as they are
+abbrev pub Carries : Role → Statement → Journal → Journal → Type 0
+Carries r x before after = (turns : List ℤ) (vs : List (Option Held)) → Grew (λ ts. IsStep r turns vs x ts vs) before.log after.log
+
+-- what a look at the branches came to
+abbrev pub Saw : CompId → List Guard → Sight → List Entry → List Entry → Type 0
+Saw c gs (sight.Taken i e) before after = Grew (One (λ t. (has_else : Bool) → IsChoice gs has_else t (Some (i, e)))) before after
+Saw c gs sight.Discarded before after = Grew (One (IsDrop gs)) before after
+Saw c gs sight.Nothing before after = (moments after ≡ moments before) × NoneOpen after gs × HasOwn c after
+
+-- any number of messages that a `trigger` discards, and then a moment of which this holds
+abbrev pub Ending : List Guard → (Moment → Type 0) → List Moment → Type 0
+Ending gs p ts = (drops : List Moment) × (t : Moment) × (ts ≡ drops ++ t ∷ []) × All (IsDrop gs) drops × p t
+
+-- what an `alt` came to
+abbrev pub Chose : List Guard → Bool → Choice → List Moment → Type 0
+Chose gs has_else (choice.Branch i e) ts = Ending gs (λ t. (any : Bool) → IsChoice gs any t (Some (i, e))) ts
+Chose gs has_else choice.Else ts = (has_else ≡ true) × Ending gs (λ t. IsChoice gs true t None) ts
+Chose gs has_else choice.Waits ts = (has_else ≡ false) × All (IsDrop gs) ts

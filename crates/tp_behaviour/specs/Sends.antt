@@ -1,0 +1,34 @@
+-- What a send comes to, and what it may speak of.
+use Rattle.std.specs.Prelude.{◌≡◌, ◌<◌, ◌≤◌, ℕ, Option, Some, None, List, ⊤}
+use Rattle.tp_body.specs.declared.body.Sent.{Sent}
+use Rattle.tp_body.specs.declared.body.Sent.TheVariants as sent
+use Rattle.tp_body.specs.declared.body.Receiver.{Receiver}
+use Rattle.tp_body.specs.declared.body.Receiver.TheVariants as to
+use Rattle.tp_body.specs.declared.body.Sending.{Sending}
+use Rattle.tp_body.specs.declared.body.Statement.TheVariants as b
+use Rattle.tp_body.specs.Fills.{needed}
+use Rattle.tp_inbox.specs.declared.entry.Entry.{Entry}
+use Rattle.tp_inbox.specs.declared.entry.Entry.TheVariants as entry
+use Rattle.tp_behaviour.specs.Ends.{IsFailure}
+use Rattle.tp_behaviour.specs.declared.held.Held.{Held}
+use Rattle.tp_behaviour.specs.Held.{Role, Values}
+use Rattle.tp_behaviour.specs.Paths.{IsStep}
+use Rattle.tp_behaviour.specs.Seen.{Grew, One}
+use Rattle.tp_behaviour.specs.Stations.{HoldsComponents, HoldsMessages}
+
+-- what is sent speaks of so many loop variables at most, or of a variable for messages
+abbrev pub CanFill : List (Option Held) → ℕ → Sent → Type 0
+CanFill variables turns (sent.Written m) = needed m.value ≤ turns
+CanFill variables turns (sent.Variable k) = HoldsMessages variables k
+
+-- the receiver is one of so many references, or a variable for components, and not all
+abbrev pub CanName : List (Option Held) → ℕ → Receiver → Type 0
+CanName variables references to.Nobody = ⊤
+CanName variables references (to.Reference k) = k < references
+CanName variables references (to.Variable k) = HoldsComponents variables k
+CanName variables references to.All = ⊥
+
+-- a send comes to this: it is carried out, or the behaviour ends by the refusal of this number
+abbrev pub Sends : Role → Values → Sending → Option ℕ → List Entry → List Entry → Type 0
+Sends r vs x None before after = Grew (λ ts. IsStep r vs.turns vs.variables (b.Send x) ts vs.variables) before after
+Sends r vs x (Some code) before after = Grew (One (λ t. IsFailure r vs x t.before code × (t.entry ≡ entry.Failed code))) before after

@@ -1,0 +1,115 @@
+//! What trying the branches of an `alt` comes to.
+ghost use Rattle.std.specs.Prelude.{◌<◌, ◌≡◌, All, IfOk};
+ghost use Rattle.tp_behaviour.specs.Looks.{Looked, Tried};
+
+use crate::gate::Gate;
+use std::alloc::Global;
+use tp_body::body::ReceiveKind;
+use tp_inbox::desk::Desk;
+use tp_port::event::{Env, TriggerAnswer};
+use tp_refusal::memory::Memory;
+use tp_value::message::{Message, MsgTemplate};
+
+/// A receiving operation once loop variables and references have their values.
+#[derive(Debug, Drop)]
+pub struct Guard {
+    /// The port, by its place in the component type.
+    pub port: u32,
+    /// What it does with a message.
+    pub kind: ReceiveKind,
+    /// What it wants.
+    pub wanted: MsgTemplate,
+    /// The number of the component behind `from`.
+    pub sender: Option<u32>,
+}
+
+/// What trying branches came to.
+#[derive(Drop)]
+pub enum Sight {
+    /// By the branch at this place this envelope was taken or found.
+    Taken(usize, Env<Message>),
+    /// A `trigger` discarded the top message.
+    Discarded,
+    /// Nothing happened.
+    Nothing,
+}
+
+/// Tries a `receive` (ES 201 873-1, 22.2.2).
+fn try_receive(desk: &mut Desk, guard: &Guard, branch: usize) -> Result<Sight, Memory>
+    requires within { guard.now.port < desk.old.ports }
+    requires kind { guard.now.kind ≡ ReceiveKind.Receive }
+    ensures { IfOk result (λ sight. Tried guard.now branch desk.old sight desk.new) }
+{
+    match desk.receive(guard.port, &guard.wanted, guard.sender, branch)? {
+        Some(env) => Ok(Sight::Taken(branch, env)),
+        None => Ok(Sight::Nothing),
+    }
+}
+
+/// Tries a `trigger` (22.2.3).
+fn try_trigger(desk: &mut Desk, guard: &Guard, branch: usize) -> Result<Sight, Memory>
+    requires within { guard.now.port < desk.old.ports }
+    requires kind { guard.now.kind ≡ ReceiveKind.Trigger }
+    ensures { IfOk result (λ sight. Tried guard.now branch desk.old sight desk.new) }
+{
+    match desk.trigger(guard.port, &guard.wanted, guard.sender, branch)? {
+        TriggerAnswer::Took(env) => Ok(Sight::Taken(branch, env)),
+        TriggerAnswer::Dropped(_) => Ok(Sight::Discarded),
+        TriggerAnswer::Nothing => Ok(Sight::Nothing),
+    }
+}
+
+/// Tries a `check` (22.4). What it finds is copied.
+fn try_check(alloc: Global, desk: &mut Desk, guard: &Guard, branch: usize) -> Result<Sight, Memory>
+    requires within { guard.now.port < desk.old.ports }
+    requires kind { guard.now.kind ≡ ReceiveKind.Check }
+    ensures { IfOk result (λ sight. Tried guard.now branch desk.old sight desk.new) }
+{
+    match desk.check(guard.port, &guard.wanted, guard.sender, branch)? {
+        Some(env) => {
+            let env = env.copy(alloc)?;
+            Ok(Sight::Taken(branch, env))
+        }
+        None => Ok(Sight::Nothing),
+    }
+}
+
+/// Tries a branch. 50 `Memory` only where an allocation was refused.
+pub(crate) fn attempt(
+    alloc: Global,
+    desk: &mut Desk,
+    guard: &Guard,
+    branch: usize,
+) -> Result<Sight, Memory>
+    requires { guard.now.port < desk.old.ports }
+    ensures { IfOk result (λ sight. Tried guard.now branch desk.old sight desk.new) }
+{
+    match guard.kind {
+        ReceiveKind::Receive => try_receive(desk, guard, branch),
+        ReceiveKind::Trigger => try_trigger(desk, guard, branch),
+        ReceiveKind::Check => try_check(alloc, desk, guard, branch),
+    }
+}
+
+/// Tries the branches from the top to the bottom, up to the first that does something (20.2). The gate
+/// stands before each.
+///
+/// 50 `Memory` only where an allocation was refused.
+pub(crate) fn snapshot<G: Gate>(
+    gate: &G,
+    alloc: Global,
+    desk: &mut Desk,
+    guards: &[Guard],
+) -> Result<Sight, Memory>
+    requires { All (λ g. g.port < desk.old.ports) guards.now }
+    ensures { IfOk result (λ sight. Looked guards.now desk.old sight desk.new) }
+{
+    for (branch, guard) in guards.iter().enumerate() {
+        gate.inside(desk.comp(), guard.port);
+        match attempt(alloc, &mut *desk, guard, branch)? {
+            Sight::Nothing => {}
+            sight => return Ok(sight),
+        }
+    }
+    Ok(Sight::Nothing)
+}

@@ -1,0 +1,81 @@
+//! What an `alt` comes to.
+ghost use Rattle.std.specs.Prelude.{◌<◌, All, IfOk, OnOk};
+ghost use Rattle.tp_behaviour.specs.Seen.{Chose, Grew};
+ghost use Rattle.tp_behaviour.specs.Stations.{IsManned, IsSame, role_of};
+
+use crate::choice::{Guard, Sight};
+use crate::gate::Gate;
+use crate::looking::{look, note};
+use crate::post::Post;
+use crate::station::Station;
+use std::sync::Wait;
+use tp_inbox::entry::Entry;
+use tp_inbox::hub::Woken;
+use tp_inbox::owner::Owner;
+use tp_port::event::Env;
+use tp_refusal::memory::Memory;
+use tp_value::message::Message;
+
+/// What an `alt` came to.
+#[derive(Drop)]
+pub enum Choice {
+    /// By the branch at this place this envelope was taken or found.
+    Branch(usize, Env<Message>),
+    /// `[else]` was chosen.
+    Else,
+    /// No branch can be chosen any more.
+    Waits,
+}
+
+/// Waits until something comes into the inbox, or nothing can come any more: that is the answer. Where
+/// all wait, it closes all inboxes.
+fn rest<R: Wait>(rt: &R, post: &Post<'_>, owner: &Owner) -> bool {
+    match owner.wait(rt) {
+        Woken::Arrived => false,
+        Woken::Closed => true,
+        Woken::Last => {
+            for closer in post.closers {
+                closer.close(rt);
+            }
+            true
+        }
+    }
+}
+
+/// Carries out an `alt` up to the choice of a branch (ES 201 873-1, 20.2): its branches are looked at
+/// until one is chosen, or `[else]`, or until nothing can come any more.
+///
+/// 50 `Memory` only where an allocation was refused.
+pub(crate) fn choose<R: Wait, G: Gate>(
+    rt: &R,
+    gate: &G,
+    post: &Post<'_>,
+    station: &mut Station,
+    guards: &[Guard],
+    has_else: bool,
+) -> Result<Choice, Memory>
+    requires manned { IsManned (role_of post.now) station.old }
+    requires within { All (λ g. g.port < station.old.desk.ports) guards.now }
+    ensures manned { OnOk result (IsManned (role_of post.now) station.new) }
+    ensures same { OnOk result (IsSame station.old station.new) }
+    ensures chose { IfOk result (λ choice. Grew (Chose guards.now has_else choice) station.old.desk.log station.new.desk.log) }
+{
+    let mut last = false;
+    for _ in rt.forever() {
+        match look(rt, gate, post, &mut *station, guards)? {
+            Sight::Taken(branch, env) => return Ok(Choice::Branch(branch, env)),
+            Sight::Discarded => {}
+            Sight::Nothing => {
+                if has_else {
+                    note(post, &mut *station, Entry::Else)?;
+                    return Ok(Choice::Else);
+                }
+                if last {
+                    return Ok(Choice::Waits);
+                }
+                last = rest(rt, post, &station.owner);
+            }
+        }
+    }
+    unreachable!()
+}

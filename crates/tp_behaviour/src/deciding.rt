@@ -1,0 +1,78 @@
+//! What an `alt` goes on with.
+ghost use Rattle.std.specs.Prelude.{◌≡◌, ◌<◌, IfOk, OnOk, length};
+ghost use Rattle.tp_body.specs.Playable.{CanEnterAll};
+ghost use Rattle.tp_behaviour.specs.Outcomes.{HoldsAsDeclared, depth_of, stage_at};
+ghost use Rattle.tp_behaviour.specs.Parts.{Decided, IsEntered, IsWayOf, RestsWithin};
+ghost use Rattle.tp_behaviour.specs.Stations.{IsManned, IsSame, role_of};
+
+use crate::choice::Guard;
+use crate::choosing::{Choice, choose};
+use crate::gate::Gate;
+use crate::post::Post;
+use crate::receiving::{fill_guards, redirect};
+use crate::station::{State, Station};
+use std::sync::Wait;
+use tp_body::body::Branch;
+use tp_port::event::Env;
+use tp_refusal::memory::Memory;
+use tp_value::message::Message;
+
+/// What an `alt` goes on with.
+#[derive(Drop)]
+pub enum Way {
+    /// The block of the branch at this place.
+    Branch(usize),
+    /// The block of `[else]`.
+    Else,
+    /// Nothing: none of these branches can be chosen any more.
+    Waits(Vec<Guard>),
+}
+
+/// Puts what was taken or found by the branch at this place into the variables that it names
+/// (22.2.2). Takes no memory.
+fn enter(post: &Post<'_>, state: &mut State, branches: &[Branch], place: usize, env: Env<Message>)
+    requires there { place < length branches.now }
+    requires held { HoldsAsDeclared post.now state.old }
+    requires can { CanEnterAll (stage_at post.now) (depth_of state.old) branches.now }
+    ensures held { HoldsAsDeclared post.now state.new }
+    ensures turns { state.new.turns.items ≡ state.old.turns.items }
+    ensures set { IsEntered branches.now place env
+        state.old.variables.items state.new.variables.items }
+{
+    redirect(post, &mut *state, &branches[place].receiving, env);
+}
+
+/// Carries out an `alt` up to the block that it goes on with (ES 201 873-1, 20.2).
+///
+/// 50 `Memory` only where an allocation was refused.
+pub(crate) fn decide<R: Wait, G: Gate>(
+    rt: &R,
+    gate: &G,
+    post: &Post<'_>,
+    station: &mut Station,
+    state: &mut State,
+    branches: &[Branch],
+    has_else: bool,
+) -> Result<Way, Memory>
+    requires manned { IsManned (role_of post.now) station.old }
+    requires held { HoldsAsDeclared post.now state.old }
+    requires can { CanEnterAll (stage_at post.now) (depth_of state.old) branches.now }
+    ensures manned { OnOk result (IsManned (role_of post.now) station.new) }
+    ensures same { OnOk result (IsSame station.old station.new) }
+    ensures held { OnOk result (HoldsAsDeclared post.now state.new) }
+    ensures turns { OnOk result (state.new.turns.items ≡ state.old.turns.items) }
+    ensures decided { IfOk result (λ way.
+        Decided post.now branches.now has_else way station.old state.old station.new state.new) }
+    ensures there { IfOk result (IsWayOf branches.now) }
+    ensures within { IfOk result (RestsWithin station.old.desk.ports) }
+{
+    let guards = fill_guards(post, &*state, branches)?;
+    match choose(rt, gate, post, &mut *station, guards.as_slice(), has_else)? {
+        Choice::Branch(place, env) => {
+            enter(post, &mut *state, branches, place, env);
+            Ok(Way::Branch(place))
+        }
+        Choice::Else => Ok(Way::Else),
+        Choice::Waits => Ok(Way::Waits(guards)),
+    }
+}

@@ -1,0 +1,20 @@
+//! One component's behaviour: its body, carried out at its desk, its inbox and its senders.
+#![tactic(auto)]
+
+mod acting;
+pub mod behaving;
+pub mod choice;
+pub mod choosing;
+mod deciding;
+pub mod gate;
+pub mod held;
+mod looking;
+pub mod outbox;
+pub mod outcome;
+mod playing;
+pub mod post;
+mod receiving;
+mod sending;
+mod statements;
+pub mod station;
+mod values;

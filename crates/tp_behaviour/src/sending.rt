@@ -1,0 +1,252 @@
+//! What a behaviour sends.
+ghost use Rattle.std.specs.Prelude.{◌≡◌, ◌++◌, ◌∷◌, [], ℕ, All, Contains, IfOk, OnOk, length};
+ghost use Rattle.std.specs.List.{AllZip};
+ghost use Rattle.tp_body.specs.declared.body.Receiver.TheVariants as to;
+ghost use Rattle.tp_body.specs.Playable.{CanSend};
+ghost use Rattle.tp_inbox.specs.declared.entry.Entry.TheVariants as entry;
+ghost use Rattle.tp_inbox.specs.History.{next_of, sent_on};
+ghost use Rattle.tp_behaviour.specs.Ends.{IsFailure, route_number};
+ghost use Rattle.tp_behaviour.specs.Held.{IsNamed, IsSentAs};
+ghost use Rattle.tp_behaviour.specs.Outboxes.{routes_of};
+ghost use Rattle.tp_behaviour.specs.Outcomes.{HoldsAsDeclared, depth_of, stage_at};
+ghost use Rattle.tp_behaviour.specs.Paths.{IsSentOn, IsStarted};
+ghost use Rattle.tp_behaviour.specs.Seen.{Adds, Grew};
+ghost use Rattle.tp_behaviour.specs.Sends.{CanName, Sends};
+ghost use Rattle.tp_behaviour.specs.Stations.{IsManned, IsSame, role_of, values_of};
+
+use crate::looking::note;
+use crate::post::Post;
+use crate::station::{State, Station};
+use crate::values::{message_of, named_of};
+use std::sync::Wait;
+use tp_body::body::{Receiver, Sending};
+use tp_config::port_type::{CompId, PortRef, RouteId};
+use tp_config::routes::RouteFault;
+use tp_inbox::entry::Entry;
+use tp_refusal::memory::Memory;
+use tp_value::message::Message;
+
+/// Ends the behaviour at a send, by the refusal of this number, which is answered.
+///
+/// 50 `Memory` only where an allocation was refused.
+fn fail(
+    post: &Post<'_>,
+    station: &mut Station,
+    state: &State,
+    sending: &Sending,
+    code: u8,
+) -> Result<Option<u8>, Memory>
+    requires manned { IsManned (role_of post.now) station.old }
+    requires cause { IsFailure (role_of post.now) (values_of state.now) sending.now station.old.desk.log code }
+    ensures manned { OnOk result (IsManned (role_of post.now) station.new) }
+    ensures same { OnOk result (IsSame station.old station.new) }
+    ensures sends { IfOk result (λ code. Sends (role_of post.now) (values_of state.now) sending.now code station.old.desk.log station.new.desk.log) }
+{
+    let (_state, _sending) = (state, sending);
+    note(post, &mut *station, Entry::Failed(code))?;
+    Ok(Some(code))
+}
+
+/// Sends a message on a route: its number is the next on the route, and its stamp the next in the
+/// history.
+///
+/// 50 `Memory` where an allocation was refused; and where the route has taken all that it takes, or no
+/// stamp is left, neither of which a test case of at most 100,000 statements reaches.
+fn send_on<R: Wait>(
+    rt: &R,
+    post: &Post<'_>,
+    station: &mut Station,
+    route: RouteId,
+    message: &Message,
+) -> Result<(), Memory>
+    requires manned { IsManned (role_of post.now) station.old }
+    requires known { Contains (routes_of station.old.outbox) route }
+    ensures manned { OnOk result (IsManned (role_of post.now) station.new) }
+    ensures same { OnOk result (IsSame station.old station.new) }
+    ensures log { OnOk result (station.new.desk.log ≡ station.old.desk.log ++ entry.Sent route (length (sent_on route station.old.desk.log)) (next_of station.old.desk.log message.now) ∷ []) }
+    ensures trace { OnOk result (Adds station.old.desk (entry.Sent route (length (sent_on route station.old.desk.log)) (next_of station.old.desk.log message.now)) station.new.desk) }
+{
+    let _post = post;
+    let Ok(()) = station.outbox.send(rt, &mut station.desk, route, message) else {
+        return Err(Memory);
+    };
+    Ok(())
+}
+
+/// The number of the refusal by which there is no route.
+fn route_code(fault: RouteFault) -> u8
+    ensures { result ≡ route_number fault }
+{
+    match fault {
+        RouteFault::NoRoute => 41,
+        RouteFault::NeedsTo => 42,
+    }
+}
+
+/// Sends a message on the route that its port has, or the one to the component named; where there is no
+/// such route, the behaviour ends by the refusal of the number that is answered.
+///
+/// 50 `Memory` as [`send_on`].
+fn send_to<R: Wait>(
+    rt: &R,
+    post: &Post<'_>,
+    station: &mut Station,
+    state: &State,
+    sending: &Sending,
+    message: &Message,
+    named: Option<CompId>,
+) -> Result<Option<u8>, Memory>
+    requires manned { IsManned (role_of post.now) station.old }
+    requires started { IsStarted station.old.desk.log sending.now.port }
+    requires sent { IsSentAs (values_of state.now) sending.now.sent message.now }
+    requires named { IsNamed (role_of post.now) (values_of state.now) sending.now.to named }
+    ensures manned { OnOk result (IsManned (role_of post.now) station.new) }
+    ensures same { OnOk result (IsSame station.old station.new) }
+    ensures sends { IfOk result (λ code. Sends (role_of post.now) (values_of state.now) sending.now code station.old.desk.log station.new.desk.log) }
+{
+    let port = PortRef {
+        comp: post.comp,
+        port: sending.port,
+    };
+    match post.config.route(port, named) {
+        Ok(route) => {
+            send_on(rt, post, &mut *station, route, message)?;
+            Ok(None)
+        }
+        Err(fault) => fail(post, &mut *station, state, sending, route_code(fault)),
+    }
+}
+
+/// Sends a message on each of these routes, in their order.
+///
+/// 50 `Memory` as [`send_on`].
+fn send_on_each<R: Wait>(
+    rt: &R,
+    post: &Post<'_>,
+    station: &mut Station,
+    routes: &[RouteId],
+    message: &Message,
+) -> Result<(), Memory>
+    requires manned { IsManned (role_of post.now) station.old }
+    requires known { All (Contains (routes_of station.old.outbox)) routes.now }
+    ensures manned { OnOk result (IsManned (role_of post.now) station.new) }
+    ensures same { OnOk result (IsSame station.old station.new) }
+    ensures each { OnOk result ((port : ℕ) → IsStarted station.old.desk.log port
+        → Grew (AllZip (IsSentOn port message.now) routes.now) station.old.desk.log station.new.desk.log) }
+{
+    for route in routes {
+        send_on(rt, post, &mut *station, *route, message)?;
+    }
+    Ok(())
+}
+
+/// Sends a message on each route of its port, in the order of the connections (22.2.1, `to all component`);
+/// where there is none, the behaviour ends by the refusal 41, which is answered.
+///
+/// 50 `Memory` as [`send_on`].
+fn send_to_all<R: Wait>(
+    rt: &R,
+    post: &Post<'_>,
+    station: &mut Station,
+    state: &State,
+    sending: &Sending,
+    message: &Message,
+) -> Result<Option<u8>, Memory>
+    requires manned { IsManned (role_of post.now) station.old }
+    requires started { IsStarted station.old.desk.log sending.now.port }
+    requires sent { IsSentAs (values_of state.now) sending.now.sent message.now }
+    requires all { sending.now.to ≡ to.All }
+    ensures manned { OnOk result (IsManned (role_of post.now) station.new) }
+    ensures same { OnOk result (IsSame station.old station.new) }
+    ensures sends { IfOk result (λ code. Sends (role_of post.now) (values_of state.now) sending.now code station.old.desk.log station.new.desk.log) }
+{
+    let port = PortRef {
+        comp: post.comp,
+        port: sending.port,
+    };
+    let routes = post.config.routes_from(port)?;
+    if routes.is_empty() {
+        return fail(post, &mut *station, state, sending, 41);
+    }
+    send_on_each(rt, post, &mut *station, routes.as_slice(), message)?;
+    Ok(None)
+}
+
+/// Sends a message to the component that is named, or to the one that its port has a route to.
+///
+/// 50 `Memory` as [`send_on`].
+fn send_to_one<R: Wait>(
+    rt: &R,
+    post: &Post<'_>,
+    station: &mut Station,
+    state: &State,
+    sending: &Sending,
+    message: &Message,
+) -> Result<Option<u8>, Memory>
+    requires manned { IsManned (role_of post.now) station.old }
+    requires started { IsStarted station.old.desk.log sending.now.port }
+    requires sent { IsSentAs (values_of state.now) sending.now.sent message.now }
+    requires names { CanName state.now.variables.items (length post.now.conduct.references.now) sending.now.to }
+    ensures manned { OnOk result (IsManned (role_of post.now) station.new) }
+    ensures same { OnOk result (IsSame station.old station.new) }
+    ensures sends { IfOk result (λ code. Sends (role_of post.now) (values_of state.now) sending.now code station.old.desk.log station.new.desk.log) }
+{
+    match named_of(post, state, sending.to) {
+        Some(named) => send_to(rt, post, &mut *station, state, sending, message, named),
+        None => fail(post, &mut *station, state, sending, 43),
+    }
+}
+
+/// Sends what is to be sent, where the port is started.
+///
+/// 50 `Memory` as [`send_on`].
+fn send_started<R: Wait>(
+    rt: &R,
+    post: &Post<'_>,
+    station: &mut Station,
+    state: &State,
+    sending: &Sending,
+) -> Result<Option<u8>, Memory>
+    requires manned { IsManned (role_of post.now) station.old }
+    requires started { IsStarted station.old.desk.log sending.now.port }
+    requires held { HoldsAsDeclared post.now state.now }
+    requires can { CanSend (stage_at post.now) (depth_of state.now) sending.now }
+    ensures manned { OnOk result (IsManned (role_of post.now) station.new) }
+    ensures same { OnOk result (IsSame station.old station.new) }
+    ensures sends { IfOk result (λ code. Sends (role_of post.now) (values_of state.now) sending.now code station.old.desk.log station.new.desk.log) }
+{
+    let Some(message) = message_of(post.alloc, state, &sending.sent)? else {
+        return fail(post, &mut *station, state, sending, 43);
+    };
+    match sending.to {
+        Receiver::All => send_to_all(rt, post, &mut *station, state, sending, &message),
+        _ => send_to_one(rt, post, &mut *station, state, sending, &message),
+    }
+}
+
+/// Carries out a send (ES 201 873-1, 22.2.1), and answers the number of the refusal by which the behaviour
+/// ends there, if it does: 40 where the port isn't started; else 43 where a variable of which the send
+/// speaks isn't set; else 41 where there is no route, or none to the component named, or 42 where there
+/// are several and no component is named.
+///
+/// 50 `Memory` as [`send_on`].
+pub(crate) fn send<R: Wait>(
+    rt: &R,
+    post: &Post<'_>,
+    station: &mut Station,
+    state: &State,
+    sending: &Sending,
+) -> Result<Option<u8>, Memory>
+    requires manned { IsManned (role_of post.now) station.old }
+    requires held { HoldsAsDeclared post.now state.now }
+    requires can { CanSend (stage_at post.now) (depth_of state.now) sending.now }
+    ensures manned { OnOk result (IsManned (role_of post.now) station.new) }
+    ensures same { OnOk result (IsSame station.old station.new) }
+    ensures sends { IfOk result (λ code. Sends (role_of post.now) (values_of state.now) sending.now code station.old.desk.log station.new.desk.log) }
+{
+    if station.desk.queue(sending.port).may_send() {
+        send_started(rt, post, &mut *station, state, sending)
+    } else {
+        fail(post, &mut *station, state, sending, 40)
+    }
+}

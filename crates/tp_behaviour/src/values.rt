@@ -1,0 +1,88 @@
+//! What statements come to, by what a behaviour keeps in mind.
+ghost use Rattle.std.specs.Prelude.{IfOk, MatchOption, length};
+ghost use Rattle.tp_behaviour.specs.declared.held.Held.TheVariants as held;
+ghost use Rattle.tp_behaviour.specs.Held.{Holds, IsNamed, IsSentAs, IsUnset, NamesUnset, SendsUnset};
+ghost use Rattle.tp_behaviour.specs.Sends.{CanFill, CanName};
+ghost use Rattle.tp_behaviour.specs.Stations.{HoldsComponents, HoldsMessages, role_of, values_of};
+
+use crate::held::Held;
+use crate::post::Post;
+use crate::station::State;
+use std::alloc::Global;
+use tp_body::body::{Receiver, Sent};
+use tp_body::fill::fill_message;
+use tp_config::port_type::CompId;
+use tp_port::payload::Payload;
+use tp_refusal::memory::Memory;
+use tp_value::message::Message;
+
+/// The message that the variable at this place holds, where it is set.
+fn message_in(state: &State, place: usize) -> Option<&Message>
+    requires { HoldsMessages state.now.variables.items place }
+    ensures { MatchOption result (IsUnset (values_of state.now) place) (λ m. Holds (values_of state.now) place (held.Value m.now)) }
+{
+    match &state.variables[place] {
+        Some(held) => match held {
+            Held::Value(message) => Some(message),
+            Held::Component(_) => unreachable!(),
+        },
+        None => None,
+    }
+}
+
+/// The component that the variable at this place holds, where it is set.
+fn component_in(state: &State, place: usize) -> Option<CompId>
+    requires { HoldsComponents state.now.variables.items place }
+    ensures { MatchOption result (IsUnset (values_of state.now) place) (λ c. Holds (values_of state.now) place (held.Component c)) }
+{
+    match &state.variables[place] {
+        Some(held) => match held {
+            Held::Component(comp) => Some(*comp),
+            Held::Value(_) => unreachable!(),
+        },
+        None => None,
+    }
+}
+
+/// What is sent (ES 201 873-1, 22.2.1), or `None` where it is a variable that isn't set.
+///
+/// 50 `Memory` only where an allocation was refused.
+pub(crate) fn message_of(
+    alloc: Global,
+    state: &State,
+    sent: &Sent,
+) -> Result<Option<Message>, Memory>
+    requires { CanFill state.now.variables.items (length state.now.turns.items) sent.now }
+    ensures { IfOk result (λ m. MatchOption m (SendsUnset (values_of state.now) sent.now) (IsSentAs (values_of state.now) sent.now)) }
+{
+    match sent {
+        Sent::Written(message) => {
+            let filled = fill_message(alloc, message, state.turns.as_slice())?;
+            Ok(Some(filled))
+        }
+        Sent::Variable(place) => match message_in(state, *place) {
+            Some(message) => {
+                let copy = message.copy(alloc)?;
+                Ok(Some(copy))
+            }
+            None => Ok(None),
+        },
+    }
+}
+
+/// The component that is named as the receiver of one message, if one is; or `None` where it is a
+/// variable that isn't set. Takes no memory.
+pub(crate) fn named_of(post: &Post<'_>, state: &State, to: Receiver) -> Option<Option<CompId>>
+    requires { CanName state.now.variables.items (length post.now.conduct.references.now) to }
+    ensures { MatchOption result (NamesUnset (values_of state.now) to) (IsNamed (role_of post.now) (values_of state.now) to) }
+{
+    match to {
+        Receiver::Nobody => Some(None),
+        Receiver::Reference(place) => Some(Some(post.conduct.references[place])),
+        Receiver::Variable(place) => match component_in(state, place) {
+            Some(comp) => Some(Some(comp)),
+            None => None,
+        },
+        Receiver::All => unreachable!(),
+    }
+}
