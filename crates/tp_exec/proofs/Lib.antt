@@ -1,2 +1,19 @@
-mod Moments
-mod Looks
+pub mod Pairs
+pub mod RouteEnds
+pub mod Ways
+pub mod OpenedInboxes
+pub mod Dealing
+pub mod Manning
+pub mod NoCircle
+pub mod Holding
+pub mod Coming
+pub mod Sources
+pub mod Parting
+pub mod Settled
+pub mod Openings
+pub mod Runs
+pub mod Reported
+pub mod Known
+pub mod Returned
+pub mod Crossing
+pub mod AllPlayed

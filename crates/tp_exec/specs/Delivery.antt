@@ -10,13 +10,13 @@ use Rattle.tp_script.specs.TestCases.{Made, duty_at}
 use Rattle.tp_inbox.specs.declared.entry.Entry.{Entry}
 use Rattle.tp_inbox.specs.declared.entry.Entry.TheVariants as entry
 use Rattle.tp_inbox.specs.Desks.{at_port}
-use Rattle.tp_inbox.specs.History.{sent_on, arrived_on, count_of}
-use Rattle.tp_exec.specs.declared.ending.End.{End}
-use Rattle.tp_exec.specs.declared.report.Report.{Report}
-use Rattle.tp_exec.specs.declared.report.CompReport.{CompReport}
-use Rattle.tp_exec.specs.Ends.{Follows}
-use Rattle.tp_exec.specs.Fresh.{Fresh}
-use Rattle.tp_exec.specs.Verdicts.{local_verdict, overall_verdict}
+use Rattle.tp_inbox.specs.History.{IsClocked, sent_on, arrived_on, count_of}
+use Rattle.tp_report.specs.declared.ending.End.{End}
+use Rattle.tp_report.specs.declared.report.Report.{Report}
+use Rattle.tp_report.specs.declared.report.CompReport.{CompReport}
+use Rattle.tp_behaviour.specs.Ends.{Follows}
+use Rattle.tp_behaviour.specs.Fresh.{Fresh}
+use Rattle.tp_report.specs.Verdicts.{local_verdict, overall_verdict, endings, locals}
 
 -- the numbers from n on, one for each of these
 abbrev pub numbers_from : {X : Type 0} → ℕ → List X → List ℕ
@@ -30,8 +30,8 @@ pub record Line (components : List CompReport) (r : RouteId) : Type 0 where
   pub receiver : CompReport
   pub receiver_is : slice_get components r.to.comp.0 ≡ Some receiver
 
--- on a route, what the sender's trace says was sent is what came to the receiver, in that order and each once, numbered from 0, and as much as
--- the sender's ledger held
+-- on a route, what the sender's trace says was sent is what came to the receiver, in that order and each once, numbered from 0 and with its
+-- stamp, and as much as the sender's ledger held
 pub record IsDelivered (components : List CompReport) (r : RouteId) : Type 0 where
   pub line : Line components r
   pub same : sent_on r line.source.desk.log ≡ arrived_on r line.receiver.desk.log
@@ -40,7 +40,7 @@ pub record IsDelivered (components : List CompReport) (r : RouteId) : Type 0 whe
 
 -- the arrival came on a route of the configuration
 abbrev pub IsOnRoute : Setup → CompId → Entry → Type 0
-IsOnRoute s c (entry.Arrive port e) =
+IsOnRoute s c (entry.Arrive port e stamp) =
     (r : RouteId) × Contains (routes_into s c) r × (r.to.port ≡ port) × (r.source.0 ≡ e.sender)
 IsOnRoute s c _ = ⊤
 
@@ -59,6 +59,8 @@ pub record IsCompReport (made : Made) (c : CompId) (x : CompReport) : Type 0 whe
   pub lawful : (port : ℕ) → port < x.desk.ports → Lawful (at_port x.desk port)
   -- every arrival is of a route
   pub routed : (k : ℕ) (e : Entry) → slice_get x.desk.log k ≡ Some e → IsOnRoute made.config c e
+  -- each message that it sent has a stamp above all that had come to it or gone from it before
+  pub clocked : IsClocked x.desk.log
   -- the trace follows the behaviour to its end
   pub follows : FollowsDuty made.config c (duty_at made c.0) x.desk.log x.ending
   -- each operation has seen what the component had sent to itself
@@ -71,4 +73,4 @@ pub record IsReportOf (made : Made) (report : Report) : Type 0 where
   pub everyone : length report.components.items ≡ length made.config.components
   pub each : (c : CompId) (x : CompReport) → slice_get report.components.items c.0 ≡ Some x → IsCompReport made c x
   pub delivered : (c : CompId) (r : RouteId) → Contains (routes_into made.config c) r → IsDelivered report.components.items r
-  pub result : report.result ≡ overall_verdict (map (λ (x : CompReport). x.ending) report.components.items) (map (λ (x : CompReport). x.verdict) report.components.items)
+  pub result : report.result ≡ overall_verdict (endings report.components.items) (locals report.components.items)

@@ -1,9 +1,9 @@
-pub mod Moments
-pub mod Choices
-pub mod Looks
-pub mod Held
-pub mod Paths
-pub mod Fresh
-pub mod Ends
-pub mod Verdicts
 pub mod Delivery
+pub mod Openings
+pub mod Held
+pub mod Order
+pub mod Returns
+pub mod Rounds
+pub mod Seats
+pub mod Settlings
+pub mod Reporting

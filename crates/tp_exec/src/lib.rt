@@ -1,8 +1,17 @@
 //! The executor: each component's behaviour in a thread of its own, and the report of a run.
 #![tactic(auto)]
 
-pub mod choice;
-pub mod ending;
-pub mod gate;
-pub mod held;
-pub mod report;
+mod ended;
+pub mod fault;
+mod idle;
+mod inboxes;
+mod played;
+mod reporting;
+mod returning;
+pub mod run;
+mod settling;
+mod threads;
+mod waiting;
+
+pub use tp_behaviour::gate;
+pub use tp_report::{ending, report, verdicts, writing};

@@ -1,0 +1,48 @@
+-- A station may go into a thread, and come back from it with how its behaviour ended.
+-- A guard holds templates, which are of recursive types, so `search` has to be told of each type in turn, the innermost first.
+use mir.Syntax.{Lifetime, Sym}
+use denote.RattleType.{RattleType}
+use denote.Struct.Struct.{Struct}
+use denote.Param.Send.{IsSend, struct_send, sendable}
+use Rattle.std.specs.Prelude.{List, [], ◌∷◌}
+use Rattle.std.proofs.Crossing.{crosses}
+use Rattle.indexmap.proofs.map.IndexMap.TheSendSync.{the_send as map_send}
+use Rattle.tp_value.proofs.value.Value.TheLaws.TheKnot.{crosses as value_knot}
+use Rattle.tp_value.proofs.template.Template.TheLaws.TheKnot.{crosses as template_knot}
+use Rattle.tp_config.proofs.port_type.RouteId.TheSendSync.{the_send as route_send}
+use Rattle.tp_inbox.proofs.Crossing.{owner_send, desk_send, sender_send}
+use Rattle.tp_behaviour.specs.contracts.choice.Guard as guard
+use Rattle.tp_behaviour.specs.contracts.outbox.Outbox as outbox
+use Rattle.tp_behaviour.specs.contracts.outbox.Outbox.TheInside as outbox_inside
+use Rattle.tp_behaviour.specs.contracts.outcome.Outcome as outcome
+use Rattle.tp_behaviour.specs.contracts.station.Station as station
+use Rattle.tp_exec.specs.contracts.played.Played as played
+
+outbox_inside_send : IsSend outbox_inside.the_row
+outbox_inside_send = search (sendable, crosses, sender_send, map_send, route_send) depth 30
+
+outbox_send : IsSend outbox.the_row
+outbox_send = search (sendable, crosses, outbox_inside_send) depth 30
+
+pub station_send : IsSend station.the_row
+station_send = search (sendable, crosses, owner_send, desk_send, outbox_send) depth 30
+
+-- the same of a station as it stands in another type's field
+station_field_send : IsSend (station.the_field).row
+station_field_send = search (sendable, crosses, owner_send, desk_send, outbox_send) depth 30
+
+guard_send : IsSend guard.the_row
+guard_send = search (sendable, crosses, template_knot, value_knot) depth 40 fits 20000
+
+-- an outcome, as it stands in another type's field
+outcome_field_send : IsSend (outcome.the_field).row
+outcome_field_send = search (sendable, crosses, guard_send) depth 30
+
+pub played_send : IsSend played.the_row
+played_send = search (sendable, crosses, station_field_send, outcome_field_send) depth 30
+
+-- what captures these seven may go into a thread where each of them may
+pub seven_send : (name : Sym) (args : List Lifetime) (types : List RattleType) (a b c d e f g : RattleType)
+    → IsSend a → IsSend b → IsSend c → IsSend d → IsSend e → IsSend f → IsSend g
+    → IsSend (Struct (record { name = name; args = args; types = types; fields = a ∷ b ∷ c ∷ d ∷ e ∷ f ∷ g ∷ [] }))
+seven_send name args types a b c d e f g ha hb hc hd he hf hg = struct_send (record { name = name; args = args; types = types; fields = a ∷ b ∷ c ∷ d ∷ e ∷ f ∷ g ∷ [] }) (ha, (hb, (hc, (hd, (he, (hf, (hg, tt)))))))

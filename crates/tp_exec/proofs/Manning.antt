@@ -1,0 +1,174 @@
+-- What the stations of a run are once the senders are handed out.
+use Rattle.std.proofs.Common.{◌≡◌, ℕ, zero, suc, ◌+◌, ◌<◌, Bool, true, false, Some, List, [], ◌∷◌, ◌++◌, Contains, get_or, length, slice_get, map, refl, sym, ap, ◌∙◌, subst, cond, eq-eqb, arith}
+use Rattle.std.specs.Prelude.{All, filter}
+use Rattle.std.proofs.lemmas.Bool.{eqb-true}
+use Rattle.std.proofs.lemmas.List.Elements.{All-nil, All-filter, Contains-get_or}
+use Rattle.std.proofs.lemmas.Option.{same_Some, slice_get-get_or}
+use Rattle.tp_config.specs.declared.port_type.CompId.{CompId}
+use Rattle.tp_config.specs.declared.port_type.RouteId.{RouteId}
+use Rattle.tp_config.specs.Setup.{Setup, ports_at}
+use Rattle.tp_config.specs.Allowed.{IsSetup}
+use Rattle.tp_config.specs.Routes.{AreDistinct, routes_into}
+use Rattle.tp_config.proofs.RouteLaws.{map_contains}
+use Rattle.tp_inbox.specs.declared.entry.Entry.{Entry}
+use Rattle.tp_inbox.specs.Desks.{Journal}
+use Rattle.tp_inbox.specs.History.{arrivals, numbered, sent_on}
+use Rattle.tp_inbox.specs.Ledgers.{Draining, Inbox, Sending}
+use Rattle.tp_behaviour.specs.declared.station.Station.{Station}
+use Rattle.tp_behaviour.specs.Fresh.{Fresh}
+use Rattle.tp_behaviour.specs.Moments.{moments}
+use Rattle.tp_behaviour.specs.Outboxes.{IsHome, routes_of}
+use Rattle.tp_behaviour.specs.Paths.{port_of}
+use Rattle.tp_behaviour.specs.Stations.{IsNoted, IsPosted, IsSentBy, end_of}
+use Rattle.tp_exec.specs.declared.inboxes.Opened.{Opened}
+use Rattle.tp_exec.specs.Openings.{AreHandedOut, AreOpened, IsFromOneOf, IsOpened, IsUnused, is_of, rest_of}
+use Rattle.tp_exec.specs.Rounds.{AreStations, HasNotBegun, IsStaffed, all_ways, comp_at, is_from, ways_in}
+use Rattle.tp_exec.proofs.Dealing.{as_many}
+use Rattle.tp_exec.proofs.Pairs.{passed, passes}
+use Rattle.tp_exec.proofs.RouteEnds.{among_those_into, leads_here, receiver_within, source_is, source_within}
+use Rattle.tp_exec.proofs.Ways.{routes_apart, routes_of_ways, way_in, way_of}
+
+all_from : {X : Type 0} (P : X → Type 0) (xs : List X) → ((x : X) → Contains xs x → P x) → All P xs
+all_from P xs h k d low = h (get_or xs k d) (Contains-get_or xs k d low)
+
+-- the routes of senders are those of their ways
+routes_of_ends : (ss : List Sending) → map (λ (v : Inbox × RouteId). v.1) (map end_of ss) ≡ routes_of ss
+routes_of_ends [] = refl
+routes_of_ends (y ∷ ss) = ap (λ l. y.route ∷ l) (routes_of_ends ss)
+
+-- those of one component are those of the ways from it
+ends_from : (k : ℕ) (ss : List Sending) → map end_of (filter (is_of k) ss) ≡ filter (is_from k) (map end_of ss)
+ends_from k [] = refl
+ends_from k (y ∷ ss) = by (is_of k y) (ends_from k ss) where
+  by : (b : Bool) → map end_of (filter (is_of k) ss) ≡ filter (is_from k) (map end_of ss)
+      → map end_of (cond b (y ∷ filter (is_of k) ss) (filter (is_of k) ss)) ≡ cond b (end_of y ∷ filter (is_from k) (map end_of ss)) (filter (is_from k) (map end_of ss))
+  by true h = ap (λ l. end_of y ∷ l) h
+  by false h = h
+
+-- what stands at a place beside the senders stood there before
+same_rest : (xs ys : List Station) → map rest_of xs ≡ map rest_of ys → (k : ℕ) (x : Station) → slice_get xs k ≡ Some x → (y : Station) × (slice_get ys k ≡ Some y) × (rest_of y ≡ rest_of x)
+same_rest [] ys e k x stands = absurd (cc)
+same_rest (z ∷ xs) [] e k x stands = absurd (let n : length (map rest_of (z ∷ xs)) ≡ 0 = ap length e in omega (arith, n))
+same_rest (z ∷ xs) (y ∷ ys) e zero x stands = (y, refl, (let h : rest_of z ≡ rest_of y = cc in sym h) ∙ ap rest_of (same_Some z x stands))
+same_rest (z ∷ xs) (y ∷ ys) e (suc k) x stands = same_rest xs ys (let h : map rest_of xs ≡ map rest_of ys = cc in h) k x stands
+
+same_ways : (xs ys : List Station) → map rest_of xs ≡ map rest_of ys → all_ways xs ≡ all_ways ys
+same_ways [] [] e = refl
+same_ways [] (y ∷ ys) e = absurd (let n : 0 ≡ length (map rest_of (y ∷ ys)) = ap length e in omega (arith, n))
+same_ways (x ∷ xs) [] e = absurd (let n : length (map rest_of (x ∷ xs)) ≡ 0 = ap length e in omega (arith, n))
+same_ways (x ∷ xs) (y ∷ ys) e =
+    let head : rest_of x ≡ rest_of y = cc in
+    let tail : map rest_of xs ≡ map rest_of ys = cc in
+    ap (λ (v : Draining × Journal). ways_in v.0.inbox ++ all_ways xs) head ∙ ap (λ l. ways_in y.owner.inbox ++ l) (same_ways xs ys tail)
+
+-- before the senders are handed out: no two are on one route, and each comes from a component that has a station
+module _ (s : Setup) (l : IsSetup s) (o : Opened) (h : AreOpened s (length s.components) o) where
+  pub senders_apart : AreDistinct (routes_of o.senders.items)
+  senders_apart =
+      subst AreDistinct (sym (sym (routes_of_ends o.senders.items) ∙ ap (map (λ (v : Inbox × RouteId). v.1)) h.senders ∙ routes_of_ways o.stations.items))
+      (routes_apart s l 0 o.stations.items (λ k x stands. (h.each k x stands).routes ∙ ap (λ j. routes_into s (comp_at j)) (let e : k ≡ 0 + k = omega arith in e)))
+
+  pub senders_within : All (IsFromOneOf o.stations.items) o.senders.items
+  senders_within =
+      all_from (IsFromOneOf o.stations.items) o.senders.items (λ y inside.
+      let w = way_of o.stations.items (end_of y) (subst (λ ws. Contains ws (end_of y)) h.senders (map_contains end_of o.senders.items y inside)) in
+      subst (λ n. y.route.source.0 < n) (sym h.count)
+      (source_within s l (comp_at w.0) y.route (subst (λ rs. Contains rs y.route) (h.each w.0 w.1 w.2).routes w.4)))
+
+-- and after
+module _ (s : Setup) (l : IsSetup s) (o : Opened) (xs : List Station) (h : AreOpened s (length s.components) o) (given : AreHandedOut o.stations.items o.senders.items xs) where
+  opened : (k : ℕ) (x : Station) → slice_get xs k ≡ Some x → IsOpened s k x
+  opened k x stands =
+      let w = same_rest xs o.stations.items given.same k x stands in
+      let was : IsOpened s k w.0 = h.each k w.0 w.1 in
+      let owner : w.0.owner ≡ x.owner = ap (λ (v : Draining × Journal). v.0) w.2 in
+      let desk : w.0.desk ≡ x.desk = ap (λ (v : Draining × Journal). v.1) w.2 in
+      record {
+        comp = subst (λ (d : Draining). d.inbox.comp ≡ comp_at k) owner was.comp;
+        ports = subst (λ (d : Draining). d.inbox.ports ≡ length (ports_at s.types s.components (comp_at k))) owner was.ports;
+        routes = subst (λ (d : Draining). d.inbox.routes ≡ routes_into s (comp_at k)) owner was.routes;
+        drained = subst (λ (d : Draining). d.drained ≡ []) owner was.drained;
+        desk = sym desk ∙ was.desk;
+      }
+
+  many : length xs ≡ length s.components
+  many = as_many o.stations.items xs given.same ∙ h.count
+
+  ends : (k : ℕ) (x : Station) → slice_get xs k ≡ Some x → map end_of x.outbox ≡ filter (is_from k) (all_ways xs)
+  ends k x stands =
+      ap (map end_of) (given.senders k x stands) ∙ ends_from k o.senders.items
+      ∙ ap (filter (is_from k)) (h.senders ∙ sym (same_ways xs o.stations.items given.same))
+
+  -- a sender stands on each way from the component
+  has_way : (k : ℕ) (x : Station) → slice_get xs k ≡ Some x → (j : ℕ) (y : Station) → slice_get xs j ≡ Some y → (r : RouteId) → Contains y.owner.inbox.routes r → r.source ≡ comp_at k
+      → Contains (routes_of x.outbox) r
+  has_way k x stands j y there r inside from =
+      let w : Inbox × RouteId = (y.owner.inbox, r) in
+      let kept : Contains (filter (is_from k) (all_ways xs)) w = passes (is_from k) (all_ways xs) w (way_in xs j y r there inside) (eq-eqb r.source.0 k (ap (λ (c : CompId). c.0) from)) in
+      subst (λ rs. Contains rs r) (ap (map (λ (v : Inbox × RouteId). v.1)) (sym (ends k x stands)) ∙ routes_of_ends x.outbox)
+      (map_contains (λ (v : Inbox × RouteId). v.1) (filter (is_from k) (all_ways xs)) w kept)
+
+  -- and no others
+  is_way : (k : ℕ) (x : Station) → slice_get xs k ≡ Some x → (y : Sending) → Contains x.outbox y
+      → ((j : ℕ) × (z : Station) × (slice_get xs j ≡ Some z) × (y.inbox ≡ z.owner.inbox) × Contains z.owner.inbox.routes y.route) × (y.route.source.0 ≡ k)
+  is_way k x stands y inside =
+      let w = passed (is_from k) (all_ways xs) (end_of y) (subst (λ ws. Contains ws (end_of y)) (ends k x stands) (map_contains end_of x.outbox y inside)) in
+      (way_of xs (end_of y) w.0, eqb-true y.route.source.0 k w.1)
+
+  -- into its own inbox it puts by senders that lead back, and by no others
+  home : (k : ℕ) (x : Station) → slice_get xs k ≡ Some x → All (IsHome x.owner.inbox) x.outbox
+  home k x stands = all_from (IsHome x.owner.inbox) x.outbox (λ y inside back.
+      back ∙ ap comp_at (is_way k x stands y inside).1 ∙ sym (opened k x stands).comp)
+
+  posted : (k : ℕ) (x : Station) (references : List ℕ) → slice_get xs k ≡ Some x
+      → IsPosted (record { config = s; comp = comp_at k; references = references }) x.owner.inbox (routes_of x.outbox)
+  posted k x references stands =
+      let mine = opened k x stands in record {
+        comp = mine.comp;
+        ports = mine.ports;
+        here = subst (All (λ (r : RouteId). r.to.comp ≡ comp_at k)) (sym mine.routes) (all_from (λ (r : RouteId). r.to.comp ≡ comp_at k) (routes_into s (comp_at k)) (leads_here s l (comp_at k)));
+        loops = all_from (λ (r : RouteId). r.source ≡ comp_at k → Contains (routes_of x.outbox) r) x.owner.inbox.routes (λ r inside from. has_way k x stands k x stands r inside from);
+        ways = λ port r from.
+            let p = port_of (record { config = s; comp = comp_at k; references = references }) port in
+            let j = r.to.comp.0 in
+            let low : j < length xs = (let e = many in let b = receiver_within s l p r from in omega (arith, e, b)) in
+            let z = get_or xs j x in
+            let there : slice_get xs j ≡ Some z = slice_get-get_or xs j x low in
+            has_way k x stands j z there r (subst (λ rs. Contains rs r) (sym (opened j z there).routes) (among_those_into s l p r from)) (source_is s p r from);
+      }
+
+  noted : (k : ℕ) (x : Station) → slice_get xs k ≡ Some x → All (IsNoted x.desk.log) x.outbox
+  unfolding sent_on
+  noted k x stands =
+      let empty : x.desk.log ≡ [] = ap (λ (d : Journal). d.log) (opened k x stands).desk in
+      let unused : All IsUnused x.outbox = subst (All IsUnused) (sym (given.senders k x stands)) (All-filter (is_of k) IsUnused o.senders.items h.unused) in
+      λ j d low. ap (sent_on (get_or x.outbox j d).route) empty ∙ sym (ap (numbered 0) (unused j d low))
+
+  fresh : (c : CompId) (log : List Entry) → log ≡ [] → Fresh c log
+  unfolding moments
+  fresh c log empty = subst (Fresh c) (sym empty) (λ k d low. absurd (omega (arith, low)))
+
+  staffed : (k : ℕ) (x : Station) → slice_get xs k ≡ Some x → IsStaffed s k x
+  unfolding arrivals
+  staffed k x stands references =
+      let mine = opened k x stands in
+      let empty : x.desk.log ≡ [] = ap (λ (d : Journal). d.log) mine.desk in record {
+        posted = posted k x references stands;
+        desk = (ap (λ (d : Journal). d.comp) mine.desk ∙ sym mine.comp, ap (λ (d : Journal). d.ports) mine.desk ∙ sym mine.ports);
+        arrived = ap arrivals empty ∙ sym mine.drained;
+        noted = noted k x stands;
+        home = home k x stands;
+        sent = subst (All (IsSentBy (routes_of x.outbox))) (sym empty) (All-nil (IsSentBy (routes_of x.outbox)));
+        fresh = fresh (comp_at k) x.desk.log empty;
+      }
+
+  pub are_stations : AreStations s xs
+  are_stations = record {
+    everyone = many;
+    staffed = staffed;
+    routes = λ k x stands. (opened k x stands).routes;
+    senders = ends;
+  }
+
+  pub have_not_begun : All HasNotBegun xs
+  have_not_begun j d low = ap (λ (y : Journal). y.log) (opened j (get_or xs j d) (slice_get-get_or xs j d low)).desk

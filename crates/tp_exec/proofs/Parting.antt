@@ -1,0 +1,104 @@
+-- What the components are, and who has which senders, when all behaviours have ended.
+use Rattle.std.proofs.Common.{◌≡◌, ℕ, zero, suc, ◌<◌, Some, List, [], ◌∷◌, ◌++◌, length, map, refl, sym, ap, ◌∙◌, subst, All, arith}
+use Rattle.std.specs.Prelude.{filter, slice_get, slice_index_or}
+use Rattle.std.specs.Global.{Global}
+use Rattle.std.specs.Option.{option_map, option_map_or}
+use Rattle.std.specs.declared.vec.IntoIter.{IntoIter}
+use Rattle.std.specs.Vec.Iter.{into_iter_items}
+use Rattle.std.proofs.lemmas.List.{length-map}
+use Rattle.std.proofs.lemmas.List.Elements.{All-nil, All-append, All-head, All-map, All-tail}
+use Rattle.std.proofs.lemmas.Option.{same_Some, slice_get-get_or, slice_get-map}
+use Rattle.tp_config.specs.declared.port_type.RouteId.{RouteId}
+use Rattle.tp_config.specs.Setup.{Setup}
+use Rattle.tp_config.specs.Allowed.{IsSetup}
+use Rattle.tp_config.specs.Routes.{routes_into}
+use Rattle.tp_inbox.specs.declared.entry.Entry.{Entry}
+use Rattle.tp_inbox.specs.Ledgers.{Inbox, Sending}
+use Rattle.tp_behaviour.specs.Stations.{IsManned, IsNoted, end_of}
+use Rattle.tp_exec.specs.declared.idle.Idle.{Idle}
+use Rattle.tp_exec.specs.declared.played.Played.{Played}
+use Rattle.tp_exec.specs.Rounds.{AreStations, all_ways, comp_at, is_from, stations_of, ways_in}
+use Rattle.tp_exec.specs.Held.{AreHeld, IsIdle, idle_of, log_at, outbox_of, ways_to}
+use Rattle.tp_exec.proofs.Sources.{sources_within}
+
+abbrev Hand : Type 0
+Hand = IntoIter Sending Global
+
+-- there is an element at each place of a list
+pub at_place : {A : Type 0} (xs : List A) (k : ℕ) → k < length xs → (x : A) × (slice_get xs k ≡ Some x)
+at_place [] k low = absurd (omega (arith, low))
+at_place (x ∷ xs) zero low = (x, refl)
+at_place (x ∷ xs) (suc k) low = at_place xs k (omega (arith, low))
+
+mapped_at : {A B : Type 0} (f : A → B) (xs : List A) (k : ℕ) (x : A) → slice_get xs k ≡ Some x → slice_get (map f xs) k ≡ Some (f x)
+mapped_at f xs k x is = slice_get-map f xs k ∙ ap (option_map f) is
+
+-- what holds at each place holds of all
+all_places : {A : Type 0} (P : A → Type 0) (xs : List A) → ((k : ℕ) (x : A) → slice_get xs k ≡ Some x → P x) → All P xs
+all_places P xs h = λ k d low. h k (slice_index_or xs k d) (slice_get-get_or xs k d low)
+
+-- what holds of all routes into inboxes holds of all ways
+all_routes : (P : RouteId → Type 0) (xs : List Idle) → All (λ (x : Idle). All P x.owner.inbox.routes) xs → All (λ (way : Inbox × RouteId). P way.1) (ways_to xs)
+all_routes P [] h = All-nil (λ (way : Inbox × RouteId). P way.1)
+all_routes P (x ∷ xs) h =
+    let Q : Idle → Type 0 = λ x. All P x.owner.inbox.routes in
+    All-append (λ (way : Inbox × RouteId). P way.1) (ways_in x.owner.inbox) (ways_to xs)
+    (All-map (λ (way : Inbox × RouteId). P way.1) (λ r. (x.owner.inbox, r)) x.owner.inbox.routes (All-head Q x xs h)) (all_routes P xs (All-tail Q x xs h))
+
+same_ways : (played : List Played) → all_ways (stations_of played) ≡ ways_to (map idle_of played)
+same_ways [] = refl
+same_ways (p ∷ played) = ap (λ l. ways_in p.station.owner.inbox ++ l) (same_ways played)
+
+module _ (s : Setup) (l : IsSetup s) (played : List Played) (h : AreStations s (stations_of played)) where
+  pub long : length played ≡ length s.components
+  long = sym (length-map played (λ (p : Played). p.station)) ∙ h.everyone
+
+  pub station_at : (k : ℕ) (p : Played) → slice_get played k ≡ Some p → slice_get (stations_of played) k ≡ Some p.station
+  station_at k p is = mapped_at (λ (x : Played). x.station) played k p is
+
+  manned_at : (k : ℕ) (p : Played) → slice_get played k ≡ Some p → IsManned (record { config = s; comp = comp_at k; references = [] }) p.station
+  manned_at k p is = h.staffed k p.station (station_at k p is) []
+
+  idle_at : (k : ℕ) (p : Played) → slice_get played k ≡ Some p → IsIdle s (idle_of p)
+  idle_at k p is =
+      let m = manned_at k p is in record {
+        desk = m.desk;
+        arrived = m.arrived;
+        routes = h.routes k p.station (station_at k p is) ∙ ap (routes_into s) (sym (m.desk.0 ∙ m.posted.comp));
+      }
+
+  pub all_idle : All (IsIdle s) (map idle_of played)
+  all_idle = All-map (IsIdle s) idle_of played (all_places (λ p. IsIdle s (idle_of p)) played idle_at)
+
+  all_within : All (λ (way : Inbox × RouteId). way.1.source.0 < length s.components) (ways_to (map idle_of played))
+  all_within =
+      let P : RouteId → Type 0 = λ r. r.source.0 < length s.components in
+      all_routes P (map idle_of played)
+      (λ k d low. let i = all_idle k d low in subst (All P) (sym i.routes) (sources_within s l (slice_index_or (map idle_of played) k d).desk.comp))
+
+  module _ (hands : List Hand) (are : map into_iter_items hands ≡ map outbox_of played) where
+    hands_long : length hands ≡ length played
+    hands_long = sym (length-map hands into_iter_items) ∙ ap length are ∙ length-map played outbox_of
+
+    player : (k : ℕ) → k < length hands → (p : Played) × (slice_get played k ≡ Some p)
+    player k low = at_place played k (omega (arith, low, hands_long))
+
+    -- a component's hand has its outbox
+    has_outbox : (k : ℕ) (d : Hand) → k < length hands → (p : Played) → slice_get played k ≡ Some p → into_iter_items (slice_index_or hands k d) ≡ p.station.outbox
+    has_outbox k d low p is =
+        let hand = mapped_at into_iter_items hands k (slice_index_or hands k d) (slice_get-get_or hands k d low) in
+        same_Some (into_iter_items (slice_index_or hands k d)) p.station.outbox (sym hand ∙ ap (λ xs. slice_get xs k) are ∙ mapped_at outbox_of played k p is)
+
+    -- each has the senders on the ways that come from it
+    pub all_held : AreHeld (log_at played) hands (ways_to (map idle_of played))
+    all_held = record {
+      each = λ k d low.
+          let p = player k low in
+          ap (map end_of) (has_outbox k d low p.0 p.1) ∙ h.senders k p.0.station (station_at k p.0 p.1) ∙ ap (filter (is_from k)) (same_ways played);
+      noted = λ k d low.
+          let p = player k low in
+          let log : log_at played k ≡ p.0.station.desk.log = ap (λ o. option_map_or (λ (x : Played). x.station.desk.log) o []) p.1 in
+          subst (λ (ss : List Sending). All (IsNoted (log_at played k)) ss) (sym (has_outbox k d low p.0 p.1))
+          (subst (λ (k : List Entry). All (IsNoted k) p.0.station.outbox) (sym log) (manned_at k p.0 p.1).noted);
+      within = subst (λ n. All (λ (way : Inbox × RouteId). way.1.source.0 < n) (ways_to (map idle_of played))) (sym (hands_long ∙ long)) all_within;
+    }

@@ -1,0 +1,110 @@
+-- What has come back from a thread, or had nothing to do there, has done what it is there for.
+use Rattle.std.proofs.Common.{◌≡◌, ℕ, true, false, Option, Some, None, List, [], refl, sym, ap, ◌∙◌, subst, true≢false}
+use Rattle.std.specs.Option.{is_some, option_map}
+use Rattle.std.proofs.lemmas.Option.{none-some}
+use Rattle.tp_config.specs.declared.port_type.CompId.{CompId}
+use Rattle.tp_config.specs.Setup.{Setup}
+use Rattle.tp_script.specs.declared.test_case.Conduct.{Conduct}
+use Rattle.tp_script.specs.Duties.{Duty}
+use Rattle.tp_script.specs.Seen.{seen}
+use Rattle.tp_script.specs.TestCases.{Made, duty_at}
+use Rattle.tp_inbox.specs.declared.entry.Entry.{Entry}
+use Rattle.tp_inbox.specs.Ledgers.{Inbox}
+use Rattle.tp_report.specs.declared.ending.End.TheVariants as ending
+use Rattle.tp_behaviour.specs.declared.outcome.Outcome.TheVariants as outcome
+use Rattle.tp_behaviour.specs.declared.post.Post.{Post}
+use Rattle.tp_behaviour.specs.declared.station.Station.{Station}
+use Rattle.tp_behaviour.specs.Ends.{Follows}
+use Rattle.tp_behaviour.specs.Held.{Role}
+use Rattle.tp_behaviour.specs.Moments.{Moment, moments}
+use Rattle.tp_behaviour.specs.Paths.{IsPath}
+use Rattle.tp_behaviour.specs.Outcomes.{HasEnded}
+use Rattle.tp_behaviour.specs.Stations.{IsManned, role_of}
+use Rattle.tp_exec.specs.declared.played.Played.{Played}
+use Rattle.tp_exec.specs.Returns.{CanBegin, HasBehaved, HasReturned, IsBack, IsBusy, IsPostOf, IsWaiting, number_of}
+use Rattle.tp_exec.specs.Rounds.{DutyEnded, comp_at}
+
+-- a station is as well that of its component for a behaviour with other references
+pub manned_for : (s : Setup) (c : CompId) (references others : List ℕ) (x : Station)
+    → IsManned (record { config = s; comp = c; references = references }) x → IsManned (record { config = s; comp = c; references = others }) x
+manned_for s c references others x h = record {
+  posted = record { comp = h.posted.comp; ports = h.posted.ports; here = h.posted.here; loops = h.posted.loops; ways = h.posted.ways };
+  desk = h.desk;
+  arrived = h.arrived;
+  noted = h.noted;
+  home = h.home;
+  sent = h.sent;
+  fresh = h.fresh;
+}
+
+-- a body without a statement is at its end at once
+nothing_to_do : (r : Role) (whole : List Entry) → moments whole ≡ [] → Follows r (record { variables = []; statements = [] }) whole ending.Done
+nothing_to_do r whole none = Follows.done [] (subst (λ (ts : List Moment). IsPath r [] [] [] ts []) (sym none) (IsPath.no_statement [] []))
+
+none_at_all : moments [] ≡ []
+unfolding moments
+none_at_all = refl
+
+-- no moment, where nothing has happened
+pub no_moment : (k : List Entry) → k ≡ [] → moments k ≡ []
+no_moment k none = ap moments none ∙ none_at_all
+
+-- a component that has nothing to do
+pub idle_returned : (made : Made) (x : Station) → IsWaiting made x → duty_at made (number_of x) ≡ None → HasReturned made (record { station = x; outcome = outcome.Done })
+idle_returned made x waits nothing = record {
+  staffed = waits.staffed;
+  played = record {
+    ended = subst (λ (d : Option Duty). DutyEnded made.config (comp_at (number_of x)) d outcome.Done x.desk.log) (sym nothing)
+        (λ whole same. nothing_to_do (record { config = made.config; comp = comp_at (number_of x); references = [] }) whole (same ∙ no_moment x.desk.log waits.begun));
+    within = tt;
+  };
+}
+
+-- a behaviour that has come to its end is that of its component
+pub behaved_back : (made : Made) (post : Post) (before : Station) (p : Played) → IsPostOf made before.owner.inbox.comp post → HasBehaved post before p → IsBack made before p
+behaved_back made post before p its behaved =
+    let inbox : p.station.owner.inbox ≡ before.owner.inbox = ap (λ b. b.0) behaved.badge in
+    let c : CompId = p.station.owner.inbox.comp in
+    let same : before.owner.inbox.comp ≡ c = ap (λ (i : Inbox). i.comp) (sym inbox) in
+    let is : post.comp ≡ c = its.comp ∙ same in
+    let references : List ℕ = (seen post.conduct).references in
+    let r : Role = record { config = made.config; comp = c; references = references } in
+    let role : role_of post ≡ r = λ i. record { config = its.config i; comp = is i; references = references } in
+    let duty : duty_at made c.0 ≡ Some (seen post.conduct) = subst (λ (d : CompId). duty_at made d.0 ≡ Some (seen post.conduct)) same its.duty in
+    let manned : IsManned r p.station = subst (λ (q : Role). IsManned q p.station) role behaved.manned in
+    record {
+      badge = behaved.badge;
+      returned = record {
+        staffed = λ others. manned_for made.config c references others p.station manned;
+        played = record {
+          ended = subst (λ (d : Option Duty). DutyEnded made.config c d p.outcome p.station.desk.log) (sym duty)
+              (subst (λ (q : Role). HasEnded q post.conduct.body.now p.outcome p.station.desk.log) role behaved.ended);
+          within = behaved.within;
+        };
+      };
+    }
+
+-- a component can begin at its own post
+pub waiting_begins : (made : Made) (post : Post) (x : Station) → IsPostOf made x.owner.inbox.comp post → IsWaiting made x → CanBegin post x
+waiting_begins made post x its waits =
+    let references : List ℕ = (seen post.conduct).references in
+    let r : Role = record { config = made.config; comp = x.owner.inbox.comp; references = references } in
+    let role : role_of post ≡ r = λ i. record { config = its.config i; comp = its.comp i; references = references } in
+    record {
+      manned = subst (λ (q : Role). IsManned q x) (sym role) (waits.staffed references);
+      begun = no_moment x.desk.log waits.begun;
+      can = its.can;
+    }
+
+-- the desk of a station is that of its component
+pub desk_comp : (made : Made) (x : Station) → IsWaiting made x → x.desk.comp ≡ x.owner.inbox.comp
+desk_comp made x waits = (waits.staffed []).desk.0
+
+-- a component with which a body comes has something to do, and one without has nothing
+pub idle_where_none : (made : Made) (x : Station) (comp : CompId) (r : Option Conduct) → IsWaiting made x → comp ≡ x.desk.comp → option_map seen r ≡ duty_at made comp.0 → is_some r ≡ false → duty_at made (number_of x) ≡ None
+idle_where_none made x comp None waits its is none = ap (λ (c : CompId). duty_at made c.0) (sym (its ∙ desk_comp made x waits)) ∙ sym is
+idle_where_none made x comp (Some d) waits its is none = absurd (true≢false none)
+
+pub busy_where_some : (made : Made) (x : Station) (comp : CompId) (r : Option Conduct) → IsWaiting made x → comp ≡ x.desk.comp → option_map seen r ≡ duty_at made comp.0 → is_some r ≡ true → IsBusy made x
+busy_where_some made x comp None waits its is some = absurd (true≢false (sym some))
+busy_where_some made x comp (Some d) waits its is some = λ nothing. none-some (seen d) (sym nothing ∙ ap (λ (c : CompId). duty_at made c.0) (sym (its ∙ desk_comp made x waits)) ∙ sym is)

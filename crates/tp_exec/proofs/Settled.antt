@@ -1,0 +1,138 @@
+-- What a run has come to, once all has come to each component.
+use Rattle.std.proofs.Common.{◌≡◌, ℕ, zero, suc, ◌<◌, Bool, true, false, cond, Some, List, [], ◌∷◌, length, map, refl, sym, ap, ◌∙◌, subst, All, Contains, arith}
+use Rattle.std.specs.Prelude.{filter, slice_get}
+use Rattle.std.specs.List.{AllZip}
+use Rattle.std.specs.Option.{option_map_or}
+use Rattle.std.proofs.lemmas.List.{length-map}
+use Rattle.std.proofs.lemmas.List.Elements.{All-contains, All-head, All-nil, All-cons, All-tail}
+use Rattle.std.proofs.lemmas.Option.{same_Some}
+use Rattle.std.proofs.lemmas.Slice.Zip.{AllZip-long}
+use Rattle.tp_port.specs.declared.event.Env.{Env}
+use Rattle.tp_value.specs.declared.message.Message.{Message}
+use Rattle.tp_config.specs.declared.port_type.CompId.{CompId}
+use Rattle.tp_config.specs.declared.port_type.RouteId.{RouteId}
+use Rattle.tp_config.specs.Setup.{Setup}
+use Rattle.tp_config.specs.Allowed.{IsSetup}
+use Rattle.tp_config.specs.Routes.{routes_into}
+use Rattle.tp_inbox.specs.declared.entry.Entry.{Entry}
+use Rattle.tp_inbox.specs.declared.entry.Entry.TheVariants as entry
+use Rattle.tp_inbox.specs.History.{arrivals, is_arrival, sent_on}
+use Rattle.tp_inbox.specs.Routed.{IsArrivalOn, rest_arrivals}
+use Rattle.tp_inbox.proofs.Rests.{rest_sends_nothing}
+use Rattle.tp_behaviour.specs.Moments.{moments}
+use Rattle.tp_behaviour.proofs.Moments.{moments-arrivals}
+use Rattle.tp_exec.specs.declared.ended.Ended.{Ended}
+use Rattle.tp_exec.specs.declared.played.Played.{Played}
+use Rattle.tp_exec.specs.Delivery.{IsOnRoute}
+use Rattle.tp_exec.specs.Rounds.{AreStations, comp_at, stations_of}
+use Rattle.tp_exec.specs.Settlings.{AreSettled, IsAllThere, IsSettled}
+use Rattle.tp_exec.specs.Held.{HasCome, IsDone, IsEndOf, idle_of, log_at}
+use Rattle.tp_exec.proofs.Sources.{leads_to, receiver_within, source_within}
+use Rattle.tp_exec.proofs.Parting.{at_place, long, station_at}
+
+-- of two lists that fit place by place, what stands beside an element of the second
+beside_second : {A B C : Type 0} (f : A → B) (R : B → C → Type 0) (xs : List A) (ys : List C) → AllZip R (map f xs) ys → (k : ℕ) (y : C) → slice_get ys k ≡ Some y → (x : A) × (slice_get xs k ≡ Some x) × R (f x) y
+beside_second f R [] [] z k y is = absurd (cc)
+beside_second f R [] (y ∷ ys) z k w is = absurd z
+beside_second f R (x ∷ xs) [] z k y is = absurd z
+beside_second f R (x ∷ xs) (y ∷ ys) z zero w is = (x, refl, subst (R (f x)) (same_Some y w is) z.0)
+beside_second f R (x ∷ xs) (y ∷ ys) z (suc k) w is = beside_second f R xs ys z.1 k w is
+
+-- and beside one of the first
+beside_first : {A B C : Type 0} (f : A → B) (R : B → C → Type 0) (xs : List A) (ys : List C) → AllZip R (map f xs) ys → (k : ℕ) (x : A) → slice_get xs k ≡ Some x → (y : C) × (slice_get ys k ≡ Some y) × R (f x) y
+beside_first f R [] ys z k x is = absurd (cc)
+beside_first f R (x ∷ xs) [] z k w is = absurd z
+beside_first f R (x ∷ xs) (y ∷ ys) z zero w is = (y, refl, subst (λ v. R (f v) y) (same_Some x w is) z.0)
+beside_first f R (x ∷ xs) (y ∷ ys) z (suc k) w is = beside_first f R xs ys z.1 k w is
+
+-- the rest of an inbox arrives
+rest_arrives : (rest : List (ℕ × Env Message × ℕ)) (e : Entry) → Contains (rest_arrivals rest) e → is_arrival e ≡ true
+rest_arrives rest e is = All-contains (λ x. is_arrival x ≡ true) (rest_arrivals rest) e (each rest) is where
+  each : (xs : List (ℕ × Env Message × ℕ)) → All (λ x. is_arrival x ≡ true) (rest_arrivals xs)
+  each [] = All-nil (λ x. is_arrival x ≡ true)
+  each (x ∷ xs) = All-cons (λ x. is_arrival x ≡ true) (entry.Arrive x.0 x.1 x.2) (rest_arrivals xs) refl (each xs)
+
+-- an entry before these arrivals, where it and they are of routes into the component
+entry_on : (s : Setup) (c : CompId) (e : Entry) (es : List Entry) (b : Bool) → is_arrival e ≡ b → All (IsArrivalOn (routes_into s c)) (cond b (e ∷ es) es) → IsOnRoute s c e × All (IsArrivalOn (routes_into s c)) es
+entry_on s c (entry.Arrive port env stamp) es true is all =
+    (All-head (IsArrivalOn (routes_into s c)) (entry.Arrive port env stamp) es all, All-tail (IsArrivalOn (routes_into s c)) (entry.Arrive port env stamp) es all)
+entry_on s c (entry.Arrive port env stamp) es false is all = absurd (cc)
+entry_on s c (entry.Took port env branch) es false is all = (tt, all)
+entry_on s c (entry.Found port env branch) es false is all = (tt, all)
+entry_on s c (entry.Dropped port env branch) es false is all = (tt, all)
+entry_on s c (entry.Cleared port) es false is all = (tt, all)
+entry_on s c (entry.Started port) es false is all = (tt, all)
+entry_on s c (entry.Stopped port) es false is all = (tt, all)
+entry_on s c (entry.Halted port) es false is all = (tt, all)
+entry_on s c (entry.Sent r number m) es false is all = (tt, all)
+entry_on s c entry.Else es false is all = (tt, all)
+entry_on s c (entry.Verdict v) es false is all = (tt, all)
+entry_on s c (entry.Failed code) es false is all = (tt, all)
+entry_on s c _ es true is all = absurd (cc)
+
+-- where all arrivals are of routes into the component, so are all of its entries
+all_on : (s : Setup) (c : CompId) (k : List Entry) → All (IsArrivalOn (routes_into s c)) (arrivals k) → All (IsOnRoute s c) k
+unfolding arrivals
+all_on s c [] all = All-nil (IsOnRoute s c)
+all_on s c (e ∷ k) all =
+    let here = entry_on s c e (filter is_arrival k) (is_arrival e) refl all in
+    All-cons (IsOnRoute s c) e k here.0 (all_on s c k here.1)
+
+-- more has come to the component, that is all
+settled_as : (p : Played) (e : Ended) → IsEndOf (idle_of p) e → IsSettled p e
+settled_as p e h = record {
+  outcome = h.outcome;
+  comp = h.comp;
+  ports = h.ports;
+  trace = ap moments h.grown ∙ moments-arrivals p.station.desk.log (rest_arrivals h.rest) (rest_arrives h.rest);
+}
+
+-- so it has sent no more
+sent_as : (p : Played) (e : Ended) → IsEndOf (idle_of p) e → (r : RouteId) → sent_on r e.desk.log ≡ sent_on r p.station.desk.log
+sent_as p e h r = ap (sent_on r) h.grown ∙ rest_sends_nothing r p.station.desk.log h.rest
+
+module _ (s : Setup) (l : IsSetup s) (played : List Played) (h : AreStations s (stations_of played)) (ended : List Ended) (z : AllZip (IsDone (log_at played)) (map idle_of played) ended) where
+  player_of : (k : ℕ) (e : Ended) → slice_get ended k ≡ Some e → (p : Played) × (slice_get played k ≡ Some p) × IsDone (log_at played) (idle_of p) e
+  player_of k e is = beside_second idle_of (IsDone (log_at played)) played ended z k e is
+
+  -- the component of a number below that of the components
+  comp_of : (k : ℕ) → k < length s.components → (p : Played) × (slice_get played k ≡ Some p) × ((e : Ended) × (slice_get ended k ≡ Some e) × IsDone (log_at played) (idle_of p) e)
+  comp_of k low =
+      let p = at_place played k (omega (arith, low, long s l played h)) in
+      (p.0, p.1, beside_first idle_of (IsDone (log_at played)) played ended z k p.0 p.1)
+
+  routes_at : (k : ℕ) (p : Played) → slice_get played k ≡ Some p → p.station.owner.inbox.routes ≡ routes_into s (comp_at k)
+  routes_at k p is = h.routes k p.station (station_at s l played h k p is)
+
+  there : (k : ℕ) (r : RouteId) → Contains (routes_into s (comp_at k)) r → IsAllThere ended r
+  there k r is =
+      let receiver = comp_of r.to.comp.0 (receiver_within s l (comp_at k) r is) in
+      let source = comp_of r.source.0 (source_within s l (comp_at k) r is) in
+      let to : r.to.comp ≡ comp_at k = leads_to s l (comp_at k) r is in
+      let into : Contains (routes_into s r.to.comp) r = subst (λ c. Contains (routes_into s c) r) (sym to) is in
+      let known : Contains receiver.0.station.owner.inbox.routes r = subst (λ rs. Contains rs r) (sym (routes_at r.to.comp.0 receiver.0 receiver.1)) into in
+      let come = All-contains (HasCome (log_at played) receiver.2.0) receiver.0.station.owner.inbox.routes r receiver.2.2.come known in
+      let log : log_at played r.source.0 ≡ source.0.station.desk.log = ap (λ o. option_map_or (λ (x : Played). x.station.desk.log) o []) source.1 in
+      let sent = sent_as source.0 source.2.0 source.2.2.end r ∙ ap (sent_on r) (sym log) ∙ come.sent in record {
+        source = source.2.0;
+        source_is = source.2.1;
+        receiver = receiver.2.0;
+        receiver_is = receiver.2.1;
+        same = sent ∙ sym come.arrived;
+        ledger = come.ledger;
+        numbered = sent;
+        counted = come.counted;
+      }
+
+  -- all messages have come to those who played
+  pub all_settled : AreSettled s played ended
+  all_settled = record {
+    each = λ k e is. let p = player_of k e is in (p.0, p.1, settled_as p.0 e p.2.end);
+    come = record {
+      everyone = AllZip-long (IsDone (log_at played)) (map idle_of played) ended z ∙ length-map played idle_of ∙ long s l played h;
+      routed = λ k e is. let p = player_of k e is in
+          all_on s (comp_at k) e.desk.log (subst (λ rs. All (IsArrivalOn rs) (arrivals e.desk.log)) (routes_at k p.0 p.1) p.2.end.routed);
+      there = there;
+      counts = λ k e is. let p = player_of k e is in p.2.end.counts ∙ routes_at k p.0 p.1;
+    };
+  }

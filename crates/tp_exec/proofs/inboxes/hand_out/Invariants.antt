@@ -1,0 +1,6 @@
+use Rattle.std.specs.Vec.Iter.{into_iter_items}
+use Rattle.tp_exec.proofs.Dealing.{AreDealt}
+use Rattle.tp_exec.proofs.inboxes.hand_out.Given as goal
+
+abbrev pub invariant-loop-sender : goal.invariant-loop-sender
+invariant-loop-sender l = AreDealt l.fn.stations.items l.fn.senders.items (into_iter_items l.sender-iterator) l.manned.items

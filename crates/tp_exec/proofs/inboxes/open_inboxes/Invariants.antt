@@ -1,0 +1,5 @@
+use Rattle.tp_exec.specs.Openings.{AreOpened}
+use Rattle.tp_exec.proofs.inboxes.open_inboxes.Given as goal
+
+abbrev pub invariant-loop-place : goal.invariant-loop-place
+invariant-loop-place l = AreOpened l.config l.place l.opened

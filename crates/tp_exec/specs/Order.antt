@@ -1,0 +1,42 @@
+-- What happened before what in a run, by its report.
+use Rattle.std.specs.Prelude.{◌≡◌, ℕ, ◌<◌, Option, Some, None, List, [], slice_get}
+use Rattle.tp_port.specs.declared.event.Env.{Env}
+use Rattle.tp_value.specs.declared.message.Message.{Message}
+use Rattle.tp_config.specs.declared.port_type.RouteId.{RouteId}
+use Rattle.tp_inbox.specs.declared.stamped.Stamped.{Stamped}
+use Rattle.tp_inbox.specs.declared.entry.Entry.{Entry}
+use Rattle.tp_inbox.specs.declared.entry.Entry.TheVariants as entry
+use Rattle.tp_report.specs.declared.report.Report.{Report}
+use Rattle.tp_report.specs.declared.report.CompReport.{CompReport}
+
+-- the history that is reported of a component, empty where there is no such component
+abbrev pub log_of : Option CompReport → List Entry
+log_of (Some x) = x.desk.log
+log_of None = []
+
+-- a place in the histories of a report: the number of the component, and the place in its history
+pub record Spot : Type 0 where
+  pub comp : ℕ
+  pub place : ℕ
+
+-- this entry stands there
+abbrev pub StandsAt : Report → Spot → Entry → Type 0
+StandsAt report a e = slice_get (log_of (slice_get report.components.items a.comp)) a.place ≡ Some e
+
+-- what stands at the one place happened before what stands at the other
+pub data HappensBefore (report : Report) : Spot → Spot → Type 0 where
+  -- it stands before it in the history of one component
+  earlier : (c j k : ℕ) (e : Entry) → j < k → StandsAt report (record { comp = c; place = k }) e
+      → HappensBefore report (record { comp = c; place = j }) (record { comp = c; place = k })
+  -- or it is a sending, of which the other is the arrival: on its route, with its number
+  sent : (r : RouteId) (j k number stamp : ℕ) (m : Stamped) (e : Env Message)
+      → StandsAt report (record { comp = r.source.0; place = j }) (entry.Sent r number m)
+      → StandsAt report (record { comp = r.to.comp.0; place = k }) (entry.Arrive r.to.port e stamp)
+      → e.sender ≡ r.source.0 → e.number ≡ number
+      → HappensBefore report (record { comp = r.source.0; place = j }) (record { comp = r.to.comp.0; place = k })
+  -- or there is one between them
+  between : (a b c : Spot) → HappensBefore report a b → HappensBefore report b c → HappensBefore report a c
+
+-- **nothing happened before itself**: no message depends on its own coming
+abbrev pub NoCircle : Report → Type 0
+NoCircle report = (a : Spot) → ¬ HappensBefore report a a

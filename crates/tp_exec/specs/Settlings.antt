@@ -1,0 +1,68 @@
+-- What a run comes to once all messages have come.
+use Rattle.std.specs.Prelude.{◌≡◌, ℕ, Some, List, All, Contains, length, map, slice_get}
+use Rattle.tp_config.specs.declared.port_type.CompId.{CompId}
+use Rattle.tp_config.specs.declared.port_type.RouteId.{RouteId}
+use Rattle.tp_config.specs.Setup.{Setup, ports_at}
+use Rattle.tp_config.specs.Routes.{routes_into}
+use Rattle.tp_inbox.specs.declared.entry.Entry.{Entry}
+use Rattle.tp_inbox.specs.declared.entry.Entry.TheVariants as entry
+use Rattle.tp_inbox.specs.declared.stamped.Stamped.{Stamped}
+use Rattle.tp_inbox.specs.History.{arrived_on, count_of, numbered, sent_on}
+use Rattle.tp_script.specs.TestCases.{Made, duty_at}
+use Rattle.tp_behaviour.specs.Fresh.{Fresh}
+use Rattle.tp_behaviour.specs.Moments.{moments}
+use Rattle.tp_behaviour.specs.Outcomes.{WaitsWithin}
+use Rattle.tp_exec.specs.declared.played.Played.{Played}
+use Rattle.tp_exec.specs.declared.ended.Ended.{Ended}
+use Rattle.tp_exec.specs.Delivery.{IsOnRoute}
+use Rattle.tp_exec.specs.Rounds.{DutyEnded, comp_at}
+
+-- the component is the one that played, and has done what it did; more has come to it, that is all
+pub record IsSettled (p : Played) (e : Ended) : Type 0 where
+  pub outcome : e.outcome ≡ p.outcome
+  pub comp : e.desk.comp ≡ p.station.desk.comp
+  pub ports : e.desk.ports ≡ p.station.desk.ports
+  pub trace : moments e.desk.log ≡ moments p.station.desk.log
+
+-- on a route, all that was sent has come, in its order, numbered from 0 and under its stamps, and is as much as the sender has put
+pub record IsAllThere (ended : List Ended) (r : RouteId) : Type 0 where
+  pub source : Ended
+  pub source_is : slice_get ended r.source.0 ≡ Some source
+  pub receiver : Ended
+  pub receiver_is : slice_get ended r.to.comp.0 ≡ Some receiver
+  pub same : sent_on r source.desk.log ≡ arrived_on r receiver.desk.log
+  pub ledger : List Stamped
+  pub numbered : sent_on r source.desk.log ≡ numbered 0 ledger
+  pub counted : count_of r receiver.counts.items ≡ length ledger
+
+-- all messages of the run have come
+pub record HasAllCome (s : Setup) (ended : List Ended) : Type 0 where
+  pub everyone : length ended ≡ length s.components
+  -- each arrival is of a route
+  pub routed : (k : ℕ) (e : Ended) → slice_get ended k ≡ Some e → All (IsOnRoute s (comp_at k)) e.desk.log
+  pub there : (k : ℕ) (r : RouteId) → Contains (routes_into s (comp_at k)) r → IsAllThere ended r
+  pub counts : (k : ℕ) (e : Ended) → slice_get ended k ≡ Some e → map (λ n. n.0) e.counts.items ≡ routes_into s (comp_at k)
+
+-- these are what those who played came to once all messages had come
+pub record AreSettled (s : Setup) (played : List Played) (ended : List Ended) : Type 0 where
+  pub each : (k : ℕ) (e : Ended) → slice_get ended k ≡ Some e → (p : Played) × (slice_get played k ≡ Some p) × IsSettled p e
+  pub come : HasAllCome s ended
+
+-- what the entry sent went out from this component, on a route of the configuration
+abbrev pub IsSentOut : Setup → CompId → Entry → Type 0
+IsSentOut s c (entry.Sent r number m) = (r.source ≡ c) × Contains (routes_into s r.to.comp) r
+IsSentOut s c _ = Unit {0}
+
+-- a component of a run: it is at its place, it has done what it is there for, and each operation was a fresh one
+pub record IsComponentOf (made : Made) (k : ℕ) (e : Ended) : Type 0 where
+  pub comp : e.desk.comp ≡ comp_at k
+  pub ports : e.desk.ports ≡ length (ports_at made.config.types made.config.components (comp_at k))
+  pub ended : DutyEnded made.config (comp_at k) (duty_at made k) e.outcome e.desk.log
+  pub within : WaitsWithin e.desk.ports e.outcome
+  pub fresh : Fresh (comp_at k) e.desk.log
+  pub sent : All (IsSentOut made.config (comp_at k)) e.desk.log
+
+-- what a run of the test case came to
+pub record IsOfARun (made : Made) (ended : List Ended) : Type 0 where
+  pub each : (k : ℕ) (e : Ended) → slice_get ended k ≡ Some e → IsComponentOf made k e
+  pub come : HasAllCome made.config ended

@@ -1,0 +1,106 @@
+//! The report of a run whose messages have all come.
+ghost use Rattle.std.specs.Prelude.{◌≡◌, All, IfErr, IfOk};
+ghost use Rattle.std.specs.List.{AllZip};
+ghost use Rattle.tp_config.specs.Setup.{IsComponent};
+ghost use Rattle.tp_report.specs.Reports.{IsReportable};
+ghost use Rattle.tp_report.specs.Verdicts.{endings, locals, overall_verdict};
+ghost use Rattle.tp_exec.specs.Delivery.{IsReportOf};
+ghost use Rattle.tp_exec.specs.Reporting.{IsRefusal, IsReportedAs, end_as};
+ghost use Rattle.tp_exec.specs.Settlings.{IsOfARun};
+
+use crate::ended::Ended;
+use crate::fault::RunFault;
+use crate::waiting::are_at_rest;
+use std::alloc::Global;
+use tp_behaviour::outcome::Outcome;
+use tp_config::config::Config;
+use tp_refusal::memory::Memory;
+use tp_report::ending::End;
+use tp_report::report::{CompReport, Report};
+use tp_report::verdicts::{local_verdict, overall_verdict};
+use tp_script::TestCase;
+
+/// How a behaviour ended, for its report.
+fn end_of(outcome: &Outcome) -> End
+    ensures { result ≡ end_as outcome.now }
+{
+    match outcome {
+        Outcome::Done => End::Done,
+        Outcome::Error(code) => End::Error(*code),
+        Outcome::Waiting(_) => End::Waiting,
+    }
+}
+
+/// The report of a component.
+fn report_component(alloc: Global, config: &Config, component: Ended) -> Result<CompReport, Memory>
+    requires { IsComponent config.now component.desk.comp }
+    ensures { IfOk result (IsReportedAs config.now component) }
+{
+    let Ended {
+        desk,
+        outcome,
+        counts,
+    } = component;
+    let name = String::from_str(alloc, config.name(desk.comp()))?;
+    let verdict = local_verdict(desk.log());
+    Ok(CompReport {
+        name,
+        desk,
+        ending: end_of(&outcome),
+        verdict,
+        counts,
+    })
+}
+
+/// The reports of these components, in their order.
+fn report_components(
+    alloc: Global,
+    config: &Config,
+    components: Vec<Ended>,
+) -> Result<Vec<CompReport>, Memory>
+    requires { All (λ e. IsComponent config.now e.desk.comp) components.items }
+    ensures { IfOk result (λ reports.
+        AllZip (IsReportedAs config.now) components.items reports.items) }
+{
+    let mut reports = Vec::with_capacity(alloc, components.len())?;
+    for component in components {
+        reports.push_reserved(report_component(alloc, config, component)?);
+    }
+    Ok(reports)
+}
+
+/// The report with these components.
+fn conclude(components: Vec<CompReport>) -> Report
+    ensures components { result.components.items ≡ components.items }
+    ensures result { result.result
+        ≡ overall_verdict (endings components.items) (locals components.items) }
+{
+    let result = overall_verdict(components.as_slice());
+    Report { components, result }
+}
+
+/// The report of the components of a run, in their order.
+///
+/// 50 `Memory` where an allocation was refused; else 61 `Restless` where a behaviour waits and one
+/// of its branches is open in its final queues.
+pub(crate) fn make_report(
+    alloc: Global,
+    test_case: &TestCase,
+    ended: Vec<Ended>,
+) -> Result<Report, RunFault>
+    requires { IsOfARun test_case.now ended.items }
+    ensures report { IfOk result (IsReportOf test_case.now) }
+    ensures text { IfOk result (IsReportable test_case.now.config) }
+    ensures refusal { IfErr result (IsRefusal ended.items) }
+{
+    // It says that the configuration is a lawful one.
+    let _lawful = test_case.components();
+    let at_rest = are_at_rest(ended.as_slice());
+    let Ok(components) = report_components(alloc, test_case.config(), ended) else {
+        return Err(RunFault::Memory);
+    };
+    if !at_rest {
+        return Err(RunFault::Restless);
+    }
+    Ok(conclude(components))
+}

@@ -1,0 +1,68 @@
+//! A run.
+ghost use Rattle.std.specs.Prelude.{◌≡◌, IfOk, length};
+ghost use Rattle.tp_exec.specs.Delivery.{IsReportOf};
+ghost use Rattle.tp_exec.specs.Order.{NoCircle};
+ghost use Rattle.tp_exec.specs.Reporting.{living_below};
+ghost use Rattle.tp_report.specs.Reports.{IsReportable};
+
+use crate::fault::RunFault;
+use crate::inboxes::make_stations;
+use crate::reporting::make_report;
+use crate::settling::settle_all;
+use crate::threads::play_all;
+use std::alloc::Global;
+use std::sync::Wait;
+use std::thread::Threads;
+use tp_behaviour::gate::Gate;
+use tp_inbox::floor::Floor;
+use tp_report::report::Report;
+use tp_script::TestCase;
+
+/// How many components have something to do: so many behaviours live.
+fn count_living(test_case: &TestCase) -> u32
+    ensures { result ≡ living_below test_case.now (length test_case.now.config.components) }
+{
+    let mut living = 0;
+    for number in 0..test_case.components() {
+        if test_case.body(test_case.component(number)).is_some() {
+            living += 1;
+        }
+    }
+    living
+}
+
+/// Carries the test case out and reports what happened: **delivery**.
+///
+/// 51 `NoThread` where the starting of a thread was refused; else 50 `Memory` where an allocation
+/// was refused; else 61 `Restless` where a behaviour waits and one of its branches is open in its
+/// final queues.
+pub fn run<R: Threads + Wait + Sync, G: Gate>(
+    rt: &R,
+    alloc: Global,
+    test_case: &TestCase,
+    gate: &G,
+) -> Result<Report, RunFault>
+    ensures report { IfOk result (IsReportOf test_case.now) }
+    ensures order { IfOk result NoCircle }
+    ensures text { IfOk result (IsReportable test_case.now.config) }
+{
+    let Ok(floor) = Floor::new(alloc, count_living(test_case)) else {
+        return Err(RunFault::Memory);
+    };
+    let Ok((stations, closers)) = make_stations(alloc, test_case.config(), &floor) else {
+        return Err(RunFault::Memory);
+    };
+    let played = play_all(
+        rt,
+        gate,
+        alloc,
+        test_case,
+        &floor,
+        closers.as_slice(),
+        stations,
+    )?;
+    let Ok(ended) = settle_all(rt, alloc, test_case.config(), played) else {
+        return Err(RunFault::Memory);
+    };
+    make_report(alloc, test_case, ended)
+}

@@ -1,0 +1,164 @@
+//! What is left in the inboxes.
+ghost use Rattle.std.specs.Prelude.{◌≡◌, ◌++◌, ◌<◌, All, IfOk, OnOk, map};
+ghost use Rattle.tp_config.specs.Routes.{routes_into};
+ghost use Rattle.tp_inbox.specs.Desks.{adding_all};
+ghost use Rattle.tp_inbox.specs.Ends.{seen_sent};
+ghost use Rattle.tp_inbox.specs.History.{arrivals};
+ghost use Rattle.tp_inbox.specs.Ledgers.{AreSenders, IsDeskOf, put_by};
+ghost use Rattle.tp_inbox.specs.Routed.{AreDelivered, AreRoutes, IsArrivalOn, rest_arrivals};
+ghost use Rattle.tp_exec.specs.Held.{AllCome, CanTake, Gives, IsEndOf, IsIdle, Leaves, counts_of};
+ghost use Rattle.tp_exec.specs.Rounds.{AreStations, stations_of, ways_in};
+ghost use Rattle.tp_exec.specs.Settlings.{AreSettled};
+
+use crate::ended::Ended;
+use crate::idle::Idle;
+use crate::played::Played;
+use crate::returning::{part, take_back};
+use std::alloc::Global;
+use std::sync::Wait;
+use std::vec::IntoIter;
+use tp_config::config::Config;
+use tp_config::port_type::RouteId;
+use tp_inbox::desk::Desk;
+use tp_inbox::gathered::{Settled, gather};
+use tp_inbox::owner::Owner;
+use tp_inbox::sender::Sender;
+use tp_inbox::stamped::Stamped;
+use tp_port::event::Env;
+use tp_refusal::memory::Memory;
+use tp_value::message::Message;
+
+/// How many messages were put on each of these routes.
+///
+/// 50 `Memory` where an allocation was refused.
+fn count_all(
+    alloc: Global,
+    sent: Vec<(RouteId, Vec<Stamped>)>,
+) -> Result<Vec<(RouteId, u64)>, Memory>
+    ensures { IfOk result (λ counts. counts.items ≡ counts_of (seen_sent sent.items)) }
+{
+    let mut counts = Vec::new(alloc);
+    for (route, ledger) in sent {
+        counts.push((route, ledger.len() as u64))?;
+    }
+    Ok(counts)
+}
+
+/// Adds what was still in the inbox to the history, in its order.
+///
+/// 50 `Memory` where an allocation was refused.
+fn append(desk: &mut Desk, rest: Vec<(u32, Env<Message>, u64)>) -> Result<(), Memory>
+    requires { All (λ x. x.0 < desk.old.ports) rest.items }
+    ensures { OnOk result (desk.new ≡ adding_all desk.old (rest_arrivals rest.items)) }
+{
+    for (port, env, stamp) in rest {
+        if let Err((memory, _)) = desk.arrive(port, env, stamp) {
+            return Err(memory);
+        }
+    }
+    Ok(())
+}
+
+/// What the senders into this inbox have put, and what is still in it.
+///
+/// 50 `Memory` where an allocation was refused.
+fn settle<R: Wait>(
+    rt: &R,
+    owner: Owner,
+    desk: &Desk,
+    senders: Vec<Sender>,
+) -> Result<Settled, Memory>
+    requires desk { IsDeskOf owner.inbox desk.now }
+    requires arrived { arrivals desk.now.log ≡ owner.drained }
+    requires senders { AreSenders owner.inbox senders.items }
+    ensures are { AreRoutes owner.inbox.comp owner.inbox.ports owner.inbox.routes }
+    ensures sent { IfOk result (λ x. seen_sent x.sent.items ≡ map put_by senders.items) }
+    ensures delivered { IfOk result (λ x.
+        AreDelivered (desk.now.log ++ rest_arrivals x.rest.items) (map put_by senders.items)) }
+    ensures routed { IfOk result (λ x. All (IsArrivalOn owner.inbox.routes)
+        (arrivals (desk.now.log ++ rest_arrivals x.rest.items))) }
+    ensures within { IfOk result (λ x. All (λ y. y.0 < desk.now.ports) x.rest.items) }
+{
+    let gathered = gather(rt, owner, senders);
+    match gathered.settle(rt, desk) {
+        Ok(settled) => Ok(settled),
+        Err((memory, _)) => Err(memory),
+    }
+}
+
+/// The senders into this component's inbox, taken from the components that have them.
+///
+/// 50 `Memory` where an allocation was refused.
+fn take_senders(
+    alloc: Global,
+    config: &Config,
+    idle: &Idle,
+    hands: &mut Vec<IntoIter<Sender>>,
+) -> Result<Vec<Sender>, Memory>
+    requires routes { idle.now.owner.inbox.routes
+        ≡ routes_into config.now idle.now.desk.comp }
+    requires held { CanTake hands.old.items (ways_in idle.now.owner.inbox) }
+    ensures held { OnOk result
+        (Leaves hands.old.items (ways_in idle.now.owner.inbox) hands.new.items) }
+    ensures back { IfOk result (λ back.
+        Gives hands.old.items (ways_in idle.now.owner.inbox) back.items) }
+{
+    let routes = config.routes_into(idle.desk.comp())?;
+    let senders = take_back(alloc, routes, hands)?;
+    Ok(senders)
+}
+
+/// The component once all has come to it: what was still in its inbox is added to its history.
+///
+/// 50 `Memory` where an allocation was refused.
+fn settle_one<R: Wait>(
+    rt: &R,
+    alloc: Global,
+    config: &Config,
+    idle: Idle,
+    hands: &mut Vec<IntoIter<Sender>>,
+) -> Result<Ended, Memory>
+    requires idle { IsIdle config.now idle }
+    requires held { CanTake hands.old.items (ways_in idle.owner.inbox) }
+    ensures held { OnOk result
+        (Leaves hands.old.items (ways_in idle.owner.inbox) hands.new.items) }
+    ensures end { IfOk result (IsEndOf idle) }
+    ensures come { IfOk result (AllCome hands.old.items idle) }
+{
+    let senders = take_senders(alloc, config, &idle, hands)?;
+    let Idle {
+        owner,
+        mut desk,
+        outcome,
+    } = idle;
+    let Settled { sent, rest } = settle(rt, owner, &desk, senders)?;
+    let counts = count_all(alloc, sent)?;
+    append(&mut desk, rest)?;
+    Ok(Ended {
+        desk,
+        outcome,
+        counts,
+    })
+}
+
+/// Gathers the senders of each inbox and settles it: what was still in an inbox is added to its
+/// component's history as arrivals.
+///
+/// 50 `Memory` only where an allocation was refused.
+pub(crate) fn settle_all<R: Wait>(
+    rt: &R,
+    alloc: Global,
+    config: &Config,
+    played: Vec<Played>,
+) -> Result<Vec<Ended>, Memory>
+    requires { AreStations config.now (stations_of played.items) }
+    ensures { IfOk result (λ ended. AreSettled config.now played.items ended.items) }
+{
+    let mut all = Vec::with_capacity(alloc, config.len())?;
+    let (idles, mut hands) = part(alloc, played)?;
+    for idle in idles {
+        let ended = settle_one(rt, alloc, config, idle, &mut hands)?;
+        all.push(ended)?;
+    }
+    Ok(all)
+}

@@ -1,0 +1,98 @@
+//! Whether a behaviour waits for what has come.
+ghost use Rattle.std.specs.Prelude.{◌<◌, ◌≡◌, ◌↔◌, All, IsTrue};
+ghost use Rattle.std.specs.Option.{option_copied};
+ghost use Rattle.tp_port.specs.Answers.{Satisfies};
+ghost use Rattle.tp_port.specs.History.{top};
+ghost use Rattle.tp_value.specs.Admits.{Admits};
+ghost use Rattle.tp_inbox.specs.Desks.{at_port};
+ghost use Rattle.tp_behaviour.specs.Choices.{IsOpen, NoneOpen};
+ghost use Rattle.tp_behaviour.specs.Outcomes.{WaitsWithin};
+ghost use Rattle.tp_exec.specs.Reporting.{IsAtRest};
+
+use crate::ended::Ended;
+use tp_behaviour::choice::Guard;
+use tp_behaviour::outcome::Outcome;
+use tp_body::body::ReceiveKind;
+use tp_inbox::desk::Desk;
+use tp_port::event::Env;
+use tp_port::payload::Wanted;
+use tp_value::message::Message;
+
+/// The envelope that a receiving operation sees at this port, if any is deliverable.
+fn top_at(desk: &Desk, port: u32) -> Option<&Env<Message>>
+    requires { port < desk.now.ports }
+    ensures { option_copied result ≡ top (at_port desk.now port) }
+{
+    let queue = desk.queue(port);
+    if queue.ahead() == 0 {
+        None
+    } else {
+        queue.queued_at(0)
+    }
+}
+
+/// Whether the operation succeeds with this envelope.
+fn satisfies(guard: &Guard, env: &Env<Message>) -> bool
+    ensures { IsTrue result ↔ Satisfies (Admits guard.now.wanted) guard.now.sender env.now }
+{
+    let named = match guard.sender {
+        None => true,
+        Some(sender) => env.sender == sender,
+    };
+    named && guard.wanted.admits(&env.msg)
+}
+
+/// Whether the operation discards a message that it doesn't take.
+fn discards(guard: &Guard) -> bool
+    ensures { IsTrue result ↔ (guard.now.kind ≡ ReceiveKind.Trigger) }
+{
+    guard.kind == ReceiveKind::Trigger
+}
+
+/// Whether the branch can be chosen, or would discard the top message. Takes no memory.
+fn is_open(desk: &Desk, guard: &Guard) -> bool
+    requires { guard.now.port < desk.now.ports }
+    ensures { IsTrue result ↔ IsOpen desk.now.log guard.now }
+{
+    match top_at(desk, guard.port) {
+        None => false,
+        Some(env) => discards(guard) || satisfies(guard, env),
+    }
+}
+
+/// Whether none of these branches is open.
+fn none_open(desk: &Desk, guards: &[Guard]) -> bool
+    requires { All (λ g. g.port < desk.now.ports) guards.now }
+    ensures { IsTrue result ↔ NoneOpen desk.now.log guards.now }
+{
+    for guard in guards {
+        if is_open(desk, guard) {
+            return false;
+        }
+    }
+    true
+}
+
+/// Whether none of the branches at which the component waits is open in its final queues.
+fn is_at_rest(component: &Ended) -> bool
+    requires { WaitsWithin component.now.desk.ports component.now.outcome }
+    ensures { IsTrue result ↔ IsAtRest component.now }
+{
+    match &component.outcome {
+        Outcome::Waiting(guards) => none_open(&component.desk, guards.as_slice()),
+        Outcome::Done | Outcome::Error(_) => true,
+    }
+}
+
+/// Whether no component waits for what has come. Takes no memory.
+pub(crate) fn are_at_rest(components: &[Ended]) -> bool
+    requires { All (λ e. WaitsWithin e.desk.ports e.outcome) components.now }
+    ensures { IsTrue result ↔ All IsAtRest components.now }
+{
+    for component in components {
+        if !is_at_rest(component) {
+            return false;
+        }
+    }
+    true
+}
