@@ -1,5 +1,6 @@
 # What the program makes of its command line, of what it reads and of where it prints. The name of
-# the program stands in `tpr`; `observe`, `judge` and `count` are those of ./test.
+# the program stands in `tpr`; `observe`, `judge`, `count`, `at_least`, `set_up` and `has_bytes` are those
+# of ./test.
 
 # The last run is one case. What it must print is a text.
 must() { # NAME STATUS PRINTED SAID
@@ -30,14 +31,11 @@ command_lines() {
     refuses_command_line "--help alone" --help
     refuses_command_line "a mode that is no text" "$no_text"
     refuses_command_line "a file name that is no text" queue "$no_text"
-
-    # A mode that isn't there yet.
-    refuses_command_line "mode run" run text
 }
 
 cannot_read() { # NAME FILE
     local mode
-    for mode in queue check; do
+    for mode in queue check run; do
         observe "$tpr" "$mode" "$2" <text
         must "$1 in mode $mode" 2 "$unread" ''
     done
@@ -47,6 +45,7 @@ reading() {
     local answer=$'queued\ntook a 1\nleft 0\n'
     printf 'arrive a 1\nreceive ?\n' >text
     mkdir "a folder"
+    set_up "there are a text and a folder" [ -s text -a -d "a folder" ] || return
 
     cannot_read "a missing file" missing
     cannot_read "a file in a missing folder" missing/text
@@ -61,14 +60,18 @@ reading() {
     must "a closed standard input" 2 "$unread" ''
 
     cp text ./--help
+    cp text "a folder/a text"
+    ln -s text link
+    ln -s "$tpr" program
+    set_up "the text was copied" cmp -s text ./--help || return
+    set_up "the text was copied into the folder" cmp -s text "a folder/a text" || return
+    set_up "there are two links" [ -L link -a -L program ] || return
     observe "$tpr" queue --help </dev/null
     must "--help as a file" 0 "$answer" ''
-    cp text "a folder/a text"
     observe "$tpr" queue "a folder/a text" </dev/null
     must "a file in a folder, names with spaces" 0 "$answer" ''
     observe "$tpr" queue "$PWD/text" </dev/null
     must "a file by its whole path" 0 "$answer" ''
-    ln -s text link
     observe "$tpr" queue link </dev/null
     must "a link to a file" 0 "$answer" ''
     observe "$tpr" queue text < <(echo halt)
@@ -77,7 +80,6 @@ reading() {
     must "standard input" 0 "$answer" ''
     observe "$tpr" queue < <(for piece in arr 'ive a 1' $'\nre' 'ceive ?' $'\n'; do printf %s "$piece"; done)
     must "standard input that comes in pieces" 0 "$answer" ''
-    ln -s "$tpr" program
     observe ./program queue text </dev/null
     must "the program through a link" 0 "$answer" ''
 }
@@ -94,6 +96,7 @@ limits() {
         echo cleared 0
         echo left 0
     } >answers
+    set_up "the longest text has 1,048,576 bytes" has_bytes longest 1048576 || return
     observe "$tpr" queue longest </dev/null
     judge "the longest text" 0 '' answers
     count $?
@@ -102,6 +105,7 @@ limits() {
     count $?
 
     { cat longest && echo; } >too_long
+    set_up "the text one byte too long is that" has_bytes too_long 1048577 || return
     observe "$tpr" queue too_long </dev/null
     must "a text one byte too long" 2 "$too_long" ''
     observe "$tpr" queue < <(cat too_long)
@@ -111,6 +115,7 @@ limits() {
     must "a text too long that begins with a bad line" 2 "$too_long" ''
 
     cat longest longest longest longest >far_too_long
+    set_up "the text far too long is that" has_bytes far_too_long 4194304 || return
     {
         observe "$tpr" queue
         must "a text far too long" 2 "$too_long" ''
@@ -126,6 +131,9 @@ writing() {
     local file
     yes halt | head -n 200000 >many
     echo resume >bad
+    set_up "the text of many lines has them all" has_bytes many 1000000 || return
+    set_up "the text and the bad one are there" [ -s text -a -s bad -a ! -e missing ] || return
+    set_up "there is a full device" [ -w /dev/full ] || return
     "$tpr" queue many 2>"$room/said" </dev/null | head -n 1 >"$room/printed"
     status=${PIPESTATUS[0]}
     must "a reader that leaves after a line" 3 $'halted 0\n' ''
@@ -143,9 +151,9 @@ writing() {
 command_line() {
     mkdir "$room/here"
     cd -- "$room/here" || exit 1
-    command_lines
-    reading
-    limits
-    writing
+    at_least 9 command_lines
+    at_least 31 reading
+    at_least 7 limits
+    at_least 9 writing
     cd -- "$root" || exit 1
 }

@@ -1,6 +1,7 @@
 # Examples that are cut short: after each of their bytes, what is left of the text has an answer.
 # `tests/NAME.cuts` holds these answers. `bench/write_cuts` has them made by a program that was
-# written apart from this one.
+# written apart from this one. `tpr`, `observe`, `judge`, `count`, `at_least` and `set_up` are those of
+# ./test.
 
 cut_examples=(clear_keeps_the_port_halted trigger_discards_what_does_not_match)
 
@@ -15,11 +16,16 @@ answers_to_cuts() { # PROGRAM FILE
     done
 }
 
-cuts() {
+cuts_of_each() {
     local name
     for name in "${cut_examples[@]}"; do
+        set_up "there is examples/$name.queue" [ -s "examples/$name.queue" ] || continue
         observe answers_to_cuts "$tpr" "examples/$name.queue"
         judge "cuts of $name" 0 '' "tests/$name.cuts"
         count $?
     done
+}
+
+cuts() {
+    at_least 2 cuts_of_each
 }

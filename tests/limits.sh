@@ -1,15 +1,6 @@
 # The limits of scripts, each bound itself and one more, and scripts that are cut short. `room`, `tpr`,
-# `observe`, `judge` and `count` are those of ./test.
-
-# The script in $room/script is answered by the text.
-checked() { # NAME ANSWER
-    echo "$2" >"$room/wanted"
-    local status_of_it=2
-    if [[ $2 == accepted ]]; then status_of_it=0; fi
-    observe "$tpr" check "$room/script" </dev/null
-    judge "$1" "$status_of_it" '' "$room/wanted"
-    count $?
-}
+# `observe`, `judge`, `count`, `at_least` and `set_up` are those of ./test, `answered` that of
+# tests/changes.sh.
 
 # A module of three lines with a port type and a component type, and then these lines.
 module_with() { # LINE..
@@ -25,14 +16,14 @@ repeated() { # TEXT TIMES
 
 limit_of_text() {
     printf '%*s' 1048576 '' >"$room/script"
-    checked "a text of 1,048,576 spaces" 'refused 10 Syntax line 1'
+    answered "a text of 1,048,576 spaces" '10 Syntax 1'
     printf '%*s' 1048577 '' >"$room/script"
-    checked "a text of 1,048,577 spaces" 'refused 15 Limit line 0'
+    answered "a text of 1,048,577 spaces" '15 Limit 0'
     module_with 'testcase t() runs on C { }' '}'
     printf '%*s' $((1048576 - $(wc -c <"$room/script"))) '' >>"$room/script"
-    checked "a module of 1,048,576 bytes" accepted
+    answered "a module of 1,048,576 bytes" accepted
     printf ' ' >>"$room/script"
-    checked "a module of 1,048,577 bytes" 'refused 15 Limit line 0'
+    answered "a module of 1,048,577 bytes" '15 Limit 0'
 }
 
 limit_of_names() {
@@ -40,9 +31,9 @@ limit_of_names() {
     long=$(repeated M 64)
     module_with 'testcase t() runs on C { }' '}'
     sed -i "1s/M/$long/" "$room/script"
-    checked "a name of 64 letters" accepted
+    answered "a name of 64 letters" accepted
     sed -i "1s/$long/${long}M/" "$room/script"
-    checked "a name of 65 letters" 'refused 15 Limit line 1'
+    answered "a name of 65 letters" '15 Limit 1'
 }
 
 limit_of_brackets() {
@@ -51,9 +42,9 @@ limit_of_brackets() {
         printf '%s' 'module M { type record of T T; type port P message { inout T; } type component C { port P p; } ' \
             "testcase t() runs on C { p.send(T:$(repeated '{' $depth)$(repeated '}' $depth)); } }" >"$room/script"
         if ((depth == 29)); then
-            checked "32 brackets open" accepted
+            answered "32 brackets open" accepted
         else
-            checked "33 brackets open" 'refused 15 Limit line 1'
+            answered "33 brackets open" '15 Limit 1'
         fi
     done
 }
@@ -61,11 +52,11 @@ limit_of_brackets() {
 limit_of_numbers() {
     module_with 'testcase t() runs on C {' 'p.send(integer:9223372036854775807);' \
         'p.send(integer:-9223372036854775808);' '}' '}'
-    checked "the greatest and the least integer" accepted
+    answered "the greatest and the least integer" accepted
     sed -i '5s/7)/8)/' "$room/script"
-    checked "one above the greatest" 'refused 15 Limit line 5'
+    answered "one above the greatest" '15 Limit 5'
     sed -i -e '5s/8)/7)/' -e '6s/8)/9)/' "$room/script"
-    checked "one below the least" 'refused 15 Limit line 6'
+    answered "one below the least" '15 Limit 6'
 }
 
 # So many component variables, all started, in a test case whose head ends in the CLAUSE.
@@ -78,22 +69,22 @@ components() { # COUNT CLAUSE
 
 limit_of_components() {
     components 63 ''
-    checked "64 components" accepted
+    answered "64 components" accepted
     components 64 ''
-    checked "65 components" 'refused 15 Limit line 69'
+    answered "65 components" '15 Limit 69'
     components 62 'system C'
-    checked "64 components, system among them" accepted
+    answered "64 components, system among them" accepted
     components 63 'system C'
-    checked "65 components, system among them" 'refused 15 Limit line 68'
+    answered "65 components, system among them" '15 Limit 68'
 }
 
 limit_of_ports() {
     local number names='a0'
     for ((number = 1; number < 64; number += 1)); do names+=", a$number"; done
     module_with "type component D { port P $names; }" 'testcase t() runs on C { }' '}'
-    checked "64 ports" accepted
+    answered "64 ports" accepted
     module_with "type component D { port P $names; port P a64; }" 'testcase t() runs on C { }' '}'
-    checked "65 ports" 'refused 15 Limit line 4'
+    answered "65 ports" '15 Limit 4'
 }
 
 # A loop of so many turns around the statement.
@@ -104,33 +95,29 @@ loop() { # NAME TURNS STATEMENT
 limit_of_statements() {
     local body='setverdict(pass);'
     module_with 'testcase t() runs on C {' "$(loop i 99999 "$body")" '}' '}'
-    checked "100,000 statements" accepted
+    answered "100,000 statements" accepted
     module_with 'testcase t() runs on C {' "$(loop i 100000 "$body")" '}' '}'
-    checked "100,001 statements" 'refused 15 Limit line 4'
+    answered "100,001 statements" '15 Limit 4'
     module_with 'testcase t() runs on C {' "$(loop i 9223372036854775807 "$(loop j 9223372036854775807 "$body")")" '}' '}'
-    checked "more statements than 64 bits count" 'refused 15 Limit line 4'
+    answered "more statements than 64 bits count" '15 Limit 4'
     module_with 'function f() runs on C {' "$(loop i 50000 "$body")" '}' 'testcase t() runs on C {' \
         'var C a := C.create;' 'var C b := C.create;' 'a.start(f());' 'all component.done;' '}' '}'
     sed -i 's/^a.start(f());$/a.start(f()); b.start(f());/' "$room/script"
-    checked "a function of 50,001 statements started twice" 'refused 15 Limit line 7'
+    answered "a function of 50,001 statements started twice" '15 Limit 7'
     sed -i 's/50000/49998/' "$room/script"
-    checked "a function of 49,999 statements started twice" accepted
+    answered "a function of 49,999 statements started twice" accepted
     sed -i 's/^a.start(f()); b.start(f());$/a.start(g()); b.start(g());/; s/49998/100000/' "$room/script"
     sed -i '4s/^/function g() runs on C { } /' "$room/script"
-    checked "a large function that is not started" accepted
+    answered "a large function that is not started" accepted
 }
 
 # A script that is cut before its last bracket is refused where it ends: one more than the bytes 10
 # before the cut. The right answers need no file.
 cut_script() { # EXAMPLE
-    local text bytes shown failed_before=$failed
-    text=$(<"$1")
+    local text='' bytes shown
+    if [[ -f $1 ]]; then text=$(<"$1"); fi
     text=${text%\}*}
-    if ((${#text} < 100)); then
-        echo "FAILED: $1 is too short to be cut"
-        count 1
-        return
-    fi
+    set_up "$1 is long enough to be cut" [ ${#text} -ge 100 ] || return
     for ((bytes = 0; bytes <= ${#text}; bytes += 1)); do
         shown=${text:0:bytes}
         printf %s "$shown" >"$room/script"
@@ -142,10 +129,10 @@ cut_script() { # EXAMPLE
             return
         fi
     done
-    count $((failed - failed_before))
+    count 0
 }
 
-script_limits() {
+each_limit() {
     limit_of_text
     limit_of_names
     limit_of_brackets
@@ -155,4 +142,8 @@ script_limits() {
     limit_of_statements
     LC_ALL=C cut_script examples/system_under_test_answers.ttcn
     LC_ALL=C cut_script tests/every_line.ttcn
+}
+
+script_limits() {
+    at_least 25 each_limit
 }

@@ -10,7 +10,8 @@ use Rattle.tp_token.specs.declared.fault.ScriptFault.TheVariants as script
 use Rattle.tpr.specs.declared.checking.CheckFault.TheVariants as fault
 use Rattle.tp_syntax.specs.declared.tree.Module.{Module}
 use Rattle.tp_syntax.specs.Definitions.{IsReadAs}
-use Rattle.tpr.specs.Checked.{HasCheckFault, IsScriptFaultIn, IsScriptFaultOf, check_fault_of}
+use Rattle.tp_script.specs.TestCases.{Made}
+use Rattle.tpr.specs.Checked.{HasCheckFault, IsRight, IsScriptFaultIn, IsScriptFaultOf, IsScriptOf, check_fault_of}
 
 -- a fault of reading
 pub reading_fault : (f : ReadFault) (old new : Option (List ℕ)) → Takes old new (Some f) → HasCheckFault old new (check_fault_of f)
@@ -35,6 +36,11 @@ checking_fault f (Some all) new text is short taken h =
     (taken.0, taken.1, subst (λ (t : List ℕ). IsScriptFaultIn t (length taken.0) f) is (script_fault f text (length taken.0) short taken.2 h))
 
 -- whatever the checks refuse was read as a module
-pub any_fault : (r : Result (Unit {0}) ScriptFault) (text : List ℕ) (parsed : Module) → IsReadAs text parsed → IfErr r (IsScriptFaultOf text)
+pub any_fault : {A : Type 0} (r : Result A ScriptFault) (text : List ℕ) (parsed : Module) → IsReadAs text parsed → IfErr r (IsScriptFaultOf text)
 any_fault (Ok x) text parsed read = tt
 any_fault (Err f) text parsed read = inr (parsed, read)
+
+-- a text that was read, and has a test case, is right
+pub read_right : (known : Option (List ℕ)) (text : List ℕ) (made : Made) → IfSome known (λ all. text ≡ all) → IsScriptOf text made → IfSome known IsRight
+read_right None text made is script = tt
+read_right (Some all) text made is script = (made, subst (λ (t : List ℕ). IsScriptOf t made) is script)

@@ -43,13 +43,16 @@ check_fault_status (fault.Script f) = script_fault_status f
 abbrev pub accepted_text : List ℕ
 accepted_text = codes "accepted\n"
 
--- the text is right: it is read as a module that obeys the rules and has a test case
-pub record IsRight (text : List ℕ) : Type 0 where
+-- the text is a script of this test case: it is read as a module that obeys the rules and has that test case
+pub record IsScriptOf (text : List ℕ) (made : Made) : Type 0 where
   pub parsed : Module
   pub read : IsReadAs text parsed
   pub well_formed : WellFormed parsed
-  pub made : Made
   pub test_case : IsTestCaseOf parsed made
+
+-- the text is right: it is a script of a test case
+abbrev pub IsRight : List ℕ → Type 0
+IsRight text = (made : Made) × IsScriptOf text made
 
 -- the text is refused so: it can't be read as a module, for this fault, or it is read as one and the checks refuse that
 abbrev pub IsScriptFaultOf : List ℕ → ScriptFault → Type 0

@@ -1,3 +1,4 @@
 pub mod Line
 pub mod Outcome
 pub mod Checked
+pub mod Ran

@@ -9,12 +9,6 @@ mode_text mode.Queue = codes "queue"
 mode_text mode.Check = codes "check"
 mode_text mode.Run = codes "run"
 
--- the modes that the program offers
-abbrev pub IsOffered : Mode → Type 0
-IsOffered mode.Queue = Unit {0}
-IsOffered mode.Check = Unit {0}
-IsOffered mode.Run = ⊥
-
 -- the words are the mode's, and then the FILE, if one is given
 abbrev pub Asks : List (List ℕ) → Mode → Option (List ℕ) → Type 0
 Asks words mode file = words ≡ mode_text mode ∷ option_to_list file

@@ -1,7 +1,7 @@
 //! Whether a script is right.
-ghost use Rattle.std.specs.Prelude.{◌≡◌, IfErr, IfSome, OnOk, OnSome};
+ghost use Rattle.std.specs.Prelude.{◌≡◌, IfErr, IfOk, IfSome, OnOk, OnSome};
 ghost use Rattle.std.specs.Io.KnownBytes.{Appends};
-ghost use Rattle.tpr.specs.Checked.{HasCheckFault, IsCheckAnswer, IsRight, IsScriptFaultOf, accepted_text, check_fault_status, check_fault_text};
+ghost use Rattle.tpr.specs.Checked.{HasCheckFault, IsCheckAnswer, IsRight, IsScriptFaultOf, IsScriptOf, accepted_text, check_fault_status, check_fault_text};
 
 use crate::modes::{
     ANSWERED, FAULTED, REFUSED, flushed, write_memory, write_refused, write_unread,
@@ -11,7 +11,7 @@ use std::io;
 use std::io::{Read, Write};
 use tp_port::text::{ReadFault, read_text};
 use tp_refusal::memory::Memory;
-use tp_script::{ScriptFault, check, parse};
+use tp_script::{ScriptFault, TestCase, check, parse};
 
 /// Why a script isn't accepted.
 #[derive(Clone, Copy, Debug, PartialEq, Eq)]
@@ -37,18 +37,19 @@ impl From<ReadFault> for CheckFault {
     }
 }
 
-/// Reads a text as a module, and checks it.
-fn check_text(alloc: Global, text: &[u8]) -> Result<(), ScriptFault>
-    ensures right { OnOk result (IsRight text.now) }
+/// Reads a text as a module, and checks it: the test case of the text.
+fn check_text(alloc: Global, text: &[u8]) -> Result<TestCase, ScriptFault>
+    ensures script { IfOk result (IsScriptOf text.now) }
     ensures fault { IfErr result (IsScriptFaultOf text.now) }
 {
     let parsed = parse(alloc, text)?;
-    let _ = check(alloc, &parsed)?;
-    Ok(())
+    let test_case = check(alloc, &parsed)?;
+    Ok(test_case)
 }
 
-/// Reads a script, and checks it.
-fn check_script<R: Read>(alloc: Global, reader: &mut R) -> Result<(), CheckFault>
+/// Reads a script, and checks it: its test case.
+pub fn check_script<R: Read>(alloc: Global, reader: &mut R) -> Result<TestCase, CheckFault>
+    ensures script { IfOk result (λ made. IfSome (R.remaining reader.old) (λ text. IsScriptOf text made)) }
     ensures right { OnOk result (IfSome (R.remaining reader.old) IsRight) }
     ensures fault { IfErr result (HasCheckFault (R.remaining reader.old) (R.remaining reader.new)) }
 {
@@ -56,7 +57,7 @@ fn check_script<R: Read>(alloc: Global, reader: &mut R) -> Result<(), CheckFault
         Err(fault) => Err(CheckFault::from(fault)),
         Ok(text) => match check_text(alloc, text.as_slice()) {
             Err(fault) => Err(CheckFault::Script(fault)),
-            Ok(()) => Ok(()),
+            Ok(test_case) => Ok(test_case),
         },
     }
 }
@@ -92,12 +93,23 @@ fn status_of(fault: CheckFault) -> u8
 }
 
 /// Prints the line of a fault, and answers its status. `None` where the writer failed.
-fn answer_check_fault<W: Write>(writer: &mut W, fault: CheckFault) -> Option<u8>
+pub fn answer_check_fault<W: Write>(writer: &mut W, fault: CheckFault) -> Option<u8>
     ensures code { IfSome result (λ status. status ≡ check_fault_status fault) }
     ensures printed { OnSome result (Appends (W.contents writer.old) (W.contents writer.new) (check_fault_text fault)) }
 {
     match write_check_fault(writer, fault) {
         Ok(()) => flushed(writer, status_of(fault)),
+        Err(_) => None,
+    }
+}
+
+/// Prints that a script is right. The status is 0; `None` where the writer failed.
+fn answer_accepted<W: Write>(writer: &mut W) -> Option<u8>
+    ensures code { IfSome result (λ status. status ≡ 0) }
+    ensures printed { OnSome result (Appends (W.contents writer.old) (W.contents writer.new) accepted_text) }
+{
+    match write_accepted(writer) {
+        Ok(()) => flushed(writer, ANSWERED),
         Err(_) => None,
     }
 }
@@ -112,9 +124,6 @@ pub fn answer_check<R: Read, W: Write>(alloc: Global, reader: &mut R, writer: &m
 {
     match check_script(alloc, reader) {
         Err(fault) => answer_check_fault(writer, fault),
-        Ok(()) => match write_accepted(writer) {
-            Ok(()) => flushed(writer, ANSWERED),
-            Err(_) => None,
-        },
+        Ok(_) => answer_accepted(writer),
     }
 }

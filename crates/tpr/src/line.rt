@@ -1,7 +1,7 @@
 //! The command line.
 ghost use Rattle.std.specs.Prelude.{◌≡◌, map, MatchOption, string_bytes};
 ghost use Rattle.std.specs.Option.{option_copied};
-ghost use Rattle.tpr.specs.Line.{Asks, IsOffered, mode_text};
+ghost use Rattle.tpr.specs.Line.{Asks, mode_text};
 
 /// What the program does.
 #[derive(Clone, Copy, Debug, PartialEq, Eq, Hash)]
@@ -14,14 +14,17 @@ pub enum Mode {
     Run,
 }
 
-/// The mode of this word, if the program offers it.
+/// The mode of this word, if it names one.
 fn mode_of(word: &str) -> Option<Mode>
-    ensures { MatchOption result ((mode : _) → IsOffered mode → word.now ≡ mode_text mode → ⊥) (λ mode. IsOffered mode × (word.now ≡ mode_text mode)) }
+    ensures { MatchOption result ((mode : _) → word.now ≡ mode_text mode → ⊥)
+        (λ mode. word.now ≡ mode_text mode) }
 {
     if word == "queue" {
         Some(Mode::Queue)
     } else if word == "check" {
         Some(Mode::Check)
+    } else if word == "run" {
+        Some(Mode::Run)
     } else {
         None
     }
@@ -29,9 +32,11 @@ fn mode_of(word: &str) -> Option<Mode>
 
 /// The mode and the FILE, if there is one, that these words ask for: those that follow the
 /// program's name. `None` where they are no command line of the program: the usage line is then
-/// due. `run` isn't offered yet.
+/// due.
 pub fn line_of(words: &[String]) -> Option<(Mode, Option<&str>)>
-    ensures { MatchOption result ((mode : _) (file : _) → IsOffered mode → Asks (map string_bytes words.now) mode file → ⊥) (λ line. IsOffered line.0 × Asks (map string_bytes words.now) line.0 (option_copied line.1)) }
+    ensures { MatchOption result
+        ((mode : _) (file : _) → Asks (map string_bytes words.now) mode file → ⊥)
+        (λ line. Asks (map string_bytes words.now) line.0 (option_copied line.1)) }
 {
     match words {
         [mode] => {

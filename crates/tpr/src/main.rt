@@ -3,25 +3,29 @@
 
 ghost use Rattle.std.specs.Prelude.{◌≡◌, IfSome};
 ghost use Rattle.tpr.specs.Checked.{IsCheckAnswer};
-ghost use Rattle.tpr.specs.Line.{IsOffered};
 ghost use Rattle.tpr.specs.Outcome.{IsQueueAnswer};
+ghost use Rattle.tpr.specs.Ran.{IsRunAnswer};
 
 mod checking;
 mod line;
 mod modes;
+mod running;
 #[cfg(test)]
 mod tests;
 
 use checking::answer_check;
 use line::{Mode, line_of};
 use modes::{FAULTED, answer_fault, answer_queue};
-use std::alloc::Global;
+use running::answer_run;
 use std::env::Env;
 use std::fs::File;
 use std::io::{BufWriter, ErrorKind, Read, Write};
 use std::process::ExitCode;
 use std::rt::Files;
+use std::sync::Wait;
+use std::thread::Threads;
 use std::{env, io};
+use tp_exec::gate::OpenGate;
 use tp_port::replay::QueueFault;
 
 /// The status where the words are no command line of the program.
@@ -34,39 +38,39 @@ fn usage<R: Eprint>(rt: &R) -> u8 {
 }
 
 /// Answers in this mode. `None` where the writer failed.
-fn answer<R: Read, W: Write>(
+fn answer<T: AllocGlobal + Threads + Wait + Sync, R: Read, W: Write>(
+    rt: &T,
     mode: Mode,
-    alloc: Global,
     reader: &mut R,
     writer: &mut W,
 ) -> Option<u8>
-    requires { IsOffered mode }
-    ensures queue { mode ≡ Mode.Queue → IfSome result (IsQueueAnswer (R.remaining reader.old) (R.remaining reader.new) (W.contents writer.old) (W.contents writer.new)) }
-    ensures check { mode ≡ Mode.Check → IfSome result (IsCheckAnswer (R.remaining reader.old) (R.remaining reader.new) (W.contents writer.old) (W.contents writer.new)) }
+    ensures queue { mode ≡ Mode.Queue → IfSome result (IsQueueAnswer (R.remaining reader.old)
+        (R.remaining reader.new) (W.contents writer.old) (W.contents writer.new)) }
+    ensures check { mode ≡ Mode.Check → IfSome result (IsCheckAnswer (R.remaining reader.old)
+        (R.remaining reader.new) (W.contents writer.old) (W.contents writer.new)) }
+    ensures run { mode ≡ Mode.Run → IfSome result (IsRunAnswer (R.remaining reader.old)
+        (R.remaining reader.new) (W.contents writer.old) (W.contents writer.new)) }
 {
     match mode {
-        Mode::Queue => answer_queue(alloc, reader, writer),
-        Mode::Check => answer_check(alloc, reader, writer),
-        Mode::Run => unreachable!(),
+        Mode::Queue => answer_queue(rt.alloc(), reader, writer),
+        Mode::Check => answer_check(rt.alloc(), reader, writer),
+        Mode::Run => answer_run(rt, rt.alloc(), reader, writer, &OpenGate),
     }
 }
 
 /// Answers the text of this file, or of standard input where no file is named. `None` where the writer
 /// failed.
-fn answer_file<R: AllocGlobal + Files + Input + Print>(
-    rt: &R,
-    mode: Mode,
-    file: Option<&str>,
-) -> Option<u8>
-    requires { IsOffered mode }
+fn answer_file<T>(rt: &T, mode: Mode, file: Option<&str>) -> Option<u8>
+where
+    T: AllocGlobal + Files + Input + Print + Threads + Wait + Sync,
 {
     let Ok(mut writer) = BufWriter::new(rt.alloc(), io::writer(rt)) else {
         return answer_fault(&mut io::writer(rt), QueueFault::Memory);
     };
     match file {
-        None => answer(mode, rt.alloc(), &mut rt.reader(), &mut writer),
+        None => answer(rt, mode, &mut rt.reader(), &mut writer),
         Some(path) => match File::open(rt, path) {
-            Ok(mut reader) => answer(mode, rt.alloc(), &mut reader, &mut writer),
+            Ok(mut reader) => answer(rt, mode, &mut reader, &mut writer),
             Err(_) => answer_fault(&mut writer, QueueFault::Read),
         },
     }

@@ -2,7 +2,9 @@
 //! in the crates that they test, so that those are proved once.
 
 mod configurations;
+mod lists;
 mod modes;
+mod partners;
 mod ports;
 mod tokens;
 mod values;

@@ -39,7 +39,7 @@ fn comp_type(alloc: Global, names: &[&str], ins: &[Ty], outs: &[Ty]) -> Result<C
 
 /// No component. Type 0 has the ports p and q, which take integers both ways. Type 1 has the port s,
 /// which receives and sends these types.
-fn empty(alloc: Global, ins: &[Ty], outs: &[Ty]) -> Result<Config, Memory> {
+pub fn empty(alloc: Global, ins: &[Ty], outs: &[Ty]) -> Result<Config, Memory> {
     let both = [Ty::Integer];
     let first = comp_type(
         alloc,
@@ -55,7 +55,7 @@ fn empty(alloc: Global, ins: &[Ty], outs: &[Ty]) -> Result<Config, Memory> {
 }
 
 /// Creates a component of this name, where there is a type of that number.
-fn add(
+pub fn add(
     alloc: Global,
     config: &mut Config,
     name: &str,
@@ -79,7 +79,7 @@ fn port(config: &Config, comp: &str, port: &str) -> Option<PortRef>
 }
 
 /// Connects two ports by the names of their components and their own.
-fn connect(
+pub fn connect(
     config: &mut Config,
     p: (&str, &str),
     q: (&str, &str),
@@ -121,7 +121,7 @@ fn star<R: AllocGlobal + Abort>(rt: &R) -> Result<Config, Fail> {
 }
 
 /// The port of this number of the component of this number.
-fn at(comp: u32, port: u32) -> PortRef {
+pub fn at(comp: u32, port: u32) -> PortRef {
     PortRef {
         comp: CompId(comp),
         port,
@@ -129,7 +129,7 @@ fn at(comp: u32, port: u32) -> PortRef {
 }
 
 /// The route from a component to a port, all by their numbers.
-fn route(source: u32, comp: u32, port: u32) -> RouteId {
+pub fn route(source: u32, comp: u32, port: u32) -> RouteId {
     RouteId {
         source: CompId(source),
         to: at(comp, port),

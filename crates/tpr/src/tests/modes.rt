@@ -10,6 +10,7 @@ fn words_name_a_mode_and_a_file(rt: HostRuntime) -> Result<(), Fail> {
     let queue = String::from_str(rt.alloc(), "queue")?;
     let file = String::from_str(rt.alloc(), "a.queue")?;
     let check = String::from_str(rt.alloc(), "check")?;
+    let run = String::from_str(rt.alloc(), "run")?;
     let mut words = Vec::new(rt.alloc());
     assert!(rt; line_of(words.as_slice()).is_none());
     words.push(queue)?;
@@ -19,12 +20,14 @@ fn words_name_a_mode_and_a_file(rt: HostRuntime) -> Result<(), Fail> {
     words.push(check)?;
     assert!(rt; line_of(words.as_slice()).is_none());
     assert!(rt; line_of(&words[2..]) == Some((Mode::Check, None)));
+    words.push(run)?;
+    assert!(rt; line_of(&words[3..]) == Some((Mode::Run, None)));
     Ok(())
 }
 
 #[test]
-fn modes_to_come_are_not_offered(rt: HostRuntime) -> Result<(), Fail> {
-    for word in ["run", "Queue", "", "--help"] {
+fn other_words_name_no_mode(rt: HostRuntime) -> Result<(), Fail> {
+    for word in ["Run", "Queue", "", "--help"] {
         let text = String::from_str(rt.alloc(), word)?;
         let mut words = Vec::new(rt.alloc());
         words.push(text)?;

@@ -188,6 +188,106 @@ fn names_at_their_limit(rt: HostRuntime) -> Result<(), Fail> {
     Ok(())
 }
 
+/// The texts of this many pieces that are tried: each from 0 to 100.
+const LENGTHS: usize = 101;
+
+/// A piece so many times, with a text before and one behind.
+fn repeated(
+    alloc: Global,
+    before: &str,
+    piece: &str,
+    times: usize,
+    behind: &str,
+) -> Result<String, AllocError> {
+    let mut text = String::from_str(alloc, before)?;
+    for _ in 0..times {
+        text.push_str(piece)?;
+    }
+    text.push_str(behind)?;
+    Ok(text)
+}
+
+#[test]
+fn symbols_of_each_number(rt: HostRuntime) -> Result<(), Fail> {
+    let alloc = rt.alloc();
+    for length in 0..LENGTHS {
+        let text = repeated(alloc, "", "+", length, "")?;
+        let want = repeated(alloc, "", "1 Symbol(Plus); ", length, "")?;
+        assert_eq!(rt; shown(alloc, text.as_bytes())?, want);
+        let apart = repeated(alloc, "", ". ", length, ".")?;
+        let want = repeated(alloc, "", "1 Symbol(Dot); ", length, "1 Symbol(Dot); ")?;
+        assert_eq!(rt; shown(alloc, apart.as_bytes())?, want);
+    }
+    Ok(())
+}
+
+#[test]
+fn white_space_of_each_length(rt: HostRuntime) -> Result<(), Fail> {
+    let alloc = rt.alloc();
+    for length in 0..LENGTHS {
+        let spaces = repeated(alloc, "", " ", length, "")?;
+        assert_eq!(rt; shown(alloc, spaces.as_bytes())?.as_str(), "");
+        let comment = repeated(alloc, "/*", "/", length, "*/a")?;
+        assert_eq!(rt;
+            shown(alloc, comment.as_bytes())?.as_str(),
+            "1 Name(\"a\"); "
+        );
+        let lines = repeated(alloc, "", "\n", length, "a")?;
+        let want = format!(in alloc; "{} Name(\"a\"); ", length + 1)?;
+        assert_eq!(rt; shown(alloc, lines.as_bytes())?, want);
+    }
+    Ok(())
+}
+
+#[test]
+fn names_of_each_length(rt: HostRuntime) -> Result<(), Fail> {
+    let alloc = rt.alloc();
+    for length in 0..LENGTHS {
+        let text = repeated(alloc, "a", "_", length, "")?;
+        let want = if length < 64 {
+            repeated(alloc, "1 Name(\"a", "_", length, "\"); ")?
+        } else {
+            String::from_str(alloc, "refused 15 Limit line 1")?
+        };
+        assert_eq!(rt; shown(alloc, text.as_bytes())?, want);
+    }
+    Ok(())
+}
+
+#[test]
+fn charstrings_of_each_length(rt: HostRuntime) -> Result<(), Fail> {
+    let alloc = rt.alloc();
+    for length in 0..LENGTHS {
+        let text = repeated(alloc, "\"~", "!", length, "\"")?;
+        let want = repeated(alloc, "1 Text([126", ", 33", length, "]); ")?;
+        assert_eq!(rt; shown(alloc, text.as_bytes())?, want);
+        let quotes = repeated(alloc, "\"~", "\"\"", length, "\"")?;
+        let want = repeated(alloc, "1 Text([126", ", 34", length, "]); ")?;
+        assert_eq!(rt; shown(alloc, quotes.as_bytes())?, want);
+        let open = repeated(alloc, "\"", " ", length, "")?;
+        assert_eq!(rt;
+            shown(alloc, open.as_bytes())?.as_str(),
+            "refused 10 Syntax line 1"
+        );
+    }
+    Ok(())
+}
+
+#[test]
+fn numbers_of_each_length(rt: HostRuntime) -> Result<(), Fail> {
+    let alloc = rt.alloc();
+    for length in 0..LENGTHS {
+        let text = repeated(alloc, "1", "0", length, "")?;
+        let want = if length < 19 {
+            repeated(alloc, "1 Number(1", "0", length, "); ")?
+        } else {
+            String::from_str(alloc, "refused 15 Limit line 1")?
+        };
+        assert_eq!(rt; shown(alloc, text.as_bytes())?, want);
+    }
+    Ok(())
+}
+
 #[test]
 fn texts_at_their_limit(rt: HostRuntime) -> Result<(), Fail> {
     let mut text = vec![in rt.alloc(); b' '; 1_048_576]?;

@@ -1,0 +1,46 @@
+-- The outcome of mode run: what is printed of a test case, and the status.
+use Rattle.std.specs.Prelude.{◌≡◌, ℕ, ◌⊎◌, ◌++◌, Option, List, codes, IfSome}
+use Rattle.std.specs.Io.KnownBytes.{Appends}
+use Rattle.tp_refusal.specs.declared.refusal.Refusal.{Refusal}
+use Rattle.tp_refusal.specs.declared.refusal.Refusal.TheVariants as refusal
+use Rattle.tp_script.specs.TestCases.{Made}
+use Rattle.tp_report.specs.declared.report.Report.{Report}
+use Rattle.tp_report.specs.Reports.{report_text}
+use Rattle.tp_exec.specs.declared.fault.RunFault.{RunFault}
+use Rattle.tp_exec.specs.declared.fault.RunFault.TheVariants as fault
+use Rattle.tp_exec.specs.Delivery.{IsReportOf}
+use Rattle.tp_exec.specs.Order.{NoCircle}
+use Rattle.tpr.specs.Outcome.{label_text}
+use Rattle.tpr.specs.Checked.{IsNotAccepted, IsScriptOf}
+
+abbrev pub run_refusal : RunFault → Refusal
+run_refusal fault.NoThread = refusal.NoThread
+run_refusal fault.Memory = refusal.Memory
+run_refusal fault.Restless = refusal.Restless
+
+-- what is printed where a run has no report
+abbrev pub run_fault_text : RunFault → List ℕ
+run_fault_text f = codes "fault " ++ label_text (run_refusal f) ++ codes "\n"
+
+-- the text of a report of the test case was added, for which **delivery** holds, and the status is 0
+pub record IsReported (made : Made) (old new : Option (List ℕ)) (status : ℕ) : Type 0 where
+  pub report : Report
+  pub delivery : IsReportOf made report
+  pub order : NoCircle report
+  pub code : status ≡ 0
+  pub printed : Appends old new (report_text made report)
+
+-- the line of the fault by which there is no report was added, and the status is 3
+pub record IsNotReported (old new : Option (List ℕ)) (status : ℕ) : Type 0 where
+  pub fault : RunFault
+  pub code : status ≡ 3
+  pub printed : Appends old new (run_fault_text fault)
+
+-- what is printed of a run of this test case
+abbrev pub IsRunOf : Made → Option (List ℕ) → Option (List ℕ) → ℕ → Type 0
+IsRunOf made old new status = IsReported made old new status ⊎ IsNotReported old new status
+
+-- where the writer doesn't fail: what is printed of a run of the test case whose script was read, or the line and the status of the script's fault
+abbrev pub IsRunAnswer : Option (List ℕ) → Option (List ℕ) → Option (List ℕ) → Option (List ℕ) → ℕ → Type 0
+IsRunAnswer known left old new status =
+    ((made : Made) × IfSome known (λ text. IsScriptOf text made) × IsRunOf made old new status) ⊎ IsNotAccepted known left old new status

@@ -1,0 +1,90 @@
+//! What happens in a test case.
+ghost use Rattle.std.specs.Prelude.{◌≡◌, IfSome, OnOk, OnSome};
+ghost use Rattle.std.specs.Io.KnownBytes.{Appends};
+ghost use Rattle.tpr.specs.Ran.{IsRunAnswer, IsRunOf, run_fault_text, run_refusal};
+
+use crate::checking::{answer_check_fault, check_script};
+use crate::modes::{ANSWERED, FAULTED, flushed};
+use std::alloc::Global;
+use std::io;
+use std::io::{Read, Write};
+use std::sync::Wait;
+use std::thread::Threads;
+use tp_exec::fault::RunFault;
+use tp_exec::gate::Gate;
+use tp_exec::run::run;
+use tp_exec::writing::write_report;
+use tp_refusal::refusal::Refusal;
+use tp_script::TestCase;
+
+/// The refusal that a fault of a run is told by.
+fn refusal_of(fault: RunFault) -> Refusal
+    ensures { result ≡ run_refusal fault }
+{
+    match fault {
+        RunFault::NoThread => Refusal::NoThread,
+        RunFault::Memory => Refusal::Memory,
+        RunFault::Restless => Refusal::Restless,
+    }
+}
+
+/// Writes the line of a fault of a run.
+fn write_run_fault<W: Write>(writer: &mut W, fault: RunFault) -> io::Result<()>
+    ensures { OnOk result (Appends (W.contents writer.old) (W.contents writer.new) (run_fault_text fault)) }
+{
+    let (number, name) = refusal_of(fault).label();
+    write!(writer, "fault {number} {name}\n")
+}
+
+/// Prints the line of a fault of a run. The status is 3; `None` where the writer failed.
+fn answer_run_fault<W: Write>(writer: &mut W, fault: RunFault) -> Option<u8>
+    ensures code { IfSome result (λ status. status ≡ 3) }
+    ensures printed { OnSome result (Appends (W.contents writer.old) (W.contents writer.new) (run_fault_text fault)) }
+{
+    match write_run_fault(writer, fault) {
+        Ok(()) => flushed(writer, FAULTED),
+        Err(_) => None,
+    }
+}
+
+/// Runs a test case, and prints its report, or the line of the fault by which there is none.
+fn answer_test_case<T: Threads + Wait + Sync, W: Write, G: Gate>(
+    rt: &T,
+    alloc: Global,
+    test_case: &TestCase,
+    writer: &mut W,
+    gate: &G,
+) -> Option<u8>
+    ensures { IfSome result (IsRunOf test_case.now (W.contents writer.old) (W.contents writer.new)) }
+{
+    match run(rt, alloc, test_case, gate) {
+        Ok(report) => match write_report(test_case, &report, writer) {
+            Ok(()) => flushed(writer, ANSWERED),
+            Err(_) => None,
+        },
+        Err(fault) => answer_run_fault(writer, fault),
+    }
+}
+
+/// Reads a script, checks it, and runs its test case: prints its report, whatever its verdict; or the line of
+/// its first fault; or that of the fault by which the run has no report.
+///
+/// The status is 0 where the report was printed; 2 where the script was refused, as by `answer_check`; 3 where
+/// there is no report: `fault 51 NoThread` where the starting of a thread was refused, `fault 50 Memory` where
+/// memory was, `fault 61 Restless` where a behaviour was ended as waiting and one of its branches was open.
+/// `None` where the writer failed; how much is printed then is open. It may wait for good.
+pub fn answer_run<T: Threads + Wait + Sync, R: Read, W: Write, G: Gate>(
+    rt: &T,
+    alloc: Global,
+    reader: &mut R,
+    writer: &mut W,
+    gate: &G,
+) -> Option<u8>
+    ensures { IfSome result (IsRunAnswer (R.remaining reader.old) (R.remaining reader.new)
+        (W.contents writer.old) (W.contents writer.new)) }
+{
+    match check_script(alloc, reader) {
+        Err(fault) => answer_check_fault(writer, fault),
+        Ok(test_case) => answer_test_case(rt, alloc, &test_case, writer, gate),
+    }
+}
