@@ -1,26 +1,23 @@
 /* Loaded before the C library by tests/refused_memory.sh: refuses one allocation of a program.
  *
  * REFUSED is the allocation, counted from 1, that is refused, once. The file REFUSED_MARK is made
- * where it came to that.
+ * where it came to that. Allocations of all threads are counted together.
  */
 #define _GNU_SOURCE
 #include <dlfcn.h>
 #include <errno.h>
 #include <fcntl.h>
+#include <stdatomic.h>
 #include <stdlib.h>
 #include <unistd.h>
 
-static unsigned long calls;
+static atomic_ulong calls;
 
 static int is_refused(void)
 {
-    static unsigned long refused;
-    if (calls == 0) {
-        const char *number = getenv("REFUSED");
-        refused = number ? strtoul(number, NULL, 10) : 0;
-    }
-    calls += 1;
-    if (calls != refused)
+    const char *number = getenv("REFUSED");
+    unsigned long refused = number ? strtoul(number, NULL, 10) : 0;
+    if (atomic_fetch_add(&calls, 1) + 1 != refused)
         return 0;
     const char *mark = getenv("REFUSED_MARK");
     if (mark) {
