@@ -104,7 +104,7 @@ mutual
         → IsChoice (guards_of r (record { turns = turns; variables = vs }) branches) true t None
         → IsPath r turns vs block ts ws
         → IsStep r turns vs (b.Alt branches (Some block)) (drops ++ t ∷ ts) ws
-    -- 19.8: the block once for each value of the variable, from the first on, below the bound
+    -- 19.4: the block once for each value of the variable, from the first on, below the bound
     counted : (turns : List ℤ) (vs : List (Option Held)) (first bound : ℤ) (block : List Statement) (ts : List Moment) (ws : List (Option Held))
         → AreTurns r turns vs first block (turns_between first bound) ts ws
         → IsStep r turns vs (b.For first bound block) ts ws

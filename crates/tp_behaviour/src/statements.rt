@@ -133,7 +133,7 @@ fn branch<R: Wait, G: Gate>(
 }
 
 /// Carries out a block once for each value of a loop variable, from the first on, below the bound
-/// (19.8).
+/// (19.4).
 ///
 /// 50 `Memory` only where an allocation was refused.
 #[cycle(statements)]

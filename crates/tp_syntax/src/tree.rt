@@ -292,7 +292,7 @@ pub struct ElseBranch {
     pub has_semicolon: bool,
 }
 
-/// The turns of a counted `for` (ES 201 873-1, 19.12), whose variable is named four times.
+/// The turns of a counted `for` (ES 201 873-1, 19.4), whose variable is named four times.
 #[derive(Drop)]
 pub struct Turns {
     /// The variable.
@@ -303,7 +303,7 @@ pub struct Turns {
     pub bound: i64,
 }
 
-/// A counted `for` (ES 201 873-1, 19.12).
+/// A counted `for` (ES 201 873-1, 19.4).
 #[derive(Drop)]
 #[cycle(statement)]
 pub struct Counted {

@@ -1,3 +1,4 @@
+-- The room is one that there may be, and the text so far stays.
 use Rattle.std.proofs.Common.{sym, subst}
 use Rattle.tp_port.specs.Reading.{IsRoom}
 use Rattle.tp_port.proofs.Taking.{either_room}

@@ -1,3 +1,4 @@
+-- The next room is the one doubled, up to one byte beyond the limit.
 use Rattle.tp_port.proofs.Taking.{doubled_room}
 use Rattle.tp_port.proofs.text.next_room.Goals as goal
 

@@ -1,3 +1,4 @@
+-- Nothing was read while reads were interrupted.
 use Rattle.std.proofs.Common.{◌≡◌, length}
 use Rattle.std.specs.Io.KnownBytes.{Keeps}
 use Rattle.tp_port.proofs.text.read_again.Given as goal

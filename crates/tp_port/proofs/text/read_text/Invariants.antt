@@ -1,3 +1,4 @@
+-- What was read so far is taken off the front of what the reader had.
 use Rattle.std.proofs.Common.{◌-◌, ◌≤◌, take, vec_len}
 use Rattle.std.specs.Io.KnownBytes.{Consumes}
 use Rattle.tp_port.specs.Reading.{IsRoom}

@@ -1,3 +1,4 @@
+-- Whatever the checks refuse was read as a module.
 use Rattle.tpr.proofs.Reading.{any_fault}
 use Rattle.tpr.proofs.checking.check_text.Goals as goal
 

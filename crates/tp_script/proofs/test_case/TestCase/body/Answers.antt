@@ -1,3 +1,4 @@
+-- What a component does it can do, by the invariant of a test case.
 use Rattle.std.proofs.Common.{List, Option, None, IfSome, ap, ◌∙◌, map, get_or, subst}
 use Rattle.tp_script.specs.declared.part.Part.{Part}
 use Rattle.tp_script.specs.Parts.{duty_of}
