@@ -2,6 +2,32 @@
 # what it answers with ample memory. `root`, `room`, `count`, `at_least` and `set_up` are those of ./test.
 # The program is the built one itself, since a shell before it would be refused memory too.
 
+# Makes what is loaded before the C library to refuse a call; `with_refused` runs a command with it.
+compile_refusals() {
+    ${CC:-cc} -O1 -shared -fPIC -o "$room/refused.so" "$root/tests/refused.c"
+}
+
+# Runs a command with one call of a kind refused, several kinds if so many are given, and within 20
+# seconds. What it printed and said, and `status`, are kept; `is_refused` tells whether it came to the refusal.
+with_refused() { # KIND=NUMBER.. -- COMMAND..
+    local refusals=()
+    while [[ $1 != -- ]]; do
+        refusals+=("REFUSED_$1")
+        shift
+    done
+    shift
+    rm -rf -- "$room/marks"
+    mkdir -- "$room/marks"
+    env "${refusals[@]}" REFUSED_MARKS="$room/marks" LD_PRELOAD="$room/refused.so" timeout 20 "$@" \
+        >"$room/printed" 2>"$room/said" </dev/null
+    status=$?
+}
+
+# Whether a call of this kind was refused in the last run.
+is_refused() { # memory | thread | read | write
+    [[ -e $room/marks/$1 ]]
+}
+
 refuse_each() { # MODE FILE ANSWER
     local mode=$1 base=${2%.*} wanted=0 refusals=0 number status
     if [[ ! -s $2 || ! -s $3 ]]; then
@@ -11,11 +37,8 @@ refuse_each() { # MODE FILE ANSWER
     if [[ -e $base.status ]]; then wanted=$(<"$base.status"); fi
     printf 'fault 50 Memory\n' >"$room/fault"
     for ((number = 1; number <= 2000; number++)); do
-        rm -f -- "$room/mark"
-        REFUSED=$number REFUSED_MARK=$room/mark LD_PRELOAD=$room/refused_memory.so \
-            "$root/crates/tpr/out/tpr" "$mode" "$2" >"$room/printed" 2>"$room/said"
-        status=$?
-        if [[ ! -e $room/mark ]]; then break; fi
+        with_refused MEMORY=$number -- "$root/crates/tpr/out/tpr" "$mode" "$2"
+        if ! is_refused memory; then break; fi
         if [[ $status == 3 && ! -s $room/said ]] && cmp -s -- "$room/fault" "$room/printed"; then
             ((refusals += 1))
         elif ! { [[ $status == "$wanted" && ! -s $room/said ]] && cmp -s -- "$3" "$room/printed"; }; then
@@ -24,7 +47,7 @@ refuse_each() { # MODE FILE ANSWER
             return 1
         fi
     done
-    if [[ -e $room/mark || $refusals == 0 || $status != "$wanted" ]]; then
+    if is_refused memory || [[ $refusals == 0 || $status != "$wanted" ]]; then
         echo "FAILED: $base: $refusals allocations were refused, and the last status was $status"
         return 1
     fi
@@ -43,28 +66,21 @@ refused_memory_of_each() {
     done
 }
 
-refused_memory() {
-    set_up "tests/refused_memory.c can be compiled" ${CC:-cc} -O1 -shared -fPIC \
-        -o "$room/refused_memory.so" "$root/tests/refused_memory.c" || return
-    at_least 7 refused_memory_of_each
-}
-
 # One test of a crate that is right under refused memory too: it must pass with
 # each of its allocations refused in turn. The first half of the gate has built the tests.
 refuse_each_of_test() { # TESTS NAME
-    local number refusals=0
+    local number refusals=0 status
     for ((number = 1; number <= 500; number++)); do
-        rm -f -- "$room/mark"
-        if ! REFUSED=$number REFUSED_MARK=$room/mark LD_PRELOAD=$room/refused_memory.so \
-            "$1" "$2" >"$room/printed" 2>&1; then
+        with_refused MEMORY=$number -- "$1" "$2"
+        if ((status != 0)); then
             echo "FAILED: $2 with allocation $number refused"
-            head -n 10 -- "$room/printed"
+            cat -- "$room/printed" "$room/said" | head -n 10
             return 1
         fi
-        if [[ ! -e $room/mark ]]; then break; fi
+        if ! is_refused memory; then break; fi
         ((refusals += 1))
     done
-    if [[ -e $room/mark || $refusals == 0 ]]; then
+    if is_refused memory || ((refusals == 0)); then
         echo "FAILED: $2: $refusals allocations were refused"
         return 1
     fi

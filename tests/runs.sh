@@ -36,11 +36,26 @@ run_each_again() {
     count $?
 }
 
+# Whether the last run ended with this fault.
+is_fault() { # FILE
+    [[ $status == 3 && ! -s $room/said ]] && cmp -s -- "$1" "$room/printed"
+}
+
 # What a run with something refused may answer: that it was refused, or a report of its own.
 judge_refused() { # EXAMPLE
-    if is_a_report_of "$1"; then return 0; fi
-    if [[ $status != 3 || -s $room/said ]]; then return 1; fi
-    cmp -s -- "$room/no_memory" "$room/printed" || cmp -s -- "$room/no_thread" "$room/printed"
+    is_a_report_of "$1" || is_fault "$room/no_memory" || is_fault "$room/no_thread"
+}
+
+# Runs an example with calls refused.
+run_refused() { # EXAMPLE KIND=NUMBER..
+    with_refused "${@:2}" -- "$root/crates/tpr/out/tpr" run "$root/examples/$1.ttcn"
+}
+
+# Tells what the last run answered, which it may not.
+fail_refused() { # WHAT
+    echo "FAILED: $1: status $status, and printed"
+    head -n 10 -- "$room/printed"
+    return 1
 }
 
 # Each allocation of a run refused in turn, in whatever thread it falls, up to the first run that makes
@@ -48,21 +63,16 @@ judge_refused() { # EXAMPLE
 refuse_each_of_run() { # EXAMPLE
     local number refusals=0
     for ((number = 1; number <= 5000; number++)); do
-        rm -f -- "$room/mark"
-        REFUSED=$number REFUSED_MARK=$room/mark LD_PRELOAD=$room/refused_memory.so \
-            timeout 20 "$root/crates/tpr/out/tpr" run "$root/examples/$1.ttcn" \
-            >"$room/printed" 2>"$room/said" </dev/null
-        status=$?
+        run_refused "$1" MEMORY=$number
         if ! judge_refused "$1"; then
-            echo "FAILED: $1 with allocation $number refused: status $status, and printed"
-            head -n 10 -- "$room/printed"
+            fail_refused "$1 with allocation $number refused"
             return 1
         fi
         if [[ $status == 3 ]]; then ((refusals += 1)); fi
-        if [[ ! -e $room/mark ]]; then break; fi
+        if ! is_refused memory; then break; fi
     done
-    if [[ -e $room/mark || $refusals == 0 || $status != 0 ]]; then
-        echo "FAILED: $1: $refusals runs were refused memory, and the last status was $status"
+    if is_refused memory || [[ $refusals == 0 || $status != 0 ]]; then
+        fail_refused "$1: $refusals runs were refused memory, and the last"
         return 1
     fi
 }
@@ -71,17 +81,86 @@ refuse_each_of_run() { # EXAMPLE
 refuse_each_thread() { # EXAMPLE THREADS
     local number
     for ((number = 1; number <= $2; number++)); do
-        rm -f -- "$room/mark"
-        REFUSED_THREAD=$number REFUSED_MARK=$room/mark LD_PRELOAD=$room/refused_thread.so \
-            timeout 20 "$root/crates/tpr/out/tpr" run "$root/examples/$1.ttcn" \
-            >"$room/printed" 2>"$room/said" </dev/null
-        status=$?
-        if [[ ! -e $room/mark || $status != 3 ]] || ! cmp -s -- "$room/no_thread" "$room/printed"; then
-            echo "FAILED: $1 with thread $number refused: status $status, and printed"
-            head -n 10 -- "$room/printed"
+        run_refused "$1" THREAD=$number
+        if ! is_refused thread || ! is_fault "$room/no_thread"; then
+            fail_refused "$1 with thread $number refused"
             return 1
         fi
     done
+}
+
+# A thread and an allocation refused in one run: where it came to the thread, the answer is 51, whatever
+# else was refused. A thread's start takes memory too, so where it didn't, 51 is right as well as 50.
+refuse_a_thread_and_each() { # EXAMPLE THREAD
+    local number both=0
+    for ((number = 1; number <= 5000; number++)); do
+        run_refused "$1" THREAD="$2" MEMORY=$number
+        if ! is_fault "$room/no_thread" && { is_refused thread || ! is_fault "$room/no_memory"; }; then
+            fail_refused "$1 with thread $2 and allocation $number refused"
+            return 1
+        fi
+        if ! is_refused memory; then break; fi
+        if is_refused thread; then ((both += 1)); fi
+    done
+    if is_refused memory || ((both == 0)); then
+        fail_refused "$1: $both runs were refused both a thread and memory, and the last"
+        return 1
+    fi
+}
+
+# Each read of a script refused in turn: the answer is 2, and nothing is run.
+refuse_each_read() { # EXAMPLE
+    local number
+    printf 'refused 2 Read\n' >"$room/no_read"
+    for ((number = 1; number <= 5000; number++)); do
+        run_refused "$1" READ=$number
+        if ! is_refused read; then break; fi
+        if [[ $status != 2 ]] || ! cmp -s -- "$room/no_read" "$room/printed"; then
+            fail_refused "$1 with read $number refused"
+            return 1
+        fi
+    done
+    if ((number < 2)) || is_refused read || ! is_a_report_of "$1"; then
+        fail_refused "$1: $number reads, and the last run"
+        return 1
+    fi
+}
+
+# A script whose report is written in several pieces: a component sends to itself.
+make_a_long_report() {
+    cat >"$room/long_report.ttcn" <<END
+module LongReport {
+    type port Loop message { inout integer; }
+    type component Looper { port Loop from_here, to_here; }
+    testcase loops() runs on Looper {
+        connect(self:from_here, self:to_here);
+        for (var integer turn := 0; turn < 5000; turn := turn + 1) {
+            from_here.send(integer:turn);
+            to_here.receive(integer:turn);
+        }
+    }
+}
+END
+    "$tpr" run "$room/long_report.ttcn" >"$room/long_report" </dev/null
+}
+
+# Each write of a report refused in turn: status 3, and what was written before is its beginning.
+refuse_each_write() {
+    local number bytes
+    for ((number = 1; number <= 5000; number++)); do
+        with_refused WRITE=$number -- "$root/crates/tpr/out/tpr" run "$room/long_report.ttcn"
+        if ! is_refused write; then break; fi
+        bytes=$(wc -c <"$room/printed")
+        if [[ $status != 3 || -s $room/said ]] || ! cmp -s -n "$bytes" -- "$room/long_report" "$room/printed"; then
+            fail_refused "a long report with write $number refused"
+            return 1
+        fi
+    done
+    if ((number < 3)) || is_refused write || [[ $status != 0 ]] \
+        || ! cmp -s -- "$room/long_report" "$room/printed"; then
+        fail_refused "a long report of $((number - 1)) writes, and the last run"
+        return 1
+    fi
 }
 
 refused_of_each_run() {
@@ -93,18 +172,23 @@ refused_of_each_run() {
         refuse_each_of_run "$base"
         count $?
     done
+    for base in login_is_answered all_wait_for_each_other; do
+        refuse_each_read "$base"
+        count $?
+    done
     refuse_each_thread two_senders_to_one_that_ended 4
     count $?
     refuse_each_thread all_wait_for_each_other 2
     count $?
-}
-
-refused_in_runs() {
-    set_up "tests/refused_memory.c can be compiled" ${CC:-cc} -O1 -shared -fPIC \
-        -o "$room/refused_memory.so" "$root/tests/refused_memory.c" || return
-    set_up "tests/refused_thread.c can be compiled" ${CC:-cc} -O1 -shared -fPIC \
-        -o "$room/refused_thread.so" "$root/tests/refused_thread.c" || return
-    at_least 6 refused_of_each_run
+    refuse_a_thread_and_each two_senders_to_one_that_ended 1
+    count $?
+    refuse_a_thread_and_each two_senders_to_one_that_ended 4
+    count $?
+    refuse_a_thread_and_each all_wait_for_each_other 2
+    count $?
+    set_up "a long report can be made" make_a_long_report || return
+    refuse_each_write
+    count $?
 }
 
 # A run on stacks of 256 KiB, also of a script of 1 MiB: the report is the same.
