@@ -36,15 +36,53 @@ limit_of_names() {
     answered "a name of 65 letters" '15 Limit 1'
 }
 
+# So many loops in one another round the STATEMENT, which stands in line 9 of its script.
+loops_round() { # LOOPS STATEMENT
+    local number loops=''
+    for ((number = 0; number < $1; number += 1)); do
+        loops+="for (var integer i$number := 0; i$number < 1; i$number := i$number + 1) { "
+    done
+    module_with 'type record of T T;' 'type port R message { inout T; }' \
+        'type component D { port P p; port R r; }' 'testcase t() runs on D {' \
+        "$loops" "$2" "$(repeated '}' "$1")" '}' '}'
+}
+
+# What opens so many brackets in one another, each kind of bracket the innermost once.
+declare -A brackets_of=(
+    ['setverdict(pass);']=1
+    ['p.send(integer:1);']=1
+    ['p.receive(integer:1);']=1
+    ['p.trigger(integer:1);']=1
+    ['for (var integer j := 0; j < 1; j := j + 1) { }']=1
+    ['r.send(T:{});']=2
+    ['r.receive(T:{});']=2
+    ['p.receive(integer:(1));']=2
+    ['p.receive(integer:(1 .. 2));']=2
+    ['p.receive(integer:complement(1));']=2
+    ['p.check(receive(integer:1));']=2
+    ['alt { [] p.receive }']=2
+    ['alt { [] p.receive { } }']=2
+    ['alt { [] p.receive; [else] { } }']=2
+    ['alt { [] p.check(receive) }']=2
+    ['alt { [] p.check(receive(integer:1)) }']=3
+)
+
+# Beside the statement's brackets those of the module and of the test case are open.
 limit_of_brackets() {
-    local depth
-    for depth in 29 30; do
-        printf '%s' 'module M { type record of T T; type port P message { inout T; } type component C { port P p; } ' \
-            "testcase t() runs on C { p.send(T:$(repeated '{' $depth)$(repeated '}' $depth)); } }" >"$room/script"
-        if ((depth == 29)); then
-            answered "32 brackets open" accepted
+    local statement loops
+    for statement in "${!brackets_of[@]}"; do
+        loops=$((30 - brackets_of[$statement]))
+        loops_round "$loops" "$statement"
+        answered "32 brackets open in $statement" accepted
+        loops_round $((loops + 1)) "$statement"
+        answered "33 brackets open in $statement" '15 Limit 9'
+    done
+    for loops in 29 30; do
+        loops_round 0 "r.send(T:$(repeated '{' "$loops")$(repeated '}' "$loops"));"
+        if ((loops == 29)); then
+            answered "29 braces in a message" accepted
         else
-            answered "33 brackets open" '15 Limit 1'
+            answered "30 braces in a message" '15 Limit 9'
         fi
     done
 }
@@ -145,5 +183,5 @@ each_limit() {
 }
 
 script_limits() {
-    at_least 25 each_limit
+    at_least 57 each_limit
 }

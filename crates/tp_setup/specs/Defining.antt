@@ -1,7 +1,6 @@
 -- What the definitions of a module define.
 use Rattle.std.specs.Prelude.{◌≤◌, All, length}
 use Rattle.tp_syntax.specs.declared.tree.Module.{Module}
-use Rattle.tp_config.specs.declared.port_type.TheConstants.{PORT_LIMIT}
 use Rattle.tp_setup.specs.declared.definitions.Definitions.{Definitions}
 use Rattle.tp_setup.specs.Sorted.{AreSorted}
 use Rattle.tp_setup.specs.Resolved.{AreTypes, AreComponentTypes}
@@ -11,4 +10,4 @@ pub record IsDefined (m : Module) (d : Definitions) : Type 0 where
   pub sorted : AreSorted m d.sorted
   pub types : AreTypes m d.types
   pub components : AreComponentTypes m d.components.items
-  pub few_ports : All (λ t. length t.ports.entries ≤ PORT_LIMIT) d.components.items
+  pub few_ports : All (λ t. length t.ports.entries ≤ 64) d.components.items

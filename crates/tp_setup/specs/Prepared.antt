@@ -1,5 +1,5 @@
 -- What the first three passes of the checks ask of a module, and what they make of it.
-use Rattle.std.specs.Prelude.{◌≡◌, List, [], ◌∷◌, map}
+use Rattle.std.specs.Prelude.{◌≡◌, ◌≤◌, List, [], ◌∷◌, All, length, map}
 use Rattle.tp_syntax.specs.declared.tree.Module.{Module}
 use Rattle.tp_syntax.specs.declared.tree.TestCase.{TestCase}
 use Rattle.tp_config.specs.declared.port_type.CompType.{CompType}
@@ -19,6 +19,7 @@ use Rattle.tp_setup.specs.Starting.{AreStarts}
 pub record IsConfigOf (m : Module) (case : TestCase) (config : Setup) : Type 0 where
   pub types : List CompType
   pub types_are : AreComponentTypes m types
+  pub few_ports : All (λ t. length t.ports.entries ≤ 64) types
   pub set_up : IsSetUp (component_type_names m) (map ports_of types) case config
 
 -- what was made of a module

@@ -1,11 +1,16 @@
 -- The rules on names and definitions.
-use Rattle.std.specs.Prelude.{◌≡◌, ◌≤◌, ℕ, Option, Some, List, [], All, Contains, IfSome, IsSome, length, string_bytes, codes}
+use Rattle.std.specs.Prelude.{◌≡◌, ◌<◌, ◌≤◌, ◌⊎◌, IsTrue, is_some, ℕ, Bool, Option, Some, List, [], All, Contains, IfSome, IsSome, length, string_bytes, codes}
 use Rattle.tp_syntax.specs.declared.tree.Module.{Module}
 use Rattle.tp_syntax.specs.declared.tree.Definition.{Definition}
 use Rattle.tp_syntax.specs.declared.tree.Defined.{Defined}
 use Rattle.tp_syntax.specs.declared.tree.Defined.TheVariants as d
 use Rattle.tp_syntax.specs.declared.tree.TypeName.{TypeName}
-use Rattle.tp_name.specs.Tables.{AreDistinct}
+use Rattle.tp_syntax.specs.declared.tree.ComponentType.{ComponentType}
+use Rattle.tp_refusal.specs.declared.refusal.Refusal.TheVariants.{Unknown, Limit}
+use Rattle.tp_token.specs.declared.fault.ScriptFault.{ScriptFault}
+use Rattle.tp_token.specs.declared.fault.ScriptFault.TheVariants.{Refused}
+use Rattle.std.specs.List.{list_all}
+use Rattle.tp_name.specs.Tables.{AreDistinct, place_of}
 use Rattle.tp_setup.specs.Definitions.{definition_names, inner_names, declared_ports}
 use Rattle.tp_setup.specs.Resolved.{ty_of}
 
@@ -55,6 +60,17 @@ HasFewPorts (d.Port p) = Unit {0}
 HasFewPorts (d.Component c) = length (declared_ports c.ports.items) ≤ 64
 HasFewPorts (d.Function f) = Unit {0}
 HasFewPorts (d.TestCase c) = Unit {0}
+
+-- whether the type of each port of a component type is among these names
+abbrev pub has_known_ports : List (List ℕ) → ComponentType → Bool
+has_known_ports ports c = list_all (λ p. is_some (place_of ports (string_bytes p.type_name))) c.ports.items
+
+-- a component type is refused so, at its line: the type of a port is unknown; or each is known, and there are more
+-- than 64 ports
+abbrev pub IsComponentFault : List (List ℕ) → ComponentType → ℕ → ScriptFault → Type 0
+IsComponentFault ports c line fault =
+    ((¬ IsTrue (has_known_ports ports c)) × (fault ≡ Refused Unknown line))
+    ⊎ (IsTrue (has_known_ports ports c) × (64 < length (declared_ports c.ports.items)) × (fault ≡ Refused Limit line))
 
 -- the name of the function that plays the system under test
 abbrev pub sut : List ℕ

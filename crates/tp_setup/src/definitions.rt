@@ -1,19 +1,19 @@
 //! The second pass of the checks: what definitions name is defined.
-ghost use Rattle.std.specs.Prelude.{◌≡◌, ◌≤◌, ◌↔◌, All, Contains, IfOk, IfSome, IsTrue, OnOk, [], Some, is_some, length, map, option_map, string_bytes};
+ghost use Rattle.std.specs.Prelude.{◌≡◌, ◌≤◌, ◌↔◌, All, Contains, IfErr, IfOk, IfSome, IsTrue, OnOk, [], Some, is_some, length, map, option_map, string_bytes};
 ghost use Rattle.std.specs.List.{AllZip, list_all};
 ghost use Rattle.tp_setup.specs.Definitions.{declared_ports};
-ghost use Rattle.tp_setup.specs.Rules.{IsSound, IsType, sut};
+ghost use Rattle.tp_setup.specs.Rules.{IsComponentFault, IsSound, IsType, sut};
 ghost use Rattle.tp_name.specs.Tables.{place_of};
 ghost use Rattle.tp_setup.specs.Sorted.{AreSorted, AreSound, ArePortsNamed, HasSoundDefinitions};
 ghost use Rattle.tp_setup.specs.Resolved.{IsComponentType, IsNamedType};
 ghost use Rattle.tp_setup.specs.Defining.{IsDefined};
 
-use crate::ports::{make_components, make_port_types};
+use crate::ports::{has_room, make_components, make_port_types};
 use crate::resolving::{are_types, is_type, make_types};
 use crate::sorted::{Sorted, sort};
 use crate::unique_names::CaseAt;
 use std::alloc::Global;
-use tp_config::port_type::{CompType, PORT_LIMIT};
+use tp_config::port_type::CompType;
 use tp_name::fault::{Refusal, ScriptFault, refused};
 use tp_name::name_set::NameSet;
 use tp_syntax::tree::{
@@ -71,11 +71,11 @@ fn are_parameters_known(components: &NameSet, parameters: &[Parameter]) -> bool
 
 /// Whether there are at most 64 ports.
 fn are_ports_few(ports: &[PortDeclaration]) -> bool
-    ensures { IsTrue result → length (declared_ports ports.now) ≤ 64 }
+    ensures { IsTrue result ↔ (length (declared_ports ports.now) ≤ 64) }
 {
     let mut count = 0;
     for port in ports {
-        if port.names.len() > PORT_LIMIT - count {
+        if !has_room(count, port.names.len()) {
             return false;
         }
         count += port.names.len();
@@ -94,7 +94,8 @@ fn known(is_known: bool, line: u32) -> Result<(), ScriptFault>
     }
 }
 
-/// Looks at a component type.
+/// Looks at a component type. 11 `Unknown` at the line exactly where the type of a port is unknown; else
+/// 15 `Limit` at the line exactly where there are more than 64 ports.
 fn check_component(
     port_types: &NameSet,
     component: &ComponentType,
@@ -102,8 +103,11 @@ fn check_component(
 ) -> Result<(), ScriptFault>
     ensures known { OnOk result (IsTrue (list_all (λ p. is_some (place_of port_types.now (string_bytes p.type_name))) component.now.ports.items)) }
     ensures few { OnOk result (length (declared_ports component.now.ports.items) ≤ 64) }
+    ensures refused { IfErr result (IsComponentFault port_types.now component.now line) }
 {
-    known(are_ports_known(port_types, &component.ports), line)?;
+    if !are_ports_known(port_types, &component.ports) {
+        return Err(refused(Refusal::Unknown, line));
+    }
     if !are_ports_few(&component.ports) {
         return Err(ScriptFault::limit(line));
     }
@@ -229,7 +233,7 @@ struct Made {
 fn make_component_types(alloc: Global, sorted: &Sorted) -> Result<Vec<CompType>, ScriptFault>
     requires { ArePortsNamed sorted.now }
     ensures components { IfOk result (λ r. AllZip (IsComponentType sorted.now.type_names (map (λ p. p.now) sorted.now.ports.items)) (map (λ c. c.now) sorted.now.components.items) r.items) }
-    ensures few { IfOk result (λ r. All (λ t. length t.ports.entries ≤ PORT_LIMIT) r.items) }
+    ensures few { IfOk result (λ r. All (λ t. length t.ports.entries ≤ 64) r.items) }
 {
     let made = make_port_types(alloc, &sorted.type_names, &sorted.ports)?;
     make_components(alloc, sorted, &made)
@@ -240,7 +244,7 @@ fn make(alloc: Global, sorted: &Sorted) -> Result<Made, ScriptFault>
     requires { ArePortsNamed sorted.now }
     ensures types { IfOk result (λ made. AllZip (IsNamedType sorted.now.type_names) (map (λ x. x.now) sorted.now.types.items) made.types) }
     ensures components { IfOk result (λ made. AllZip (IsComponentType sorted.now.type_names (map (λ p. p.now) sorted.now.ports.items)) (map (λ c. c.now) sorted.now.components.items) made.components.items) }
-    ensures few { IfOk result (λ made. All (λ t. length t.ports.entries ≤ PORT_LIMIT) made.components.items) }
+    ensures few { IfOk result (λ made. All (λ t. length t.ports.entries ≤ 64) made.components.items) }
 {
     let types = make_types(alloc, &sorted.type_names, &sorted.types)?;
     let components = make_component_types(alloc, sorted)?;

@@ -1,5 +1,5 @@
 //! The component types that a module defines, with what their ports receive and send.
-ghost use Rattle.std.specs.Prelude.{◌≡◌, ◌≤◌, ◌++◌, ◌∷◌, [], List, IfOk, IfSome, OnOk, All, length, map, slice_get};
+ghost use Rattle.std.specs.Prelude.{◌≡◌, ◌+◌, ◌≤◌, ◌↔◌, ◌++◌, ◌∷◌, [], List, IfOk, IfSome, IsTrue, OnOk, All, length, map, slice_get};
 ghost use Rattle.std.specs.Option.{option_copied};
 ghost use Rattle.tp_value.specs.declared.types.Ty.{Ty};
 ghost use Rattle.std.specs.List.{AllZip, flat_map};
@@ -180,6 +180,14 @@ fn find_made<'p>(sorted: &Sorted, made: &'p [PortType], name: &str) -> Option<&'
     Some(found)
 }
 
+/// Whether a component type that has so many ports may have so many more: it has at most 64.
+pub fn has_room(count: usize, more: usize) -> bool
+    requires { count ≤ 64 }
+    ensures { IsTrue result ↔ (count + more ≤ 64) }
+{
+    more <= PORT_LIMIT - count
+}
+
 /// A component type: its ports, in declared order. 11 `Unknown` at line 0 where the type of one is
 /// unknown, and 12 `Duplicate` at the line of a name that is given twice.
 fn make_component(
@@ -190,7 +198,7 @@ fn make_component(
 ) -> Result<CompType, ScriptFault>
     requires { HasMade sorted.now made.now }
     ensures ports { IfOk result (IsComponentType sorted.now.type_names (map (λ p. p.now) sorted.now.ports.items) component.now) }
-    ensures few { IfOk result (λ t. length t.ports.entries ≤ PORT_LIMIT) }
+    ensures few { IfOk result (λ t. length t.ports.entries ≤ 64) }
 {
     let mut ports = CompType {
         ports: IndexMap::new(alloc),
@@ -201,7 +209,7 @@ fn make_component(
         };
         add_ports(alloc, &mut ports, &declaration.names, port_type)?;
     }
-    if ports.ports.len() > PORT_LIMIT {
+    if !has_room(0, ports.ports.len()) {
         return Err(ScriptFault::limit(0));
     }
     Ok(ports)
@@ -215,7 +223,7 @@ pub fn make_components(
 ) -> Result<Vec<CompType>, ScriptFault>
     requires { HasMade sorted.now made.now }
     ensures components { IfOk result (λ r. AllZip (IsComponentType sorted.now.type_names (map (λ p. p.now) sorted.now.ports.items)) (map (λ c. c.now) sorted.now.components.items) r.items) }
-    ensures few { IfOk result (λ r. All (λ t. length t.ports.entries ≤ PORT_LIMIT) r.items) }
+    ensures few { IfOk result (λ r. All (λ t. length t.ports.entries ≤ 64) r.items) }
 {
     let mut components = Vec::new(alloc);
     for component in &sorted.components {

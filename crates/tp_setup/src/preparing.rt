@@ -18,7 +18,7 @@ use crate::starting::check_starts;
 use crate::starts::Starts;
 use crate::unique_names::{CaseAt, check_names};
 use std::alloc::Global;
-use tp_config::port_type::{CompType, PORT_LIMIT};
+use tp_config::port_type::CompType;
 use tp_name::fault::ScriptFault;
 use tp_syntax::tree::Module;
 
@@ -52,7 +52,7 @@ fn configure<'m>(
 ) -> Result<Configured<'m>, ScriptFault>
     requires components { AreComponentsNamed sorted.now }
     requires functions { AreFunctionsNamed sorted.now }
-    requires few { All (λ t. length t.ports.entries ≤ PORT_LIMIT) components.items }
+    requires few { All (λ t. length t.ports.entries ≤ 64) components.items }
     ensures config { IfOk result (λ c. IsSetUp sorted.now.component_names (map ports_of components.items) case.entry.case.now c.made.config) }
     ensures variables { IfOk result (λ c. c.made.variables ≡ variables case.entry.case.now.setups.items) }
     ensures sound { OnOk result (AreSoundVariables sorted.now.component_names (map (λ c. c.now) sorted.now.components.items) case.entry.case.now) }

@@ -14,7 +14,7 @@ use std::alloc::Global;
 use tp_config::config::Config;
 use tp_config::connecting::ConnectFault;
 use tp_config::mapping::MapFault;
-use tp_config::port_type::{COMPONENT_LIMIT, CompId, CompType, PORT_LIMIT, PortRef, Role};
+use tp_config::port_type::{COMPONENT_LIMIT, CompId, CompType, PortRef, Role};
 use tp_name::fault::{Memory, Refusal, ScriptFault, refused};
 use tp_name::name_set::NameSet;
 use tp_syntax::tree::{End, EndComponent, Setup, SetupAction, TestCase};
@@ -293,7 +293,7 @@ pub fn set_up<'m>(
     components: Vec<CompType>,
 ) -> Result<SetUp<'m>, ScriptFault>
     requires named { AreComponentsNamed sorted.now }
-    requires few { All (λ t. length t.ports.entries ≤ PORT_LIMIT) components.items }
+    requires few { All (λ t. length t.ports.entries ≤ 64) components.items }
     ensures config { IfOk result (λ s. IsSetUp sorted.now.component_names (map ports_of components.items) case.entry.case.now s.config) }
     ensures variables { IfOk result (λ s. s.variables ≡ variables case.entry.case.now.setups.items) }
     ensures sound { OnOk result (AreSoundVariables sorted.now.component_names (map (λ c. c.now) sorted.now.components.items) case.entry.case.now) }

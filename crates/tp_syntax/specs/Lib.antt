@@ -1,5 +1,6 @@
 pub mod Ahead
 pub mod Definitions
+pub mod Nesting
 pub mod Refusals
 pub mod Sequences
 pub mod Statements

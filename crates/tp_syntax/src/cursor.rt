@@ -1,6 +1,7 @@
 //! What is left to read, and its first tokens.
-ghost use Rattle.std.specs.Prelude.{◌≡◌, ◌+◌, ◌≤◌, ◌∷◌, ◌++◌, length, IfErr, IfOk, OnOk, string_bytes};
+ghost use Rattle.std.specs.Prelude.{◌≡◌, ◌+◌, ◌≤◌, ◌∷◌, ◌++◌, length, IfErr, IfOk, OnErr, OnOk, string_bytes};
 ghost use Rattle.std.specs.Bool.{OnTrue, OnFalse};
+ghost use Rattle.tp_refusal.specs.declared.refusal.Refusal.TheVariants.{Limit};
 ghost use Rattle.tp_token.specs.Lexeme.{name, word, lexeme_of};
 ghost use Rattle.tp_syntax.specs.Ahead.{ahead, symbol_before, before};
 ghost use Rattle.tp_syntax.specs.Sequences.{end_lexemes};
@@ -18,10 +19,12 @@ pub(crate) struct Parser<'a, 't> {
     pub last_line: u32,
 }
 
-/// How many brackets may still be opened behind one more. 15 `Limit` at the line: none.
+/// How many brackets may still be opened behind one more, of so many before it. 15 `Limit` at the line
+/// exactly where it is none.
 pub(crate) fn below(left: u32, line: u32) -> Result<u32, ScriptFault>
     ensures value { IfOk result (λ inner. inner + 1 ≡ left) }
-    ensures fault { IfErr result IsOfGrammar }
+    ensures full { OnErr result (left ≡ 0) }
+    ensures fault { IfErr result (λ e. e ≡ ScriptFault.Refused Limit line) }
 {
     if left == 0 {
         return Err(ScriptFault::limit(line));

@@ -2,6 +2,7 @@
 ghost use Rattle.std.specs.Prelude.{◌≡◌, ◌+◌, ◌<◌, ◌≤◌, ◌∷◌, ◌++◌, length, IfErr, IfOk, OnOk, string_bytes};
 ghost use Rattle.tp_syntax.specs.Ahead.{ahead};
 ghost use Rattle.tp_syntax.specs.Definitions.{field_type_lexemes, field_types_lexemes, record_type_lexemes, list_type_lexemes, way_lexeme, types_lexemes, direction_lexemes, directions_lexemes, port_type_lexemes, declared_name_lexemes, declared_names_lexemes, port_declaration_lexemes, port_declarations_lexemes, component_type_lexemes, parameter_lexemes, parameters_lexemes, function_lexemes, end_component_lexeme, end_point_lexemes, ends_lexemes, setup_action_lexemes, setup_lexemes, setups_lexemes, arguments_lexemes, start_lexemes, starts_lexemes, all_done_lexemes, system_lexemes, test_case_lexemes, defined_lexemes, definition_lexemes, definitions_lexemes, module_lexemes};
+ghost use Rattle.tp_syntax.specs.Nesting.{defined_depth, definitions_depth, module_depth};
 ghost use Rattle.tp_syntax.specs.Refusals.{IsOfGrammar};
 
 use crate::cursor::Parser;
@@ -271,6 +272,7 @@ impl<'a, 't> Parser<'a, 't> {
     fn function(&mut self, alloc: Global, left: u32) -> Result<Function, ScriptFault>
         ensures tokens { IfOk result (λ x. ahead self.old.rest.now ≡ function_lexemes x ++ ahead self.new.rest.now) }
         ensures shorter { OnOk result (length self.new.rest.now < length self.old.rest.now) }
+        ensures nested { IfOk result (λ x. defined_depth (Defined.Function x) ≤ left) }
         ensures fault { IfErr result IsOfGrammar }
     {
         self.word(Word::Function)?;
@@ -525,6 +527,7 @@ impl<'a, 't> Parser<'a, 't> {
     fn test_case(&mut self, alloc: Global, left: u32) -> Result<TestCase, ScriptFault>
         ensures tokens { IfOk result (λ x. ahead self.old.rest.now ≡ test_case_lexemes x ++ ahead self.new.rest.now) }
         ensures shorter { OnOk result (length self.new.rest.now < length self.old.rest.now) }
+        ensures nested { IfOk result (λ x. defined_depth (Defined.TestCase x) ≤ left) }
         ensures fault { IfErr result IsOfGrammar }
     {
         self.word(Word::Testcase)?;
@@ -559,6 +562,7 @@ impl<'a, 't> Parser<'a, 't> {
     fn defined(&mut self, alloc: Global, left: u32) -> Result<Defined, ScriptFault>
         ensures tokens { IfOk result (λ x. ahead self.old.rest.now ≡ defined_lexemes x ++ ahead self.new.rest.now) }
         ensures shorter { OnOk result (length self.new.rest.now < length self.old.rest.now) }
+        ensures nested { IfOk result (λ x. defined_depth x ≤ left) }
         ensures fault { IfErr result IsOfGrammar }
     {
         match self.word_at(0) {
@@ -579,6 +583,7 @@ impl<'a, 't> Parser<'a, 't> {
     fn defined_type(&mut self, alloc: Global) -> Result<Defined, ScriptFault>
         ensures tokens { IfOk result (λ x. ahead self.old.rest.now ≡ defined_lexemes x ++ ahead self.new.rest.now) }
         ensures shorter { OnOk result (length self.new.rest.now < length self.old.rest.now) }
+        ensures nested { IfOk result (λ x. defined_depth x ≡ 0) }
         ensures fault { IfErr result IsOfGrammar }
     {
         match self.word_at(1) {
@@ -611,6 +616,7 @@ impl<'a, 't> Parser<'a, 't> {
     fn definition(&mut self, alloc: Global, left: u32) -> Result<Definition, ScriptFault>
         ensures tokens { IfOk result (λ x. ahead self.old.rest.now ≡ definition_lexemes x ++ ahead self.new.rest.now) }
         ensures shorter { OnOk result (length self.new.rest.now < length self.old.rest.now) }
+        ensures nested { IfOk result (λ x. defined_depth x.defined ≤ left) }
         ensures fault { IfErr result IsOfGrammar }
     {
         let line = self.line();
@@ -628,6 +634,7 @@ impl<'a, 't> Parser<'a, 't> {
     fn definitions(&mut self, alloc: Global, left: u32) -> Result<Vec<Definition>, ScriptFault>
         ensures tokens { IfOk result (λ x. ahead self.old.rest.now ≡ definitions_lexemes x.items ++ ahead self.new.rest.now) }
         ensures shorter { OnOk result (length self.new.rest.now ≤ length self.old.rest.now) }
+        ensures nested { IfOk result (λ x. definitions_depth x.items ≤ left) }
         ensures fault { IfErr result IsOfGrammar }
     {
         let mut definitions = Vec::new(alloc);
@@ -643,6 +650,7 @@ impl<'a, 't> Parser<'a, 't> {
     pub fn module(&mut self, alloc: Global, left: u32) -> Result<Module, ScriptFault>
         ensures tokens { IfOk result (λ x. ahead self.old.rest.now ≡ module_lexemes x ++ ahead self.new.rest.now) }
         ensures shorter { OnOk result (length self.new.rest.now < length self.old.rest.now) }
+        ensures nested { IfOk result (λ x. module_depth x ≤ left) }
         ensures fault { IfErr result IsOfGrammar }
     {
         let line = self.line();

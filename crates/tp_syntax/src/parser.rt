@@ -1,6 +1,7 @@
 //! From a text to its module.
 ghost use Rattle.std.specs.Prelude.{◌≡◌, ◌≤◌, IfErr, IfOk, OnOk, length};
 ghost use Rattle.tp_syntax.specs.Definitions.{IsReadAs};
+ghost use Rattle.tp_syntax.specs.Nesting.{module_depth};
 ghost use Rattle.tp_syntax.specs.Refusals.{HasTokens, IsUnread};
 
 use crate::cursor::Parser;
@@ -13,7 +14,8 @@ use tp_token::lexer::lex;
 const BRACKETS: u32 = 32;
 
 /// The module that the text spells, all of the text: its tokens are those of the text, none left out,
-/// added or moved, but for a `-` directly before the number 0, which is left out.
+/// added or moved, but for a `-` directly before the number 0, which is left out. Its brackets nest at
+/// most 32 deep.
 ///
 /// It makes the whole text into tokens first, by `lex` of `tp_token`, whose refusals come before those
 /// of the grammar. Of these the first in the text is answered:
@@ -27,6 +29,7 @@ const BRACKETS: u32 = 32;
 pub fn parse(alloc: Global, text: &[u8]) -> Result<Module, ScriptFault>
     ensures read { IfOk result (IsReadAs text.now) }
     ensures within { OnOk result (HasTokens text.now) }
+    ensures nested { IfOk result (λ m. module_depth m ≤ 32) }
     ensures refused { IfErr result (IsUnread text.now) }
 {
     let tokens = lex(alloc, text)?;
@@ -35,11 +38,18 @@ pub fn parse(alloc: Global, text: &[u8]) -> Result<Module, ScriptFault>
         rest: &tokens,
         last_line,
     };
-    let module = parser.module(alloc, BRACKETS)?;
+    let module = parser.module(alloc, most_brackets())?;
     if !parser.rest.is_empty() {
         return Err(ScriptFault::syntax(parser.line()));
     }
     Ok(module)
+}
+
+/// How many brackets may be open at once.
+fn most_brackets() -> u32
+    ensures { result ≡ 32 }
+{
+    BRACKETS
 }
 
 /// The line of the end of the text: one more than the number of bytes 10 in it.

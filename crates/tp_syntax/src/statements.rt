@@ -5,6 +5,7 @@ ghost use Rattle.tp_syntax.specs.Ahead.{ahead};
 ghost use Rattle.tp_syntax.specs.Sequences.{braced};
 ghost use Rattle.tp_syntax.specs.Values.{int_lexemes};
 ghost use Rattle.tp_syntax.specs.Statements.{component_lexemes, sent_lexemes, to_lexemes, send_lexemes, template_part, from_lexemes, named_part, redirect_lexemes, receive_lexemes, turns_lexemes, port_operation_lexeme, control_lexemes, all_ports_lexemes, verdict_lexeme, set_verdict_lexemes, variable_lexemes, variables_lexemes, action_lexemes, branch_lexemes, body_lexemes, counted_lexemes, else_branch_lexemes, otherwise_lexemes, statement_lexemes, statements_lexemes, branches_lexemes};
+ghost use Rattle.tp_syntax.specs.Nesting.{action_depth, body_depth, branch_depth, branches_depth, counted_depth, otherwise_depth, part_depth, receive_depth, sent_depth, statement_depth, statements_depth};
 ghost use Rattle.tp_syntax.specs.Refusals.{IsOfGrammar};
 
 use crate::cursor::Parser;
@@ -60,6 +61,7 @@ impl<'a, 't> Parser<'a, 't> {
     fn sent(&mut self, alloc: Global, left: u32) -> Result<Sent, ScriptFault>
         ensures tokens { IfOk result (λ s. ahead self.old.rest.now ≡ sent_lexemes s ++ ahead self.new.rest.now) }
         ensures shorter { OnOk result (length self.new.rest.now < length self.old.rest.now) }
+        ensures nested { IfOk result (λ s. sent_depth s ≤ left) }
         ensures fault { IfErr result IsOfGrammar }
     {
         if self.is_name_at(0) && self.is_symbol_at(1, Symbol::RightParen) {
@@ -92,6 +94,7 @@ impl<'a, 't> Parser<'a, 't> {
     fn send(&mut self, alloc: Global, left: u32) -> Result<Send, ScriptFault>
         ensures tokens { IfOk result (λ s. ahead self.old.rest.now ≡ send_lexemes s ++ ahead self.new.rest.now) }
         ensures shorter { OnOk result (length self.new.rest.now < length self.old.rest.now) }
+        ensures nested { IfOk result (λ s. sent_depth s.sent + 1 ≤ left) }
         ensures fault { IfErr result IsOfGrammar }
     {
         let port = self.name(alloc)?;
@@ -113,6 +116,7 @@ impl<'a, 't> Parser<'a, 't> {
     ) -> Result<Option<MessageTemplate>, ScriptFault>
         ensures tokens { IfOk result (λ t. ahead self.old.rest.now ≡ template_part t ++ ahead self.new.rest.now) }
         ensures shorter { OnOk result (length self.new.rest.now ≤ length self.old.rest.now) }
+        ensures nested { IfOk result (λ t. part_depth t ≤ left) }
         ensures fault { IfErr result IsOfGrammar }
     {
         if !self.is_symbol_at(0, Symbol::LeftParen) {
@@ -184,6 +188,7 @@ impl<'a, 't> Parser<'a, 't> {
     fn received(&mut self, alloc: Global, left: u32) -> Result<Received, ScriptFault>
         ensures tokens { IfOk result (λ r. ahead self.old.rest.now ≡ template_part r.template ++ (from_lexemes r.sender ++ (redirect_lexemes r.redirect ++ ahead self.new.rest.now))) }
         ensures shorter { OnOk result (length self.new.rest.now ≤ length self.old.rest.now) }
+        ensures nested { IfOk result (λ r. part_depth r.template ≤ left) }
         ensures fault { IfErr result IsOfGrammar }
     {
         let template = self.template_part(alloc, left)?;
@@ -201,6 +206,7 @@ impl<'a, 't> Parser<'a, 't> {
     fn receive(&mut self, alloc: Global, left: u32) -> Result<Receive, ScriptFault>
         ensures tokens { IfOk result (λ r. ahead self.old.rest.now ≡ receive_lexemes r ++ ahead self.new.rest.now) }
         ensures shorter { OnOk result (length self.new.rest.now < length self.old.rest.now) }
+        ensures nested { IfOk result (λ r. receive_depth r ≤ left) }
         ensures fault { IfErr result IsOfGrammar }
     {
         let port = self.name(alloc)?;
@@ -303,6 +309,7 @@ impl<'a, 't> Parser<'a, 't> {
     fn set_verdict(&mut self, left: u32) -> Result<VerdictName, ScriptFault>
         ensures tokens { IfOk result (λ v. ahead self.old.rest.now ≡ set_verdict_lexemes v ++ ahead self.new.rest.now) }
         ensures shorter { OnOk result (length self.new.rest.now < length self.old.rest.now) }
+        ensures nested { OnOk result (1 ≤ left) }
         ensures fault { IfErr result IsOfGrammar }
     {
         self.word(Word::Setverdict)?;
@@ -352,6 +359,7 @@ impl<'a, 't> Parser<'a, 't> {
     fn turns(&mut self, alloc: Global, left: u32) -> Result<Turns, ScriptFault>
         ensures tokens { IfOk result (λ x. ahead self.old.rest.now ≡ turns_lexemes x (ahead self.new.rest.now)) }
         ensures shorter { OnOk result (length self.new.rest.now < length self.old.rest.now) }
+        ensures nested { OnOk result (1 ≤ left) }
         ensures fault { IfErr result IsOfGrammar }
     {
         self.word(Word::For)?;
@@ -404,6 +412,7 @@ impl<'a, 't> Parser<'a, 't> {
     fn else_mark(&mut self, left: u32) -> Result<(), ScriptFault>
         ensures tokens { OnOk result (ahead self.old.rest.now ≡ symbol Symbol.LeftBracket ∷ word Word.Else ∷ symbol Symbol.RightBracket ∷ ahead self.new.rest.now) }
         ensures shorter { OnOk result (length self.new.rest.now < length self.old.rest.now) }
+        ensures nested { OnOk result (1 ≤ left) }
         ensures fault { IfErr result IsOfGrammar }
     {
         self.open(Symbol::LeftBracket, left)?;
@@ -444,10 +453,11 @@ impl<'a, 't> Parser<'a, 't> {
 
     /// A statement, in which so many brackets may be opened.
     #[cycle(statement)]
-    #[tactic(auto, using(crate::proofs::StatementTokens::statement_rules))]
+    #[tactic(auto, using(crate::proofs::StatementTokens::statement_rules, crate::proofs::Nesting::statement_nesting))]
     fn statement(&mut self, alloc: Global, left: u32) -> Result<Statement, ScriptFault>
         ensures tokens { IfOk result (λ s. ahead self.old.rest.now ≡ statement_lexemes s ++ ahead self.new.rest.now) }
         ensures shorter { OnOk result (length self.new.rest.now < length self.old.rest.now) }
+        ensures nested { IfOk result (λ s. statement_depth s ≤ left) }
         ensures fault { IfErr result IsOfGrammar }
     {
         let line = self.line();
@@ -463,10 +473,11 @@ impl<'a, 't> Parser<'a, 't> {
 
     /// What a statement does.
     #[cycle(statement)]
-    #[tactic(auto, using(crate::proofs::StatementTokens::statement_rules))]
+    #[tactic(auto, using(crate::proofs::StatementTokens::statement_rules, crate::proofs::Nesting::statement_nesting))]
     fn action(&mut self, alloc: Global, left: u32) -> Result<Action, ScriptFault>
         ensures tokens { IfOk result (λ a. ahead self.old.rest.now ≡ action_lexemes a ++ ahead self.new.rest.now) }
         ensures shorter { OnOk result (length self.new.rest.now < length self.old.rest.now) }
+        ensures nested { IfOk result (λ a. action_depth a ≤ left) }
         ensures fault { IfErr result IsOfGrammar }
     {
         match self.beginning() {
@@ -500,10 +511,11 @@ impl<'a, 't> Parser<'a, 't> {
 
     /// An `alt`. 10 `Syntax` also: it has no branch, or one behind `[else]`.
     #[cycle(statement)]
-    #[tactic(auto, using(crate::proofs::StatementTokens::statement_rules))]
+    #[tactic(auto, using(crate::proofs::StatementTokens::statement_rules, crate::proofs::Nesting::statement_nesting))]
     fn alt(&mut self, alloc: Global, left: u32) -> Result<Action, ScriptFault>
         ensures tokens { IfOk result (λ a. ahead self.old.rest.now ≡ action_lexemes a ++ ahead self.new.rest.now) }
         ensures shorter { OnOk result (length self.new.rest.now < length self.old.rest.now) }
+        ensures nested { IfOk result (λ a. action_depth a ≤ left) }
         ensures fault { IfErr result IsOfGrammar }
     {
         self.word(Word::Alt)?;
@@ -522,6 +534,7 @@ impl<'a, 't> Parser<'a, 't> {
     fn branches(&mut self, alloc: Global, left: u32) -> Result<Vec<Branch>, ScriptFault>
         ensures tokens { IfOk result (λ v. ahead self.old.rest.now ≡ branches_lexemes v.items ++ ahead self.new.rest.now) }
         ensures shorter { OnOk result (length self.new.rest.now ≤ length self.old.rest.now) }
+        ensures nested { IfOk result (λ v. branches_depth v.items ≤ left) }
         ensures fault { IfErr result IsOfGrammar }
     {
         let mut branches = Vec::new(alloc);
@@ -534,10 +547,11 @@ impl<'a, 't> Parser<'a, 't> {
 
     /// A branch behind a receiving operation.
     #[cycle(statement)]
-    #[tactic(auto, using(crate::proofs::StatementTokens::statement_rules))]
+    #[tactic(auto, using(crate::proofs::StatementTokens::statement_rules, crate::proofs::Nesting::statement_nesting))]
     fn branch(&mut self, alloc: Global, left: u32) -> Result<Branch, ScriptFault>
         ensures tokens { IfOk result (λ b. ahead self.old.rest.now ≡ branch_lexemes b ++ ahead self.new.rest.now) }
         ensures shorter { OnOk result (length self.new.rest.now < length self.old.rest.now) }
+        ensures nested { IfOk result (λ b. branch_depth b ≤ left) }
         ensures fault { IfErr result IsOfGrammar }
     {
         let line = self.line();
@@ -557,10 +571,11 @@ impl<'a, 't> Parser<'a, 't> {
 
     /// The block of a branch, if it is there.
     #[cycle(statement)]
-    #[tactic(auto, using(crate::proofs::StatementTokens::statement_rules))]
+    #[tactic(auto, using(crate::proofs::StatementTokens::statement_rules, crate::proofs::Nesting::statement_nesting))]
     fn body(&mut self, alloc: Global, left: u32) -> Result<BranchBody, ScriptFault>
         ensures tokens { IfOk result (λ b. ahead self.old.rest.now ≡ body_lexemes b ++ ahead self.new.rest.now) }
         ensures shorter { OnOk result (length self.new.rest.now ≤ length self.old.rest.now) }
+        ensures nested { IfOk result (λ b. body_depth b ≤ left) }
         ensures fault { IfErr result IsOfGrammar }
     {
         if !self.is_symbol_at(0, Symbol::LeftBrace) {
@@ -572,10 +587,11 @@ impl<'a, 't> Parser<'a, 't> {
 
     /// The branch `[else]`, if it comes next.
     #[cycle(statement)]
-    #[tactic(auto, using(crate::proofs::StatementTokens::statement_rules))]
+    #[tactic(auto, using(crate::proofs::StatementTokens::statement_rules, crate::proofs::Nesting::statement_nesting))]
     fn otherwise(&mut self, alloc: Global, left: u32) -> Result<Option<ElseBranch>, ScriptFault>
         ensures tokens { IfOk result (λ e. ahead self.old.rest.now ≡ otherwise_lexemes e ++ ahead self.new.rest.now) }
         ensures shorter { OnOk result (length self.new.rest.now ≤ length self.old.rest.now) }
+        ensures nested { IfOk result (λ e. otherwise_depth e ≤ left) }
         ensures fault { IfErr result IsOfGrammar }
     {
         if !self.is_symbol_at(0, Symbol::LeftBracket) {
@@ -594,10 +610,11 @@ impl<'a, 't> Parser<'a, 't> {
 
     /// A counted `for`.
     #[cycle(statement)]
-    #[tactic(auto, using(crate::proofs::StatementTokens::statement_rules))]
+    #[tactic(auto, using(crate::proofs::StatementTokens::statement_rules, crate::proofs::Nesting::statement_nesting))]
     fn counted(&mut self, alloc: Global, left: u32) -> Result<Counted, ScriptFault>
         ensures tokens { IfOk result (λ f. ahead self.old.rest.now ≡ counted_lexemes f ++ ahead self.new.rest.now) }
         ensures shorter { OnOk result (length self.new.rest.now < length self.old.rest.now) }
+        ensures nested { IfOk result (λ f. counted_depth f ≤ left) }
         ensures fault { IfErr result IsOfGrammar }
     {
         let turns = self.turns(alloc, left)?;
@@ -607,10 +624,11 @@ impl<'a, 't> Parser<'a, 't> {
 
     /// A block, in which so many brackets may be opened, its own among them.
     #[cycle(statement)]
-    #[tactic(auto, using(crate::proofs::StatementTokens::statement_rules))]
+    #[tactic(auto, using(crate::proofs::StatementTokens::statement_rules, crate::proofs::Nesting::statement_nesting))]
     fn block(&mut self, alloc: Global, left: u32) -> Result<Vec<Statement>, ScriptFault>
         ensures tokens { IfOk result (λ v. ahead self.old.rest.now ≡ braced (statements_lexemes v.items) ++ ahead self.new.rest.now) }
         ensures shorter { OnOk result (length self.new.rest.now < length self.old.rest.now) }
+        ensures nested { IfOk result (λ v. statements_depth v.items + 1 ≤ left) }
         ensures fault { IfErr result IsOfGrammar }
     {
         let inner = self.open(Symbol::LeftBrace, left)?;
@@ -629,6 +647,7 @@ impl<'a, 't> Parser<'a, 't> {
     ) -> Result<Vec<Statement>, ScriptFault>
         ensures tokens { IfOk result (λ v. ahead self.old.rest.now ≡ statements_lexemes v.items ++ ahead self.new.rest.now) }
         ensures shorter { OnOk result (length self.new.rest.now ≤ length self.old.rest.now) }
+        ensures nested { IfOk result (λ v. statements_depth v.items ≤ left) }
         ensures fault { IfErr result IsOfGrammar }
     {
         let mut statements = Vec::new(alloc);

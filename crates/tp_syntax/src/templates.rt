@@ -1,9 +1,10 @@
 //! Templates.
-ghost use Rattle.std.specs.Prelude.{◌≡◌, ◌+◌, ◌<◌, ◌∷◌, ◌++◌, length, map, IfErr, IfOk, OnOk};
+ghost use Rattle.std.specs.Prelude.{◌≡◌, ◌+◌, ◌<◌, ◌≤◌, ◌∷◌, ◌++◌, length, map, IfErr, IfOk, OnOk};
 ghost use Rattle.tp_token.specs.Lexeme.{symbol, word};
 ghost use Rattle.tp_syntax.specs.Ahead.{ahead};
 ghost use Rattle.tp_syntax.specs.Sequences.{by_commas, parenthesised};
 ghost use Rattle.tp_syntax.specs.Templates.{low_lexemes, high_lexemes, template_lexemes, template_field_lexemes, message_template_lexemes};
+ghost use Rattle.tp_syntax.specs.Nesting.{deepest, template_depth, template_field_depth};
 ghost use Rattle.tp_syntax.specs.Refusals.{IsOfGrammar};
 
 use crate::cursor::{Parser, below};
@@ -38,6 +39,7 @@ impl<'a, 't> Parser<'a, 't> {
     ) -> Result<MessageTemplate, ScriptFault>
         ensures tokens { IfOk result (λ m. ahead self.old.rest.now ≡ message_template_lexemes m ++ ahead self.new.rest.now) }
         ensures shorter { OnOk result (length self.new.rest.now < length self.old.rest.now) }
+        ensures nested { IfOk result (λ m. template_depth m.template ≤ left) }
         ensures fault { IfErr result IsOfGrammar }
     {
         let type_name = self.type_name(alloc)?;
@@ -88,10 +90,11 @@ impl<'a, 't> Parser<'a, 't> {
 
     /// The characters of a text behind `pattern`. 10 `Syntax`: another token comes next, or none, or
     /// the text holds one of `\ [ ] { } ( ) | # +` or a quote.
-    #[tactic(auto, using(crate::proofs::TemplateTokens::template_rules))]
+    #[tactic(auto, using(crate::proofs::TemplateTokens::template_rules, crate::proofs::Nesting::template_nesting))]
     fn pattern(&mut self, alloc: Global) -> Result<Template, ScriptFault>
         ensures tokens { IfOk result (λ t. word Word.Pattern ∷ ahead self.old.rest.now ≡ template_lexemes t ++ ahead self.new.rest.now) }
         ensures shorter { OnOk result (length self.new.rest.now < length self.old.rest.now) }
+        ensures nested { IfOk result (λ t. template_depth t ≡ 0) }
         ensures fault { IfErr result IsOfGrammar }
     {
         let placed = self.take()?;
@@ -106,10 +109,11 @@ impl<'a, 't> Parser<'a, 't> {
 
     /// A template, in which so many brackets may be opened.
     #[cycle(template)]
-    #[tactic(auto, using(crate::proofs::TemplateTokens::template_rules))]
+    #[tactic(auto, using(crate::proofs::TemplateTokens::template_rules, crate::proofs::Nesting::template_nesting))]
     pub fn template(&mut self, alloc: Global, left: u32) -> Result<Template, ScriptFault>
         ensures tokens { IfOk result (λ t. ahead self.old.rest.now ≡ template_lexemes t ++ ahead self.new.rest.now) }
         ensures shorter { OnOk result (length self.new.rest.now < length self.old.rest.now) }
+        ensures nested { IfOk result (λ t. template_depth t ≤ left) }
         ensures fault { IfErr result IsOfGrammar }
     {
         let placed = self.take()?;
@@ -150,10 +154,11 @@ impl<'a, 't> Parser<'a, 't> {
 
     /// What stands behind the `(` of a template, and its `)`.
     #[cycle(template)]
-    #[tactic(auto, using(crate::proofs::TemplateTokens::template_rules))]
+    #[tactic(auto, using(crate::proofs::TemplateTokens::template_rules, crate::proofs::Nesting::template_nesting))]
     fn alternatives(&mut self, alloc: Global, left: u32) -> Result<Template, ScriptFault>
         ensures tokens { IfOk result (λ t. symbol Symbol.LeftParen ∷ ahead self.old.rest.now ≡ template_lexemes t ++ ahead self.new.rest.now) }
         ensures shorter { OnOk result (length self.new.rest.now < length self.old.rest.now) }
+        ensures nested { IfOk result (λ t. template_depth t ≤ left + 1) }
         ensures fault { IfErr result IsOfGrammar }
     {
         if self.is_range() {
@@ -170,10 +175,11 @@ impl<'a, 't> Parser<'a, 't> {
 
     /// What stands behind `complement`.
     #[cycle(template)]
-    #[tactic(auto, using(crate::proofs::TemplateTokens::template_rules))]
+    #[tactic(auto, using(crate::proofs::TemplateTokens::template_rules, crate::proofs::Nesting::template_nesting))]
     fn complement(&mut self, alloc: Global, left: u32) -> Result<Template, ScriptFault>
         ensures tokens { IfOk result (λ t. word Word.Complement ∷ ahead self.old.rest.now ≡ template_lexemes t ++ ahead self.new.rest.now) }
         ensures shorter { OnOk result (length self.new.rest.now < length self.old.rest.now) }
+        ensures nested { IfOk result (λ t. template_depth t ≤ left) }
         ensures fault { IfErr result IsOfGrammar }
     {
         let inner = self.open(Symbol::LeftParen, left)?;
@@ -184,10 +190,11 @@ impl<'a, 't> Parser<'a, 't> {
 
     /// What stands behind the `{` of a template, and its `}`.
     #[cycle(template)]
-    #[tactic(auto, using(crate::proofs::TemplateTokens::template_rules))]
+    #[tactic(auto, using(crate::proofs::TemplateTokens::template_rules, crate::proofs::Nesting::template_nesting))]
     fn template_entries(&mut self, alloc: Global, left: u32) -> Result<Template, ScriptFault>
         ensures tokens { IfOk result (λ t. symbol Symbol.LeftBrace ∷ ahead self.old.rest.now ≡ template_lexemes t ++ ahead self.new.rest.now) }
         ensures shorter { OnOk result (length self.new.rest.now < length self.old.rest.now) }
+        ensures nested { IfOk result (λ t. template_depth t ≤ left + 1) }
         ensures fault { IfErr result IsOfGrammar }
     {
         if self.has_symbol(Symbol::RightBrace) {
@@ -208,6 +215,7 @@ impl<'a, 't> Parser<'a, 't> {
     fn templates(&mut self, alloc: Global, left: u32) -> Result<Vec<Template>, ScriptFault>
         ensures tokens { IfOk result (λ v. ahead self.old.rest.now ≡ by_commas (map template_lexemes v.items) ++ ahead self.new.rest.now) }
         ensures shorter { OnOk result (length self.new.rest.now < length self.old.rest.now) }
+        ensures nested { IfOk result (λ v. deepest (map template_depth v.items) ≤ left) }
         ensures fault { IfErr result IsOfGrammar }
     {
         let mut templates = Vec::new(alloc);
@@ -229,6 +237,7 @@ impl<'a, 't> Parser<'a, 't> {
     ) -> Result<Vec<TemplateField>, ScriptFault>
         ensures tokens { IfOk result (λ v. ahead self.old.rest.now ≡ by_commas (map template_field_lexemes v.items) ++ ahead self.new.rest.now) }
         ensures shorter { OnOk result (length self.new.rest.now < length self.old.rest.now) }
+        ensures nested { IfOk result (λ v. deepest (map template_field_depth v.items) ≤ left) }
         ensures fault { IfErr result IsOfGrammar }
     {
         let mut fields = Vec::new(alloc);
@@ -243,10 +252,11 @@ impl<'a, 't> Parser<'a, 't> {
 
     /// A field.
     #[cycle(template)]
-    #[tactic(auto, using(crate::proofs::TemplateTokens::template_rules))]
+    #[tactic(auto, using(crate::proofs::TemplateTokens::template_rules, crate::proofs::Nesting::template_nesting))]
     fn template_field(&mut self, alloc: Global, left: u32) -> Result<TemplateField, ScriptFault>
         ensures tokens { IfOk result (λ f. ahead self.old.rest.now ≡ template_field_lexemes f ++ ahead self.new.rest.now) }
         ensures shorter { OnOk result (length self.new.rest.now < length self.old.rest.now) }
+        ensures nested { IfOk result (λ f. template_field_depth f ≤ left) }
         ensures fault { IfErr result IsOfGrammar }
     {
         let name = self.name(alloc)?;

@@ -1,9 +1,10 @@
 //! Values, types and messages.
-ghost use Rattle.std.specs.Prelude.{◌≡◌, ◌+◌, ◌<◌, ◌∷◌, ◌++◌, length, map, pos, IfErr, IfOk, OnOk};
+ghost use Rattle.std.specs.Prelude.{◌≡◌, ◌+◌, ◌<◌, ◌≤◌, ◌∷◌, ◌++◌, length, map, pos, IfErr, IfOk, OnOk};
 ghost use Rattle.tp_token.specs.Lexeme.{symbol};
 ghost use Rattle.tp_syntax.specs.Ahead.{ahead, before};
 ghost use Rattle.tp_syntax.specs.Sequences.{by_commas};
 ghost use Rattle.tp_syntax.specs.Values.{int_lexemes, type_lexemes, value_lexemes, value_field_lexemes, message_lexemes};
+ghost use Rattle.tp_syntax.specs.Nesting.{deepest, value_depth, value_field_depth};
 ghost use Rattle.tp_syntax.specs.Refusals.{IsOfGrammar};
 
 use crate::cursor::{Parser, below};
@@ -82,6 +83,7 @@ impl<'a, 't> Parser<'a, 't> {
     pub fn message(&mut self, alloc: Global, left: u32) -> Result<Message, ScriptFault>
         ensures tokens { IfOk result (λ m. ahead self.old.rest.now ≡ message_lexemes m ++ ahead self.new.rest.now) }
         ensures shorter { OnOk result (length self.new.rest.now < length self.old.rest.now) }
+        ensures nested { IfOk result (λ m. value_depth m.value ≤ left) }
         ensures fault { IfErr result IsOfGrammar }
     {
         let type_name = self.type_name(alloc)?;
@@ -92,10 +94,11 @@ impl<'a, 't> Parser<'a, 't> {
 
     /// A value, in which so many brackets may be opened.
     #[cycle(value)]
-    #[tactic(auto, using(crate::proofs::ValueTokens::value_rules))]
+    #[tactic(auto, using(crate::proofs::ValueTokens::value_rules, crate::proofs::Nesting::value_nesting))]
     pub fn value(&mut self, alloc: Global, left: u32) -> Result<Value, ScriptFault>
         ensures tokens { IfOk result (λ v. ahead self.old.rest.now ≡ value_lexemes v ++ ahead self.new.rest.now) }
         ensures shorter { OnOk result (length self.new.rest.now < length self.old.rest.now) }
+        ensures nested { IfOk result (λ v. value_depth v ≤ left) }
         ensures fault { IfErr result IsOfGrammar }
     {
         let placed = self.take()?;
@@ -128,10 +131,11 @@ impl<'a, 't> Parser<'a, 't> {
 
     /// What stands behind the `{` of a value, and its `}`.
     #[cycle(value)]
-    #[tactic(auto, using(crate::proofs::ValueTokens::value_rules, crate::proofs::Commas::braced_read))]
+    #[tactic(auto, using(crate::proofs::ValueTokens::value_rules, crate::proofs::Nesting::value_nesting, crate::proofs::Commas::braced_read))]
     pub fn value_entries(&mut self, alloc: Global, left: u32) -> Result<Value, ScriptFault>
         ensures tokens { IfOk result (λ v. symbol Symbol.LeftBrace ∷ ahead self.old.rest.now ≡ value_lexemes v ++ ahead self.new.rest.now) }
         ensures shorter { OnOk result (length self.new.rest.now < length self.old.rest.now) }
+        ensures nested { IfOk result (λ v. value_depth v ≤ left + 1) }
         ensures fault { IfErr result IsOfGrammar }
     {
         if self.has_symbol(Symbol::RightBrace) {
@@ -152,6 +156,7 @@ impl<'a, 't> Parser<'a, 't> {
     pub fn values(&mut self, alloc: Global, left: u32) -> Result<Vec<Value>, ScriptFault>
         ensures tokens { IfOk result (λ v. ahead self.old.rest.now ≡ by_commas (map value_lexemes v.items) ++ ahead self.new.rest.now) }
         ensures shorter { OnOk result (length self.new.rest.now < length self.old.rest.now) }
+        ensures nested { IfOk result (λ v. deepest (map value_depth v.items) ≤ left) }
         ensures fault { IfErr result IsOfGrammar }
     {
         let mut values = Vec::new(alloc);
@@ -169,6 +174,7 @@ impl<'a, 't> Parser<'a, 't> {
     pub fn value_fields(&mut self, alloc: Global, left: u32) -> Result<Vec<ValueField>, ScriptFault>
         ensures tokens { IfOk result (λ v. ahead self.old.rest.now ≡ by_commas (map value_field_lexemes v.items) ++ ahead self.new.rest.now) }
         ensures shorter { OnOk result (length self.new.rest.now < length self.old.rest.now) }
+        ensures nested { IfOk result (λ v. deepest (map value_field_depth v.items) ≤ left) }
         ensures fault { IfErr result IsOfGrammar }
     {
         let mut fields = Vec::new(alloc);
@@ -183,10 +189,11 @@ impl<'a, 't> Parser<'a, 't> {
 
     /// A field.
     #[cycle(value)]
-    #[tactic(auto, using(crate::proofs::ValueTokens::value_rules))]
+    #[tactic(auto, using(crate::proofs::ValueTokens::value_rules, crate::proofs::Nesting::value_nesting))]
     pub fn value_field(&mut self, alloc: Global, left: u32) -> Result<ValueField, ScriptFault>
         ensures tokens { IfOk result (λ f. ahead self.old.rest.now ≡ value_field_lexemes f ++ ahead self.new.rest.now) }
         ensures shorter { OnOk result (length self.new.rest.now < length self.old.rest.now) }
+        ensures nested { IfOk result (λ f. value_field_depth f ≤ left) }
         ensures fault { IfErr result IsOfGrammar }
     {
         let name = self.name(alloc)?;

@@ -1,5 +1,4 @@
 use Rattle.std.proofs.Common.{◌≤◌, arith, length, map}
-use Rattle.tp_config.specs.declared.port_type.TheConstants.{PORT_LIMIT}
 use Rattle.tp_setup.specs.Resolved.{IsComponentType}
 use Rattle.tp_setup.proofs.Steps.{all_push, zip_map_more}
 use Rattle.tp_setup.proofs.ports.make_components.Goals as goal
@@ -10,5 +9,5 @@ loop-component-preserved c =
     (record {
       components = zip_map_more (IsComponentType c.args.sorted.now.type_names (map (λ p. p.now) c.args.sorted.now.ports.items)) (λ x. x.now) c.deref-component-items.result.now c.loop-component.components.items c.loop-component.component-index
           c.component-item.result c.in_ok-one.one (omega arith) c.component-item.is c.loop-component.invariant.components c.in_ok-one.ensures.ports;
-      few = all_push (λ t. length t.ports.entries ≤ PORT_LIMIT) c.loop-component.components.items c.in_ok-one.one c.loop-component.invariant.few c.in_ok-one.ensures.few;
+      few = all_push (λ t. length t.ports.entries ≤ 64) c.loop-component.components.items c.in_ok-one.one c.loop-component.invariant.few c.in_ok-one.ensures.few;
     })

@@ -1,11 +1,10 @@
 use Rattle.std.proofs.Common.{◌≤◌, All, length, map, take}
 use Rattle.std.specs.List.{AllZip}
-use Rattle.tp_config.specs.declared.port_type.TheConstants.{PORT_LIMIT}
 use Rattle.tp_setup.specs.Resolved.{IsComponentType}
 use Rattle.tp_setup.proofs.ports.make_components.Given as goal
 
 abbrev pub invariant-loop-component : goal.invariant-loop-component
 invariant-loop-component l = record {
   components : AllZip (IsComponentType l.sorted.type_names (map (λ p. p.now) l.sorted.ports.items)) (map (λ c. c.now) (take l.component-index l.component-items)) l.components.items;
-  few : All (λ t. length t.ports.entries ≤ PORT_LIMIT) l.components.items;
+  few : All (λ t. length t.ports.entries ≤ 64) l.components.items;
 }

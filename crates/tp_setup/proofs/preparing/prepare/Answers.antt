@@ -25,6 +25,7 @@ returns-clause-rules c =
     let set : IsConfigOf m case c.in_ok-configured.configured.made.config = record {
       types = d.components.items;
       types_are = made.components;
+      few_ports = made.few_ports;
       set_up = subst (λ n. IsSetUp n (map ports_of d.components.items) case c.in_ok-configured.configured.made.config) made.sorted.components.names_are c.in_ok-configured.ensures.config;
     } in
     record {
@@ -52,6 +53,7 @@ returns-clause-made c =
       config = record {
         types = d.components.items;
         types_are = made.components;
+        few_ports = made.few_ports;
         set_up = subst (λ n. IsSetUp n (map ports_of d.components.items) case c.in_ok-configured.configured.made.config) made.sorted.components.names_are c.in_ok-configured.ensures.config;
       };
       variables_are = c.in_ok-configured.ensures.variables;

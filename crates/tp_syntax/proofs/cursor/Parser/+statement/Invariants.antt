@@ -1,6 +1,7 @@
 use Rattle.std.proofs.Common.{◌≡◌, ◌+◌, ◌*◌, ◌≤◌, ◌++◌, length}
 use Rattle.tp_syntax.specs.Ahead.{ahead}
 use Rattle.tp_syntax.specs.Statements.{statements_lexemes, branches_lexemes}
+use Rattle.tp_syntax.specs.Nesting.{branches_depth, statements_depth}
 use Rattle.tp_syntax.proofs.cursor.Parser.+statement.Given as goal
 
 abbrev pub decreases-statements : goal.decreases-statements
@@ -36,6 +37,7 @@ decreases-block l = 8 * l.left + 2
 abbrev pub invariant-statements-more : goal.invariant-statements-more
 invariant-statements-more l = record {
   tokens : ahead l.fn.self.rest.now ≡ statements_lexemes l.statements.items ++ ahead l.self.rest.now;
+  nested : statements_depth l.statements.items ≤ l.left;
   shorter : length l.self.rest.now ≤ length l.fn.self.rest.now;
 }
 
@@ -45,6 +47,7 @@ decreases-statements-more l = length l.self.rest.now
 abbrev pub invariant-branches-more : goal.invariant-branches-more
 invariant-branches-more l = record {
   tokens : ahead l.fn.self.rest.now ≡ branches_lexemes l.branches.items ++ ahead l.self.rest.now;
+  nested : branches_depth l.branches.items ≤ l.left;
   shorter : length l.self.rest.now ≤ length l.fn.self.rest.now;
 }
 

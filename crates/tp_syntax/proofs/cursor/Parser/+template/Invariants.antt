@@ -1,7 +1,8 @@
-use Rattle.std.proofs.Common.{◌≡◌, ◌+◌, ◌*◌, ◌<◌, ◌++◌, length, map}
+use Rattle.std.proofs.Common.{◌≡◌, ◌+◌, ◌*◌, ◌<◌, ◌≤◌, ◌++◌, length, map}
 use Rattle.tp_syntax.specs.Ahead.{ahead}
 use Rattle.tp_syntax.specs.Sequences.{by_commas}
 use Rattle.tp_syntax.specs.Templates.{template_lexemes, template_field_lexemes}
+use Rattle.tp_syntax.specs.Nesting.{deepest, template_depth, template_field_depth}
 use Rattle.tp_syntax.proofs.cursor.Parser.+template.Given as goal
 
 abbrev pub decreases-template : goal.decreases-template
@@ -28,6 +29,7 @@ decreases-template_field l = 4 * l.left + 2
 abbrev pub invariant-templates-more : goal.invariant-templates-more
 invariant-templates-more l = record {
   tokens : ahead l.fn.self.rest.now ≡ by_commas (map template_lexemes l.templates.items) ++ ahead l.self.rest.now;
+  nested : deepest (map template_depth l.templates.items) ≤ l.left;
   some : 0 < length l.templates.items;
   shorter : length l.self.rest.now < length l.fn.self.rest.now;
 }
@@ -38,6 +40,7 @@ decreases-templates-more l = length l.self.rest.now
 abbrev pub invariant-template_fields-more : goal.invariant-template_fields-more
 invariant-template_fields-more l = record {
   tokens : ahead l.fn.self.rest.now ≡ by_commas (map template_field_lexemes l.fields.items) ++ ahead l.self.rest.now;
+  nested : deepest (map template_field_depth l.fields.items) ≤ l.left;
   some : 0 < length l.fields.items;
   shorter : length l.self.rest.now < length l.fn.self.rest.now;
 }

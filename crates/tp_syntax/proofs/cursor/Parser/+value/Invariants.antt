@@ -1,7 +1,8 @@
-use Rattle.std.proofs.Common.{◌≡◌, ◌+◌, ◌*◌, ◌<◌, ◌++◌, length, map}
+use Rattle.std.proofs.Common.{◌≡◌, ◌+◌, ◌*◌, ◌<◌, ◌≤◌, ◌++◌, length, map}
 use Rattle.tp_syntax.specs.Ahead.{ahead}
 use Rattle.tp_syntax.specs.Sequences.{by_commas}
 use Rattle.tp_syntax.specs.Values.{value_lexemes, value_field_lexemes}
+use Rattle.tp_syntax.specs.Nesting.{deepest, value_depth, value_field_depth}
 use Rattle.tp_syntax.proofs.cursor.Parser.+value.Given as goal
 
 abbrev pub decreases-value : goal.decreases-value
@@ -22,6 +23,7 @@ decreases-value_field l = 4 * l.left + 1
 abbrev pub invariant-values-more : goal.invariant-values-more
 invariant-values-more l = record {
   tokens : ahead l.fn.self.rest.now ≡ by_commas (map value_lexemes l.values.items) ++ ahead l.self.rest.now;
+  nested : deepest (map value_depth l.values.items) ≤ l.left;
   some : 0 < length l.values.items;
   shorter : length l.self.rest.now < length l.fn.self.rest.now;
 }
@@ -32,6 +34,7 @@ decreases-values-more l = length l.self.rest.now
 abbrev pub invariant-value_fields-more : goal.invariant-value_fields-more
 invariant-value_fields-more l = record {
   tokens : ahead l.fn.self.rest.now ≡ by_commas (map value_field_lexemes l.fields.items) ++ ahead l.self.rest.now;
+  nested : deepest (map value_field_depth l.fields.items) ≤ l.left;
   some : 0 < length l.fields.items;
   shorter : length l.self.rest.now < length l.fn.self.rest.now;
 }

@@ -1,0 +1,30 @@
+use Rattle.std.proofs.Common.{◌≡◌, ◌≤◌, ◌∙◌, ℕ, Bool, true, false, List, arith, inl, inr, length, sym}
+use Rattle.tp_refusal.specs.declared.refusal.Refusal.TheVariants.{Unknown, Limit}
+use Rattle.tp_token.specs.declared.fault.ScriptFault.{ScriptFault}
+use Rattle.tp_token.specs.declared.fault.ScriptFault.TheVariants.{Refused}
+use Rattle.tp_syntax.specs.declared.tree.ComponentType.{ComponentType}
+use Rattle.tp_setup.specs.Definitions.{declared_ports}
+use Rattle.tp_setup.specs.Rules.{IsComponentFault, has_known_ports}
+use Rattle.tp_setup.proofs.definitions.check_component.Goals as goal
+
+module _ (names : List (List ℕ)) (x : ComponentType) (line : ℕ) (fault : ScriptFault) where
+  -- the type of a port is unknown
+  of_unknown : has_known_ports names x ≡ false → fault ≡ Refused Unknown line → IsComponentFault names x line fault
+  of_unknown isnt is = inl (λ h. absurd (cc), is)
+
+  -- the types of all ports are known, and there are too many
+  of_many : (few : Bool) → has_known_ports names x ≡ true → (length (declared_ports x.ports.items) ≤ 64 → few ≡ true) → few ≡ false
+      → fault ≡ Refused Limit line → IsComponentFault names x line fault
+  of_many few known most isnt is = inr (known, grind (arith, most, isnt), is)
+
+pub returns-then-not-are_ports_known-clause-refused : goal.returns-then-not-are_ports_known-clause-refused
+returns-then-not-are_ports_known-clause-refused c =
+    let known = rw c.deref.ensures.value at c.are_ports_known.ensures in
+    of_unknown c.args.port_types.now c.args.component.now c.args.line c.refused.result (sym known ∙ c.if-not-are_ports_known.true) c.refused.ensures
+
+pub returns-then-not-are_ports_few-clause-refused : goal.returns-then-not-are_ports_few-clause-refused
+returns-then-not-are_ports_few-clause-refused c =
+    let known = rw c.deref.ensures.value at c.are_ports_known.ensures in
+    let few = rw c.deref-2.ensures.value at c.are_ports_few.ensures in
+    of_many c.args.port_types.now c.args.component.now c.args.line c.limit.result c.are_ports_few.result
+    (sym known ∙ c.if-not-are_ports_known.false) few.1 c.if-not-are_ports_few.true c.limit.ensures
