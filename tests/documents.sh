@@ -1,0 +1,68 @@
+# What the documents show is what the program prints. `root`, `room`, `tpr`, `observe`, `judge`, `count`, `at_least`
+# and `set_up` are those of ./test, `answered` that of tests/changes.sh.
+
+# A script of docs/REFUSALS.md stands below a heading `### NUMBER NAME`, in fences, and its answer behind it in
+# backquotes: what `check` prints, or `failed NUMBER`, a line of the report of a script that `check` accepts.
+shown_script() { # NUMBER NAME ANSWER
+    if [[ $3 == "refused $1 $2 line "* ]]; then
+        answered "docs/REFUSALS.md, $1" "$1 $2 ${3##* }"
+    elif [[ $3 == "failed $1" ]]; then
+        answered "docs/REFUSALS.md, $1" accepted
+        observe "$tpr" run "$room/script" </dev/null
+        set_up "the script of $1 in docs/REFUSALS.md reports $3" grep -qx -- "$3" "$room/printed" && count 0
+    else
+        set_up "the answer behind the script of $1 $2 in docs/REFUSALS.md is $1 $2" false
+    fi
+}
+
+refusal_scripts() {
+    local line number='' name='' is_inside=''
+    while IFS= read -r line; do
+        if [[ $line == '```' ]]; then
+            if [[ $is_inside ]]; then is_inside=''; else is_inside=yes && : >"$room/script"; fi
+        elif [[ $is_inside ]]; then
+            printf '%s\n' "$line" >>"$room/script"
+        elif [[ $line == '### '[0-9][0-9]' '* ]]; then
+            read -r _ number name <<<"$line"
+        elif [[ $number && $line == '`'* ]]; then
+            line=${line#'`'}
+            shown_script "$number" "$name" "${line%%'`'*}"
+            number=''
+        fi
+    done <docs/REFUSALS.md
+}
+
+# The document shows the text, each of its lines behind four spaces.
+shows() { # DOCUMENT FILE
+    local shown
+    shown=$(sed 's/^    //' "$1")
+    if [[ $shown == *"$(<"$2")"* ]]; then
+        count 0
+    else
+        echo "FAILED: $1 doesn't show $2 as it is"
+        count 1
+    fi
+}
+
+# The first example of README.md, and the one with a changed line.
+first_example() {
+    local example=examples/closed_counter_serves_no_order
+    shows README.md "$example.ttcn"
+    shows README.md "$example.expected"
+    set_up "line 26 of $example.ttcn is a send at the counter" grep -q '^26:.*counter\.send' \
+        <(grep -n . "$example.ttcn") || return
+    sed '26s/counter/bell/' "$example.ttcn" >"$room/script"
+    answered "README.md, the changed line" '14 Direction 26'
+}
+
+# The script of docs/PROFILE.md.
+script_of_the_profile() {
+    sed -n '/^module Example {/,/^```/p' docs/PROFILE.md | sed '$d' >"$room/script"
+    answered "docs/PROFILE.md, the script" accepted
+}
+
+documents() {
+    at_least 26 refusal_scripts
+    at_least 3 first_example
+    at_least 1 script_of_the_profile
+}
