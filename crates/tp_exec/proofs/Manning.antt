@@ -25,7 +25,8 @@ use Rattle.tp_exec.specs.Openings.{AreHandedOut, AreOpened, IsFromOneOf, IsOpene
 use Rattle.tp_exec.specs.Rounds.{AreStations, HasNotBegun, IsStaffed, all_ways, comp_at, is_from, ways_in}
 use Rattle.tp_exec.proofs.Dealing.{as_many}
 use Rattle.tp_exec.proofs.Pairs.{passed, passes}
-use Rattle.tp_exec.proofs.RouteEnds.{among_those_into, leads_here, receiver_within, source_is, source_within}
+use Rattle.tp_exec.proofs.RouteEnds.{among_those_into, receiver_within, source_is}
+use Rattle.tp_exec.proofs.Sources.{leads_to, source_within}
 use Rattle.tp_exec.proofs.Ways.{routes_apart, routes_of_ways, way_in, way_of}
 
 all_from : {X : Type 0} (P : X → Type 0) (xs : List X) → ((x : X) → Contains xs x → P x) → All P xs
@@ -126,7 +127,7 @@ module _ (s : Setup) (l : IsSetup s) (o : Opened) (xs : List Station) (h : AreOp
       let mine = opened k x stands in record {
         comp = mine.comp;
         ports = mine.ports;
-        here = subst (All (λ (r : RouteId). r.to.comp ≡ comp_at k)) (sym mine.routes) (all_from (λ (r : RouteId). r.to.comp ≡ comp_at k) (routes_into s (comp_at k)) (leads_here s l (comp_at k)));
+        here = subst (All (λ (r : RouteId). r.to.comp ≡ comp_at k)) (sym mine.routes) (all_from (λ (r : RouteId). r.to.comp ≡ comp_at k) (routes_into s (comp_at k)) (leads_to s l (comp_at k)));
         loops = all_from (λ (r : RouteId). r.source ≡ comp_at k → Contains (routes_of x.outbox) r) x.owner.inbox.routes (λ r inside from. has_way k x stands k x stands r inside from);
         ways = λ port r from.
             let p = port_of (record { config = s; comp = comp_at k; references = references }) port in

@@ -32,6 +32,7 @@ use Rattle.tp_exec.specs.declared.ended.Ended.{Ended}
 use Rattle.tp_exec.specs.declared.played.Played.{Played}
 use Rattle.tp_exec.specs.Rounds.{ArePlayed, AreStations, DutyEnded, all_ways, comp_at, is_from, stations_of, ways_in}
 use Rattle.tp_exec.specs.Settlings.{AreSettled, IsComponentOf, IsOfARun, IsSentOut}
+use Rattle.tp_exec.proofs.Settled.{same_moments}
 
 -- histories with one trace differ by arrivals
 module _ (P : Entry → Type 0) where
@@ -155,13 +156,14 @@ of_a_run made played ended are done settled = record { each = component; come = 
         let here : slice_get (stations_of played) k ≡ Some x = slice_get-map (λ (q : Played). q.station) played k ∙ ap (option_map (λ (q : Played). q.station)) w.1 in
         let manned = are.staffed k x here [] in
         let own = done k p w.1 in
+        let trace = same_moments p e w.2 in
         record {
           comp = w.2.comp ∙ manned.desk.0 ∙ manned.posted.comp;
           ports = w.2.ports ∙ manned.desk.1 ∙ manned.posted.ports;
           ended = subst (λ (o : Outcome). DutyEnded made.config c (duty_at made k) o e.desk.log) (sym w.2.outcome)
-              (duty_ended made.config c (duty_at made k) p.outcome x.desk.log e.desk.log w.2.trace own.ended);
+              (duty_ended made.config c (duty_at made k) p.outcome x.desk.log e.desk.log trace own.ended);
           within = subst (λ (o : Outcome). WaitsWithin e.desk.ports o) (sym w.2.outcome) (subst (λ n. WaitsWithin n p.outcome) (sym w.2.ports) own.within);
-          fresh = subst (λ (ts : List Moment). All (λ (t : Moment). LooksAtPorts t.entry → HasOwn c t.before) ts) (sym w.2.trace) manned.fresh;
+          fresh = subst (λ (ts : List Moment). All (λ (t : Moment). LooksAtPorts t.entry → HasOwn c t.before) ts) (sym trace) manned.fresh;
           sent = All-weaker (IsSentBy (routes_of x.outbox)) (IsSentOut made.config c) (gone_out (routes_of x.outbox) made.config c (ways_out made.config (stations_of played) are k x here)) e.desk.log
-              (same_trace (IsSentBy (routes_of x.outbox)) (quiet (routes_of x.outbox)) x.desk.log e.desk.log w.2.trace manned.sent);
+              (same_trace (IsSentBy (routes_of x.outbox)) (quiet (routes_of x.outbox)) x.desk.log e.desk.log trace manned.sent);
         }

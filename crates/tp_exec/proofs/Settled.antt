@@ -84,8 +84,13 @@ settled_as p e h = record {
   outcome = h.outcome;
   comp = h.comp;
   ports = h.ports;
-  trace = ap moments h.grown ∙ moments-arrivals p.station.desk.log (rest_arrivals h.rest) (rest_arrives h.rest);
+  rest = h.rest;
+  grown = h.grown;
 }
+
+-- the behaviour has done no more
+pub same_moments : (p : Played) (e : Ended) → IsSettled p e → moments e.desk.log ≡ moments p.station.desk.log
+same_moments p e h = ap moments h.grown ∙ moments-arrivals p.station.desk.log (rest_arrivals h.rest) (rest_arrives h.rest)
 
 -- so it has sent no more
 sent_as : (p : Played) (e : Ended) → IsEndOf (idle_of p) e → (r : RouteId) → sent_on r e.desk.log ≡ sent_on r p.station.desk.log

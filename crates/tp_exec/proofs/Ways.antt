@@ -14,7 +14,7 @@ use Rattle.tp_inbox.specs.Ledgers.{Inbox}
 use Rattle.tp_behaviour.specs.declared.station.Station.{Station}
 use Rattle.tp_exec.specs.Rounds.{all_ways, comp_at, ways_in}
 use Rattle.tp_exec.proofs.Pairs.{append_distinct}
-use Rattle.tp_exec.proofs.RouteEnds.{leads_here}
+use Rattle.tp_exec.proofs.Sources.{leads_to}
 
 -- the routes into the inboxes of these stations
 abbrev pub all_routes : List Station → List RouteId
@@ -80,7 +80,7 @@ routes_apart s l n (x ∷ xs) from =
     two : (r : RouteId) → Contains x.owner.inbox.routes r → Contains (all_routes xs) r → ⊥
     two r here there =
         let w = route_of xs r there in
-        let one : r.to.comp ≡ comp_at n = leads_here s l (comp_at n) r (subst (λ l. Contains l r) first here) in
-        let other : r.to.comp ≡ comp_at (suc n + w.0) = leads_here s l (comp_at (suc n + w.0)) r (subst (λ l. Contains l r) (later w.0 w.1 w.2) w.3) in
+        let one : r.to.comp ≡ comp_at n = leads_to s l (comp_at n) r (subst (λ l. Contains l r) first here) in
+        let other : r.to.comp ≡ comp_at (suc n + w.0) = leads_to s l (comp_at (suc n + w.0)) r (subst (λ l. Contains l r) (later w.0 w.1 w.2) w.3) in
         let same : n ≡ suc n + w.0 = ap (λ (c : CompId). c.0) (sym one ∙ other) in
         absurd (omega (arith, same))

@@ -30,8 +30,8 @@ pub record Line (components : List CompReport) (r : RouteId) : Type 0 where
   pub receiver : CompReport
   pub receiver_is : slice_get components r.to.comp.0 ≡ Some receiver
 
--- on a route, what the sender's trace says was sent is what came to the receiver, in that order and each once, numbered from 0 and with its
--- stamp, and as much as the sender's ledger held
+-- on a route, what the sender's trace says was sent is what came to the receiver, in that order and each once, numbered
+-- from 0 and with its stamp, and as much as the sender's ledger held
 pub record IsDelivered (components : List CompReport) (r : RouteId) : Type 0 where
   pub line : Line components r
   pub same : sent_on r line.source.desk.log ≡ arrived_on r line.receiver.desk.log
@@ -47,7 +47,8 @@ IsOnRoute s c _ = ⊤
 -- what a component with no body does: nothing, and it ends at once
 abbrev pub FollowsDuty : Setup → CompId → Option Duty → List Entry → End → Type 0
 FollowsDuty s c (Some d) k end = Follows (record { config = s; comp = c; references = d.references }) d.body k end
-FollowsDuty s c None k end = Follows (record { config = s; comp = c; references = [] }) (record { variables = []; statements = [] }) k end
+FollowsDuty s c None k end =
+    Follows (record { config = s; comp = c; references = [] }) (record { variables = []; statements = [] }) k end
 
 -- the report of one component of the test case
 pub record IsCompReport (made : Made) (c : CompId) (x : CompReport) : Type 0 where
@@ -72,5 +73,6 @@ pub record IsCompReport (made : Made) (c : CompId) (x : CompReport) : Type 0 whe
 pub record IsReportOf (made : Made) (report : Report) : Type 0 where
   pub everyone : length report.components.items ≡ length made.config.components
   pub each : (c : CompId) (x : CompReport) → slice_get report.components.items c.0 ≡ Some x → IsCompReport made c x
-  pub delivered : (c : CompId) (r : RouteId) → Contains (routes_into made.config c) r → IsDelivered report.components.items r
+  pub delivered : (c : CompId) (r : RouteId) → Contains (routes_into made.config c) r
+      → IsDelivered report.components.items r
   pub result : report.result ≡ overall_verdict (endings report.components.items) (locals report.components.items)

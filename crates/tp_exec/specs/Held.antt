@@ -44,10 +44,14 @@ ways_to idles = flat_map (λ (x : Idle). ways_in x.owner.inbox) idles
 abbrev pub counts_of : List (RouteId × List Stamped) → List (RouteId × ℕ)
 counts_of sent = map (λ s. (s.0, length s.1)) sent
 
--- each component, whose history is this, has those of the senders on these ways that are from it, in their order, and has noted what they have put
-pub record AreHeld (logs : ℕ → List Entry) (hands : List (IntoIter Sending Global)) (ways : List (Inbox × RouteId)) : Type 0 where
-  pub each : (k : ℕ) (d : IntoIter Sending Global) → k < length hands → map end_of (into_iter_items (slice_index_or hands k d)) ≡ filter (is_from k) ways
-  pub noted : (k : ℕ) (d : IntoIter Sending Global) → k < length hands → All (IsNoted (logs k)) (into_iter_items (slice_index_or hands k d))
+-- each component, whose history is this, has those of the senders on these ways that are from it, in their order, and
+-- has noted what they have put
+pub record AreHeld (logs : ℕ → List Entry) (hands : List (IntoIter Sending Global)) (ways : List (Inbox × RouteId))
+    : Type 0 where
+  pub each : (k : ℕ) (d : IntoIter Sending Global) → k < length hands
+      → map end_of (into_iter_items (slice_index_or hands k d)) ≡ filter (is_from k) ways
+  pub noted : (k : ℕ) (d : IntoIter Sending Global) → k < length hands
+      → All (IsNoted (logs k)) (into_iter_items (slice_index_or hands k d))
   pub within : All (λ (way : Inbox × RouteId). way.1.source.0 < length hands) ways
 
 -- the sender is that on this way, and its component has noted what it has put
@@ -60,19 +64,25 @@ CanTake hands ways = (logs : ℕ → List Entry) × (more : List (Inbox × Route
 
 -- without those on these ways they have all others
 abbrev pub Leaves : List (IntoIter Sending Global) → List (Inbox × RouteId) → List (IntoIter Sending Global) → Type 0
-Leaves hands ways after = (logs : ℕ → List Entry) (more : List (Inbox × RouteId)) → AreHeld logs hands (ways ++ more) → AreHeld logs after more
+Leaves hands ways after =
+    (logs : ℕ → List Entry) (more : List (Inbox × RouteId)) → AreHeld logs hands (ways ++ more)
+    → AreHeld logs after more
 
 -- those on these ways are these
 abbrev pub Gives : List (IntoIter Sending Global) → List (Inbox × RouteId) → List Sending → Type 0
-Gives hands ways senders = (logs : ℕ → List Entry) (more : List (Inbox × RouteId)) → AreHeld logs hands (ways ++ more) → AllZip (IsBack logs) ways senders
+Gives hands ways senders =
+    (logs : ℕ → List Entry) (more : List (Inbox × RouteId)) → AreHeld logs hands (ways ++ more)
+    → AllZip (IsBack logs) ways senders
 
--- its inbox and its desk are those of one component, into which the inbox's routes lead, and what it has drained is what has arrived at the desk
+-- its inbox and its desk are those of one component, into which the inbox's routes lead, and what it has drained is
+-- what has arrived at the desk
 pub record IsIdle (s : Setup) (x : Idle) : Type 0 where
   pub desk : IsDeskOf x.owner.inbox x.desk
   pub arrived : arrivals x.desk.log ≡ x.owner.drained
   pub routes : x.owner.inbox.routes ≡ routes_into s x.desk.comp
 
--- what has ended is this component, to which more has come, that is all; each arrival is of a route into its inbox, and there is a count for each
+-- what has ended is this component, to which more has come, that is all; each arrival is of a route into its inbox, and
+-- there is a count for each
 pub record IsEndOf (x : Idle) (e : Ended) : Type 0 where
   pub outcome : e.outcome ≡ x.outcome
   pub comp : e.desk.comp ≡ x.desk.comp
@@ -97,4 +107,5 @@ pub record IsDone (logs : ℕ → List Entry) (x : Idle) (e : Ended) : Type 0 wh
 -- all has come to the component that the senders into its inbox, of those that these have, have put
 abbrev pub AllCome : List (IntoIter Sending Global) → Idle → Ended → Type 0
 AllCome hands x e =
-    (logs : ℕ → List Entry) (more : List (Inbox × RouteId)) → AreHeld logs hands (ways_in x.owner.inbox ++ more) → All (HasCome logs e) x.owner.inbox.routes
+    (logs : ℕ → List Entry) (more : List (Inbox × RouteId)) → AreHeld logs hands (ways_in x.owner.inbox ++ more)
+    → All (HasCome logs e) x.owner.inbox.routes

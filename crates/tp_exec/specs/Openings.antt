@@ -1,8 +1,8 @@
--- How the stations of a run come about: first each with its inbox and no sender, then with the senders of the ways that come from it.
+-- How the stations of a run come about: first each with its inbox alone, then with the senders of the ways from it.
 use Rattle.std.specs.Prelude.{◌≡◌, ◌≢◌, ◌<◌, ◌==◌, ◌++◌, ℕ, Bool, Some, List, [], ◌∷◌, All, filter, length, map, slice_get, slice_set}
 use Rattle.tp_config.specs.Setup.{Setup, ports_at}
 use Rattle.tp_config.specs.Routes.{routes_into}
-use Rattle.tp_inbox.specs.Desks.{Journal}
+use Rattle.tp_inbox.specs.Desks.{Journal, new_desk}
 use Rattle.tp_inbox.specs.Ledgers.{Draining, Sending}
 use Rattle.tp_behaviour.specs.declared.station.Station.{Station}
 use Rattle.tp_behaviour.specs.Stations.{end_of}
@@ -23,10 +23,10 @@ pub record IsOpened (s : Setup) (k : ℕ) (x : Station) : Type 0 where
   pub ports : x.owner.inbox.ports ≡ length (ports_at s.types s.components (comp_at k))
   pub routes : x.owner.inbox.routes ≡ routes_into s (comp_at k)
   pub drained : x.owner.drained ≡ []
-  pub desk : x.desk ≡ record { comp = comp_at k; ports = length (ports_at s.types s.components (comp_at k)); log = [] }
+  pub desk : x.desk ≡ new_desk (comp_at k) (length (ports_at s.types s.components (comp_at k)))
 
--- the stations of the first n components, of which none has a sender yet, the senders of all ways into their inboxes, by which nothing was put, and
--- as many closers
+-- the stations of the first n components, of which none has a sender yet, the senders of all ways into their inboxes,
+-- by which nothing was put, and as many closers
 pub record AreOpened (s : Setup) (n : ℕ) (o : Opened) : Type 0 where
   pub count : length o.stations.items ≡ n
   pub each : (k : ℕ) (x : Station) → slice_get o.stations.items k ≡ Some x → IsOpened s k x
@@ -55,7 +55,9 @@ giving x y = record x { outbox = x.outbox ++ y ∷ [] }
 -- the sender has come to the station of its route's source, and nothing else has changed
 abbrev pub HasGiven : Sending → List Station → List Station → Type 0
 HasGiven y before after =
-    (x : Station) × (slice_get before y.route.source.0 ≡ Some x) × (after ≡ slice_set before y.route.source.0 (giving x y))
+    (x : Station)
+    × (slice_get before y.route.source.0 ≡ Some x)
+    × (after ≡ slice_set before y.route.source.0 (giving x y))
 
 -- what a station has beside its senders
 abbrev pub rest_of : Station → Draining × Journal

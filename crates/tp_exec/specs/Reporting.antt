@@ -49,7 +49,8 @@ pub record IsSound (d : Journal) : Type 0 where
   pub within : All (IsWithin d.ports) d.log
   pub clocked : IsClocked d.log
 
--- this is reported of the component: its name, its ports and its history, its end, its verdict, and the numbers of its routes
+-- this is reported of the component: its name, its ports and its history, its end, its verdict, and the numbers of its
+-- routes
 pub record IsReportedAs (s : Setup) (e : Ended) (x : CompReport) : Type 0 where
   pub name : slice_get (names s) e.desk.comp.0 ≡ Some (string_bytes x.name)
   pub desk : x.desk ≡ e.desk

@@ -59,7 +59,8 @@ pub record HasReturned (made : Made) (p : Played) : Type 0 where
   pub staffed : IsStaffed made.config (number_of p.station) p.station
   pub played : HasPlayed made (number_of p.station) p
 
--- what comes back from the thread of a component: the station that went into it, and what the component is there for is done
+-- what comes back from the thread of a component: the station that went into it, and what the component is there for is
+-- done
 pub record IsBack (made : Made) (before : Station) (p : Played) : Type 0 where
   pub badge : badge_of p.station ≡ badge_of before
   pub returned : HasReturned made p

@@ -1,5 +1,5 @@
 -- The stations of a run: who has which inbox and which senders, before and after the threads.
-use Rattle.std.specs.Prelude.{◌≡◌, ℕ, Bool, ◌==◌, Option, Some, None, List, [], All, filter, length, map, slice_get}
+use Rattle.std.specs.Prelude.{◌≡◌, ℕ, Bool, ◌==◌, Option, Some, None, List, [], filter, length, map, slice_get}
 use Rattle.std.specs.List.{flat_map}
 use Rattle.tp_config.specs.declared.port_type.CompId.{CompId}
 use Rattle.tp_config.specs.declared.port_type.RouteId.{RouteId}
@@ -8,7 +8,7 @@ use Rattle.tp_config.specs.Routes.{routes_into}
 use Rattle.tp_script.specs.Duties.{Duty}
 use Rattle.tp_script.specs.TestCases.{Made, duty_at}
 use Rattle.tp_inbox.specs.declared.entry.Entry.{Entry}
-use Rattle.tp_inbox.specs.Ledgers.{Inbox, Sending}
+use Rattle.tp_inbox.specs.Ledgers.{Inbox}
 use Rattle.tp_behaviour.specs.declared.station.Station.{Station}
 use Rattle.tp_behaviour.specs.declared.outcome.Outcome.{Outcome}
 use Rattle.tp_behaviour.specs.Stations.{IsManned, end_of}
@@ -35,13 +35,14 @@ ways_in inbox = map (λ r. (inbox, r)) inbox.routes
 abbrev pub all_ways : List Station → List (Inbox × RouteId)
 all_ways stations = flat_map (λ (x : Station). ways_in x.owner.inbox) stations
 
--- the stations of all components, in their order: each has the inbox of its component, into which the component's routes lead, and the senders of
--- all ways that come from it, in the order of the inboxes
+-- the stations of all components, in their order: each has the inbox of its component, into which the component's
+-- routes lead, and the senders of all ways that come from it, in the order of the inboxes
 pub record AreStations (s : Setup) (stations : List Station) : Type 0 where
   pub everyone : length stations ≡ length s.components
   pub staffed : (k : ℕ) (x : Station) → slice_get stations k ≡ Some x → IsStaffed s k x
   pub routes : (k : ℕ) (x : Station) → slice_get stations k ≡ Some x → x.owner.inbox.routes ≡ routes_into s (comp_at k)
-  pub senders : (k : ℕ) (x : Station) → slice_get stations k ≡ Some x → map end_of x.outbox ≡ filter (is_from k) (all_ways stations)
+  pub senders : (k : ℕ) (x : Station) → slice_get stations k ≡ Some x
+      → map end_of x.outbox ≡ filter (is_from k) (all_ways stations)
 
 -- nothing has happened there
 abbrev pub HasNotBegun : Station → Type 0
@@ -54,7 +55,8 @@ stations_of played = map (λ (p : Played). p.station) played
 -- a component with this duty, or with none, has ended so, with this history
 abbrev pub DutyEnded : Setup → CompId → Option Duty → Outcome → List Entry → Type 0
 DutyEnded s c (Some d) o k = HasEnded (record { config = s; comp = c; references = d.references }) d.body o k
-DutyEnded s c None o k = HasEnded (record { config = s; comp = c; references = [] }) (record { variables = []; statements = [] }) o k
+DutyEnded s c None o k =
+    HasEnded (record { config = s; comp = c; references = [] }) (record { variables = []; statements = [] }) o k
 
 -- each component has done what it is there for
 pub record HasPlayed (made : Made) (k : ℕ) (p : Played) : Type 0 where

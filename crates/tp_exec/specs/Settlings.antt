@@ -1,5 +1,7 @@
 -- What a run comes to once all messages have come.
-use Rattle.std.specs.Prelude.{◌≡◌, ℕ, Some, List, All, Contains, length, map, slice_get}
+use Rattle.std.specs.Prelude.{◌≡◌, ◌++◌, ℕ, Some, List, All, Contains, length, map, slice_get}
+use Rattle.tp_port.specs.declared.event.Env.{Env}
+use Rattle.tp_value.specs.declared.message.Message.{Message}
 use Rattle.tp_config.specs.declared.port_type.CompId.{CompId}
 use Rattle.tp_config.specs.declared.port_type.RouteId.{RouteId}
 use Rattle.tp_config.specs.Setup.{Setup, ports_at}
@@ -8,23 +10,25 @@ use Rattle.tp_inbox.specs.declared.entry.Entry.{Entry}
 use Rattle.tp_inbox.specs.declared.entry.Entry.TheVariants as entry
 use Rattle.tp_inbox.specs.declared.stamped.Stamped.{Stamped}
 use Rattle.tp_inbox.specs.History.{arrived_on, count_of, numbered, sent_on}
+use Rattle.tp_inbox.specs.Routed.{rest_arrivals}
 use Rattle.tp_script.specs.TestCases.{Made, duty_at}
 use Rattle.tp_behaviour.specs.Fresh.{Fresh}
-use Rattle.tp_behaviour.specs.Moments.{moments}
 use Rattle.tp_behaviour.specs.Outcomes.{WaitsWithin}
 use Rattle.tp_exec.specs.declared.played.Played.{Played}
 use Rattle.tp_exec.specs.declared.ended.Ended.{Ended}
 use Rattle.tp_exec.specs.Delivery.{IsOnRoute}
 use Rattle.tp_exec.specs.Rounds.{DutyEnded, comp_at}
 
--- the component is the one that played, and has done what it did; more has come to it, that is all
+-- the component is the one that played, and has done what it did; its history has more arrivals behind it, that is all
 pub record IsSettled (p : Played) (e : Ended) : Type 0 where
   pub outcome : e.outcome ≡ p.outcome
   pub comp : e.desk.comp ≡ p.station.desk.comp
   pub ports : e.desk.ports ≡ p.station.desk.ports
-  pub trace : moments e.desk.log ≡ moments p.station.desk.log
+  pub rest : List (ℕ × Env Message × ℕ)
+  pub grown : e.desk.log ≡ p.station.desk.log ++ rest_arrivals rest
 
--- on a route, all that was sent has come, in its order, numbered from 0 and under its stamps, and is as much as the sender has put
+-- on a route, all that was sent has come, in its order, numbered from 0 and under its stamps, and is as much as the
+-- sender has put
 pub record IsAllThere (ended : List Ended) (r : RouteId) : Type 0 where
   pub source : Ended
   pub source_is : slice_get ended r.source.0 ≡ Some source
@@ -41,11 +45,13 @@ pub record HasAllCome (s : Setup) (ended : List Ended) : Type 0 where
   -- each arrival is of a route
   pub routed : (k : ℕ) (e : Ended) → slice_get ended k ≡ Some e → All (IsOnRoute s (comp_at k)) e.desk.log
   pub there : (k : ℕ) (r : RouteId) → Contains (routes_into s (comp_at k)) r → IsAllThere ended r
-  pub counts : (k : ℕ) (e : Ended) → slice_get ended k ≡ Some e → map (λ n. n.0) e.counts.items ≡ routes_into s (comp_at k)
+  pub counts : (k : ℕ) (e : Ended) → slice_get ended k ≡ Some e
+      → map (λ n. n.0) e.counts.items ≡ routes_into s (comp_at k)
 
 -- these are what those who played came to once all messages had come
 pub record AreSettled (s : Setup) (played : List Played) (ended : List Ended) : Type 0 where
-  pub each : (k : ℕ) (e : Ended) → slice_get ended k ≡ Some e → (p : Played) × (slice_get played k ≡ Some p) × IsSettled p e
+  pub each : (k : ℕ) (e : Ended) → slice_get ended k ≡ Some e
+      → (p : Played) × (slice_get played k ≡ Some p) × IsSettled p e
   pub come : HasAllCome s ended
 
 -- what the entry sent went out from this component, on a route of the configuration

@@ -10,6 +10,6 @@ pub(crate) struct Ended {
     pub(crate) desk: Desk,
     /// How its behaviour ended.
     pub(crate) outcome: Outcome,
-    /// For each route into the component, in their order, how many messages its sender has put on it.
+    /// For each route into the component, in order, how many messages its sender has put on it.
     pub(crate) counts: Vec<(RouteId, u64)>,
 }

@@ -10,7 +10,7 @@ pub enum RunFault {
     /// 50 Memory: an allocation was refused.
     #[error("out of memory")]
     Memory,
-    /// 61 Restless: a behaviour ended as waiting, and one of its branches is open in the final queues.
+    /// 61 Restless: a behaviour ended as waiting, and a branch of it is open in the final queues.
     #[error("a behaviour waits for what has come")]
     Restless,
 }

@@ -18,6 +18,10 @@ pub record Journal : Type 0 where
   pub ports : ℕ
   pub log : List Entry
 
+-- a desk with so many ports, where nothing has happened
+abbrev pub new_desk : CompId → ℕ → Journal
+new_desk comp ports = record { comp = comp; ports = ports; log = [] }
+
 -- with one more entry, and nothing else changed
 abbrev pub adding : Journal → Entry → Journal
 adding d e = record d { log = d.log ++ e ∷ [] }
@@ -52,13 +56,16 @@ at_port d port = history_of port d.log
 
 -- what `receive` answers, and the desk after it
 abbrev pub Receives : (Message → Type 0) → Option ℕ → ℕ → ℕ → Journal → Option (Env Message) → Journal → Type 0
-Receives admits from port branch d (Some e) after = Finds admits from (at_port d port) e × (after ≡ adding d (entry.Took port e branch))
+Receives admits from port branch d (Some e) after =
+    Finds admits from (at_port d port) e × (after ≡ adding d (entry.Took port e branch))
 Receives admits from port branch d None after = FindsNone admits from (at_port d port) × (after ≡ d)
 
 -- what `trigger` answers, and the desk after it
 abbrev pub Triggers : (Message → Type 0) → Option ℕ → ℕ → ℕ → Journal → TriggerAnswer Message → Journal → Type 0
-Triggers admits from port branch d (answer.Took e) after = Finds admits from (at_port d port) e × (after ≡ adding d (entry.Took port e branch))
-Triggers admits from port branch d (answer.Dropped e) after = (top (at_port d port) ≡ Some e) × ¬ Satisfies admits from e × (after ≡ adding d (entry.Dropped port e branch))
+Triggers admits from port branch d (answer.Took e) after =
+    Finds admits from (at_port d port) e × (after ≡ adding d (entry.Took port e branch))
+Triggers admits from port branch d (answer.Dropped e) after =
+    (top (at_port d port) ≡ Some e) × ¬ Satisfies admits from e × (after ≡ adding d (entry.Dropped port e branch))
 Triggers admits from port branch d answer.Nothing after = (top (at_port d port) ≡ None) × (after ≡ d)
 
 -- the desk after a `check` that answered this
@@ -68,11 +75,12 @@ checked port branch d None = d
 
 -- what `check` notes in the desk: that it found the top, or nothing
 abbrev pub Notes : (Message → Type 0) → Option ℕ → ℕ → ℕ → Journal → Bool → Journal → Type 0
-Notes admits from port branch d true after = (e : Env Message) × Finds admits from (at_port d port) e × (after ≡ adding d (entry.Found port e branch))
+Notes admits from port branch d true after =
+    (e : Env Message) × Finds admits from (at_port d port) e × (after ≡ adding d (entry.Found port e branch))
 Notes admits from port branch d false after = FindsNone admits from (at_port d port) × (after ≡ d)
 
--- each port's queue has the history that the desk's log says, and each of these obeys the rules of a port; the log names no other port; the
--- clock is that of the log, in which each sending's stamp is above all stamps before it
+-- each port's queue has the history that the desk's log says, and each of these obeys the rules of a port; the log
+-- names no other port; the clock is that of the log, in which each sending's stamp is above all stamps before it
 pub record IsKept (queues : List (List (Event Message))) (clock : ℕ) (log : List Entry) : Type 0 where
   pub histories : (port : ℕ) → port < length queues → slice_index_or queues port [] ≡ history_of port log
   pub lawful : (port : ℕ) → port < length queues → Lawful (history_of port log)

@@ -16,7 +16,7 @@ all_of s = arrivals_of (arc_value s.hub).routes.items s.pass.me.view.client.take
 abbrev pub front_of : Inside → List Entry
 front_of s = take (length (all_of s) - length (rest_arrivals s.rest.items)) (all_of s)
 
--- its pass is of its inbox's queue; all routes have joined; and what was taken out is what was drained and then the rest
+-- its pass is of its inbox's queue; all routes have joined; what was taken out is what was drained, then the rest
 pub record IsGathered (s : Inside) : Type 0 where
   pub pass : IsSegPassOf (arc_value s.hub).line s.pass
   pub sound : Sound s.pass.me.view.client

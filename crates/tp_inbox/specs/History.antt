@@ -1,5 +1,5 @@
 -- The history of a component, and what it says: of each port, of each route, and of what its behaviour did.
--- A history is the whole list of the component's entries, the oldest first, which only grows; a definition filters that list.
+-- A history is the whole list of the component's entries, the oldest first. It only grows; a definition filters it.
 use Rattle.std.specs.Prelude.{◌≡◌, ℕ, ◌+◌, ◌<◌, max, Bool, true, false, not, ◌&&◌, ◌==◌, cond, Option, Some, None, List, [], ◌∷◌, filter, slice_get, take}
 use Rattle.std.specs.List.{filter_map}
 use Rattle.tp_port.specs.declared.event.Event.{Event}
@@ -53,7 +53,10 @@ sent_on r k = filter_map (sending_on r) k
 -- the number and the stamped message, where the entry is an arrival at the route's port from the route's sender
 abbrev pub arrival_on : RouteId → Entry → Option (ℕ × Stamped)
 arrival_on r (entry.Arrive p env stamp) =
-    cond ((r.to.port == p) && (r.source.0 == env.sender)) (Some (env.number, record { stamp = stamp; message = env.msg })) None
+    cond
+    ((r.to.port == p) && (r.source.0 == env.sender))
+    (Some (env.number, record { stamp = stamp; message = env.msg }))
+    None
 arrival_on r _ = None
 
 -- what came to the component on a route, in order, with the numbers
@@ -86,7 +89,7 @@ abbrev pub IsTimely : List Entry → Entry → Type 0
 IsTimely k (entry.Sent r number m) = clock_of k < m.stamp
 IsTimely k _ = Unit {0}
 
--- each entry may follow those before it: a message is sent with a greater stamp than all that were sent or came before it
+-- each entry may follow those before it: a message is sent with a greater stamp than all that were sent or came before
 unfoldable pub IsClocked : List Entry → Type 0
 IsClocked k = (n : ℕ) (e : Entry) → slice_get k n ≡ Some e → IsTimely (take n k) e
 

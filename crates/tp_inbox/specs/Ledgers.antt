@@ -27,7 +27,8 @@ pub record Draining : Type 0 where
   pub inbox : Inbox
   pub drained : List Entry
 
--- an owner and its senders, all of them ended: what was drained, what was taken out and is kept, and what was put on each route
+-- an owner and its senders, all of them ended: what was drained, what was taken out and is kept, and what was put on
+-- each route
 pub record Gathering : Type 0 where
   pub inbox : Inbox
   pub drained : List Entry
@@ -48,7 +49,8 @@ new_sender inbox route = record { inbox = inbox; route = route; ledger = [] }
 
 -- the senders of this inbox, one for each of its routes, in their order
 abbrev pub AreSenders : Inbox → List Sending → Type 0
-AreSenders inbox senders = All (λ (s : Sending). s.inbox ≡ inbox) senders × (map (λ (s : Sending). s.route) senders ≡ inbox.routes)
+AreSenders inbox senders =
+    All (λ (s : Sending). s.inbox ≡ inbox) senders × (map (λ (s : Sending). s.route) senders ≡ inbox.routes)
 
 -- what a sender has put, beside its route
 abbrev pub put_by : Sending → RouteId × List Stamped

@@ -10,4 +10,6 @@ use Rattle.tp_inbox.specs.contracts.desk.Desk.{the_row}
 
 -- the desk ends as the one after a `check` that answered r
 abbrev pub ends_checked : ℕ → ℕ → {E : Type 0} → MutBor Journal → Result (Option (Bor (Env Message))) E → Fml
-ends_checked port branch d r = follows_so the_row the_row d.ghost_name none (λ _ _. ⊤) (λ n. MatchResult r (λ answer. n ≡ checked port branch d.now (option_copied answer)) (λ _. n ≡ d.now))
+ends_checked port branch d r =
+    follows_so the_row the_row d.ghost_name none (λ _ _. ⊤)
+    (λ n. MatchResult r (λ answer. n ≡ checked port branch d.now (option_copied answer)) (λ _. n ≡ d.now))

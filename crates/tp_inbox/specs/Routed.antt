@@ -42,7 +42,8 @@ rest_arrivals rest = map (λ x. entry.Arrive x.0 x.1 x.2) rest
 
 -- an arrival on one of these routes
 abbrev pub IsArrivalOn : List RouteId → Entry → Type 0
-IsArrivalOn routes (entry.Arrive port env stamp) = (r : RouteId) × Contains routes r × (r.to.port ≡ port) × (r.source.0 ≡ env.sender)
+IsArrivalOn routes (entry.Arrive port env stamp) =
+    (r : RouteId) × Contains routes r × (r.to.port ≡ port) × (r.source.0 ≡ env.sender)
 IsArrivalOn routes _ = ⊥
 
 -- on each of these routes the arrivals are numbered from 0

@@ -12,9 +12,11 @@ use Rattle.tp_inbox.specs.Envelopes.{of, InOrder, AreFronts, AreRouted}
 abbrev pub sender_of : ℕ → List Stamped → View
 sender_of place put = record { sends = true; place = place; put = put; owns = false; made = 0; taken = []; known = [] }
 
--- the pass of the owner: how many routes it has split off, what it has taken out, and the lists of those that have joined
+-- the pass of the owner: how many routes it has split off, what it has taken out, and the lists of those that have
+-- joined
 abbrev pub owner_of : ℕ → List Envelope → List (List Stamped) → View
-owner_of made taken known = record { sends = false; place = 0; put = []; owns = true; made = made; taken = taken; known = known }
+owner_of made taken known =
+    record { sends = false; place = 0; put = []; owns = true; made = made; taken = taken; known = known }
 
 -- a pass that has joined
 abbrev pub spent : View
@@ -24,14 +26,16 @@ spent = record { sends = false; place = 0; put = []; owns = false; made = 0; tak
 abbrev pub FitsSender : ℕ → (ℕ → Option ℕ) → (ℕ → List Stamped) → ℕ → View → Type 0
 FitsSender made seat put pass v = v.sends ≡ true → (v.place < made) × (seat v.place ≡ some pass) × (v.put ≡ put v.place)
 
--- the owner's, of which there is one: it knows what was taken out, how many routes there are, and what the first of them put, which have joined
+-- the owner's, of which there is one: it knows what was taken out, how many routes there are, and what the first of
+-- them put, which have joined
 abbrev pub FitsOwner : ℕ → ℕ → (ℕ → Option ℕ) → (ℕ → List Stamped) → List Envelope → ℕ → View → Type 0
 FitsOwner owner made seat put taken pass v =
     v.owns ≡ true
     → (pass ≡ owner) × (v.made ≡ made) × (v.taken ≡ taken) × (length v.known ≤ made)
     × ((p : ℕ) → p < length v.known → (seat p ≡ none) × (slice_index_or v.known p [] ≡ put p))
 
--- for each route its part of what was taken out and then of what is held is what was put there, in order and numbered from 0, and there is no other route
+-- for each route its part of what was taken out and then of what is held is what was put there, in order and numbered
+-- from 0, and there is no other route
 pub record Delivers (items : List Envelope) (views : List View) : Type 0 where
   pub owner : ℕ
   pub made : ℕ
@@ -46,7 +50,9 @@ pub record Delivers (items : List Envelope) (views : List View) : Type 0 where
 
 -- an envelope that was taken out is the next of its route, and of a route that there is
 abbrev pub Takes : View → Envelope → View → Type 0
-Takes v e w = (w ≡ owner_of v.made (v.taken ++ e ∷ []) v.known) × (e.place < v.made) × InOrder (v.taken ++ e ∷ []) × AreFronts (v.taken ++ e ∷ []) v.known
+Takes v e w =
+    (w ≡ owner_of v.made (v.taken ++ e ∷ []) v.known)
+    × (e.place < v.made) × InOrder (v.taken ++ e ∷ []) × AreFronts (v.taken ++ e ∷ []) v.known
 
 abbrev pub Puts : View → Envelope → View → Type 0
 Puts v e w = w ≡ sender_of v.place (v.put ++ e.stamped ∷ [])

@@ -31,12 +31,13 @@ impl Bell {
         }
     }
 
-    /// One more push was announced. True where the owner rested and has not taken so many out: then it
-    /// rests no more, and is to be woken.
+    /// One more push was announced. True where the owner rested and has not taken so many out: then
+    /// it rests no more, and is to be woken.
     pub(crate) fn announce(&mut self) -> bool
         ensures announced { self.new.announced ≡ (self.old.announced + 1) % 2 ^ 64 }
         ensures closed { self.new.closed ≡ self.old.closed }
-        ensures wakes { result ≡ true ↔ IsSomeAnd self.old.awaits (λ taken. taken < self.new.announced) }
+        ensures wakes { result ≡ true
+            ↔ IsSomeAnd self.old.awaits (λ taken. taken < self.new.announced) }
         ensures awaits { self.new.awaits ≡ (if result then None else self.old.awaits) }
     {
         let announced = self.announced.wrapping_add(1);
@@ -51,8 +52,8 @@ impl Bell {
         wakes
     }
 
-    /// The inbox is closed from now on. True where the owner rested: then it rests no more, and is to
-    /// be woken.
+    /// The inbox is closed from now on. True where the owner rested: then it rests no more, and is
+    /// to be woken.
     pub(crate) fn close(&mut self) -> bool
         ensures announced { self.new.announced ≡ self.old.announced }
         ensures closed { self.new.closed ≡ true }
@@ -68,7 +69,8 @@ impl Bell {
     /// What an owner that has taken so many out finds at once. Nothing where it may rest.
     pub(crate) fn look(&self, taken: u64) -> Option<Woken>
         ensures arrived { result ≡ Some Woken.Arrived ↔ taken < self.now.announced }
-        ensures closed { result ≡ Some Woken.Closed ↔ (self.now.announced ≤ taken) × (self.now.closed ≡ true) }
+        ensures closed { result ≡ Some Woken.Closed
+            ↔ (self.now.announced ≤ taken) × (self.now.closed ≡ true) }
         ensures nothing { result ≡ None ↔ (self.now.announced ≤ taken) × (self.now.closed ≡ false) }
     {
         if self.announced > taken {
@@ -80,8 +82,8 @@ impl Bell {
         None
     }
 
-    /// The owner, which has taken so many out, rests from now on, where the floor let it. Else it is
-    /// told that it is the last one awake.
+    /// The owner, which has taken so many out, rests from now on, where the floor let it. Else it
+    /// is told that it is the last one awake.
     pub(crate) fn rest(&mut self, taken: u64, may_rest: bool) -> Option<Woken>
         requires { (self.old.announced ≤ taken) × (self.old.closed ≡ false) }
         ensures announced { self.new.announced ≡ self.old.announced }

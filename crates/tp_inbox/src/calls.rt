@@ -60,7 +60,8 @@ pub(crate) fn receive<W: Wanted<Message>>(
     wanted: &W,
     from: Option<u32>,
 ) -> Result<Option<(Env<Message>, Env<Message>)>, Memory>
-    ensures ok { IfOk result (λ taken. ReceivesWith (W.admits wanted.now) from queue.old taken queue.new) }
+    ensures ok { IfOk result (λ taken.
+        ReceivesWith (W.admits wanted.now) from queue.old taken queue.new) }
     ensures err { OnErr result (queue.new ≡ queue.old) }
     ensures lawful { Lawful queue.new }
 {
@@ -81,7 +82,8 @@ pub(crate) fn check<W: Wanted<Message>>(
     wanted: &W,
     from: Option<u32>,
 ) -> Result<Option<Env<Message>>, Memory>
-    ensures ok { IfOk result (λ twin. FindsWith (W.admits wanted.now) from queue.old twin queue.new) }
+    ensures ok { IfOk result (λ twin.
+        FindsWith (W.admits wanted.now) from queue.old twin queue.new) }
     ensures err { OnErr result (queue.new ≡ queue.old) }
     ensures lawful { Lawful queue.new }
 {
@@ -109,7 +111,8 @@ pub(crate) fn trigger<W: Wanted<Message>>(
     wanted: &W,
     from: Option<u32>,
 ) -> Result<Triggered, Memory>
-    ensures ok { IfOk result (λ answer. TriggersWith (W.admits wanted.now) from queue.old answer queue.new) }
+    ensures ok { IfOk result (λ answer.
+        TriggersWith (W.admits wanted.now) from queue.old answer queue.new) }
     ensures err { OnErr result (queue.new ≡ queue.old) }
     ensures lawful { Lawful queue.new }
 {

@@ -1,5 +1,5 @@
 //! A component's desk: its ports and its history.
-ghost use Rattle.std.specs.Prelude.{◌≡◌, ◌∷◌, [], ℕ, ◌+◌, ◌^◌, ◌<◌, ◌≤◌, All, SomeIff, length, IfErr, IfOk, OnErr, OnOk};
+ghost use Rattle.std.specs.Prelude.{◌≡◌, [], ℕ, ◌+◌, ◌^◌, ◌<◌, ◌≤◌, All, SomeIff, length, IfErr, IfOk, OnErr, OnOk};
 ghost use Rattle.std.specs.Option.{option_copied};
 ghost use Rattle.std.specs.Borrow.{sem};
 ghost use Rattle.tp_port.specs.History.{Lawful, queued, status_of, top};
@@ -7,7 +7,7 @@ ghost use Rattle.tp_port.specs.Answers.{Checks, halted_count};
 ghost use Rattle.tp_config.specs.Setup.{IsComponent, ports_at};
 ghost use Rattle.tp_inbox.specs.declared.entry.Entry.TheVariants as entry;
 ghost use Rattle.tp_inbox.specs.History.{IsClocked, IsTimely, arrivals, clock_of, next_of};
-ghost use Rattle.tp_inbox.specs.Desks.{IsNote, IsWithin, Notes, Receives, Triggers, adding, at_port};
+ghost use Rattle.tp_inbox.specs.Desks.{IsNote, IsWithin, Notes, Receives, Triggers, adding, at_port, new_desk};
 ghost use Rattle.tp_inbox.specs.Lending.{ends_checked};
 ghost use Rattle.tp_inbox.specs.Ledgers.{putting};
 
@@ -26,11 +26,11 @@ use tp_port::payload::{Memory, Payload, Wanted};
 use tp_port::queue::PortQueue;
 use tp_value::message::Message;
 
-/// The ports of one component and its history, seen by contracts as the component, the number of its
-/// ports and the history.
+/// The ports of one component and its history, seen by contracts as the component, the number of
+/// its ports and the history.
 ///
-/// Each port is given by its place in declared order, from 0, and its queue has the history that the
-/// component's history says. A call works on the port's queue alone, and never looks at a history.
+/// Each port is given by its place in declared order, from 0, and its queue has the history that
+/// the component's history says. A call works on the port's queue, and looks at no history.
 #[derive(Drop)]
 pub struct Desk {
     comp: CompId,
@@ -70,7 +70,8 @@ pub(crate) fn port_count(config: &Config, comp: CompId) -> usize
 ///
 /// 50 `Memory` only where an allocation was refused.
 fn twins(alloc: Global, stamp: u64, message: &Message) -> Result<(Stamped, Stamped), Memory>
-    ensures { IfOk result (λ two. (two.0 ≡ record { stamp = stamp; message = message.now }) × (two.1 ≡ two.0)) }
+    ensures { IfOk result (λ two.
+        (two.0 ≡ record { stamp = stamp; message = message.now }) × (two.1 ≡ two.0)) }
 {
     let put = Stamped {
         stamp,
@@ -81,13 +82,14 @@ fn twins(alloc: Global, stamp: u64, message: &Message) -> Result<(Stamped, Stamp
 }
 
 impl Desk {
-    /// The desk of a component of the configuration: all its ports are started (ES 201 873-1, 21.2.1),
-    /// and nothing has happened.
+    /// The desk of a component of the configuration: all its ports are started (ES 201 873-1,
+    /// 21.2.1), and nothing has happened.
     ///
     /// 50 `Memory` where an allocation was refused.
     pub fn new(alloc: Global, config: &Config, comp: CompId) -> Result<Desk, Memory>
         requires { IsComponent config.now comp }
-        ensures desk { IfOk result (λ desk. desk ≡ record { comp = comp; ports = length (ports_at config.now.types config.now.components comp); log = [] }) }
+        ensures desk { IfOk result (λ desk. desk
+            ≡ new_desk comp (length (ports_at config.now.types config.now.components comp))) }
         ensures none { IfOk result (λ desk. arrivals desk.log ≡ []) }
     {
         Desk::with_ports(alloc, comp, port_count(config, comp))
@@ -95,7 +97,7 @@ impl Desk {
 
     /// A desk with so many ports.
     fn with_ports(alloc: Global, comp: CompId, count: usize) -> Result<Desk, Memory>
-        ensures desk { IfOk result (λ desk. desk ≡ record { comp = comp; ports = count; log = [] }) }
+        ensures desk { IfOk result (λ desk. desk ≡ new_desk comp count) }
         ensures none { IfOk result (λ desk. arrivals desk.log ≡ []) }
     {
         let mut ports = Vec::with_capacity(alloc, count)?;
@@ -111,8 +113,8 @@ impl Desk {
         })
     }
 
-    /// A message comes to this port, with the stamp of its sending: [`PortQueue::arrive`] there, and an
-    /// `Arrive` in the history.
+    /// A message comes to this port, with the stamp of its sending: [`PortQueue::arrive`] there,
+    /// and an `Arrive` in the history.
     ///
     /// 50 `Memory` where an allocation was refused: the envelope is handed back, and the desk is as
     /// before.
@@ -153,7 +155,8 @@ impl Desk {
         branch: usize,
     ) -> Result<Option<Env<Message>>, Memory>
         requires { port < self.old.ports }
-        ensures ok { IfOk result (λ answer. Receives (W.admits wanted.now) from port branch self.old answer self.new) }
+        ensures ok { IfOk result (λ answer.
+            Receives (W.admits wanted.now) from port branch self.old answer self.new) }
         ensures err { OnErr result (self.new ≡ self.old) }
     {
         self.log.reserve(1)?;
@@ -179,7 +182,8 @@ impl Desk {
         branch: usize,
     ) -> Result<TriggerAnswer<Message>, Memory>
         requires { port < self.old.ports }
-        ensures ok { IfOk result (λ answer. Triggers (W.admits wanted.now) from port branch self.old answer self.new) }
+        ensures ok { IfOk result (λ answer.
+            Triggers (W.admits wanted.now) from port branch self.old answer self.new) }
         ensures err { OnErr result (self.new ≡ self.old) }
     {
         self.log.reserve(1)?;
@@ -210,7 +214,8 @@ impl Desk {
     ) -> Result<Option<&Env<Message>>, Memory>
         requires { port < self.old.ports }
         ensures* after { sem 𝓛 (ends_checked port branch self.entry result) }
-        ensures found { IfOk result (λ answer. Checks (W.admits wanted.now) from (at_port self.old port) (option_copied answer)) }
+        ensures found { IfOk result (λ answer.
+            Checks (W.admits wanted.now) from (at_port self.old port) (option_copied answer)) }
     {
         if self.find(port, wanted, from, branch)? {
             Ok(self.top(port))
@@ -228,7 +233,8 @@ impl Desk {
         branch: usize,
     ) -> Result<bool, Memory>
         requires { port < self.old.ports }
-        ensures ok { IfOk result (λ found. Notes (W.admits wanted.now) from port branch self.old found self.new) }
+        ensures ok { IfOk result (λ found.
+            Notes (W.admits wanted.now) from port branch self.old found self.new) }
         ensures err { OnErr result (self.new ≡ self.old) }
     {
         self.log.reserve(1)?;
@@ -255,7 +261,8 @@ impl Desk {
     /// 50 `Memory` where an allocation was refused: the desk is as before.
     pub fn clear(&mut self, port: u32) -> Result<u64, Memory>
         requires { port < self.old.ports }
-        ensures count { IfOk result (λ discarded. discarded ≡ length (queued (at_port self.old port))) }
+        ensures count { IfOk result (λ discarded.
+            discarded ≡ length (queued (at_port self.old port))) }
         ensures ok { OnOk result (self.new ≡ adding self.old (entry.Cleared port)) }
         ensures err { OnErr result (self.new ≡ self.old) }
     {
@@ -270,7 +277,8 @@ impl Desk {
     /// 50 `Memory` where an allocation was refused: the desk is as before.
     pub fn start(&mut self, port: u32) -> Result<u64, Memory>
         requires { port < self.old.ports }
-        ensures count { IfOk result (λ discarded. discarded ≡ length (queued (at_port self.old port))) }
+        ensures count { IfOk result (λ discarded.
+            discarded ≡ length (queued (at_port self.old port))) }
         ensures ok { OnOk result (self.new ≡ adding self.old (entry.Started port)) }
         ensures err { OnErr result (self.new ≡ self.old) }
     {
@@ -294,12 +302,14 @@ impl Desk {
         Ok(())
     }
 
-    /// [`PortQueue::halt`] at this port, and a `Halted` in the history, with an effect or without one.
+    /// [`PortQueue::halt`] at this port, and a `Halted` in the history, whether it has an effect or
+    /// not.
     ///
     /// 50 `Memory` where an allocation was refused: the desk is as before.
     pub fn halt(&mut self, port: u32) -> Result<Option<u64>, Memory>
         requires { port < self.old.ports }
-        ensures count { IfOk result (λ count. count ≡ halted_count (status_of (at_port self.old port)) (at_port self.old port)) }
+        ensures count { IfOk result (λ count. count
+            ≡ halted_count (status_of (at_port self.old port)) (at_port self.old port)) }
         ensures ok { OnOk result (self.new ≡ adding self.old (entry.Halted port)) }
         ensures err { OnErr result (self.new ≡ self.old) }
     {
@@ -309,8 +319,8 @@ impl Desk {
         Ok(ahead)
     }
 
-    /// Notes what the behaviour did itself: an entry `Sent`, `Else`, `Verdict` or `Failed`. The stamp
-    /// of a sending is above all stamps before it, as [`Desk::stamp`] offers one.
+    /// Notes what the behaviour did itself: an entry `Sent`, `Else`, `Verdict` or `Failed`. The
+    /// stamp of a sending is above all stamps before it, as [`Desk::stamp`] offers one.
     ///
     /// 50 `Memory` where an allocation was refused: the entry is handed back, and the desk is as
     /// before.
@@ -328,11 +338,11 @@ impl Desk {
         Ok(())
     }
 
-    /// Sends a message: puts it with this sender, under the next stamp of the history, and notes it there. The
-    /// two are one: where it is put, it is noted.
+    /// Sends a message: puts it with this sender, under the next stamp of the history, and notes it
+    /// there. The two are one: where it is put, it is noted.
     ///
-    /// 15 `Limit` only where the sender's route has taken all that it takes; else 50 `Memory` where an
-    /// allocation was refused, or where no stamp is left. Nothing is put or noted then.
+    /// 15 `Limit` only where the sender's route has taken all that it takes; else 50 `Memory` where
+    /// an allocation was refused, or where no stamp is left. Nothing is put or noted then.
     pub fn send<R: Wait>(
         &mut self,
         rt: &R,
@@ -341,9 +351,11 @@ impl Desk {
     ) -> Result<(), PutFault>
         ensures desk { OnOk result (self.new ≡ adding self.old (entry.Sent sender.old.route
             (length sender.old.ledger) (next_of self.old.log message.now))) }
-        ensures sender { OnOk result (sender.new ≡ putting sender.old (next_of self.old.log message.now)) }
+        ensures sender { OnOk result (sender.new
+            ≡ putting sender.old (next_of self.old.log message.now)) }
         ensures err { OnErr result ((self.new ≡ self.old) × (sender.new ≡ sender.old)) }
-        ensures limit { IfErr result (λ fault. fault ≡ PutFault.Limit → 100000 ≤ length sender.old.ledger) }
+        ensures limit { IfErr result (λ fault.
+            fault ≡ PutFault.Limit → 100000 ≤ length sender.old.ledger) }
     {
         let route = sender.route();
         let Some(stamp) = self.stamp() else {

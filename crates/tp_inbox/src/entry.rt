@@ -17,12 +17,12 @@ use tp_value::verdict::Verdict;
 pub enum Entry {
     /// At this port a message came, with the stamp of its sending.
     Arrive(u32, Env<Message>, u64),
-    /// At this port, in this branch, `receive`, or a `trigger` that matched, took the top message out
-    /// (ES 201 873-1, 22.2.2, 22.2.3).
+    /// At this port, in this branch, `receive`, or a `trigger` that matched, took the top message
+    /// out (ES 201 873-1, 22.2.2, 22.2.3).
     Took(u32, Env<Message>, usize),
     /// At this port, in this branch, `check` found the top message, and left it (22.4).
     Found(u32, Env<Message>, usize),
-    /// At this port, in this branch, a `trigger` that didn't match discarded the top message (22.2.3).
+    /// At this port, in this branch, a `trigger` that didn't match discarded the top (22.2.3).
     Dropped(u32, Env<Message>, usize),
     /// `clear` emptied the queue of this port (22.5.1).
     Cleared(u32),

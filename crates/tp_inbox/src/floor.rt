@@ -17,10 +17,14 @@ impl Counts {
     /// One behaviour, which is awake, has ended. True where others live and all of them rest. Where
     /// nobody is awake nothing changes.
     fn leave(&mut self) -> bool
-        ensures living { self.old.resting < self.old.living → self.new.living + 1 ≡ self.old.living }
+        ensures living { self.old.resting < self.old.living
+            → self.new.living + 1 ≡ self.old.living }
         ensures nobody { self.old.resting ≡ self.old.living → self.new.living ≡ self.old.living }
         ensures resting { self.new.resting ≡ self.old.resting }
-        ensures all_rest { result ≡ true ↔ (self.old.resting < self.old.living) × (0 < self.new.living) × (self.new.resting ≡ self.new.living) }
+        ensures all_rest { result ≡ true
+            ↔ (self.old.resting < self.old.living)
+            × (0 < self.new.living)
+            × (self.new.resting ≡ self.new.living) }
     {
         if self.resting >= self.living {
             return false;
@@ -33,7 +37,8 @@ impl Counts {
     fn rest(&mut self) -> bool
         ensures living { self.new.living ≡ self.old.living }
         ensures rests { result ≡ true ↔ self.old.resting + 1 < self.old.living }
-        ensures resting { self.new.resting ≡ (if result then self.old.resting + 1 else self.old.resting) }
+        ensures resting { self.new.resting
+            ≡ (if result then self.old.resting + 1 else self.old.resting) }
     {
         if self.living == 0 || self.resting >= self.living - 1 {
             return false;
@@ -55,9 +60,9 @@ impl Counts {
 
 /// Who lives and who rests in a run, so that a run in which all wait can be noticed.
 ///
-/// A behaviour lives until it has left. It rests from the moment that its `wait` finds nothing in its
-/// inbox until a message is put there or the inbox is closed. The floor's lock is taken after an
-/// inbox's lock, never before one.
+/// A behaviour lives until it has left. It rests from the moment that its `wait` finds nothing in
+/// its inbox until a message is put there or the inbox is closed. The floor's lock is taken after
+/// an inbox's lock, never before one.
 #[derive(Drop)]
 pub struct Floor {
     counts: Mutex<Counts>,
@@ -73,8 +78,8 @@ impl Floor {
     }
 
     /// One behaviour has ended. True where others live and all of them rest: then nothing will wake
-    /// them but their inboxes being closed. Where nobody lives it changes nothing, and answers false.
-    /// Takes no memory.
+    /// them but their inboxes being closed. Where nobody lives it changes nothing, and answers
+    /// false. Takes no memory.
     pub fn leave<R: Wait>(&self, rt: &R) -> bool {
         self.counts.lock(rt).leave()
     }

@@ -23,8 +23,8 @@ use tp_refusal::memory::Memory;
 use tp_value::message::Message;
 
 /// An owner with its senders, all of them ended, seen by contracts as its inbox, the arrivals that
-/// the owner has drained, those that were taken out after that and are kept here, and what was put on
-/// each route.
+/// the owner has drained, those that were taken out after that and are kept here, and what was put
+/// on each route.
 #[derive(Drop)]
 pub struct Gathered {
     hub: Arc<Hub, Global>,
@@ -49,7 +49,12 @@ impl Model for Gathered {
     ghost use Rattle.tp_inbox.specs.Gathers.{IsGathered, front_of};
     ghost use Rattle.tp_inbox.specs.Ends.{inbox_of, seen_sent};
 
-    ghost view = { λ s. record { inbox = inbox_of (arc_value s.hub); drained = front_of s; kept = rest_arrivals s.rest.items; sent = seen_sent s.sent.items } };
+    ghost view = { λ s. record {
+      inbox = inbox_of (arc_value s.hub);
+      drained = front_of s;
+      kept = rest_arrivals s.rest.items;
+      sent = seen_sent s.sent.items;
+    } };
 
     ghost invariant = { IsGathered };
 }
@@ -82,8 +87,8 @@ fn with_hand(
 }
 
 /// Takes the owner and its senders in, after all of them have ended: the senders that
-/// [`inbox`](crate::making::inbox) gave with this owner, in its order. It keeps what each has put and
-/// what was drained. Takes no memory.
+/// [`inbox`](crate::making::inbox) gave with this owner, in its order. It keeps what each has put
+/// and what was drained. Takes no memory.
 pub fn gather<R: Wait>(rt: &R, owner: Owner, senders: Vec<Sender>) -> Gathered
     requires { AreSenders owner.inbox senders.items }
     ensures are { AreRoutes owner.inbox.comp owner.inbox.ports owner.inbox.routes }
@@ -126,19 +131,25 @@ pub fn gather<R: Wait>(rt: &R, owner: Owner, senders: Vec<Sender>) -> Gathered
 }
 
 impl Gathered {
-    /// What was put on each route, and what of it was still in the inbox: the arrivals of a route in
-    /// the desk, followed by those in the rest, are what its sender has put, numbered from 0. Nothing
-    /// is compared for this; it follows from the rule of the queue.
+    /// What was put on each route, and what of it was still in the inbox: the arrivals of a route
+    /// in the desk, followed by those in the rest, are what its sender has put, numbered from 0.
+    /// Nothing is compared for this; it follows from the rule of the queue.
     ///
     /// 50 `Memory` where an allocation was refused: this is handed back, and may be settled again.
     pub fn settle<R: Wait>(self, rt: &R, desk: &Desk) -> Result<Settled, (Memory, Gathered)>
         requires desk { IsDeskOf self.inbox desk.now }
         requires arrivals { arrivals desk.now.log ≡ self.drained }
         ensures sent { IfOk result (λ settled. seen_sent settled.sent.items ≡ self.sent) }
-        ensures delivered { IfOk result (λ settled. AreDelivered (desk.now.log ++ rest_arrivals settled.rest.items) self.sent) }
-        ensures routed { IfOk result (λ settled. All (IsArrivalOn self.inbox.routes) (rest_arrivals settled.rest.items)) }
-        ensures same { IfErr result (λ back. (back.1.inbox ≡ self.inbox) × (back.1.drained ≡ self.drained) × (back.1.sent ≡ self.sent)) }
-        ensures begun { IfErr result (λ back. AreBegun (back.1.drained ++ back.1.kept) back.1.sent) }
+        ensures delivered { IfOk result (λ settled.
+            AreDelivered (desk.now.log ++ rest_arrivals settled.rest.items) self.sent) }
+        ensures routed { IfOk result (λ settled.
+            All (IsArrivalOn self.inbox.routes) (rest_arrivals settled.rest.items)) }
+        ensures same { IfErr result (λ back.
+            (back.1.inbox ≡ self.inbox)
+            × (back.1.drained ≡ self.drained)
+            × (back.1.sent ≡ self.sent)) }
+        ensures begun { IfErr result (λ back.
+            AreBegun (back.1.drained ++ back.1.kept) back.1.sent) }
     {
         let _ = desk;
         let Gathered {

@@ -26,13 +26,13 @@ pub enum Woken {
 
 /// What an owner and its senders share: the queue, the routes into the component, and the bell.
 ///
-/// A push comes before it is announced, and only what is announced wakes. An owner may so take out what
-/// isn't announced yet: it counts what it took, and waits for more than that, so that the announcement
-/// which comes later wakes nobody for what is gone. No waking is lost, since the owner looks and comes
-/// to rest under the one lock under which a push is announced: either it finds the announcement, or
-/// the announcement finds it at rest. Whoever ends a rest takes it from the floor under that same
-/// lock, and only then wakes: so a behaviour that is on its way back counts as awake. The floor's
-/// lock is taken inside the inbox's lock, never the other way round.
+/// A push comes before it is announced, and only what is announced wakes. An owner may so take out
+/// what isn't announced yet: it counts what it took, and waits for more than that, so that the
+/// announcement which comes later wakes nobody for what is gone. No waking is lost, since the owner
+/// looks and comes to rest under the one lock under which a push is announced: either it finds the
+/// announcement, or the announcement finds it at rest. Whoever ends a rest takes it from the floor
+/// under that same lock, and only then wakes: so a behaviour that is on its way back counts as
+/// awake. The floor's lock is taken inside the inbox's lock, never the other way round.
 pub(crate) struct Hub {
     /// The queue. It has a rule, and no lock.
     pub(crate) line: Line,
@@ -88,8 +88,8 @@ impl Hub {
         self.wake(rt, bell, wakes);
     }
 
-    /// Lets the owner rise where it is to be woken, and wakes it. It wakes all that wait at this inbox: a
-    /// wait only borrows the owner, so that nothing here rules out that there are two.
+    /// Lets the owner rise where it is to be woken, and wakes it. It wakes all that wait at this
+    /// inbox: a wait only borrows the owner, so that nothing here rules out that there are two.
     fn wake<R: Wait>(&self, rt: &R, bell: MutexGuard<Bell>, wakes: bool) {
         if wakes {
             self.floor.rise(rt);

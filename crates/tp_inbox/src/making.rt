@@ -24,10 +24,13 @@ use tp_config::config::Config;
 use tp_config::port_type::{CompId, RouteId};
 use tp_refusal::memory::Memory;
 
-/// The routes into a component, by receiving port, and then in the order of the connecting statements.
+/// The routes into a component, by receiving port, then in the order of the connecting statements.
 fn routes_of(config: &Config, comp: CompId) -> Result<Vec<RouteId>, Memory>
     ensures routes { IfOk result (λ v. v.items ≡ routes_into config.now comp) }
-    ensures are { IfOk result (λ v. AreRoutes comp (length (ports_at config.now.types config.now.components comp)) v.items) }
+    ensures are { IfOk result (λ v. AreRoutes
+        comp
+        (length (ports_at config.now.types config.now.components comp))
+        v.items) }
 {
     let routes = config.routes_into(comp)?;
     Ok(routes)
@@ -51,8 +54,10 @@ fn split(alloc: Global, hub: &Arc<Hub, Global>, pass: &mut Pass) -> Result<Vec<S
     requires queue { IsSegPassOf (arc_value hub.now).line pass.old }
     requires fresh { pass.old.me.view.client ≡ owner_of 0 [] [] }
     ensures queue { IfOk result (λ _. IsSegPassOf (arc_value hub.now).line pass.new) }
-    ensures made { IfOk result (λ _. pass.new.me.view.client ≡ owner_of (length (arc_value hub.now).routes.items) [] []) }
-    ensures senders { IfOk result (λ senders. senders.items ≡ map (new_sender (inbox_of (arc_value hub.now))) (arc_value hub.now).routes.items) }
+    ensures made { IfOk result (λ _. pass.new.me.view.client
+        ≡ owner_of (length (arc_value hub.now).routes.items) [] []) }
+    ensures senders { IfOk result (λ senders. senders.items
+        ≡ map (new_sender (inbox_of (arc_value hub.now))) (arc_value hub.now).routes.items) }
 {
     let count = hub.routes.len();
     let mut senders = Vec::with_capacity(alloc, count)?;
@@ -71,8 +76,8 @@ fn split(alloc: Global, hub: &Arc<Hub, Global>, pass: &mut Pass) -> Result<Vec<S
 }
 
 /// The inbox of a component of the configuration: its owner, a sender for each route into the
-/// component, in the order of [`Config::routes_into`], and what closes it. The floor is the one that
-/// the behaviours of the run stand on.
+/// component, in the order of [`Config::routes_into`], and what closes it. The floor is the one
+/// that the behaviours of the run stand on.
 ///
 /// 50 `Memory` where an allocation was refused.
 pub fn inbox(
@@ -83,7 +88,8 @@ pub fn inbox(
 ) -> Result<(Owner, Vec<Sender>, Closer), Memory>
     requires { IsComponent config.now comp }
     ensures comp { IfOk result (λ r. r.0.inbox.comp ≡ comp) }
-    ensures ports { IfOk result (λ r. r.0.inbox.ports ≡ length (ports_at config.now.types config.now.components comp)) }
+    ensures ports { IfOk result (λ r. r.0.inbox.ports
+        ≡ length (ports_at config.now.types config.now.components comp)) }
     ensures routes { IfOk result (λ r. r.0.inbox.routes ≡ routes_into config.now comp) }
     ensures drained { IfOk result (λ r. r.0.drained ≡ []) }
     ensures senders { IfOk result (λ r. r.1.items ≡ map (new_sender r.0.inbox) r.0.inbox.routes) }

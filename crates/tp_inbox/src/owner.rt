@@ -1,11 +1,11 @@
 //! The owner of an inbox.
-ghost use Rattle.std.specs.Prelude.{◌≡◌, ◌++◌, ◌∷◌, ◌<◌, [], List, length, IfOk, OnErr, OnOk, MatchOption, option_map};
+ghost use Rattle.std.specs.Prelude.{◌≡◌, ◌++◌, ◌<◌, List, length, IfOk, OnErr, OnOk, option_map};
 ghost use Rattle.crossbeam_queue.specs.SegTies.{IsSegPassOf};
 ghost use Rattle.tp_inbox.specs.declared.entry.Entry.{Entry};
 ghost use Rattle.tp_inbox.specs.History.{arrivals};
 ghost use Rattle.tp_inbox.specs.Desks.{adding_all};
-ghost use Rattle.tp_inbox.specs.Envelopes.{AreWhole};
 ghost use Rattle.tp_inbox.specs.Rule.{Sound};
+ghost use Rattle.tp_inbox.specs.Ends.{Fetches, KeepsRoutes};
 ghost use Rattle.tp_inbox.specs.Routed.{AreArrivals};
 ghost use Rattle.tp_inbox.specs.Ledgers.{IsDeskOf, drained_on};
 
@@ -66,8 +66,8 @@ pub(crate) fn take_out<R: Wait>(rt: &R, line: &Line, pass: &mut Pass) -> Option<
     requires sound { Sound pass.old.me.view.client }
     ensures queue { IsSegPassOf line.now pass.new }
     ensures sound { Sound pass.new.me.view.client }
-    ensures same { (pass.new.me.view.client.made ≡ pass.old.me.view.client.made) × (pass.new.me.view.client.known ≡ pass.old.me.view.client.known) }
-    ensures found { MatchOption result ((pass.new.me.view.client.taken ≡ pass.old.me.view.client.taken) × AreWhole pass.new.me.view.client.taken pass.new.me.view.client.known) (λ e. pass.new.me.view.client.taken ≡ pass.old.me.view.client.taken ++ e ∷ []) }
+    ensures same { KeepsRoutes pass.old.me.view.client pass.new.me.view.client }
+    ensures found { Fetches pass.old.me.view.client result pass.new.me.view.client }
 {
     line.pop_as::<Take, R>(rt, pass)
 }
@@ -105,7 +105,10 @@ impl Owner {
         requires desk { IsDeskOf self.old.inbox desk.old }
         requires arrivals { arrivals desk.old.log ≡ self.old.drained }
         ensures inbox { self.new.inbox ≡ self.old.inbox }
-        ensures ok { OnOk result ((more : List Entry) × (desk.new ≡ adding_all desk.old more) × (self.new.drained ≡ self.old.drained ++ more) × (arrivals more ≡ more)) }
+        ensures ok { OnOk result ((more : List Entry)
+            × (desk.new ≡ adding_all desk.old more)
+            × (self.new.drained ≡ self.old.drained ++ more)
+            × (arrivals more ≡ more)) }
         ensures err { OnErr result ((desk.new ≡ desk.old) × (self.new ≡ self.old)) }
     {
         let Some(envelope) = self.hand.take() else {
@@ -137,13 +140,16 @@ impl Owner {
     /// Moves what has come into the inbox to the ports of the desk, in the order of the queue, and
     /// answers how many messages it moved. Each move is an `Arrive` in the desk's history.
     ///
-    /// 50 `Memory` where an allocation was refused: what was moved is in the desk, and the rest is in
-    /// the inbox, in its order; the next drain goes on with it.
+    /// 50 `Memory` where an allocation was refused: what was moved is in the desk, and the rest is
+    /// in the inbox, in its order; the next drain goes on with it.
     pub fn drain<R: Wait>(&mut self, rt: &R, desk: &mut Desk) -> Result<u64, Memory>
         requires desk { IsDeskOf self.old.inbox desk.old }
         requires arrivals { arrivals desk.old.log ≡ self.old.drained }
         ensures inbox { self.new.inbox ≡ self.old.inbox }
-        ensures moved { (more : List Entry) × (desk.new ≡ adding_all desk.old more) × (self.new.drained ≡ self.old.drained ++ more) × IfOk result (λ count. count ≡ length more) }
+        ensures moved { (more : List Entry)
+            × (desk.new ≡ adding_all desk.old more)
+            × (self.new.drained ≡ self.old.drained ++ more)
+            × IfOk result (λ count. count ≡ length more) }
         ensures arrivals { arrivals desk.new.log ≡ self.new.drained }
         ensures drained { AreArrivals self.new.inbox.routes self.new.drained }
     {
@@ -157,8 +163,8 @@ impl Owner {
         unreachable!()
     }
 
-    /// How many messages of this route this owner has drained, over all drains: none of a route that
-    /// leads to another component. Looks at no history. Takes no memory.
+    /// How many messages of this route this owner has drained, over all drains: none of a route
+    /// that leads to another component. Looks at no history. Takes no memory.
     pub fn drained(&self, route: RouteId) -> u64
         ensures { result ≡ drained_on self.now route }
     {
@@ -185,8 +191,8 @@ pub struct Closer {
 }
 
 impl Closer {
-    /// Closes the inbox: its owner, where it waits or comes to wait, finds no more than what is there
-    /// already. Messages can be put and drained as before. Takes no memory.
+    /// Closes the inbox: its owner, where it waits or comes to wait, finds no more than what is
+    /// there already. Messages can be put and drained as before. Takes no memory.
     pub fn close<R: Wait>(&self, rt: &R) {
         self.hub.close(rt);
     }

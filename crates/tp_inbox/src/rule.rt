@@ -1,8 +1,8 @@
 //! The rule of an inbox's queue, and its kinds of step.
 //!
-//! The rule speaks of whole envelopes: for each sender, of whom there may be any number, its part of
-//! what the owner has taken out, followed by what the queue holds, is what the sender has put, in its
-//! order, numbered from 0. It holds between any two steps of any threads.
+//! The rule speaks of whole envelopes: for each sender, of whom there may be any number, its part
+//! of what the owner has taken out, followed by what the queue holds, is what the sender has put,
+//! in its order, numbered from 0. It holds between any two steps of any threads.
 use crate::envelope::Envelope;
 use crate::stamped::Stamped;
 use crossbeam_queue::protocol::{Join, Lesson, Outcome, Protocol, Split};

@@ -53,15 +53,19 @@ impl Model for Sender {
     ghost use Rattle.tp_inbox.specs.Routed.{route_at};
     ghost use Rattle.tp_inbox.specs.Ends.{inbox_of, IsSender};
 
-    ghost view = { λ s. record { inbox = inbox_of (arc_value s.hub); route = route_at (arc_value s.hub).routes.items s.place; ledger = s.sent.items } };
+    ghost view = { λ s. record {
+      inbox = inbox_of (arc_value s.hub);
+      route = route_at (arc_value s.hub).routes.items s.place;
+      ledger = s.sent.items;
+    } };
 
     ghost invariant = { IsSender };
 }
 
 impl Sender {
-    /// Puts a stamped message into the inbox, and answers its number on its route, from 0. The inbox
-    /// holds it from then on, behind all that this sender has put before, until the owner takes it
-    /// out; the ledger keeps a copy.
+    /// Puts a stamped message into the inbox, and answers its number on its route, from 0. The
+    /// inbox holds it from then on, behind all that this sender has put before, until the owner
+    /// takes it out; the ledger keeps a copy.
     ///
     /// 15 `Limit` where the route has taken [`ROUTE_LIMIT`] messages; else 50 `Memory` where an
     /// allocation was refused. Either hands the message back, and the sender and the inbox are as
@@ -72,7 +76,8 @@ impl Sender {
         ensures ok { OnOk result (self.new ≡ putting self.old stamped) }
         ensures room { OnOk result (length self.old.ledger < 100000) }
         ensures err { IfErr result (λ back. (back.1 ≡ stamped) × (self.new ≡ self.old)) }
-        ensures limit { IfErr result (λ back. back.0 ≡ PutFault.Limit ↔ 100000 ≤ length self.old.ledger) }
+        ensures limit { IfErr result (λ back.
+            back.0 ≡ PutFault.Limit ↔ 100000 ≤ length self.old.ledger) }
     {
         let number = self.sent.len();
         if number >= ROUTE_LIMIT {

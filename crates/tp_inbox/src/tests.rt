@@ -134,7 +134,8 @@ impl Model for Post {
 
     ghost view = { λ s. (s.owner, s.desk) };
 
-    ghost invariant = { λ s. IsDeskOf s.owner.inbox s.desk × (arrivals s.desk.log ≡ s.owner.drained) };
+    ghost invariant = { λ s.
+        IsDeskOf s.owner.inbox s.desk × (arrivals s.desk.log ≡ s.owner.drained) };
 }
 
 impl Post {
@@ -349,8 +350,8 @@ fn one_route(rt: HostRuntime) -> Result<(), Fail> {
     Ok(())
 }
 
-/// A sender tells its route, and the owner how many it has drained of a route: none of one into another
-/// component's port of that number, and none of another sender's.
+/// A sender tells its route, and the owner how many it has drained of a route: none of one into
+/// another component's port of that number, and none of another sender's.
 #[test]
 fn routes_are_told(rt: HostRuntime) -> Result<(), Fail> {
     let (mut ends, _floor) = two(rt.alloc())?;
@@ -403,8 +404,8 @@ fn a_route_has_a_limit(rt: HostRuntime) -> Result<(), Fail> {
     Ok(())
 }
 
-/// The calls of a desk on its happy path, each made again where memory is refused: what they answer, and
-/// the history.
+/// The calls of a desk on its happy path, each made again where memory is refused: what they
+/// answer, and the history.
 #[test]
 fn the_calls_of_a_desk(rt: HostRuntime) {
     let Ok((mut ends, _floor)) = two(rt.alloc()) else {
@@ -610,7 +611,8 @@ impl Ported {
         }
     }
 
-    /// Makes the call, a second time where memory is refused: the history is as long as before then.
+    /// Makes the call, a second time where memory is refused: the history is as long as before
+    /// then.
     fn again(&mut self, call: Call) -> bool {
         let had = self.desk.log().len();
         match self.answers(call) {

@@ -56,8 +56,10 @@ where
 fn start<R>(rt: R, alloc: Global, senders: Vec<Sender>) -> Result<Vec<Out>, AllocError>
 where
     R: Threads + Wait + Copy + Send + 'static,
-    ensures inboxes { IfOk result (λ hs. map (λ h. h.promise.0.value.inbox) hs.items ≡ map (λ s. s.inbox) senders.items) }
-    ensures routes { IfOk result (λ hs. map (λ h. h.promise.0.value.route) hs.items ≡ map (λ s. s.route) senders.items) }
+    ensures inboxes { IfOk result (λ hs.
+        map (λ h. h.promise.0.value.inbox) hs.items ≡ map (λ s. s.inbox) senders.items) }
+    ensures routes { IfOk result (λ hs.
+        map (λ h. h.promise.0.value.route) hs.items ≡ map (λ s. s.route) senders.items) }
 {
     let mut children = Vec::new(alloc);
     for sender in senders {
@@ -68,8 +70,10 @@ where
 
 /// The senders come back.
 fn finish<R: Threads>(rt: &R, alloc: Global, children: Vec<Out>) -> Result<Vec<Sender>, AllocError>
-    ensures inboxes { IfOk result (λ ss. map (λ s. s.inbox) ss.items ≡ map (λ h. h.promise.0.value.inbox) children.items) }
-    ensures routes { IfOk result (λ ss. map (λ s. s.route) ss.items ≡ map (λ h. h.promise.0.value.route) children.items) }
+    ensures inboxes { IfOk result (λ ss.
+        map (λ s. s.inbox) ss.items ≡ map (λ h. h.promise.0.value.inbox) children.items) }
+    ensures routes { IfOk result (λ ss.
+        map (λ s. s.route) ss.items ≡ map (λ h. h.promise.0.value.route) children.items) }
 {
     let mut senders = Vec::new(alloc);
     for child in children {

@@ -1,7 +1,7 @@
 //! Who is woken, by what and how often, and who is told that it is the last one awake.
 //!
-//! Whoever waits does so in a thread of its own, and a test looks for its end so many times and no more:
-//! where nobody is woken the test fails, and leaves the thread behind.
+//! Whoever waits does so in a thread of its own, and a test looks for its end so many times and no
+//! more: where nobody is woken the test fails, and leaves the thread behind.
 
 use crate::floor::Floor;
 use crate::hub::Woken;
@@ -151,8 +151,8 @@ where
     Ok(thread::spawn(&rt, move || { wait_often_and_tell(&rt, post, &back) })?)
 }
 
-/// An owner waits, is woken, and waits again: each waking is one behaviour less that rests. When it rests
-/// after the last, the other behaviour is told so where it leaves.
+/// An owner waits, is woken, and waits again: each waking is one behaviour less that rests. When it
+/// rests after the last, the other behaviour is told so where it leaves.
 #[test]
 fn woken_again_and_again(rt: HostRuntime) -> Result<(), Fail> {
     let (ends, floor) = two(rt.alloc())?;
@@ -175,8 +175,8 @@ fn woken_again_and_again(rt: HostRuntime) -> Result<(), Fail> {
     Ok(())
 }
 
-/// Puts a message for each that comes, until the inbox is closed. Whether a wait never told anything
-/// else. Where it did, this closes the inbox of the behaviour that is answered.
+/// Puts a message for each that comes, until the inbox is closed. Whether a wait never told
+/// anything else. Where it did, this closes the inbox of the behaviour that is answered.
 fn echo<R: Wait>(rt: &R, mut post: Post, mut sender: Sender, answered: &Closer) -> bool {
     for _ in 0..=ROUNDS {
         match post.wait(rt) {
@@ -367,8 +367,8 @@ where
     Ok(thread::spawn(&rt, move || play(rt, alloc, &back))?)
 }
 
-/// Two behaviours answer a third, rest in between, and are not told that they are the last while the
-/// third is awake. When both rest, the third is told so, as often as it asks.
+/// Two behaviours answer a third, rest in between, and are not told that they are the last while
+/// the third is awake. When both rest, the third is told so, as often as it asks.
 #[test]
 fn last_where_all_others_rest(rt: HostRuntime) -> Result<(), Fail> {
     let back = Arc::new(rt.alloc(), AtomicBool::new(false))?;

@@ -1,8 +1,7 @@
 -- What an entry names, and so what is left at a port, is of the configuration.
-use Rattle.std.proofs.Common.{◌≡◌, ℕ, ◌+◌, ◌<◌, inl, inr, ◌==◌, Bool, true, false, cond, List, [], ◌∷◌, Option, Some, None, length, get_or, refl, sym, subst, arith}
-use Rattle.std.specs.Prelude.{All, IsSome, slice_get}
+use Rattle.std.proofs.Common.{◌≡◌, ℕ, ◌<◌, ◌==◌, Bool, true, false, cond, List, [], ◌∷◌, Option, Some, None, length, get_or, refl, sym, subst, arith}
+use Rattle.std.specs.Prelude.{All, IsSome}
 use Rattle.std.specs.List.{filter_map, cons_option}
-use Rattle.std.proofs.lemmas.Bool.{cases_lt}
 use Rattle.std.proofs.lemmas.Option.{slice_get-get_or}
 use Rattle.std.proofs.lemmas.List.Elements.{All-cons, All-drop, All-head, All-tail}
 use Rattle.tp_port.specs.declared.event.Env.{Env}
@@ -69,14 +68,3 @@ present s report h k d low =
     let x : CompReport = get_or report.components.items k d in
     let own : IsDeskIn s (record { 0 = k }) x.desk = h.each (record { 0 = k }) x (slice_get-get_or report.components.items k d low) in
     (subst (IsComponent s) (sym own.comp) (subst (λ n. k < n) h.everyone low), subst (λ (e : CompId). IsDeskIn s e x.desk) (sym own.comp) own)
-
--- one component more that has its own desk
-pub own_more : (s : Setup) (xs : List CompReport) (n : ℕ) (y : CompReport) → slice_get xs n ≡ Some y → IsDeskIn s (record { 0 = n }) y.desk
-    → ((c : CompId) (x : CompReport) → c.0 < n → slice_get xs c.0 ≡ Some x → IsDeskIn s c x.desk)
-    → (c : CompId) (x : CompReport) → c.0 < n + 1 → slice_get xs c.0 ≡ Some x → IsDeskIn s c x.desk
-own_more s xs n y at own before c x low e = elim (cases_lt c.0 n) [ inl less ↦ before c x less e | inr more ↦ last (omega arith) ]
-  where
-    last : c.0 ≡ n → IsDeskIn s c x.desk
-    last is =
-        let same : x ≡ y = cc in
-        subst (λ k. IsDeskIn s (record { 0 = k }) x.desk) (sym is) (subst (λ (z : CompReport). IsDeskIn s (record { 0 = n }) z.desk) (sym same) own)

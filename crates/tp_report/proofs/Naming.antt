@@ -1,5 +1,5 @@
 -- The names of components, ports and types.
-use Rattle.std.proofs.Common.{◌≡◌, ℕ, zero, suc, ◌<◌, List, [], ◌∷◌, Option, Some, map, length, get_or, refl, ap, sym, ◌∙◌, subst, inl, inr}
+use Rattle.std.proofs.Common.{◌≡◌, ℕ, zero, suc, List, [], ◌∷◌, Option, Some, map, get_or, refl, ap, sym, ◌∙◌, subst, inl, inr}
 use Rattle.std.specs.Prelude.{String, slice_get, IsSome}
 use Rattle.std.specs.Option.{option_map_or}
 use Rattle.std.specs.String.{string_bytes}
@@ -35,12 +35,3 @@ pub port_is : (t : CompType) (s : Setup) (p : PortRef) → ports_of t ≡ ports_
     → option_map_or (λ e. string_bytes e.0) (slice_get t.ports.entries p.port) [] ≡ port_name s p
 unfolding port_name ports_of
 port_is t s p e = sym (named t.ports.entries p.port) ∙ ap (λ (ds : List PortDecl). get_or (map (λ (d : PortDecl). d.name) ds) p.port []) e
-
--- its place is below the number of the component's ports
-pub place_below : (s : Setup) (p : PortRef) → IsPort s p → p.port < length (ports_at s.types s.components p.comp)
-unfolding decl_at
-place_below s p h =
-    elim ((slice_get_cases (ports_at s.types s.components p.comp) p.port).1) [
-      | inl w ↦ w.1
-      | inr w ↦ absurd (false≢true (subst (λ (o : Option PortDecl). IsSome o) w.1 h))
-    ]

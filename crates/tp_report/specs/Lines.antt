@@ -40,11 +40,13 @@ sender_of e = record { 0 = e.sender }
 -- a word, a port of the component itself, and a message there: the sender, its number and the message
 abbrev pub envelope_line : Made → List ℕ → PortRef → Env Message → List ℕ
 envelope_line made word p e =
-    line (word ∷ port_name made.config p ∷ component_name made.config (sender_of e) ∷ decimal e.number ∷ message_text made.types e.msg ∷ [])
+    line (word ∷ port_name made.config p ∷ component_name made.config (sender_of e) ∷ decimal e.number
+    ∷ message_text made.types e.msg ∷ [])
 
 -- what was sent: the receiving component and port, the number and the message
 abbrev pub sent_line : Made → RouteId → ℕ → Message → List ℕ
-sent_line made r number m = line (codes "sent" ∷ full_name made.config r.to ∷ decimal number ∷ message_text made.types m ∷ [])
+sent_line made r number m =
+    line (codes "sent" ∷ full_name made.config r.to ∷ decimal number ∷ message_text made.types m ∷ [])
 
 -- a port of a component
 abbrev pub port_of : CompId → ℕ → PortRef

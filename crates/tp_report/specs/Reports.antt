@@ -24,7 +24,8 @@ component_text made x =
 
 -- **the text of a report**: its components in their order, and the overall verdict
 unfoldable pub report_text : Made → Report → List ℕ
-report_text made report = flat_map (component_text made) report.components.items ++ verdict_line (codes "result") report.result
+report_text made report =
+    flat_map (component_text made) report.components.items ++ verdict_line (codes "result") report.result
 
 -- the port of the component, and the sender of the message there, are of the configuration
 abbrev pub AreOf : Setup → CompId → ℕ → Env Message → Type 0
@@ -57,8 +58,8 @@ IsPresent s x = IsComponent s x.desk.comp × IsDeskIn s x.desk.comp x.desk
 abbrev pub AreOwn : Setup → List CompReport → Type 0
 AreOwn s xs = (c : CompId) (x : CompReport) → slice_get xs c.0 ≡ Some x → IsDeskIn s c x.desk
 
--- the report has a text: it has the components of the configuration in their order, each with its own desk, and every route, port and sender in its
--- entries is one of the configuration
+-- the report has a text: it has the components of the configuration in their order, each with its own desk, and every
+-- route, port and sender in its entries is one of the configuration
 pub record IsReportable (s : Setup) (report : Report) : Type 0 where
   pub everyone : length report.components.items ≡ length s.components
   pub each : AreOwn s report.components.items

@@ -46,7 +46,9 @@ type_name types (ty.Named n) = slice_index_or (value_types.names types) n []
 -- a message: its type and its value, or `-` where the value hasn't the type
 unfoldable pub message_text : Types → Message → List ℕ
 message_text types m =
-    if is_typed types m.ty m.value then type_name types m.ty ++ (codes ":" ++ value_text types m.ty m.value) else codes "-"
+    if is_typed types m.ty m.value
+    then type_name types m.ty ++ (codes ":" ++ value_text types m.ty m.value)
+    else codes "-"
 
 -- the word for a verdict
 abbrev pub verdict_word : Verdict → List ℕ

@@ -5,8 +5,8 @@
 pub enum End {
     /// At the end of its statements.
     Done,
-    /// At a send, with the refusal of this number: 40 `NotSending`, 43 `UnsetVariable`, 41 `NoRoute` or 42
-    /// `NeedsTo`.
+    /// At a send, with the refusal of this number: 40 `NotSending`, 43 `UnsetVariable`, 41
+    /// `NoRoute` or 42 `NeedsTo`.
     Error(u8),
     /// At a receiving operation or an `alt` of which no branch can be chosen any more.
     Waiting,

@@ -14,7 +14,7 @@ use tp_script::TestCase;
 use tp_value::writing::WriteFault;
 
 /// A port of a component.
-pub fn at(comp: CompId, port: u32) -> PortRef
+fn at(comp: CompId, port: u32) -> PortRef
     ensures { result ≡ port_of comp port }
 {
     PortRef { comp, port }

@@ -24,7 +24,8 @@ fn write_queued<W: Write>(
     out: &mut W,
 ) -> Result<(), WriteFault>
     requires port { IsPort test_case.now.config port }
-    requires senders { All (λ e. IsComponent test_case.now.config (sender_of e)) (queued queue.now) }
+    requires senders { All (λ e. IsComponent test_case.now.config (sender_of e))
+        (queued queue.now) }
     ensures { OnOk result (Appends (W.contents out.old) (W.contents out.new)
         (flat_map (envelope_line test_case.now (codes "left") port) (queued queue.now))) }
 {

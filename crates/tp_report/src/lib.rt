@@ -1,4 +1,4 @@
-//! What a run reports: its components' histories, how they ended, their verdicts, and the text of all this.
+//! What a run reports: the components' histories, their ends and verdicts, and the text of it all.
 #![tactic(auto)]
 
 pub mod ending;
@@ -6,7 +6,6 @@ mod entries;
 mod left;
 mod lines;
 pub mod report;
-pub mod reportable;
 pub mod verdicts;
 mod words;
 pub mod writing;

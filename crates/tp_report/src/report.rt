@@ -15,7 +15,7 @@ pub struct CompReport {
     pub ending: End,
     /// Its local verdict.
     pub verdict: Verdict,
-    /// For each route into the component, in their order, how many messages its sender has put on it.
+    /// For each route into the component, in order, how many messages its sender has put on it.
     pub counts: Vec<(RouteId, u64)>,
 }
 

@@ -9,8 +9,8 @@ use crate::report::CompReport;
 use tp_inbox::entry::Entry;
 use tp_value::verdict::Verdict;
 
-/// The local verdict of a component after one more entry of its history, where this was its verdict before
-/// (ES 201 873-1, 24.1, 24.2). Takes no memory.
+/// The local verdict of a component after one more entry of its history, where this was its verdict
+/// before (ES 201 873-1, 24.1, 24.2). Takes no memory.
 ///
 /// Before the first entry it is `None`.
 pub fn verdict_after(verdict: Verdict, entry: &Entry) -> Verdict
@@ -24,8 +24,8 @@ pub fn verdict_after(verdict: Verdict, entry: &Entry) -> Verdict
     }
 }
 
-/// The local verdict of a component with this history: `Error` where its behaviour failed, else the worst
-/// that it has set. Takes no memory.
+/// The local verdict of a component with this history: `Error` where its behaviour failed, else the
+/// worst that it has set. Takes no memory.
 pub fn local_verdict(log: &[Entry]) -> Verdict
     ensures { result ≡ local_verdict log.now }
 {
@@ -38,7 +38,8 @@ pub fn local_verdict(log: &[Entry]) -> Verdict
 
 /// The overall verdict after one more component, where this was the verdict of those before.
 fn overall_after(verdict: Verdict, component: &CompReport) -> Verdict
-    ensures { (before : List CompReport) → verdict ≡ overall_verdict (endings before) (locals before)
+    ensures { (before : List CompReport)
+        → verdict ≡ overall_verdict (endings before) (locals before)
         → let after = before ++ component.now ∷ [] in
         result ≡ overall_verdict (endings after) (locals after) }
 {
@@ -48,8 +49,8 @@ fn overall_after(verdict: Verdict, component: &CompReport) -> Verdict
     }
 }
 
-/// The overall verdict of a run with these components: `Error` where a behaviour waits in the end, else the
-/// worst of the local ones (24.1). Takes no memory.
+/// The overall verdict of a run with these components: `Error` where a behaviour waits in the end,
+/// else the worst of the local ones (24.1). Takes no memory.
 pub fn overall_verdict(components: &[CompReport]) -> Verdict
     ensures { result ≡ overall_verdict (endings components.now) (locals components.now) }
 {

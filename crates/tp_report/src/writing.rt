@@ -46,13 +46,13 @@ fn write_components<W: Write>(
     Ok(())
 }
 
-/// Writes the text of a report of this test case, line by line: for each component its name, a line for each
-/// entry of its history that is no arrival, how its behaviour ended, its verdict, and what is left at its
-/// ports, the oldest message of each port first; at the end the overall verdict. A message is its type and
-/// its value, or `-` where the value hasn't the type.
+/// Writes the text of a report of this test case, line by line: for each component its name, a line
+/// for each entry of its history that is no arrival, how its behaviour ended, its verdict, and what
+/// is left at its ports, the oldest message of each port first; at the end the overall verdict. A
+/// message is its type and its value, or `-` where the value hasn't the type.
 ///
-/// 3 `Write` where the writer answers an error or takes no byte; how much is written then is open. It takes
-/// no memory, and writes in small pieces: give it a writer with a buffer.
+/// 3 `Write` where the writer answers an error or takes no byte; how much is written then is open.
+/// It takes no memory, and writes in small pieces: give it a writer with a buffer.
 pub fn write_report<W: Write>(
     test_case: &TestCase,
     report: &Report,

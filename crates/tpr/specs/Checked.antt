@@ -58,7 +58,8 @@ IsRight text = (made : Made) × IsScriptOf text made
 abbrev pub IsScriptFaultOf : List ℕ → ScriptFault → Type 0
 IsScriptFaultOf text fault = IsUnread text fault ⊎ ((parsed : Module) × IsReadAs text parsed)
 
--- the same of a text that is read first, where reading took so many bytes of it: memory may be wanting where the room for the text is full, whatever the text, and then for a text that isn't too long
+-- the same of a text that is read first, where reading took so many bytes of it: memory may be wanting where the room
+-- for the text is full, whatever the text, and then for a text that isn't too long
 abbrev pub IsScriptFaultIn : List ℕ → ℕ → ScriptFault → Type 0
 IsScriptFaultIn text taken (script.Refused r line) = IsScriptFaultOf text (script.Refused r line)
 IsScriptFaultIn text taken (script.Memory m) = (taken ≤ 1048576) × (IsFull taken ⊎ (length text ≤ 1048576))
@@ -80,7 +81,8 @@ pub record IsNotAccepted (known left old new : Option (List ℕ)) (status : ℕ)
   pub code : status ≡ check_fault_status fault
   pub printed : Appends old new (check_fault_text fault)
 
--- where the writer doesn't fail: status 0 and `accepted` for a text that is right, or the line and the status of its fault
+-- where the writer doesn't fail: status 0 and `accepted` for a text that is right, or the line and the status of its
+-- fault
 abbrev pub IsCheckAnswer : Option (List ℕ) → Option (List ℕ) → Option (List ℕ) → Option (List ℕ) → ℕ → Type 0
 IsCheckAnswer known left old new status =
     ((status ≡ 0) × IfSome known IsRight × Appends old new accepted_text) ⊎ IsNotAccepted known left old new status

@@ -51,7 +51,8 @@ pub record IsRefused (known left old new : Option (List ℕ)) (status : ℕ) : T
   pub code : status ≡ fault_status fault
   pub printed : Appends old new (fault_text fault)
 
--- where the writer doesn't fail: status 0 and the answers to the text that the reader had, or the line and the status of its fault
+-- where the writer doesn't fail: status 0 and the answers to the text that the reader had, or the line and the status
+-- of its fault
 abbrev pub IsQueueAnswer : Option (List ℕ) → Option (List ℕ) → Option (List ℕ) → Option (List ℕ) → ℕ → Type 0
 IsQueueAnswer known left old new status =
     ((status ≡ 0) × IfSome known (λ text. Answers text old new)) ⊎ IsRefused known left old new status

@@ -40,7 +40,9 @@ pub record IsNotReported (old new : Option (List ℕ)) (status : ℕ) : Type 0 w
 abbrev pub IsRunOf : Made → Option (List ℕ) → Option (List ℕ) → ℕ → Type 0
 IsRunOf made old new status = IsReported made old new status ⊎ IsNotReported old new status
 
--- where the writer doesn't fail: what is printed of a run of the test case whose script was read, or the line and the status of the script's fault
+-- where the writer doesn't fail: what is printed of a run of the test case whose script was read, or the line and the
+-- status of the script's fault
 abbrev pub IsRunAnswer : Option (List ℕ) → Option (List ℕ) → Option (List ℕ) → Option (List ℕ) → ℕ → Type 0
 IsRunAnswer known left old new status =
-    ((made : Made) × IfSome known (λ text. IsScriptOf text made) × IsRunOf made old new status) ⊎ IsNotAccepted known left old new status
+    ((made : Made) × IfSome known (λ text. IsScriptOf text made) × IsRunOf made old new status)
+    ⊎ IsNotAccepted known left old new status

@@ -49,7 +49,8 @@ fn check_text(alloc: Global, text: &[u8]) -> Result<TestCase, ScriptFault>
 
 /// Reads a script, and checks it: its test case.
 pub fn check_script<R: Read>(alloc: Global, reader: &mut R) -> Result<TestCase, CheckFault>
-    ensures script { IfOk result (λ made. IfSome (R.remaining reader.old) (λ text. IsScriptOf text made)) }
+    ensures script { IfOk result (λ made.
+        IfSome (R.remaining reader.old) (λ text. IsScriptOf text made)) }
     ensures right { OnOk result (IfSome (R.remaining reader.old) IsRight) }
     ensures fault { IfErr result (HasCheckFault (R.remaining reader.old) (R.remaining reader.new)) }
 {
@@ -64,7 +65,8 @@ pub fn check_script<R: Read>(alloc: Global, reader: &mut R) -> Result<TestCase, 
 
 /// Writes the line of a fault.
 fn write_check_fault<W: Write>(writer: &mut W, fault: CheckFault) -> io::Result<()>
-    ensures { OnOk result (Appends (W.contents writer.old) (W.contents writer.new) (check_fault_text fault)) }
+    ensures { OnOk result (Appends (W.contents writer.old) (W.contents writer.new)
+        (check_fault_text fault)) }
 {
     match fault {
         CheckFault::Read => write_unread(writer),
@@ -95,7 +97,8 @@ fn status_of(fault: CheckFault) -> u8
 /// Prints the line of a fault, and answers its status. `None` where the writer failed.
 pub fn answer_check_fault<W: Write>(writer: &mut W, fault: CheckFault) -> Option<u8>
     ensures code { IfSome result (λ status. status ≡ check_fault_status fault) }
-    ensures printed { OnSome result (Appends (W.contents writer.old) (W.contents writer.new) (check_fault_text fault)) }
+    ensures printed { OnSome result (Appends (W.contents writer.old) (W.contents writer.new)
+        (check_fault_text fault)) }
 {
     match write_check_fault(writer, fault) {
         Ok(()) => flushed(writer, status_of(fault)),
@@ -106,7 +109,8 @@ pub fn answer_check_fault<W: Write>(writer: &mut W, fault: CheckFault) -> Option
 /// Prints that a script is right. The status is 0; `None` where the writer failed.
 fn answer_accepted<W: Write>(writer: &mut W) -> Option<u8>
     ensures code { IfSome result (λ status. status ≡ 0) }
-    ensures printed { OnSome result (Appends (W.contents writer.old) (W.contents writer.new) accepted_text) }
+    ensures printed { OnSome result (Appends (W.contents writer.old) (W.contents writer.new)
+        accepted_text) }
 {
     match write_accepted(writer) {
         Ok(()) => flushed(writer, ANSWERED),
@@ -114,13 +118,16 @@ fn answer_accepted<W: Write>(writer: &mut W) -> Option<u8>
     }
 }
 
-/// Reads a script and checks it: prints `accepted` where it is right, and else the line of its first fault.
+/// Reads a script and checks it: prints `accepted` where it is right, and else the line of its
+/// first fault.
 ///
-/// The status is 0 where it is right; 2 where it was refused: `refused 2 Read`, or `refused CODE NAME line
-/// L` with 10 to 18 and 20 to 28, as [`parse`] and [`check`] say; 3 where memory was refused, `fault 50
-/// Memory`. `None` where the writer failed; how much is printed then is open.
+/// The status is 0 where it is right; 2 where it was refused: `refused 2 Read`, or
+/// `refused CODE NAME line L` with 10 to 18 and 20 to 28, as [`parse`] and [`check`] say; 3 where
+/// memory was refused, `fault 50 Memory`. `None` where the writer failed; how much is printed then
+/// is open.
 pub fn answer_check<R: Read, W: Write>(alloc: Global, reader: &mut R, writer: &mut W) -> Option<u8>
-    ensures { IfSome result (IsCheckAnswer (R.remaining reader.old) (R.remaining reader.new) (W.contents writer.old) (W.contents writer.new)) }
+    ensures { IfSome result (IsCheckAnswer (R.remaining reader.old) (R.remaining reader.new)
+        (W.contents writer.old) (W.contents writer.new)) }
 {
     match check_script(alloc, reader) {
         Err(fault) => answer_check_fault(writer, fault),

@@ -58,8 +58,8 @@ fn answer<T: AllocGlobal + Threads + Wait + Sync, R: Read, W: Write>(
     }
 }
 
-/// Answers the text of this file, or of standard input where no file is named. `None` where the writer
-/// failed.
+/// Answers the text of this file, or of standard input where no file is named. `None` where the
+/// writer failed.
 fn answer_file<T>(rt: &T, mode: Mode, file: Option<&str>) -> Option<u8>
 where
     T: AllocGlobal + Files + Input + Print + Threads + Wait + Sync,

@@ -18,7 +18,8 @@ pub const FAULTED: u8 = 3;
 
 /// Writes a refusal and its line.
 pub fn write_refused<W: Write>(writer: &mut W, refusal: Refusal, line: u64) -> io::Result<()>
-    ensures { OnOk result (Appends (W.contents writer.old) (W.contents writer.new) (refused_text refusal line)) }
+    ensures { OnOk result (Appends (W.contents writer.old) (W.contents writer.new)
+        (refused_text refusal line)) }
 {
     let (number, name) = refusal.label();
     write!(writer, "refused {number} {name} line {line}\n")
@@ -42,7 +43,8 @@ pub fn write_memory<W: Write>(writer: &mut W) -> io::Result<()>
 
 /// Writes the line of a fault, if it has one.
 fn write_fault<W: Write>(writer: &mut W, fault: QueueFault) -> io::Result<()>
-    ensures { OnOk result (Appends (W.contents writer.old) (W.contents writer.new) (fault_text fault)) }
+    ensures { OnOk result (Appends (W.contents writer.old) (W.contents writer.new)
+        (fault_text fault)) }
 {
     match fault {
         QueueFault::BadLine(line) => write_refused(writer, Refusal::BadLine, line),
@@ -74,10 +76,12 @@ fn status_of(fault: QueueFault) -> u8
     }
 }
 
-/// Prints the line of a fault, if it has one, and answers its status. `None` where the writer failed.
+/// Prints the line of a fault, if it has one, and answers its status. `None` where the writer
+/// failed.
 pub fn answer_fault<W: Write>(writer: &mut W, fault: QueueFault) -> Option<u8>
     ensures code { IfSome result (λ status. status ≡ fault_status fault) }
-    ensures printed { OnSome result (Appends (W.contents writer.old) (W.contents writer.new) (fault_text fault)) }
+    ensures printed { OnSome result (Appends (W.contents writer.old) (W.contents writer.new)
+        (fault_text fault)) }
 {
     match write_fault(writer, fault) {
         Ok(()) => flushed(writer, status_of(fault)),
@@ -92,7 +96,8 @@ pub fn answer_fault<W: Write>(writer: &mut W, fault: QueueFault) -> Option<u8>
 /// `refused 1 BadLine line L` or `refused 15 Limit line 0`; 3 where memory was refused, `fault 50
 /// Memory`. `None` where the writer failed; how much is printed then is open.
 pub fn answer_queue<R: Read, W: Write>(alloc: Global, reader: &mut R, writer: &mut W) -> Option<u8>
-    ensures { IfSome result (IsQueueAnswer (R.remaining reader.old) (R.remaining reader.new) (W.contents writer.old) (W.contents writer.new)) }
+    ensures { IfSome result (IsQueueAnswer (R.remaining reader.old) (R.remaining reader.new)
+        (W.contents writer.old) (W.contents writer.new)) }
 {
     match replay(alloc, reader, writer) {
         Ok(()) => flushed(writer, ANSWERED),

@@ -30,7 +30,8 @@ fn refusal_of(fault: RunFault) -> Refusal
 
 /// Writes the line of a fault of a run.
 fn write_run_fault<W: Write>(writer: &mut W, fault: RunFault) -> io::Result<()>
-    ensures { OnOk result (Appends (W.contents writer.old) (W.contents writer.new) (run_fault_text fault)) }
+    ensures { OnOk result (Appends (W.contents writer.old) (W.contents writer.new)
+        (run_fault_text fault)) }
 {
     let (number, name) = refusal_of(fault).label();
     write!(writer, "fault {number} {name}\n")
@@ -39,7 +40,8 @@ fn write_run_fault<W: Write>(writer: &mut W, fault: RunFault) -> io::Result<()>
 /// Prints the line of a fault of a run. The status is 3; `None` where the writer failed.
 fn answer_run_fault<W: Write>(writer: &mut W, fault: RunFault) -> Option<u8>
     ensures code { IfSome result (λ status. status ≡ 3) }
-    ensures printed { OnSome result (Appends (W.contents writer.old) (W.contents writer.new) (run_fault_text fault)) }
+    ensures printed { OnSome result (Appends (W.contents writer.old) (W.contents writer.new)
+        (run_fault_text fault)) }
 {
     match write_run_fault(writer, fault) {
         Ok(()) => flushed(writer, FAULTED),
@@ -55,7 +57,8 @@ fn answer_test_case<T: Threads + Wait + Sync, W: Write, G: Gate>(
     writer: &mut W,
     gate: &G,
 ) -> Option<u8>
-    ensures { IfSome result (IsRunOf test_case.now (W.contents writer.old) (W.contents writer.new)) }
+    ensures { IfSome result (IsRunOf test_case.now
+        (W.contents writer.old) (W.contents writer.new)) }
 {
     match run(rt, alloc, test_case, gate) {
         Ok(report) => match write_report(test_case, &report, writer) {
@@ -66,13 +69,14 @@ fn answer_test_case<T: Threads + Wait + Sync, W: Write, G: Gate>(
     }
 }
 
-/// Reads a script, checks it, and runs its test case: prints its report, whatever its verdict; or the line of
-/// its first fault; or that of the fault by which the run has no report.
+/// Reads a script, checks it, and runs its test case: prints its report, whatever its verdict; or
+/// the line of its first fault; or that of the fault by which the run has no report.
 ///
-/// The status is 0 where the report was printed; 2 where the script was refused, as by `answer_check`; 3 where
-/// there is no report: `fault 51 NoThread` where the starting of a thread was refused, `fault 50 Memory` where
-/// memory was, `fault 61 Restless` where a behaviour was ended as waiting and one of its branches was open.
-/// `None` where the writer failed; how much is printed then is open. It may wait for good.
+/// The status is 0 where the report was printed; 2 where the script was refused, as by
+/// `answer_check`; 3 where there is no report: `fault 51 NoThread` where the starting of a thread
+/// was refused, `fault 50 Memory` where memory was, `fault 61 Restless` where a behaviour was ended
+/// as waiting and one of its branches was open. `None` where the writer failed; how much is printed
+/// then is open. It may wait for good.
 pub fn answer_run<T: Threads + Wait + Sync, R: Read, W: Write, G: Gate>(
     rt: &T,
     alloc: Global,

@@ -1,5 +1,5 @@
-//! Tests of public calls: of the program's own, and of the libraries below it. They stand here, and not
-//! in the crates that they test, so that those are proved once.
+//! Tests of public calls: of the program's own, and of the libraries below it. They stand here, and
+//! not in the crates that they test, so that those are proved once.
 
 mod configurations;
 mod lists;

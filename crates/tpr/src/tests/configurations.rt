@@ -37,8 +37,8 @@ fn comp_type(alloc: Global, names: &[&str], ins: &[Ty], outs: &[Ty]) -> Result<C
     Ok(CompType { ports })
 }
 
-/// No component. Type 0 has the ports p and q, which take integers both ways. Type 1 has the port s,
-/// which receives and sends these types.
+/// No component. Type 0 has the ports p and q, which take integers both ways. Type 1 has the port
+/// s, which receives and sends these types.
 pub fn empty(alloc: Global, ins: &[Ty], outs: &[Ty]) -> Result<Config, Memory> {
     let both = [Ty::Integer];
     let first = comp_type(
@@ -198,8 +198,8 @@ fn refusals_leave_a_star_as_it_was(rt: HostRuntime) -> Result<(), Fail> {
     Ok(())
 }
 
-/// The components mtc and a, the test system interface, and b, of which the last two are of type 1, whose
-/// port receives and sends these types; mtc:p is connected to a:p.
+/// The components mtc and a, the test system interface, and b, of which the last two are of type 1,
+/// whose port receives and sends these types; mtc:p is connected to a:p.
 fn mapped<R: AllocGlobal + Abort>(rt: &R, ins: &[Ty], outs: &[Ty]) -> Result<Config, Fail> {
     let mut config = empty(rt.alloc(), ins, outs)?;
     add(rt.alloc(), &mut config, "mtc", 0, Role::Test)?;
@@ -431,8 +431,8 @@ fn has_64_ports_of_a_type(rt: HostRuntime) -> Result<(), Fail> {
     Ok(())
 }
 
-/// Asserts that nothing but want of memory refuses to connect mtc:p to the port p of this component, after
-/// which the routes are as before; and that the same call then connects them.
+/// Asserts that nothing but want of memory refuses to connect mtc:p to the port p of this
+/// component, after which the routes are as before; and that the same call then connects them.
 fn connects_in_the_end<R: Abort>(rt: &R, config: &mut Config, name: &str, comp: u32) -> bool {
     let before = config.route(at(0, 0), None);
     match connect(config, ("mtc", "p"), (name, "p")) {
@@ -446,8 +446,8 @@ fn connects_in_the_end<R: Abort>(rt: &R, config: &mut Config, name: &str, comp: 
     }
 }
 
-/// Right also where an allocation was refused, whichever: each create, connect and list of routes is then
-/// as if it had not been called.
+/// Right also where an allocation was refused, whichever: each create, connect and list of routes
+/// is then as if it had not been called.
 #[test]
 fn refused_memory_leaves_connections_as_they_were(rt: HostRuntime) {
     let Ok(mut config) = four(rt.alloc()) else {

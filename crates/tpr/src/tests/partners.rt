@@ -8,7 +8,8 @@ use tp_config::port_type::{COMPONENT_LIMIT, CompId, Role};
 use tp_config::routes::RouteFault;
 use tp_value::types::Ty;
 
-/// The components mtc and c1 to c63 of type 0, with mtc:p connected to the port p of each of the others.
+/// The components mtc and c1 to c63 of type 0, with mtc:p connected to the port p of each of the
+/// others.
 fn large_star<R: AllocGlobal + Abort>(rt: &R) -> Result<Config, Fail> {
     let both = [Ty::Integer];
     let mut config = empty(rt.alloc(), both.as_slice(), both.as_slice())?;

@@ -1,5 +1,5 @@
-//! Whether the definitions of types, values and templates say what the standard's rules do, and each public
-//! call on its happy path.
+//! Whether the definitions of types, values and templates say what the standard's rules do, and
+//! each public call on its happy path.
 use crate::tests::writers::Short;
 use std::alloc::Global;
 use std::process::Abort;
@@ -55,7 +55,8 @@ fn pattern(alloc: Global, written: &[u8]) -> Result<Template, Memory> {
     Ok(Template::Pattern(parts))
 }
 
-/// Asserts what `matches` answers, of the template and of its copy, which is printed as its original.
+/// Asserts what `matches` answers, of the template and of its copy, which is printed as its
+/// original.
 fn asks<R: AllocGlobal + Abort>(
     rt: &R,
     template: &Template,

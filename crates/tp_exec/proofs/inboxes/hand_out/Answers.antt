@@ -1,3 +1,4 @@
+-- Each sender goes to a component that there is, which has none on its route yet.
 use Rattle.std.proofs.Common.{List, subst}
 use Rattle.std.specs.Vec.Iter.{into_iter_items}
 use Rattle.tp_inbox.specs.Ledgers.{Sending}

@@ -1,3 +1,4 @@
+-- The opened inboxes with their senders handed out are the stations of the run.
 use Rattle.tp_exec.proofs.Manning.{senders_apart, senders_within, are_stations, have_not_begun}
 use Rattle.tp_exec.proofs.inboxes.make_stations.Goals as goal
 

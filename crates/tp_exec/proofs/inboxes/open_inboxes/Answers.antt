@@ -1,3 +1,4 @@
+-- Before the first component no inbox is opened.
 use Rattle.tp_exec.proofs.OpenedInboxes.{opened_none}
 use Rattle.tp_exec.proofs.inboxes.open_inboxes.Goals as goal
 

@@ -1,3 +1,4 @@
+-- The inboxes of the first components are opened.
 use Rattle.tp_exec.specs.Openings.{AreOpened}
 use Rattle.tp_exec.proofs.inboxes.open_inboxes.Given as goal
 

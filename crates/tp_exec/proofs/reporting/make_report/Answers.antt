@@ -1,3 +1,4 @@
+-- What a run came to is reported where all are at rest, and the report has a text.
 use Rattle.std.proofs.Common.{◌≡◌, true, subst, sym}
 use Rattle.std.specs.Prelude.{All}
 use Rattle.std.specs.List.{AllZip}

@@ -1,3 +1,4 @@
+-- The components so far are reported, and there is room for the others.
 use Rattle.std.proofs.Common.{◌≤◌, ◌+◌, ◌++◌, List, length}
 use Rattle.std.specs.Prelude.{All, vec_capacity}
 use Rattle.std.specs.List.{AllZip}

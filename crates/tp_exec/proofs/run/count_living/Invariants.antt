@@ -1,3 +1,4 @@
+-- So many of the first components have something to do, and no more than there are.
 use Rattle.std.proofs.Common.{◌≡◌, ◌≤◌}
 use Rattle.tp_exec.specs.Reporting.{living_below}
 use Rattle.tp_exec.proofs.run.count_living.Given as goal

@@ -1,3 +1,4 @@
+-- What the threads left and what was settled is of a run, and in its report nothing happened before itself.
 use Rattle.std.proofs.Common.{subst}
 use Rattle.tp_config.specs.Setup.{Setup}
 use Rattle.tp_exec.specs.Settlings.{AreSettled}

@@ -1,3 +1,4 @@
+-- A component that has nothing to do has done it.
 use Rattle.tp_exec.proofs.Returned.{idle_returned}
 use Rattle.tp_exec.proofs.threads.idle.Goals as goal
 

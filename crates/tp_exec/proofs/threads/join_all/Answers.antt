@@ -1,3 +1,4 @@
+-- What comes back from the next seat is the component that was there.
 use Rattle.std.proofs.Common.{◌∷◌, [], All, length, ap, sym, subst, arith, true≢false}
 use Rattle.std.specs.Vec.Iter.{into_iter_items}
 use Rattle.std.proofs.lemmas.List.Elements.{All-nil, All-cons, All-append, All-head, All-rest}

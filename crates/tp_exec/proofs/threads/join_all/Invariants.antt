@@ -1,3 +1,4 @@
+-- The components that came back and those still in their seats are all of them.
 use Rattle.std.proofs.Common.{◌≡◌, ◌≤◌, ◌+◌, ◌++◌, All, length, map, false, vec_capacity}
 use Rattle.std.specs.Vec.Iter.{into_iter_items}
 use Rattle.tp_script.specs.TestCases.{Made}

@@ -1,3 +1,4 @@
+-- The behaviour begins at the component's own station, and what comes back is that station.
 use Rattle.std.proofs.Common.{◌≢◌, None, sym, ◌∙◌, subst}
 use Rattle.std.proofs.lemmas.Result.{IfOk-weaker}
 use Rattle.tp_config.specs.declared.port_type.CompId.{CompId}

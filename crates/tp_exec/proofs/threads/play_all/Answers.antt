@@ -1,3 +1,4 @@
+-- Where all have come back, the stations are still those of the run, and each has done what it is there for.
 use Rattle.std.proofs.Common.{◌≡◌, List, All, IfOk, Ok, Err, Result, Vec, map}
 use Rattle.std.specs.Global.{Global}
 use Rattle.tp_script.specs.TestCases.{Made}

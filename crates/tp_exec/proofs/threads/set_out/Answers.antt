@@ -1,3 +1,4 @@
+-- The component has nothing to do, or goes into its thread with all that it needs there.
 use denote.Param.Send.{sendable}
 use Rattle.std.proofs.Crossing.{crosses}
 use Rattle.tp_inbox.proofs.Crossing.{floor_sync, closer_sync}

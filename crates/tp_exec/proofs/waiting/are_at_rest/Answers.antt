@@ -1,3 +1,4 @@
+-- The next component is at rest.
 use Rattle.tp_exec.specs.Reporting.{IsAtRest}
 use Rattle.tp_exec.proofs.Openings.{passes}
 use Rattle.tp_exec.proofs.waiting.are_at_rest.Goals as goal

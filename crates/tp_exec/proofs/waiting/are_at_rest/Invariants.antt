@@ -1,3 +1,4 @@
+-- All are at rest where those that are left are.
 use Rattle.std.proofs.Common.{◌↔◌, drop}
 use Rattle.std.specs.Prelude.{All}
 use Rattle.tp_exec.specs.Reporting.{IsAtRest}

@@ -1,3 +1,4 @@
+-- A component that waits is at rest where none of its branches is open.
 use Rattle.tp_exec.proofs.Openings.{rest_as}
 use Rattle.tp_exec.proofs.waiting.is_at_rest.Goals as goal
 

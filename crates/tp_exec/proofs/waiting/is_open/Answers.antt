@@ -1,3 +1,4 @@
+-- A branch is open by the top of its port.
 use Rattle.std.proofs.Common.{sym, ◌∙◌}
 use Rattle.std.proofs.lemmas.Bool.{false≢true}
 use Rattle.tp_exec.proofs.Openings.{by_top, discards, shut}

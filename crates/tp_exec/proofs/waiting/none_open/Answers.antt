@@ -1,3 +1,4 @@
+-- One open branch decides, and the next is not open.
 use Rattle.std.proofs.Common.{sym, ◌∙◌}
 use Rattle.std.proofs.lemmas.Bool.{false≢true}
 use Rattle.tp_behaviour.specs.Choices.{IsOpen}

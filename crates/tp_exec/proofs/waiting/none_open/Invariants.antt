@@ -1,3 +1,4 @@
+-- None is open where none of those that are left is.
 use Rattle.std.proofs.Common.{◌↔◌, drop}
 use Rattle.tp_behaviour.specs.Choices.{NoneOpen}
 use Rattle.tp_exec.proofs.waiting.none_open.Given as goal

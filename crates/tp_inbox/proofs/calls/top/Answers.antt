@@ -1,3 +1,4 @@
+-- The first of the queued is the top; where nothing is ahead of the mark there is none.
 use Rattle.std.proofs.Common.{sym, ◌∙◌}
 use Rattle.tp_inbox.proofs.Tops.{no_top, top_is_first}
 use Rattle.tp_inbox.proofs.calls.top.Goals as goal

@@ -1,3 +1,4 @@
+-- The ports of a component are those of its type.
 use Rattle.std.proofs.Common.{◌∙◌, sym, ap, length}
 use Rattle.tp_config.proofs.Look.{length_ports}
 use Rattle.tp_inbox.proofs.desk.port_count.Goals as goal

@@ -1,3 +1,4 @@
+-- Each sender that joins is the next of the routes, and at the end all have joined.
 use Rattle.std.proofs.Common.{◌≡◌, ◌<◌, ◌++◌, ◌∷◌, [], List, length, map, rules, arith, sym, ap, ◌∙◌, subst}
 use Rattle.std.proofs.lemmas.Grind.{common_steps}
 use Rattle.std.specs.Prelude.{All}

@@ -1,3 +1,4 @@
+-- The senders that have joined are those of the first routes, and the others are to come.
 use Rattle.std.proofs.Common.{◌≡◌, ◌≤◌, ◌++◌, length, map}
 use Rattle.std.specs.Prelude.{vec_capacity, All}
 use Rattle.std.specs.Vec.Iter.{into_iter_items}

@@ -1,3 +1,4 @@
+-- The hub, the owner and the senders are made of the component's ports and routes.
 use Rattle.std.proofs.Common.{◌≡◌, rules, arith, length, subst}
 use Rattle.std.proofs.lemmas.Grind.{common_steps}
 use Rattle.std.specs.Arc.{arc_value}

@@ -1,3 +1,4 @@
+-- With each turn one route more is filed at its place, up to the last.
 use Rattle.std.proofs.Common.{◌≡◌, ℕ, length, subst, arith}
 use Rattle.tp_inbox.specs.Places.{AreFiled}
 use Rattle.tp_inbox.proofs.Places.{filed_none, filed_next}

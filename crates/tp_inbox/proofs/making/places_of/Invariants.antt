@@ -1,3 +1,4 @@
+-- As many routes are filed as there were turns.
 use Rattle.tp_inbox.specs.Places.{AreFiled}
 use Rattle.tp_inbox.proofs.making.places_of.Given as goal
 

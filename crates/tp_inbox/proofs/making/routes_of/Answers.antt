@@ -1,3 +1,4 @@
+-- The routes of a configuration differ, and lead to ports of the component.
 use Rattle.tp_inbox.proofs.Made.{routes_are}
 use Rattle.tp_inbox.proofs.making.routes_of.Goals as goal
 

@@ -1,3 +1,4 @@
+-- The pass may be split once more, for the next route.
 use Rattle.tp_inbox.proofs.Steps.{splits_as}
 use Rattle.tp_inbox.proofs.making.split.Goals as goal
 

@@ -1,3 +1,4 @@
+-- There is a new sender for each of the first routes, and the pass is that of an owner that split so many off.
 use Rattle.std.proofs.Common.{◌≡◌, ◌≤◌, [], length, map, take, vec_capacity}
 use Rattle.std.specs.Arc.{arc_value}
 use Rattle.crossbeam_queue.specs.SegTies.{IsSegPassOf}

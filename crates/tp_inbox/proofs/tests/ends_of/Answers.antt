@@ -1,3 +1,4 @@
+-- The desk and the owner are those of one component, and nothing has come.
 use Rattle.std.proofs.Common.{◌≡◌, [], length, rules, sym, ◌∙◌}
 use Rattle.tp_config.specs.Setup.{ports_at}
 use Rattle.tp_inbox.specs.History.{arrivals}

@@ -1,3 +1,4 @@
+-- The inbox stays the same.
 use Rattle.std.proofs.Common.{◌≡◌}
 use Rattle.tp_inbox.proofs.threads.drain_some.Given as goal
 

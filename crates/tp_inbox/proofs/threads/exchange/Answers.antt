@@ -1,3 +1,4 @@
+-- The senders that come back are the inbox's.
 use Rattle.std.proofs.Common.{sym, ◌∙◌, subst}
 use Rattle.tp_inbox.specs.Ledgers.{Inbox, AreSenders}
 use Rattle.tp_inbox.proofs.Senders.{same_senders}

@@ -1,3 +1,4 @@
+-- The sender that comes back is the one that went into the thread.
 use Rattle.tp_inbox.proofs.Senders.{moved}
 use Rattle.tp_inbox.proofs.threads.finish.Goals as goal
 

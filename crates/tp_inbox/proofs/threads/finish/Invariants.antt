@@ -1,3 +1,4 @@
+-- The senders that came back and those that are to come are the ones that were sent off.
 use Rattle.std.proofs.Common.{◌≡◌, ◌++◌, map}
 use Rattle.std.specs.Vec.Iter.{into_iter_items}
 use Rattle.tp_inbox.specs.Ledgers.{Sending}

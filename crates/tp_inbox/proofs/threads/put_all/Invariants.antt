@@ -1,3 +1,4 @@
+-- The sender's inbox and route stay the same.
 use Rattle.std.proofs.Common.{◌≡◌}
 use Rattle.tp_inbox.proofs.threads.put_all.Given as goal
 

@@ -1,3 +1,4 @@
+-- A sender may go into a thread, and come back.
 use denote.Param.Send.{sendable}
 use Rattle.std.proofs.Crossing.{crosses}
 use Rattle.tp_inbox.proofs.Crossing.{sender_send}

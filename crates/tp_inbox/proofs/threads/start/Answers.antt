@@ -1,3 +1,4 @@
+-- The thread that is started has the next sender.
 use Rattle.std.proofs.Common.{ap}
 use Rattle.tp_inbox.specs.Ledgers.{Sending}
 use Rattle.tp_inbox.proofs.Senders.{moved}

@@ -1,3 +1,4 @@
+-- The senders in the threads and those that are left are the ones that were given.
 use Rattle.std.proofs.Common.{◌≡◌, ◌++◌, map}
 use Rattle.std.specs.Vec.Iter.{into_iter_items}
 use Rattle.tp_inbox.specs.Ledgers.{Sending}

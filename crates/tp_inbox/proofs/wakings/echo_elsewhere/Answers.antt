@@ -1,3 +1,4 @@
+-- Both ends of an inbox, and what closes it, may go into a thread.
 use denote.Param.Send.{sendable}
 use Rattle.std.proofs.Crossing.{crosses}
 use Rattle.tp_inbox.proofs.Crossing.{owner_send, desk_send, sender_send, closer_send, closer_sync}

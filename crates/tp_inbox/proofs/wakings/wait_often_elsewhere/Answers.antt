@@ -1,3 +1,4 @@
+-- An owner and its desk may go into a thread.
 use denote.Param.Send.{sendable}
 use Rattle.std.proofs.Crossing.{crosses}
 use Rattle.tp_inbox.proofs.Crossing.{owner_send, desk_send}

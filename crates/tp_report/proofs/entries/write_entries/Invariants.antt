@@ -1,3 +1,4 @@
+-- The texts of the first entries are written.
 use Rattle.std.proofs.Common.{take}
 use Rattle.std.specs.List.{flat_map}
 use Rattle.std.specs.Io.KnownBytes.{Appends}

@@ -1,3 +1,4 @@
+-- Each port is one of the component, the senders of what is left there are components, and its lines come next.
 use Rattle.std.proofs.Common.{◌<◌, length, subst, sym, arith}
 use Rattle.std.specs.Prelude.{All}
 use Rattle.tp_port.specs.History.{queued}

@@ -1,3 +1,4 @@
+-- What is left at the first ports is written.
 use Rattle.std.specs.Io.KnownBytes.{Appends}
 use Rattle.tp_report.specs.Lines.{left_below}
 use Rattle.tp_report.proofs.left.write_left.Given as goal

@@ -1,3 +1,4 @@
+-- The next of the queued has the next line, and the queue has all that are counted.
 use Rattle.std.proofs.Common.{codes, sym, arith}
 use Rattle.tp_port.specs.History.{queued}
 use Rattle.tp_report.specs.Lines.{envelope_line}

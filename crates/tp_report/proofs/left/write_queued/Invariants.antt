@@ -1,3 +1,4 @@
+-- The lines of the first of the queued are written.
 use Rattle.std.proofs.Common.{take, codes}
 use Rattle.std.specs.List.{flat_map}
 use Rattle.std.specs.Io.KnownBytes.{Appends}

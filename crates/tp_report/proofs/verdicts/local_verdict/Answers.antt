@@ -1,3 +1,4 @@
+-- The local verdict of an empty history is `none`.
 use Rattle.tp_report.proofs.Worst.{no_entry}
 use Rattle.tp_report.proofs.verdicts.local_verdict.Goals as goal
 

@@ -1,3 +1,4 @@
+-- It is the local verdict of the first entries.
 use Rattle.std.proofs.Common.{◌≡◌, take}
 use Rattle.tp_report.specs.Verdicts.{local_verdict}
 use Rattle.tp_report.proofs.verdicts.local_verdict.Given as goal

@@ -1,3 +1,4 @@
+-- A component that waits makes the overall verdict `error`; another one joins its own.
 use Rattle.std.proofs.Common.{◌∙◌, ap}
 use Rattle.tp_value.specs.Verdicts.{worse}
 use Rattle.tp_report.proofs.Worst.{after_waiting, after_end}

@@ -1,3 +1,4 @@
+-- The overall verdict of no component is `none`.
 use Rattle.tp_report.proofs.Worst.{no_component}
 use Rattle.tp_report.proofs.verdicts.overall_verdict.Goals as goal
 

@@ -1,3 +1,4 @@
+-- It is the overall verdict of the first components.
 use Rattle.std.proofs.Common.{◌≡◌, take}
 use Rattle.tp_report.specs.Verdicts.{overall_verdict, endings, locals}
 use Rattle.tp_report.proofs.verdicts.overall_verdict.Given as goal

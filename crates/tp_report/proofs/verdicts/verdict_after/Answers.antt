@@ -1,3 +1,4 @@
+-- An entry that sets a verdict joins it, a failure makes it `error`, and another one leaves it.
 use Rattle.std.proofs.Common.{◌∙◌, sym, ap, ◌∷◌, [], ◌++◌}
 use Rattle.tp_value.specs.Verdicts.{worse}
 use Rattle.tp_inbox.specs.declared.entry.Entry.{Entry}

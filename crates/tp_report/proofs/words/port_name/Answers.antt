@@ -1,3 +1,4 @@
+-- A port's name is the one that the type of its component declares at its place.
 use Rattle.std.proofs.Common.{◌∙◌, ap, []}
 use Rattle.std.specs.Option.{option_map_or}
 use Rattle.std.specs.String.{string_bytes}

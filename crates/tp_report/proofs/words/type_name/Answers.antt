@@ -1,3 +1,4 @@
+-- Where no type has the number, the name is empty.
 use Rattle.std.proofs.Common.{◌∙◌, ap, List, ℕ, Option, []}
 use Rattle.std.specs.Prelude.{unwrap_or}
 use Rattle.std.proofs.lemmas.Option.{unwrap_or-slice_get}

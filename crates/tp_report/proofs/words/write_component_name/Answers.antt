@@ -1,3 +1,4 @@
+-- The bytes of a component's name are its text.
 use Rattle.std.proofs.Common.{List, ℕ, OnOk, ◌∙◌, subst}
 use Rattle.std.specs.Io.KnownBytes.{Appends}
 use Rattle.tp_report.proofs.Naming.{component_is}

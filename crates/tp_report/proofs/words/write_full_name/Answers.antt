@@ -1,3 +1,4 @@
+-- The component of a port is one of the configuration.
 use Rattle.tp_report.proofs.Naming.{component_of}
 use Rattle.tp_report.proofs.words.write_full_name.Goals as goal
 

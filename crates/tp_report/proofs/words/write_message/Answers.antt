@@ -1,3 +1,4 @@
+-- The text is that of a value that has its type, or of one that hasn't.
 use Rattle.std.proofs.Common.{◌∙◌, sym, List, ℕ, OnOk, subst}
 use Rattle.std.specs.Io.KnownBytes.{Appends}
 use Rattle.tp_report.proofs.Pieces.{then, typed_text, untyped_text}

@@ -1,3 +1,4 @@
+-- Its pieces, one after the other, are the text of the component.
 use Rattle.tp_report.proofs.Pieces.{whole_component}
 use Rattle.tp_report.proofs.writing.write_component.Goals as goal
 

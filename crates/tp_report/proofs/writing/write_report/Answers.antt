@@ -1,3 +1,4 @@
+-- Each component has a text, and these and the overall verdict are the text of the report.
 use Rattle.std.proofs.Common.{subst, sym}
 use Rattle.std.specs.Prelude.{All}
 use Rattle.tp_report.specs.Reports.{IsPresent}

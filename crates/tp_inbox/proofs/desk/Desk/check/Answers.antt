@@ -1,3 +1,4 @@
+-- What is handed out is the top that was found, and the desk ends with that entry.
 use Rattle.std.proofs.Common.{refl}
 use Rattle.std.specs.Option.{option_copied}
 use Rattle.tp_inbox.proofs.Ports.{check_done}

@@ -1,3 +1,4 @@
+-- The port's queue keeps to the history with the clearing behind it.
 use Rattle.std.proofs.Common.{ap, refl, arith}
 use Rattle.tp_port.specs.declared.event.Event.TheVariants as event
 use Rattle.tp_inbox.specs.declared.entry.Entry.TheVariants as entry

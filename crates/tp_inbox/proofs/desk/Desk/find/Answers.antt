@@ -1,3 +1,4 @@
+-- The port's queue keeps to the history with what was found behind it.
 use Rattle.std.proofs.Common.{◌<◌, ◌∙◌, ap, subst, refl, arith, length, List}
 use Rattle.std.proofs.lemmas.List.{length-set}
 use Rattle.tp_port.specs.declared.event.Event.{Event}

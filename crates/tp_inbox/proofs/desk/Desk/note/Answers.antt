@@ -1,3 +1,4 @@
+-- An entry that names no port leaves the queues as they are, and the clock takes its stamp.
 use Rattle.std.proofs.Common.{◌∙◌, ap, max, refl, subst, sym}
 use Rattle.tp_inbox.specs.Desks.{Journal}
 use Rattle.tp_inbox.specs.History.{IsTimely}

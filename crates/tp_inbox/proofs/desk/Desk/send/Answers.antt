@@ -1,3 +1,4 @@
+-- The queues and the clock keep to the history with the sending behind it.
 use Rattle.std.proofs.Common.{◌≡◌, ◌∙◌, ◌+◌, ◌<◌, ap, arith, max, refl, sym}
 use Rattle.tp_inbox.specs.declared.stamped.Stamped.{Stamped}
 use Rattle.tp_inbox.specs.declared.entry.Entry.TheVariants as entry

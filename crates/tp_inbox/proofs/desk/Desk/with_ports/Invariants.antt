@@ -1,3 +1,4 @@
+-- So many new queues were made, and there is room for the others.
 use Rattle.std.proofs.Common.{◌≡◌, ◌≤◌, [], replicate, vec_capacity}
 use Rattle.tp_inbox.proofs.desk.Desk.with_ports.Given as goal
 

@@ -1,3 +1,4 @@
+-- On each route the arrivals begin what was put there, and are all of it once the queue is empty.
 use Rattle.std.proofs.Common.{◌<◌, ◌++◌, ◌∷◌, [], length, ap, sym, ◌∙◌, subst}
 use Rattle.std.specs.Arc.{arc_value}
 use Rattle.tp_inbox.specs.declared.hub.Hub.{Hub}

@@ -1,3 +1,4 @@
+-- What was taken out is what was drained and then the rest, and all routes have joined.
 use Rattle.std.proofs.Common.{◌≡◌, ◌++◌, length, map}
 use Rattle.std.specs.Arc.{arc_value}
 use Rattle.crossbeam_queue.specs.SegTies.{IsSegPassOf}

@@ -1,3 +1,4 @@
+-- The envelope in hand arrives at a port that there is, and is counted for its route.
 use Rattle.std.proofs.Common.{◌≡◌, ◌<◌, ◌+◌, length, ap, sym, ◌∙◌, subst, arith, ◌∷◌, [], ◌++◌, length-append}
 use Rattle.tp_inbox.specs.declared.hub.Hub.{Hub}
 use Rattle.tp_inbox.specs.declared.entry.Entry.TheVariants as entry

@@ -1,3 +1,4 @@
+-- One more arrival is in the desk, and was drained.
 use Rattle.std.proofs.Common.{◌++◌, ap, sym, ◌∙◌, append_assoc}
 use Rattle.tp_inbox.specs.History.{arrivals}
 use Rattle.tp_inbox.specs.Desks.{Journal, adding_all}

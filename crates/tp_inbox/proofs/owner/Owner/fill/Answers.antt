@@ -1,3 +1,4 @@
+-- What an owner has drained are arrivals on the routes of its inbox.
 use Rattle.tp_inbox.proofs.Owned.{owner_arrivals}
 use Rattle.tp_inbox.proofs.owner.Owner.fill.Goals as goal
 

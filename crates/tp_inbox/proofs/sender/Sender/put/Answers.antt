@@ -1,3 +1,4 @@
+-- To put is a step of the rule.
 use Rattle.std.proofs.Common.{rules}
 use Rattle.tp_inbox.proofs.Steps.{sends_as}
 use Rattle.tp_inbox.proofs.sender.Sender.put.Goals as goal

@@ -1,3 +1,4 @@
+-- A sender that has put more is still the inbox's.
 use Rattle.std.proofs.Common.{◌<◌, length, arith}
 use Rattle.tp_inbox.proofs.Senders.{senders_set}
 use Rattle.tp_inbox.proofs.tests.Ends.put.Goals as goal

@@ -1,3 +1,4 @@
+-- The next component has its seat, and all that are seated come back.
 use Rattle.std.proofs.Common.{◌≡◌, ◌++◌, ◌∷◌, [], List, All, length, map, refl, ap, sym, ◌∙◌, subst, arith, true≢false}
 use Rattle.std.specs.Global.{Global}
 use Rattle.std.specs.declared.vec.IntoIter.{IntoIter}

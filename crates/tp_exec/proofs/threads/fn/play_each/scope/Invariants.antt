@@ -1,3 +1,4 @@
+-- The components in the seats and those to come are all of them, and there is room for each.
 use Rattle.std.proofs.Common.{◌≡◌, ◌≤◌, ◌+◌, ◌++◌, [], All, length, map, false, vec_capacity}
 use Rattle.std.specs.Vec.Iter.{into_iter_items}
 use Rattle.tp_exec.specs.Returns.{IsWaiting, badge_of}
