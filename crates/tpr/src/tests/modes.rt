@@ -1,9 +1,11 @@
 //! The command line, and the modes over readers and writers that fail.
 use crate::line::{Mode, line_of};
 use crate::modes::{ANSWERED, REFUSED, answer_queue};
+use crate::running::answer_run;
 use std::io;
 use std::io::{ErrorKind, Read, Write};
 use std::test::Fail;
+use tp_exec::gate::OpenGate;
 
 #[test]
 fn words_name_a_mode_and_a_file(rt: HostRuntime) -> Result<(), Fail> {
@@ -140,4 +142,29 @@ fn a_failed_write_has_no_status(rt: HostRuntime) -> Result<(), Fail> {
     let status = answer_queue(rt.alloc(), &mut "halt\n".as_bytes(), &mut writer);
     assert_eq!(rt; status, Some(ANSWERED));
     Ok(())
+}
+
+/// A report of which a byte can't be written, or which can't be flushed, has no status.
+#[test]
+fn a_failed_write_of_a_report_has_no_status(rt: HostRuntime) {
+    let script = b"module M { type component C { } testcase t() runs on C { setverdict(pass); } }";
+    let report = b"component mtc\nset pass\nend done\nverdict pass\nresult pass\n";
+    let enough = report.len() as u32;
+    for writes_left in 0..=enough {
+        for flushes in [true, false] {
+            let mut writer = Broken {
+                writes_left,
+                flushes,
+            };
+            let mut reader = script.as_slice();
+            let status = answer_run(&rt, rt.alloc(), &mut reader, &mut writer, &OpenGate);
+            let is_written = flushes && writes_left == enough;
+            assert_eq!(rt;
+                status == Some(ANSWERED),
+                is_written,
+                "at write {writes_left}"
+            );
+            assert_eq!(rt; status.is_none(), !is_written, "at write {writes_left}");
+        }
+    }
 }

@@ -1,0 +1,149 @@
+//! `tpr_ordered`: a test case, run once in each of some orders of its steps. It is for tests, and no part of
+//! what `tpr` offers.
+#![tactic(auto)]
+
+mod fault;
+mod order_gate;
+mod ordering;
+mod orders;
+#[cfg(test)]
+mod tests;
+
+use fault::FileFault;
+use order_gate::PATIENCE;
+use ordering::write_orders;
+use orders::{Order, read_orders};
+use std::env::Env;
+use std::fs::File;
+use std::io::{BufWriter, ErrorKind};
+use std::process::ExitCode;
+use std::rt::Files;
+use std::sync::Wait;
+use std::thread::Threads;
+use std::{env, io};
+use tp_port::text::read_text;
+use tp_refusal::memory::Memory;
+use tp_script::{ScriptFault, TestCase, check, parse};
+
+/// The status where all orders were run.
+const ANSWERED: u8 = 0;
+/// The status where a file was refused.
+const REFUSED: u8 = 2;
+/// The status where memory was refused, or the writer failed.
+const FAULTED: u8 = 3;
+/// The status where the words are no command line of the program.
+const USAGE: u8 = 4;
+
+/// Prints the usage line on standard error.
+fn usage<R: Eprint>(rt: &R) -> u8 {
+    let _ = eprintln!(rt; "usage: tpr_ordered SCRIPT ORDERS");
+    USAGE
+}
+
+/// The status of a fault.
+fn status_of(fault: FileFault) -> u8 {
+    match fault {
+        FileFault::Read | FileFault::Text(ScriptFault::Refused { .. }) => REFUSED,
+        FileFault::Text(ScriptFault::Memory(_)) => FAULTED,
+    }
+}
+
+/// The bytes of the file.
+fn read_file<T: AllocGlobal + Files>(rt: &T, path: &str) -> Result<Vec<u8>, FileFault> {
+    let Ok(mut reader) = File::open(rt, path) else {
+        return Err(FileFault::Read);
+    };
+    let text = read_text(rt.alloc(), &mut reader)?;
+    Ok(text)
+}
+
+/// The test case of the file.
+fn read_script<T: AllocGlobal + Files>(rt: &T, path: &str) -> Result<TestCase, FileFault> {
+    let text = read_file(rt, path)?;
+    let parsed = parse(rt.alloc(), text.as_slice())?;
+    let test_case = check(rt.alloc(), &parsed)?;
+    Ok(test_case)
+}
+
+/// The orders of the file, of the components of the test case.
+fn read_order_file<T: AllocGlobal + Files>(
+    rt: &T,
+    test_case: &TestCase,
+    path: &str,
+) -> Result<Vec<Order>, FileFault> {
+    let text = read_file(rt, path)?;
+    let orders = read_orders(rt.alloc(), test_case.config(), text.as_slice())?;
+    Ok(orders)
+}
+
+/// Prints the line of a fault of SCRIPT, as `tpr` does, and answers its status.
+fn tell_script<R: Print>(rt: &R, fault: FileFault) -> u8 {
+    match println!(rt; "{fault}") {
+        Ok(()) => status_of(fault),
+        Err(_) => FAULTED,
+    }
+}
+
+/// Prints the line of a fault of ORDERS on standard error, and answers its status.
+fn tell_orders<R: Eprint>(rt: &R, fault: FileFault) -> u8 {
+    let _ = eprintln!(rt; "orders: {fault}");
+    status_of(fault)
+}
+
+/// Runs the test case in each of the orders, and prints what came of it.
+fn answer_orders<T>(rt: &T, test_case: &TestCase, orders: &[Order]) -> u8
+where
+    T: AllocGlobal + Print + Threads + Wait + Sync,
+{
+    let Ok(mut writer) = BufWriter::new(rt.alloc(), io::writer(rt)) else {
+        return tell_script(rt, FileFault::from(Memory));
+    };
+    match write_orders(rt, rt.alloc(), test_case, orders, PATIENCE, &mut writer) {
+        Ok(()) => ANSWERED,
+        Err(_) => FAULTED,
+    }
+}
+
+/// Reads both files, and runs the test case of the first in each of the orders of the second. Nothing is run
+/// where one of them is refused.
+fn answer_files<T>(rt: &T, script: &str, orders: &str) -> u8
+where
+    T: AllocGlobal + Files + Print + Eprint + Threads + Wait + Sync,
+{
+    match read_script(rt, script) {
+        Err(fault) => tell_script(rt, fault),
+        Ok(test_case) => match read_order_file(rt, &test_case, orders) {
+            Err(fault) => tell_orders(rt, fault),
+            Ok(orders) => answer_orders(rt, &test_case, orders.as_slice()),
+        },
+    }
+}
+
+/// The words after the program's name.
+fn words_of<R: Env + AllocGlobal>(rt: &R) -> io::Result<Vec<String>> {
+    let words = env::args(rt)?.skip(1).collect(rt.alloc())?;
+    Ok(words)
+}
+
+/// Answers the command line of these words.
+fn answer_words<T>(rt: &T, words: &[String]) -> u8
+where
+    T: AllocGlobal + Files + Print + Eprint + Threads + Wait + Sync,
+{
+    match words {
+        [script, orders] => answer_files(rt, script.as_str(), orders.as_str()),
+        _ => usage(rt),
+    }
+}
+
+/// The status is 0 where all orders were run.
+fn main(rt: HostRuntime) -> ExitCode {
+    let status = match words_of(&rt) {
+        Ok(words) => answer_words(&rt, words.as_slice()),
+        Err(error) if error.kind() == ErrorKind::OutOfMemory => {
+            tell_script(&rt, FileFault::from(Memory))
+        }
+        Err(_) => usage(&rt),
+    };
+    ExitCode::from(status)
+}

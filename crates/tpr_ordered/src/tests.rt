@@ -1,0 +1,58 @@
+//! Runs with gates, and runs that end by themselves.
+use crate::ordering::write_orders;
+use crate::orders::read_orders;
+use std::alloc::Global;
+use std::sync::Wait;
+use std::test::Fail;
+use std::thread::Threads;
+use tp_exec::gate::Gate;
+use tp_exec::run::run;
+use tp_exec::writing::write_report;
+use tp_script::{TestCase, check, parse};
+
+mod endings;
+mod forced;
+mod meetings;
+
+/// The test case of a script.
+fn test_case_of(alloc: Global, script: &str) -> Result<TestCase, Fail> {
+    let parsed = parse(alloc, script.as_bytes())?;
+    let test_case = check(alloc, &parsed)?;
+    Ok(test_case)
+}
+
+/// The report of a run of the script with this gate.
+fn report_of<R: Threads + Wait + Sync, G: Gate>(
+    rt: &R,
+    alloc: Global,
+    script: &str,
+    gate: &G,
+) -> Result<Vec<u8>, Fail> {
+    let test_case = test_case_of(alloc, script)?;
+    let report = run(rt, alloc, &test_case, gate)?;
+    let mut text = Vec::new(alloc);
+    write_report(&test_case, &report, &mut text)?;
+    Ok(text)
+}
+
+/// What is written of the runs of the script in these orders, one a line.
+fn answers_of<R: Threads + Wait + Sync>(
+    rt: &R,
+    alloc: Global,
+    script: &str,
+    lines: &str,
+    patience: u32,
+) -> Result<Vec<u8>, Fail> {
+    let test_case = test_case_of(alloc, script)?;
+    let orders = read_orders(alloc, test_case.config(), lines.as_bytes())?;
+    let mut text = Vec::new(alloc);
+    write_orders(
+        rt,
+        alloc,
+        &test_case,
+        orders.as_slice(),
+        patience,
+        &mut text,
+    )?;
+    Ok(text)
+}
