@@ -1,0 +1,114 @@
+"""Reports of test cases that never were: components that send, receive and operate on ports at random.
+
+The ports are those of docs/MODEL.md, told once more and apart from tools/: a queue, a status, and how
+many messages are ahead of the mark. So each report is one that tpr may print.
+"""
+import random
+
+VERDICTS = ("none", "pass", "inconc", "fail", "error")
+MESSAGES = ("integer:7", "boolean:true", 'charstring:"a ""b"" {c}"', "List:{1, -2}", 'Pair:{one := "", two := {}}')
+
+
+class Port:
+    def __init__(self):
+        self.queue = []
+        self.status = "started"
+        self.ahead = 0  # of a halted port
+
+    def deliverable(self):
+        return len(self.queue) if self.status == "started" else self.ahead
+
+    def go(self):
+        self.ahead = max(self.ahead - 1, 0)
+        return self.queue.pop(0)
+
+    def operate(self, word):
+        if word == "halted" and self.status == "started":
+            self.status, self.ahead = "halted", len(self.queue)
+        elif word == "stopped":
+            self.status, self.ahead = "stopped", 0
+        elif word in ("cleared", "started"):
+            self.queue, self.ahead = [], 0
+            self.status = "started" if word == "started" else self.status
+
+
+class Run:
+    """One run: the components' ports, histories and ends."""
+
+    def __init__(self, seed):
+        self.random = random.Random(seed)
+        self.names = ["mtc", "a", "b", "c", "d"][: self.random.randint(1, 5)]
+        if self.random.random() < 0.4:
+            self.names.append("system")
+        self.ports = {(name, port): Port() for name in self.names for port in ("p", "q", "r")}
+        self.histories = {name: [] for name in self.names}
+        self.ends = {}
+        self.counts = {}
+        self.operations = self.random.choice([0, 0, 1, 3])
+
+    def report(self):
+        for _ in range(self.random.randint(0, 120)):
+            name = self.random.choice(self.names)
+            if name not in self.ends:
+                self.act(name)
+        return "".join(f"{line}\n" for line in self.lines())
+
+    def act(self, name):
+        by_itself = name != "system"
+        kinds = [(self.send, 5), (self.receive, 5), (self.fail, 0.02)]
+        if by_itself:
+            kinds += [(self.operate, self.operations), (self.set_verdict, 0.5)]
+        kinds.append((self.otherwise, 0.3))
+        acts, weights = zip(*kinds)
+        self.random.choices(acts, weights)[0](name)
+
+    def send(self, name):
+        receiver, port = self.random.choice(list(self.ports))
+        number = self.counts.get((name, receiver, port), 0)
+        self.counts[name, receiver, port] = number + 1
+        message = self.random.choice(MESSAGES)
+        self.ports[receiver, port].queue.append((name, number, message))
+        self.histories[name].append(f"sent {receiver}.{port} {number} {message}")
+
+    def receive(self, name):
+        port = self.random.choice("pqr")
+        queue = self.ports[name, port]
+        if queue.deliverable() == 0:
+            return
+        word = self.random.choice(["took", "took", "found", "dropped"])
+        top = queue.queue[0] if word == "found" else queue.go()
+        self.histories[name].append(f"{word} {port} {' '.join(map(str, top))}")
+
+    def operate(self, name):
+        port, word = self.random.choice("pqr"), self.random.choice(["cleared", "started", "stopped", "halted"])
+        self.ports[name, port].operate(word)
+        self.histories[name].append(f"{word} {port}")
+
+    def set_verdict(self, name):
+        self.histories[name].append(f"set {self.random.choice(VERDICTS[:4])}")
+
+    def otherwise(self, name):
+        self.histories[name].append("else")
+
+    def fail(self, name):
+        code = self.random.choice([40, 41, 42, 43])
+        self.histories[name].append(f"failed {code}")
+        self.ends[name] = f"error {code}"
+
+    def lines(self):
+        result = "none"
+        for name in self.names:
+            history, end = self.histories[name], self.ends.get(name, "done")
+            if end == "done" and self.random.random() < 0.1:
+                end = "waiting"
+            verdict = worst([line.split()[1] for line in history if line.startswith("set ")])
+            verdict = "error" if end.startswith("error") else verdict
+            result = worst([result, verdict, "error" if end == "waiting" else "none"])
+            yield from [f"component {name}", *history, f"end {end}", f"verdict {verdict}"]
+            for port in "pqr":
+                yield from (f"left {port} {' '.join(map(str, env))}" for env in self.ports[name, port].queue)
+        yield f"result {result}"
+
+
+def worst(verdicts):
+    return max(verdicts, key=VERDICTS.index, default="none")

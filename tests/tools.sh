@@ -1,0 +1,260 @@
+# The tools of the test engineer: tools/chart and tools/compare here, tools/suite in tests/suites.sh, and
+# what they all refuse in tests/refused_reports.sh. What a shell can't see of what they print is looked at
+# by tests/tool_rules.py. `root`, `room`, `observe`, `count`, `at_least` and `set_up` are those of ./test.
+
+# The last run of a tool is one case: it ended with the STATUS, and the test given holds of it.
+tool_must() { # NAME STATUS COMMAND..
+    if [[ $status == "$2" ]] && "${@:3}"; then
+        count 0
+        return
+    fi
+    echo "FAILED: $1: the status was $status, and $2 is wanted; it said and printed"
+    head -n 5 -- "$room/said"
+    head -n 20 -- "$room/printed"
+    count 1
+}
+
+says_nothing() { [[ ! -s $room/said ]]; }
+prints_nothing() { [[ ! -s $room/printed ]]; }
+
+# Standard error is one line that begins so, and nothing was printed.
+says_alone() { # BEGINNING
+    local said
+    said=$(cat -- "$room/said")
+    [[ $said == "$1"* && $said != *$'\n'* ]] && prints_nothing
+}
+
+prints() { # TEXT
+    says_nothing && printf %s "$1" | cmp -s -- - "$room/printed"
+}
+
+rules_hold() { # RULE..
+    says_nothing && python3 "$root/tests/tool_rules.py" "$@"
+}
+
+# The reports of examples/: what mode run prints of a script that it runs.
+find_reports() {
+    local file script
+    reports=()
+    for script in "$root"/examples/*.ttcn; do
+        for file in "${script%.ttcn}".expected*; do
+            if [[ $(head -n 1 -- "$file") == "component mtc" ]]; then reports+=("$file"); fi
+        done
+    done
+}
+
+charts_of_examples() {
+    local file chart pairs=()
+    mkdir -- "$room/charts"
+    for file in "${reports[@]}"; do
+        observe "$root/tools/chart" "$file"
+        chart=$room/charts/$(basename -- "$file").svg
+        cp -- "$room/printed" "$chart"
+        pairs+=("$file" "$chart")
+        tool_must "the chart of $file" 0 says_nothing
+    done
+    tool_must "the rules on all these charts" 0 rules_hold chart "${pairs[@]}"
+}
+
+charts_of_docs() {
+    local file base
+    for file in "$root"/docs/charts/*.svg; do
+        base=$(basename -- "$file" .svg)
+        observe "$root/tools/chart" "$root/examples/$base.expected"
+        tool_must "$file is the chart of its example" 0 cmp -s -- "$room/printed" "$file"
+    done
+}
+
+rules_on_reports() {
+    observe python3 "$root/tests/tool_rules.py" orders "${reports[@]}"
+    tool_must "the orders of the reports of examples/" 0 prints ''
+    observe python3 "$root/tests/tool_rules.py" cuts "${small_reports[@]/#/"$root/"}"
+    tool_must "reports that are cut behind any of their bytes" 0 prints ''
+    observe python3 "$root/tests/tool_rules.py" random 150
+    tool_must "reports at random" 0 prints ''
+}
+
+charts_in_other_ways() {
+    local file=$root/examples/login_is_answered.expected
+    observe "$root/tools/chart" "$file"
+    cp -- "$room/printed" "$room/chart.svg"
+    observe "$root/tools/chart" --title login_is_answered <"$file"
+    tool_must "a chart of standard input, with a title" 0 cmp -s -- "$room/printed" "$room/chart.svg"
+    observe "$root/tools/chart" --title '<&"' "$file"
+    cp -- "$room/printed" "$room/chart.svg"
+    tool_must "a chart with a title of signs" 0 rules_hold chart "$file" "$room/chart.svg"
+    COLUMNS=90 observe "$root/tools/chart" --text "$root/examples/halt_holds_back_what_comes_later.expected"
+    tool_must "a chart in letters" 0 prints "\
+halt_holds_back_what_comes_later: result error
+
+           mtc               a
+            |-- integer:1 -->| took p
+            |           [halted p]
+     took q |<-- integer:9 --|
+            |-- integer:2 --]. left p
+        end done        end waiting
+      verdict none     verdict none
+
+a: left p mtc 1 integer:2
+
+result error
+"
+    observe "$root/tools/chart" <&-
+    tool_must "a chart of a closed standard input" 2 says_alone "chart: standard input"
+    observe "$root/tools/chart" "$room/missing"
+    tool_must "a chart of a missing file" 2 says_alone "chart: $room/missing can't be read"
+    observe "$root/tools/chart" "$room"
+    tool_must "a chart of a folder" 2 says_alone "chart: $room can't be read"
+    "$root/tools/chart" "$file" >/dev/full 2>"$room/said"
+    status=$?
+    : >"$room/printed"
+    tool_must "a chart onto a full device" 3 says_alone "chart: the answer can't be written"
+    "$root/tools/chart" "$file" >&- 2>"$room/said"
+    status=$?
+    tool_must "a chart onto a closed standard output" 3 says_alone "chart: the answer can't be written"
+    observe "$root/tools/chart" "$file" "$file"
+    tool_must "a chart of two files" 4 grep -q '^usage: chart' "$room/said"
+    observe "$root/tools/chart" --help
+    tool_must "what chart --help says" 0 grep -q '^  4  the command line is wrong$' "$room/printed"
+}
+
+compared() { # NAME STATUS PRINTED A B
+    observe "$root/tools/compare" "$4" "$5"
+    tool_must "compare: $1" "$2" prints "$3"
+}
+
+equal_but_for_the_order=$'equal but for the order between senders\n'
+
+comparisons() {
+    local base=$root/examples/login_is_answered.expected one two script
+    compared "a report with itself" 0 $'equal\n' "$base" "$base"
+    one=$root/examples/everyone_is_told_to_stop.expected.1
+    two=$root/examples/everyone_is_told_to_stop.expected.2
+    compared "two orders" 0 "${equal_but_for_the_order}\
+mtc, open: which came first
+  - line 4: took orders north 0 charstring:\"stopped\"
+  + line 4: took orders south 0 charstring:\"stopped\"
+" "$one" "$two"
+    sed -e '4s/pass/fail/;9s/pass/fail/;17s/pass/fail/' -- "$base" >"$room/failed"
+    compared "another verdict" 5 'different
+mtc, what it did by itself
+  - line 4: set pass
+  + line 4: set fail
+mtc, its verdict
+  - line 9: verdict pass
+  + line 9: verdict fail
+the result
+  - line 17: result pass
+  + line 17: result fail
+' "$base" "$room/failed"
+    sed -e 's/guess/guest/' -- "$base" >"$room/guest"
+    compared "another message" 5 'different
+mtc, what went to system.server
+  - line 2: sent system.server 0 Request:{user := "ada", password := "guess"}
+  + line 2: sent system.server 0 Request:{user := "ada", password := "guest"}
+system, what came from mtc at server
+  - line 11: took server mtc 0 Request:{user := "ada", password := "guess"}
+  + line 11: took server mtc 0 Request:{user := "ada", password := "guest"}
+' "$base" "$room/guest"
+    sed -e '4{h;d};5{G}' -- "$base" >"$room/later"
+    compared "a verdict that is set later" 5 'different
+mtc, the order of what it did
+  - line 4: set pass
+  + line 4: sent system.server 1 Request:{user := "ada", password := "secret"}
+' "$base" "$room/later"
+    compared "other components" 5 'different
+the components
+  - line 10: component system
+  + line 9: component north
+' "$base" "$one"
+}
+
+# Reports in which mtc takes a message of a and one of b, and sets a verdict.
+comparisons_of_two_senders() {
+    local name
+    for name in a_then_b b_then_a a_then_fail three fail_between sent_to_a sent_to_b; do
+        report_of_two_senders "$name" >"$room/$name"
+    done
+    set_up "there is a report of two senders" [ -s "$room/a_then_b" ] || return
+    compared "two senders" 0 "${equal_but_for_the_order}\
+mtc, open: which came first
+  - line 2: took p a 0 integer:1
+  + line 2: took p b 0 integer:1
+" "$room/a_then_b" "$room/b_then_a"
+    compared "a verdict between two senders" 5 'different
+mtc, the order of what it did
+  - line 3: took p b 0 integer:1
+  + line 3: set fail
+' "$room/a_then_b" "$room/a_then_fail"
+    compared "the same behind each message" 0 "${equal_but_for_the_order}\
+mtc, open: which came first
+  - line 2: took p b 0 integer:1
+  + line 2: took p a 0 integer:1
+" "$room/b_then_a" "$room/a_then_fail"
+    compared "a verdict at another place behind an open order" 5 'different
+mtc, the order of what it did
+  - line 4: took p a 1 integer:1
+  + line 4: set fail
+mtc, open: which came first
+  - line 2: took p a 0 integer:1
+  + line 2: took p b 0 integer:1
+' "$room/three" "$room/fail_between"
+    compared "the order of its own sendings" 5 'different
+mtc, the order of what it did
+  - line 2: sent a.p 0 integer:2
+  + line 2: sent b.p 0 integer:2
+' "$room/sent_to_a" "$room/sent_to_b"
+}
+
+report_of_two_senders() { # NAME
+    local left='' result=fail entries name
+    case $1 in
+        a_then_b) entries='took p a 0 integer:1|took p b 0 integer:1|set fail' ;;
+        b_then_a) entries='took p b 0 integer:1|took p a 0 integer:1|set fail' ;;
+        a_then_fail) entries='took p a 0 integer:1|set fail|took p b 0 integer:1' ;;
+        three) entries='took p a 0 integer:1|took p b 0 integer:1|took p a 1 integer:1|set fail' ;;
+        fail_between) entries='took p b 0 integer:1|took p a 0 integer:1|set fail|took p a 1 integer:1' ;;
+        sent_to_a) entries='sent a.p 0 integer:2|sent b.p 0 integer:2|took p a 0 integer:1|took p b 0 integer:1' ;;
+        sent_to_b) entries='sent b.p 0 integer:2|sent a.p 0 integer:2|took p a 0 integer:1|took p b 0 integer:1' ;;
+    esac
+    if [[ $1 == sent_* ]]; then left='left p mtc 0 integer:2' result=none; fi
+    printf '%s\n' 'component mtc' "${entries//|/$'\n'}" 'end done' "verdict $result"
+    for name in a b; do
+        printf '%s\n' "component $name" 'sent mtc.p 0 integer:1'
+        if [[ $name == a && $entries == *'p a 1'* ]]; then echo 'sent mtc.p 1 integer:1'; fi
+        printf '%s\n' 'end done' 'verdict none' ${left:+"$left"}
+    done
+    printf '%s\n' "result $result"
+}
+
+comparisons_of_examples() {
+    local script base
+    for script in "$root"/examples/*.expected.2; do
+        base=${script%.2}
+        observe "$root/tools/compare" "$base.1" "$script"
+        tool_must "compare: the first two reports of $base" 0 \
+            grep -qx "${equal_but_for_the_order%$'\n'}" "$room/printed"
+    done
+    base=$root/examples/login_is_answered.expected
+    observe "$root/tools/compare" "$base" "$room/missing"
+    tool_must "compare: a missing file" 2 says_alone "compare: $room/missing can't be read"
+    observe "$root/tools/compare" "$base"
+    tool_must "compare: one file" 4 grep -q '^usage: compare' "$room/said"
+}
+
+tools() {
+    find_reports
+    at_least 87 charts_of_examples
+    at_least 2 charts_of_docs
+    at_least 3 rules_on_reports
+    at_least 10 charts_in_other_ways
+    at_least 66 cut_reports
+    at_least 95 refused_reports
+    at_least 23 refusals_of_texts
+    at_least 14 suites_of_scripts
+    at_least 8 suites_of_another_program
+    at_least 17 suites_that_cannot_be
+    at_least 6 comparisons
+    at_least 5 comparisons_of_two_senders
+    at_least 9 comparisons_of_examples
+}

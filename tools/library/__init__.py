@@ -1,0 +1,1 @@
+"""What chart, suite and compare have in common. Nothing here is trusted for a verdict."""

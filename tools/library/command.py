@@ -1,0 +1,117 @@
+"""What the command lines of the tools have in common.
+
+The statuses are those of tpr and ./tpr, with one more: 5, where what was asked isn't so.
+"""
+from __future__ import annotations
+
+import argparse
+import sys
+from typing import Callable, NoReturn, Optional
+
+from .reader import read_report
+from .report import NotAReport, Report
+
+DONE, NOT_BUILT, REFUSED, NOT_WRITTEN, WRONG_USAGE, NOT_SO = range(6)
+INTERRUPTED = 130
+
+_MEANINGS = {
+    DONE: "all went well",
+    NOT_BUILT: "the tool broke off",
+    REFUSED: "what was read isn't a report, or can't be read; standard error has the line",
+    NOT_WRITTEN: "the answer can't be written",
+    WRONG_USAGE: "the command line is wrong",
+}
+
+
+def statuses(*numbers: int, **others: str) -> str:
+    """The statuses as --help has them: those of all tools, and those that mean more in one."""
+    told = {number: _MEANINGS[number] for number in numbers}
+    told.update({int(name.removeprefix("status_")): text for name, text in others.items()})
+    return "status:\n" + "\n".join(f"  {number}  {text}" for number, text in sorted(told.items()))
+
+
+class Stop(Exception):
+    """The tool ends with this status, and says this on standard error."""
+
+    def __init__(self, status: int, text: str):
+        super().__init__(text)
+        self.status = status
+        self.text = text
+
+
+class Arguments(argparse.ArgumentParser):
+    """A command line, the description of which has the statuses too."""
+
+    def __init__(self, name: str, description: str, statuses: str):
+        super().__init__(
+            prog=name,
+            description=description,
+            epilog=statuses,
+            formatter_class=argparse.RawDescriptionHelpFormatter,
+            allow_abbrev=False,
+        )
+
+    def error(self, message: str) -> NoReturn:
+        self.print_usage(sys.stderr)
+        self.exit(WRONG_USAGE, f"{self.prog}: {message}\n")
+
+
+def read_bytes(file: Optional[str]) -> bytes:
+    """What the file holds, or standard input where there is none."""
+    try:
+        if file is None:
+            return sys.stdin.buffer.read()
+        with open(file, "rb") as opened:
+            return opened.read()
+    except (OSError, AttributeError, ValueError) as error:
+        raise Stop(REFUSED, f"{file or 'standard input'} can't be read: {error}") from None
+
+
+def report_in(file: Optional[str]) -> Report:
+    """The report that a file holds. Its messages aren't matched yet."""
+    try:
+        return read_report(read_bytes(file))
+    except NotAReport as fault:
+        raise refusal_of(file, fault) from None
+
+
+def refusal_of(file: Optional[str], fault: NotAReport) -> Stop:
+    return Stop(REFUSED, f"{file or 'standard input'}, {fault}")
+
+
+def write_out(text: str) -> None:
+    """Writes the answer on standard output."""
+    try:
+        sys.stdout.buffer.write(text.encode("utf-8"))
+        sys.stdout.buffer.flush()
+    except (OSError, AttributeError, ValueError):
+        raise Stop(NOT_WRITTEN, "the answer can't be written") from None
+
+
+def write_file(file: str, text: str) -> None:
+    try:
+        with open(file, "w", encoding="utf-8", newline="\n") as opened:
+            opened.write(text)
+    except OSError as error:
+        raise Stop(NOT_WRITTEN, f"{file} can't be written: {error}") from None
+
+
+def run(name: str, tool: Callable[[], int]) -> NoReturn:
+    """Ends the process with the status of the tool."""
+    try:
+        status = tool()
+    except Stop as stop:
+        print(f"{name}: {stop.text}", file=sys.stderr)
+        status = stop.status
+    except KeyboardInterrupt:
+        status = INTERRUPTED
+    # What could not be written is not tried again when the interpreter ends.
+    _forget_output()
+    sys.exit(status)
+
+
+def _forget_output() -> None:
+    try:
+        sys.stdout.flush()
+    except (OSError, AttributeError, ValueError):
+        sys.stdout = None  # type: ignore[assignment]

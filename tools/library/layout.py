@@ -1,0 +1,162 @@
+"""Where the parts of a chart stand, in pixels."""
+from __future__ import annotations
+
+from dataclasses import dataclass
+
+from .sequence import Arrow, Sequence, Step
+
+LETTER = 7.25  # the width of a letter of a label, of 12 pixels, in the widest of the usual fonts
+SMALL = 6.65  # and of one of 11 pixels
+ROW = 27
+REPEAT = 40  # after so many rows the names of the components are written again
+STRIP = 30  # the height of that
+LONG = 14  # an arrow over more rows is drawn as its two ends
+LOOP = 26  # how far the arrow of a message to the component itself goes to the right
+STEM = 0.62  # how much of the way one end of a long arrow takes
+TITLE_LETTER = 11.2
+BESIDE_TITLE = 190  # what stands beside the title, with the margins
+MOST_LEFT = 4  # so many messages that are left are written out at the foot
+
+_LEAST_GAP = 118
+_MOST_MARGIN = 300
+_LONGEST_NAME = 26
+_LONGEST_TITLE = 560
+_TOP = 112
+_FOOT_LINE = 17
+
+
+def width_of(text: str, letter: float = LETTER) -> float:
+    return len(text) * letter
+
+
+def cut(text: str, width: float, letter: float = LETTER) -> str:
+    """The text, with its end left out where it doesn't fit."""
+    most = max(int(width / letter), 1)
+    return text if len(text) <= most else text[: most - 1] + "…"
+
+
+def cut_middle(text: str, width: float, letter: float = LETTER) -> str:
+    """The text, with its middle left out where it doesn't fit: names often differ at their ends."""
+    most = max(int(width / letter), 3)
+    if len(text) <= most:
+        return text
+    behind = (most - 1) // 2
+    return f"{text[: most - 1 - behind]}…{text[-behind:]}"
+
+
+@dataclass(frozen=True)
+class Layout:
+    """The places of the life lines and rows, and how wide the spaces beside the life lines are."""
+
+    columns: tuple[float, ...]  # the middle of each life line
+    boxes: tuple[float, ...]  # the width of the box at its head and at its foot
+    spaces: tuple[float, ...]  # to the left of each life line, and behind the last
+    width: float
+    rows: int
+    foot_lines: int
+
+    def y(self, row: int) -> float:
+        """The height of a row, of which the names stand above some."""
+        return _TOP + ROW * row + STRIP * self.strips_above(row)
+
+    def strips_above(self, row: int) -> int:
+        return row // REPEAT if self.rows > REPEAT + REPEAT // 2 else 0
+
+    def foot(self) -> float:
+        """The top of the boxes at the foot."""
+        return self.y(self.rows - 1) + 26 if self.rows else float(_TOP - 10)
+
+    def foot_height(self) -> float:
+        return 46 + (8 + _FOOT_LINE * self.foot_lines if self.foot_lines else 0)
+
+    def height(self) -> float:
+        return self.foot() + self.foot_height() + 62
+
+    def room(self, arrow: Arrow) -> float:
+        """The width for the text of the arrow's message."""
+        if arrow.sender == arrow.receiver:
+            return self.spaces[arrow.sender + 1] - LOOP - 34
+        way = abs(self.columns[arrow.receiver] - self.columns[arrow.sender]) - 30
+        return way * STEM if is_long(arrow) else way
+
+    def room_outside(self, arrow: Arrow) -> float:
+        return self.spaces[outer_space(arrow)] - 18
+
+
+def is_long(arrow: Arrow) -> bool:
+    return arrow.stop - arrow.start > LONG and arrow.sender != arrow.receiver
+
+
+def goes_right(arrow: Arrow) -> bool:
+    return arrow.sender < arrow.receiver
+
+
+def outer_space(arrow: Arrow) -> int:
+    """The space on the side of the receiver's life line that is away from the sender."""
+    return arrow.receiver + 1 if goes_right(arrow) else arrow.receiver
+
+
+def layout_of(sequence: Sequence) -> Layout:
+    most_gap = min(max(960 / max(len(sequence.names) - 1, 1), 150), 470)
+    needs = _needs(sequence, most_gap)
+    boxes = [_box(sequence, place, most_gap) for place in range(len(sequence.names))]
+    spaces = [_MOST_MARGIN if need > _MOST_MARGIN else need for need in needs]
+    for place in range(1, len(spaces) - 1):
+        beside = (boxes[place - 1] + boxes[place]) / 2 + 18
+        spaces[place] = max(min(max(needs[place], _LEAST_GAP), most_gap), beside)
+    spaces[0] = max(spaces[0], boxes[0] / 2 + 24)
+    spaces[-1] = max(spaces[-1], boxes[-1] / 2 + 24)
+    _widen(spaces, min(len(sequence.title) * TITLE_LETTER, _LONGEST_TITLE) + BESIDE_TITLE)
+    columns, behind = [], 0.0
+    for space in spaces[:-1]:
+        behind += space
+        columns.append(behind)
+    foot_lines = max(min(len(foot.left), MOST_LEFT + 1) for foot in sequence.feet)
+    rows = len(sequence.steps)
+    return Layout(tuple(columns), tuple(boxes), tuple(spaces), behind + spaces[-1], rows, foot_lines)
+
+
+def _widen(spaces: list[float], least: float) -> None:
+    """Makes both margins wider where the title needs it."""
+    missing = least - sum(spaces)
+    if missing > 0:
+        spaces[0] += missing / 2
+        spaces[-1] += missing / 2
+
+
+def _box(sequence: Sequence, place: int, most_gap: float) -> float:
+    """The width of a component's boxes."""
+    foot = sequence.feet[place]
+    texts = [sequence.names[place][:_LONGEST_NAME], foot.end, f"verdict {foot.verdict}"]
+    texts += [left[:_LONGEST_NAME] for left in foot.left[:MOST_LEFT]]
+    return min(max(width_of(text) for text in texts) + 34, most_gap - 18)
+
+
+def _needs(sequence: Sequence, most: float) -> list[float]:
+    """How wide each space would have to be for all that stands in it."""
+    needs = [0.0] * (len(sequence.names) + 1)
+    for step in sequence.steps:
+        for space, width in _needs_of(step, most):
+            needs[space] = max(needs[space], width)
+    return needs
+
+
+def _needs_of(step: Step, most: float) -> list[tuple[int, float]]:
+    needs = []
+    if step.badge:
+        half = width_of(step.badge.text) / 2 + 26
+        needs += [(step.badge.column, half), (step.badge.column + 1, half)]
+    if step.sends:
+        needs += _needs_of_text(step.sends, most)
+    for arrow in step.ends:
+        needs.append((outer_space(arrow), width_of(arrow.outside(), SMALL) + 32))
+    return needs
+
+
+def _needs_of_text(arrow: Arrow, most: float) -> list[tuple[int, float]]:
+    """The text of a message lies over all the spaces between sender and receiver."""
+    if arrow.sender == arrow.receiver:
+        return [(arrow.sender + 1, min(width_of(arrow.message.text) + LOOP + 50, most))]
+    first, last = sorted((arrow.sender, arrow.receiver))
+    width = width_of(arrow.message.text) / (STEM if is_long(arrow) else 1) + 44
+    return [(space, min(width / (last - first), most)) for space in range(first + 1, last + 1)]
