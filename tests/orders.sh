@@ -1,0 +1,75 @@
+# Every order of the steps of small scripts (tests/orders/*.ttcn): what tpr_ordered reports of each must be what
+# the model of runs says (tests/orders/model.py). `root`, `room`, `ordered`, `count`, `at_least` and `set_up`
+# are those of ./test.
+
+# How many scripts there are at least, how many of them with a behaviour that waits in the end, and how many
+# orders of them all.
+least_scripts=81
+least_waiting=10
+least_orders=31000
+
+# Builds tpr_ordered where TPR_ORDERED names none: rt runs what it has built, here on one order of one script.
+ordered_is_built() {
+    local script=$root/tests/orders/all_wait_for_each_other.ttcn
+    if [[ -z ${TPR_ORDERED-} ]]; then
+        echo >"$room/no_step"
+        if ! (cd -- "$root/crates/tpr_ordered" && exec rt run -- "$script" "$room/no_step") \
+            </dev/null >"$room/built" 2>&1; then
+            tail -n 20 -- "$room/built"
+            return 1
+        fi
+    fi
+    [[ -x $ordered ]]
+}
+
+# Counts the lines `passed ..` and the scripts that failed, of which all that is said is told.
+count_told() { # FILE
+    local line
+    while IFS= read -r line; do
+        case $line in
+            'passed '*) count 0 ;;
+            'FAILED: '*)
+                echo "$line"
+                count 1
+                ;;
+            *) echo "$line" ;;
+        esac
+    done <"$1"
+}
+
+# The sum of the numbers that stand at the place of each line `passed ..`.
+sum_of() { # PLACE FILE
+    awk -v place="$1" '$1 == "passed" { sum += $place } END { print sum + 0 }' "$2"
+}
+
+orders_of_each() {
+    python3 -B tests/orders/compare.py "$ordered" tests/orders/*.ttcn >"$room/orders"
+    count_told "$room/orders"
+    ordered_reports=$(sum_of 2 "$room/orders")
+    waiting_scripts=$(awk '$1 == "passed" && $3 > 0' "$room/orders" | wc -l)
+}
+
+every_order() {
+    set_up "crates/tpr_ordered can be built" ordered_is_built || return
+    at_least "$least_scripts" orders_of_each
+    set_up "$least_orders orders are compared" [ "$ordered_reports" -ge "$least_orders" ]
+    set_up "$least_waiting scripts wait in some order" [ "$waiting_scripts" -ge "$least_waiting" ]
+    echo "orders: $ordered_reports of $(grep -c '^passed ' "$room/orders") scripts," \
+        "$(sum_of 3 "$room/orders") of them with a behaviour that waits in the end"
+}
+
+# The judge of tests/soak: it allows what an example may print and all that a small script may report, and
+# refuses what is a little different. The reports of an open example are all that its script may have.
+judge_of_each() {
+    local script scripts=()
+    for script in examples/*.ttcn tests/orders/*.ttcn; do
+        if [[ ! -e ${script%.ttcn}.status ]]; then scripts+=("$script"); fi
+    done
+    python3 -B tests/orders/judged.py "${scripts[@]}" >"$room/judged"
+    count_told "$room/judged"
+    echo "the judge: $(sum_of 2 "$room/judged") reports allowed, $(sum_of 3 "$room/judged") refused"
+}
+
+the_judge() {
+    at_least 134 judge_of_each
+}

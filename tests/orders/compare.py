@@ -1,0 +1,71 @@
+"""Compares the reports of a program that keeps orders with those of the model.
+
+    compare.py PROGRAM SCRIPT..
+
+For each script all orders go to the program, `PROGRAM SCRIPT ORDERS`, and its answers must be those of the
+model, to the byte. It prints a line `passed ORDERS WAITING SCRIPT` for each script, WAITING of whose ORDERS end
+with a behaviour that waits; or lines that begin with `FAILED: SCRIPT`.
+"""
+import os
+import subprocess
+import sys
+import tempfile
+from concurrent.futures import ProcessPoolExecutor
+
+from bodies import TestCase
+from model import Run
+from orders import Ordered, orders_of
+from reading import read_script
+
+MOST_SECONDS = 60
+
+
+def printed_by(program: str, script: str, orders: list[Ordered]) -> tuple[str, str]:
+    """How the program ends, and what it prints, for these orders."""
+    with tempfile.NamedTemporaryFile("w", encoding="latin-1", suffix=".orders") as file:
+        file.writelines(" ".join(it.names) + "\n" for it in orders)
+        file.flush()
+        command = [program, script, file.name]
+        files = {"stdin": subprocess.DEVNULL, "stdout": subprocess.PIPE, "stderr": subprocess.STDOUT}
+        try:
+            done = subprocess.run(command, **files, timeout=MOST_SECONDS, check=False)
+        except subprocess.TimeoutExpired as late:
+            return f"no end after {MOST_SECONDS} seconds", (late.stdout or b"").decode("latin-1")
+    return f"status {done.returncode}", done.stdout.decode("latin-1")
+
+
+def difference(end: str, printed: str, orders: list[Ordered]) -> str | None:
+    """The first order whose answer isn't the model's, with both answers; None where there is none."""
+    if end == "status 0" and printed == "".join(it.answer() for it in orders):
+        return None
+    place = 0
+    for ordered in orders:
+        wanted = ordered.answer()
+        if not printed.startswith(wanted, place):
+            got = printed[place:].split("\n\n")[0]
+            return f"{end}, and\n--- the model says\n{wanted}--- the program says\n{got}"
+        place += len(wanted)
+    return f"{end}, and behind the last order\n{printed[place:][:2000]}"
+
+
+def compared(program: str, script: str) -> str:
+    """The line, or lines, for one script."""
+    try:
+        orders = list(orders_of(Run(TestCase(read_script(script)))))
+        found = difference(*printed_by(program, script, orders), orders)
+    except Exception as error:  # a script that can't be read is a failure, and not the end of the others
+        found = f"the model says {error!r}"
+    if found is not None:
+        return f"FAILED: {script}: {found}"
+    return f"passed {len(orders)} {sum(it.waits for it in orders)} {script}"
+
+
+def main() -> None:
+    program, *scripts = sys.argv[1:]
+    with ProcessPoolExecutor(os.cpu_count()) as pool:
+        for line in pool.map(compared, [program] * len(scripts), scripts):
+            print(line, flush=True)
+
+
+if __name__ == "__main__":
+    main()

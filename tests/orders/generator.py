@@ -1,0 +1,203 @@
+"""Makes scripts by chance, which `tpr check` accepts: components with ports p and q, connections between
+them, now and then a system under test, and bodies of sends, looks, waits and port operations.
+"""
+import random
+from dataclasses import dataclass, field, replace
+
+HEADER = """module Soak {
+    type record of integer L;
+    type record R { integer i, charstring t }
+    type port P message { inout integer, boolean, charstring, L, R; }
+    type component C { port P p, q; }
+"""
+MESSAGES = ("boolean:true", 'charstring:"ab"', "L:{}", "L:{1, 2}", 'R:{1, "a"}', 'R:{t := "bc", i := 2}')
+NUMBERS = ("integer:?", "integer:0", "integer:(1 .. 3)", "integer:complement (2)", "integer:(0, 2)")
+TEMPLATES = (
+    "boolean:true",
+    'charstring:pattern "a*"',
+    "L:{*, 2}",
+    "L:?",
+    'R:{?, pattern "?"}',
+    'R:{t := complement ("a"), i := (1 .. 2)}',
+)
+OPERATIONS = ("start", "start", "halt", "halt", "halt", "clear", "stop")
+IDLE = "for (var integer last := 0; last < 0; last := last + 1) { }"
+
+
+@dataclass(frozen=True)
+class Place:
+    """Where a statement stands: whose it is, whether there are variables n and w, how many loops are
+    around it, and how many blocks."""
+
+    who: str
+    variables: bool
+    loops: int = 0
+    blocks: int = 0
+
+
+@dataclass
+class Maker:
+    """A script in the making. `waiting` is how often a receiving operation has no `[else]`, `turns` the most
+    turns of a loop."""
+
+    chance: random.Random
+    waiting: float
+    turns: int
+    names: list[str]
+    arguments: dict[str, str] = field(default_factory=dict)
+    routes: dict[tuple[str, str], list[str]] = field(default_factory=dict)
+    pairs: list[str] = field(default_factory=list)
+
+    def often(self, share: float) -> bool:
+        return self.chance.random() < share
+
+    # The configuration
+
+    def connect(self) -> None:
+        """Some pairs of ports that may be connected, and ports of the system mapped to what is left."""
+        ends = [(name, port) for name in self.names if name != "system" for port in "pq"]
+        joined: set[tuple[str, str, str]] = set()
+        for _ in range(self.chance.randint(len(self.names) - 1, 2 * len(self.names))):
+            one, other = self.chance.sample(ends, 2)
+            if (*one, other[0]) not in joined and (*other, one[0]) not in joined:
+                joined |= {(*one, other[0]), (*other, one[0])}
+                self.join("connect", one, other)
+        free = [end for end in ends if end not in self.routes]
+        self.chance.shuffle(free)
+        if "system" in self.names:
+            for port, end in zip("pq", free):
+                self.join("map", end, ("system", port))
+
+    def join(self, how: str, one: tuple[str, str], other: tuple[str, str]) -> None:
+        self.pairs.append(f"{how}({one[0]}:{one[1]}, {other[0]}:{other[1]});")
+        self.routes.setdefault(one, []).append(other[0])
+        self.routes.setdefault(other, []).append(one[0])
+
+    # Bodies
+
+    def body(self, who: str) -> list[str]:
+        """The statements of a component, the last of which does nothing."""
+        place = Place(who, self.often(0.4))
+        lines = ["var integer n; var C w;"] if place.variables else []
+        for _ in range(self.chance.randint(1, 6)):
+            lines += self.statement(place)
+        return [*lines, IDLE if who == "system" else "setverdict(none);"]
+
+    def statement(self, place: Place) -> list[str]:
+        kinds = {self.send: 40, self.choice: 35, self.loop: 8 if place.loops < 2 else 0}
+        if place.who != "system":
+            kinds |= {self.control: 15, self.verdict: 4}
+        (kind,) = self.chance.choices(list(kinds), list(kinds.values()))
+        return kind(place)
+
+    def send(self, place: Place) -> list[str]:
+        ports = [port for port in "pq" if (place.who, port) in self.routes]
+        port = self.chance.choice(ports if ports and self.often(0.97) else ["p", "q"])
+        message = f"integer:{self.chance.randint(0, 4)}" if self.often(0.8) else self.chance.choice(MESSAGES)
+        if place.variables and self.often(0.15):
+            message = "n"
+        elif place.loops and self.often(0.5):
+            message = f"integer:i{place.loops}"
+        return [f"{port}.send({message}){self.receiver(place, port)};"]
+
+    def receiver(self, place: Place, port: str) -> str:
+        """What stands behind a send: a receiver where one is needed, and by chance another."""
+        routes = self.routes.get((place.who, port), [])
+        if self.often(0.02):
+            return f" to {self.chance.choice(self.speakable(place.who))}"
+        if place.variables and self.often(0.1):
+            return " to w"
+        if self.often(0.15):
+            return " to all component"
+        named = [name for name in routes if name != "system"]
+        if not named or len(routes) == 1 and self.often(0.7):
+            return ""
+        receiver = self.chance.choice(named)
+        if receiver == self.arguments.get(place.who, "").replace("self", "mtc") and self.often(0.5):
+            return " to x"
+        return f" to {'self' if receiver == place.who else receiver}"
+
+    def speakable(self, who: str) -> list[str]:
+        """The components that a body can name, x among them where it is a parameter."""
+        others = [name for name in self.names if name not in ("system", who)]
+        return ["self", *others, *(["x"] if who in self.arguments else [])]
+
+    def control(self, _: Place) -> list[str]:
+        port = self.chance.choice(("p", "p", "q", "q", "all port"))
+        return [f"{port}.{self.chance.choice(OPERATIONS)};"]
+
+    def verdict(self, _: Place) -> list[str]:
+        return [f"setverdict({self.chance.choice(('none', 'pass', 'inconc', 'fail'))});"]
+
+    def loop(self, place: Place) -> list[str]:
+        inside = replace(place, loops=place.loops + 1, blocks=place.blocks + 1)
+        name, turns = f"i{inside.loops}", self.chance.randint(0, self.turns)
+        block = [line for _ in range(self.chance.randint(1, 2)) for line in self.statement(inside)]
+        return [f"for (var integer {name} := 0; {name} < {turns}; {name} := {name} + 1) {{", *block, "}"]
+
+    def choice(self, place: Place) -> list[str]:
+        """An `alt`, or a receiving operation that stands alone."""
+        waits = self.often(self.waiting)
+        if waits and self.often(0.6):
+            return [self.guard(place) + ";"]
+        lines = ["alt {"]
+        for _ in range(self.chance.randint(1, 3)):
+            lines += [f"[] {self.guard(place)} {{", *self.block(place), "}"]
+        if not waits:
+            lines += ["[else] {", *self.block(place), "}"]
+        return [*lines, "}"]
+
+    def block(self, place: Place) -> list[str]:
+        if place.blocks > 1 or self.often(0.7):
+            return []
+        return self.statement(replace(place, blocks=place.blocks + 1))
+
+    def guard(self, place: Place) -> str:
+        template = ""
+        if self.often(0.6):
+            template = self.chance.choice(NUMBERS if self.often(0.7) else TEMPLATES)
+        if place.loops and self.often(0.2):
+            template = f"integer:i{place.loops}"
+        source = f" from {self.chance.choice(self.speakable(place.who))}" if self.often(0.25) else ""
+        redirect = ""
+        if place.variables and self.often(0.5):
+            value = " value n" if template.startswith("integer") and self.often(0.7) else ""
+            redirect = " ->" + (value or " sender w") + (" sender w" if value and self.often(0.7) else "")
+        received = (f"({template})" if template else "") + source + redirect
+        (how,) = self.chance.choices(("receive", "trigger", "check"), (6, 3, 2))
+        port = self.chance.choice("pq")
+        return f"{port}.check(receive{received})" if how == "check" else f"{port}.{how}{received}"
+
+
+def indented(lines: list[str]) -> str:
+    """The lines of a block of a definition, each as deep as the brackets before it."""
+    text, depth = "", 2
+    for line in lines:
+        text += "    " * (depth - line.startswith("}")) + line + "\n"
+        depth += line.count("{") - line.count("}")
+    return text
+
+
+def some_script(chance: random.Random) -> str:
+    """A script, of which the same chances make the same."""
+    made = list("abc"[: chance.randint(1, 3)])
+    system = ["system"] if chance.random() < 0.2 else []
+    maker = Maker(chance, chance.choice((0, 0.1, 0.4)), chance.choice((2, 3, 8)), ["mtc", *made, *system])
+    maker.arguments = {name: chance.choice(["mtc", "self", *made]) for name in made if chance.random() < 0.5}
+    maker.connect()
+    functions = "".join(function_of(maker, name) for name in [*made, *system])
+    setup = [
+        *(f"var C {name} := C.create;" for name in made),
+        *maker.pairs,
+        *(f"{name}.start(of_{name}({maker.arguments.get(name, '')}));" for name in made),
+    ]
+    body = indented([*setup, *maker.body("mtc"), "all component.done;"])
+    clause = " system C" if system else ""
+    return f"{HEADER}{functions}\n    testcase t() runs on C{clause} {{\n{body}    }}\n}}\n"
+
+
+def function_of(maker: Maker, name: str) -> str:
+    """The function that a component runs."""
+    parameter = "C x" if name in maker.arguments else ""
+    function = "sut" if name == "system" else f"of_{name}"
+    return f"\n    function {function}({parameter}) runs on C {{\n{indented(maker.body(name))}    }}\n"

@@ -1,0 +1,97 @@
+"""Tests the judge: it must allow exactly the reports that some order of the components' acts gives.
+
+    judged.py SCRIPT..
+
+For a small script all reports are found by trying every order of acts. Where there are files NAME.expected, or
+NAME.expected.1 and so on, beside NAME.ttcn, they must be these reports. Each of them must be allowed, and
+each that is altered a little must be refused, if it isn't one of them. It prints a line
+`passed ALLOWED REFUSED SCRIPT` for each script, or lines that begin with `FAILED: SCRIPT`.
+"""
+import glob
+import os
+import random
+import re
+import sys
+from concurrent.futures import ProcessPoolExecutor
+
+from bodies import TestCase
+from judge import is_allowed
+from model import Act, Run
+from reading import read_script
+
+MOST_STATES, MOST_LINES, ALTERED = 20_000, 100, 40
+
+
+def reports_of(case: TestCase) -> set[str] | None:
+    """The reports of all orders of acts, None where these are too many or too long."""
+    seen, reports, open_runs = set(), set(), [Run(case)]
+    while open_runs:
+        run = open_runs.pop()
+        if (key := repr(run.components)) in seen:
+            continue
+        seen.add(key)
+        if len(seen) > MOST_STATES or sum(len(it.lines) for it in run.components) > MOST_LINES:
+            return None
+        living = [who for who in range(len(run.components)) if run.statement(who) is not None]
+        tried = [(after := run.copy(), after.act(who)) for who in living]
+        open_runs += [after for after, act in tried if act is not Act.WAITS]
+        if all(act is Act.WAITS for _, act in tried):
+            reports.add(run.report())
+    return reports
+
+
+def expected_beside(script: str) -> set[str]:
+    """The reports that stand in files beside the script."""
+    expected = set()
+    for path in glob.glob(glob.escape(script.removesuffix(".ttcn")) + ".expected*"):
+        with open(path, encoding="latin-1", newline="") as file:
+            expected.add(file.read())
+    return expected
+
+
+def altered(reports: list[str], chance: random.Random) -> set[str]:
+    """Reports that lack a line, have two lines exchanged, or are put together from the components' parts
+    in several reports."""
+    texts = set()
+    for _ in range(ALTERED):
+        lines = chance.choice(reports).splitlines(True)
+        at = chance.randrange(len(lines) - 1)
+        texts.add("".join(lines[:at] + lines[at + 1 :]))
+        texts.add("".join([*lines[:at], lines[at + 1], lines[at], *lines[at + 2 :]]))
+        parts = zip(*(re.split(r"^(?=component |result )", text, flags=re.M)[1:] for text in reports))
+        texts.add("".join(chance.choice(part) for part in parts))
+    return texts
+
+
+def wrongly_judged(case: TestCase, reports: set[str], others: set[str]) -> str | None:
+    """The first of the reports that is refused, or of the others that is allowed."""
+    for report in sorted(reports | others):
+        if is_allowed(case, report) is not (report in reports):
+            return f"this is {'refused' if report in reports else 'allowed'}\n{report}"
+    return None
+
+
+def judged(script: str) -> str:
+    """The line, or lines, for one script."""
+    case = TestCase(read_script(script))
+    expected, reports = expected_beside(script), reports_of(case)
+    if reports is None:
+        reports = expected
+    if expected and expected != reports:
+        return f"FAILED: {script}: {len(reports)} reports, and {len(expected)} are expected"
+    small = [report for report in sorted(reports) if report.count("\n") < MOST_LINES]
+    others = altered(small, random.Random(script)) - reports if small else set()
+    wrong = wrongly_judged(case, reports, others)
+    if wrong is not None or not reports:
+        return f"FAILED: {script}: {wrong or 'there is no report'}"
+    return f"passed {len(reports)} {len(others)} {script}"
+
+
+def main() -> None:
+    with ProcessPoolExecutor(os.cpu_count()) as pool:
+        for line in pool.map(judged, sys.argv[1:]):
+            print(line, flush=True)
+
+
+if __name__ == "__main__":
+    main()

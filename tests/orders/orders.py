@@ -1,0 +1,111 @@
+"""Every order in which the steps of a script can be carried out, and the report of each.
+
+    orders.py SCRIPT [NAME..]
+
+prints what `tpr_ordered` must print of all orders of a script, or of the one that these names are.
+
+An order is the names of components, one for each step. The gate of `tpr_ordered` hears of the end of a step
+only by the component's next one. So a component's last step stands in no order: it must be a `setverdict`,
+a loop without a turn, or a send that fails, which touch nothing of another component. Nor does a step stand
+there that waits for good.
+"""
+import random
+import sys
+from collections.abc import Iterator
+from dataclasses import dataclass
+
+from bodies import Begun, TestCase
+from model import Run
+from reading import read_script
+from tree import Setverdict
+
+
+class Unordered(Exception):
+    """The report of the script isn't settled by the order of its steps."""
+
+
+@dataclass(frozen=True)
+class Ordered:
+    """An order, its report, and whether a behaviour waits in the end."""
+
+    names: tuple[str, ...]
+    report: str
+    waits: bool
+
+    def answer(self) -> str:
+        """What the program must print for it."""
+        return f"order {' '.join(self.names)}\n{self.report}\n"
+
+
+def followers(run: Run) -> list[tuple[str, Run]]:
+    """The runs in which one component more has carried out a step of which a gate hears."""
+    following = []
+    for who, name in enumerate(run.case.names):
+        if run.statement(who) is None:
+            continue
+        after = run.copy()
+        if after.step(who) and after.statement(who) is not None:
+            following.append((name, after))
+    return following
+
+
+def orders_of(run: Run, names: tuple[str, ...] = ()) -> Iterator[Ordered]:
+    """All orders of what is still to be done, behind the names that are done."""
+    following = followers(run)
+    for name, after in following:
+        yield from orders_of(after, (*names, name))
+    if not following:
+        yield ended(run, names)
+
+
+def some_order_of(run: Run, chance: random.Random) -> Ordered:
+    """An order by chance."""
+    names: list[str] = []
+    while following := followers(run):
+        name, run = chance.choice(following)
+        names.append(name)
+    return ended(run, tuple(names))
+
+
+def this_order_of(run: Run, names: tuple[str, ...]) -> Ordered:
+    """The order that the names are."""
+    for at, name in enumerate(names):
+        following = dict(followers(run))
+        if name not in following:
+            raise Unordered(f"{name} can't be name {at + 1} of the order")
+        run = following[name]
+    if following := followers(run):
+        raise Unordered(f"the order is too short for {' and '.join(name for name, _ in following)}")
+    return ended(run, names)
+
+
+def ended(run: Run, names: tuple[str, ...]) -> Ordered:
+    """The end of a run of which only what stands in no order is still to be done."""
+    last = run.copy()
+    waits = [who for who in range(len(run.components)) if last.statement(who) is not None and not finish(last, who)]
+    return Ordered(names, last.report(), bool(waits))
+
+
+def finish(run: Run, who: int) -> bool:
+    """Carries out the component's last step. False where it waits."""
+    statement, me = run.statement(who), run.components[who]
+    lines = len(me.lines)
+    if not run.step(who):
+        # Free behind its last name, it may look early. What it discards is in one order at one port alone.
+        if len({line.split()[1] for line in me.lines[lines:]}) > 1:
+            raise Unordered(f"{run.case.names[who]} discards at two ports while it waits")
+        return False
+    turns = isinstance(statement, Begun) and statement.loop.first < statement.loop.bound
+    if turns or not (isinstance(statement, (Setverdict, Begun)) or me.failure):
+        raise Unordered(f"{run.case.names[who]} ends with a step that others can see")
+    return True
+
+
+def main() -> None:
+    run, names = Run(TestCase(read_script(sys.argv[1]))), tuple(sys.argv[2:])
+    for ordered in [this_order_of(run, names)] if names else orders_of(run):
+        print(ordered.answer(), end="")
+
+
+if __name__ == "__main__":
+    main()
