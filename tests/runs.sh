@@ -11,25 +11,27 @@ is_a_report_of() { # EXAMPLE
     return 1
 }
 
-# Runs an example so many times: each time it ends by itself with a report that it may have.
-run_again() { # TIMES EXAMPLE
+# Runs an example so many times, by a command if one is given: each time it ends by itself with a report
+# that it may have.
+run_again() { # TIMES EXAMPLE [COMMAND..]
     local turn
     for ((turn = 1; turn <= $1; turn++)); do
-        observe timeout 20 "$tpr" run "$root/examples/$2.ttcn" </dev/null
+        observe "${@:3}" timeout 20 "$tpr" run "$root/examples/$2.ttcn" </dev/null
         if ! is_a_report_of "$2"; then
-            echo "FAILED: $2, run $turn of $1: status $status, and printed"
+            echo "FAILED: $2, run $turn of $1 ${*:3}: status $status, and printed"
             head -n 20 -- "$room/printed"
             return 1
         fi
     done
 }
 
+# Half of the runs on one processor, where only one thread is carried out at a time.
 run_each_again() {
     local file base
     for file in "$root"/examples/*.ttcn; do
         base=$(basename -- "$file" .ttcn)
         if [[ -e ${file%.ttcn}.status ]]; then continue; fi
-        run_again 30 "$base"
+        run_again 50 "$base" && run_again 50 "$base" taskset -c 0
         count $?
     done
     run_again 1000 all_wait_for_each_other
@@ -168,7 +170,8 @@ refused_of_each_run() {
     printf 'fault 50 Memory\n' >"$room/no_memory"
     printf 'fault 51 NoThread\n' >"$room/no_thread"
     for base in trigger_skips_to_what_matches two_senders_to_one_that_ended \
-        halt_holds_back_what_comes_later system_under_test_answers; do
+        halt_holds_back_what_comes_later system_under_test_answers \
+        closed_counter_serves_no_order everyone_is_told_to_stop; do
         refuse_each_of_run "$base"
         count $?
     done
@@ -191,13 +194,13 @@ refused_of_each_run() {
     count $?
 }
 
-# A run on stacks of 256 KiB, also of a script of 1 MiB: the report is the same.
+# A run on stacks of 128 KiB, also of a script of 1 MiB: the report is the same.
 on_a_small_stack() {
     local base=system_under_test_answers
     { cat -- "$root/examples/$base.ttcn" && head -c $((1048576 - $(wc -c <"$root/examples/$base.ttcn"))) \
         /dev/zero | tr '\0' '\n'; } >"$room/long.ttcn"
     set_up "the long script has 1 MiB" has_bytes "$room/long.ttcn" 1048576 || return
-    (ulimit -s 256 && exec timeout 20 "$tpr" run "$room/long.ttcn") >"$room/printed" 2>"$room/said" </dev/null
+    (ulimit -s 128 && exec timeout 20 "$tpr" run "$room/long.ttcn") >"$room/printed" 2>"$room/said" </dev/null
     status=$?
     if ! is_a_report_of "$base"; then
         echo "FAILED: a script of 1 MiB on a small stack: status $status, and said"
