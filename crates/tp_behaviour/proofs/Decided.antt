@@ -1,9 +1,8 @@
 -- What an `alt` goes on with: what it waits for is within the component's ports, and the branch that is chosen is one of its own.
-use Rattle.std.proofs.Common.{◌≡◌, ℕ, ◌<◌, Bool, true, Option, Some, None, List, [], ◌∷◌, length, ap, sym, subst, arith}
+use Rattle.std.proofs.Common.{◌≡◌, ℕ, ◌<◌, Bool, true, Option, Some, List, [], ◌∷◌, length, ap, sym, subst, arith}
 use Rattle.std.specs.Prelude.{All}
 use Rattle.std.proofs.lemmas.List.{length-map}
 use Rattle.std.proofs.lemmas.List.Elements.{All-nil, All-cons}
-use Rattle.std.proofs.lemmas.Option.{slice_get_within}
 use Rattle.tp_port.specs.declared.event.Env.{Env}
 use Rattle.tp_value.specs.declared.message.Message.{Message}
 use Rattle.tp_body.specs.declared.body.Branch.{Branch}
@@ -15,14 +14,13 @@ use Rattle.tp_behaviour.specs.declared.choosing.Choice.TheVariants as choice
 use Rattle.tp_behaviour.specs.declared.held.Held.{Held}
 use Rattle.tp_behaviour.specs.declared.post.Post.{Post}
 use Rattle.tp_behaviour.specs.declared.station.Station.{Station}
-use Rattle.tp_behaviour.specs.Choices.{IsChoice}
 use Rattle.tp_behaviour.specs.Held.{Role, Values, guard_of}
-use Rattle.tp_behaviour.specs.Moments.{Moment}
 use Rattle.tp_behaviour.specs.Outcomes.{stage_at}
 use Rattle.tp_behaviour.specs.Parts.{Enters, IsEntered}
 use Rattle.tp_behaviour.specs.Paths.{guards_of}
 use Rattle.tp_behaviour.specs.Seen.{Chose, Grew}
 use Rattle.tp_behaviour.specs.Stations.{IsManned, role_of}
+use Rattle.tp_behaviour.proofs.Chosen.{chosen_below}
 use Rattle.tp_behaviour.proofs.Stayed.{ports_there}
 
 below_each : (s : Stage) (n : ℕ) (r : Role) (vs : Values) (xs : List Branch) → CanEnterAll s n xs → All (λ (g : Guard). g.port < s.ports) (guards_of r vs xs)
@@ -36,14 +34,6 @@ pub guards_within : (p : Post) (s : Station) (n : ℕ) (vs : Values) (xs : List 
 guards_within p s n vs xs gs manned can is =
     subst (λ (m : ℕ). All (λ (g : Guard). g.port < m) gs) (sym (ports_there p s manned))
     (subst (All (λ (g : Guard). g.port < (stage_at p).ports)) (sym is) (below_each (stage_at p) n (role_of p) vs xs can))
-
-abbrev IsBelow : List Guard → Option (ℕ × Env Message) → Type 0
-IsBelow gs None = Unit {0}
-IsBelow gs (Some c) = c.0 < length gs
-
-chosen_below : (gs : List Guard) (any : Bool) (t : Moment) (o : Option (ℕ × Env Message)) → IsChoice gs any t o → IsBelow gs o
-chosen_below gs any _ _ (IsChoice.branch k i g e there finds none) = slice_get_within gs i g there
-chosen_below gs any _ _ (IsChoice.otherwise k has none) = tt
 
 -- the branch that is chosen is there
 pub chose_within : (r : Role) (vs : Values) (xs : List Branch) (gs : List Guard) (has_else : Bool) (i : ℕ) (e : Env Message) (k n : List Entry)

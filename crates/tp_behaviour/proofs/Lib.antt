@@ -1,6 +1,9 @@
 pub mod Moments
+mod FixedRules
+mod LastingRules
+mod Viewed
 mod Looks
-mod Outboxes
+pub mod Outboxes
 mod Entries
 mod Manned
 mod Noted

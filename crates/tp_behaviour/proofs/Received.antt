@@ -1,6 +1,6 @@
 -- What a receiving operation comes to, and what the variables hold after it.
 use Rattle.std.proofs.Common.{◌≡◌, ℕ, zero, suc, ◌<◌, ℤ, Bool, false, Option, Some, None, List, [], ◌∷◌, length, slice_get, refl, sym, ap, subst, arith}
-use Rattle.std.specs.Prelude.{slice_set, IfSome, ⊤}
+use Rattle.std.specs.Prelude.{slice_set, IfSome}
 use Rattle.std.proofs.lemmas.Option.{same_Some, slice_get_within}
 use Rattle.tp_port.specs.declared.event.Env.{Env}
 use Rattle.tp_value.specs.declared.message.Message.{Message}
@@ -25,21 +25,11 @@ use Rattle.tp_behaviour.specs.Moments.{Moment}
 use Rattle.tp_behaviour.specs.Paths.{IsStep}
 use Rattle.tp_behaviour.specs.Seen.{Chose, Grew}
 use Rattle.tp_behaviour.specs.Stations.{AreHeld, IsHeldAs}
-
--- the branch that is chosen is one of these
-IsAmong : ℕ → Option (ℕ × Env Message) → Type 0
-IsAmong n None = ⊤
-IsAmong n (Some (i, e)) = i < n
-
-among : (gs : List Guard) (has_else : Bool) (t : Moment) (o : Option (ℕ × Env Message)) → IsChoice gs has_else t o → IsAmong (length gs) o
-unfolding IsAmong
-among gs has_else _ _ (IsChoice.branch k i g e at found none) = slice_get_within gs i g at
-among gs has_else _ _ (IsChoice.otherwise k there none) = tt
+use Rattle.tp_behaviour.proofs.Chosen.{chosen_below}
 
 -- of one operation it is the first
 the_first : (g : Guard) (has_else : Bool) (t : Moment) (i : ℕ) (e : Env Message) → IsChoice (g ∷ []) has_else t (Some (i, e)) → i ≡ 0
-unfolding IsAmong
-the_first g has_else t i e chosen = let h : i < 1 = among (g ∷ []) has_else t (Some (i, e)) chosen in omega (arith, h)
+the_first g has_else t i e chosen = let h : i < 1 = chosen_below (g ∷ []) has_else t (Some (i, e)) chosen in omega (arith, h)
 
 -- an operation that stands alone is carried out once it is chosen
 pub received : (r : Role) (turns : List ℤ) (vs : List (Option Held)) (x : Receiving) (gs : List Guard) (i : ℕ) (e : Env Message) (k n : List Entry)
@@ -66,11 +56,11 @@ waits_for r turns vs x gs k n are h =
     (one.0, one.1, λ whole none. StopsWithin.waits turns vs x one.0 one.2.1 (subst (NoneOpen whole) are none))
 
 -- as many variables are held as are declared
-pub as_many : (types : List VariableType) (vs : List (Option Held)) → AreHeld types vs → length vs ≡ length types
-as_many [] [] h = refl
-as_many [] (v ∷ vs) h = absurd h
-as_many (u ∷ types) [] h = absurd h
-as_many (u ∷ types) (v ∷ vs) h = ap suc (as_many types vs h.1)
+pub held_as_many : (types : List VariableType) (vs : List (Option Held)) → AreHeld types vs → length vs ≡ length types
+held_as_many [] [] h = refl
+held_as_many [] (v ∷ vs) h = absurd h
+held_as_many (u ∷ types) [] h = absurd h
+held_as_many (u ∷ types) (v ∷ vs) h = ap suc (held_as_many types vs h.1)
 
 -- one that is set holds what it is declared for, and so do the others
 held_set : (types : List VariableType) (vs : List (Option Held)) (k : ℕ) (u : VariableType) (x : Held) → slice_get types k ≡ Some u → IsHeldAs u (Some x)
@@ -87,7 +77,7 @@ module _ (s : Stage) (vs : List (Option Held)) (h : AreHeld s.variables vs) wher
   value_within x (Some k) can =
       let v = keeps_value s x (Some k) k refl can in
       let low : k < length s.variables = slice_get_within s.variables k (kind.Message v.0) v.3 in
-      let many = as_many s.variables vs h in
+      let many = held_as_many s.variables vs h in
       omega arith
 
   pub value_held : (x : RecvMsg) (place : Option ℕ) (m : Message) → CanKeepValue s x place → AreHeld s.variables (set_to place (held.Value m) vs)
@@ -99,7 +89,7 @@ module _ (s : Stage) (vs : List (Option Held)) (h : AreHeld s.variables vs) wher
   sender_within None can = tt
   sender_within (Some k) can =
       let low : k < length s.variables = slice_get_within s.variables k kind.Component (keeps_sender s (Some k) k refl can) in
-      let many = as_many s.variables vs h in
+      let many = held_as_many s.variables vs h in
       omega arith
 
   pub sender_held : (place : Option ℕ) (c : CompId) → CanKeepSender s place → AreHeld s.variables (set_to place (held.Component c) vs)

@@ -1,18 +1,14 @@
--- What stays as it is of a station while a behaviour runs: its ports, its inbox and the ends of its senders.
+-- The ports of a station, which stay as they are while a behaviour runs.
 use Rattle.std.proofs.Common.{◌≡◌, ◌∙◌, ℕ, subst, sym}
 use Rattle.tp_behaviour.specs.declared.outcome.Outcome.{Outcome}
 use Rattle.tp_behaviour.specs.declared.post.Post.{Post}
 use Rattle.tp_behaviour.specs.declared.station.Station.{Station}
 use Rattle.tp_behaviour.specs.Outcomes.{WaitsWithin, stage_at}
-use Rattle.tp_behaviour.specs.Stations.{IsManned, IsSame, role_of}
+use Rattle.tp_behaviour.specs.Stations.{IsManned, role_of}
 
 -- the desk has the ports that the body speaks of
 pub ports_there : (p : Post) (s : Station) → IsManned (role_of p) s → s.desk.ports ≡ (stage_at p).ports
 ports_there p s m = m.desk.1 ∙ m.posted.ports
-
--- one after the other
-pub same_on : (s t u : Station) → IsSame s t → IsSame t u → IsSame s u
-same_on s t u one two = record { inbox = two.inbox ∙ one.inbox; ends = two.ends ∙ one.ends }
 
 -- what it waits for, seen from another station
 pub waits_from : (p : Post) (s t : Station) (o : Outcome) → IsManned (role_of p) s → IsManned (role_of p) t → WaitsWithin t.desk.ports o → WaitsWithin s.desk.ports o

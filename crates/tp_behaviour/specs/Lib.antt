@@ -1,8 +1,11 @@
 pub mod Moments
 pub mod Choices
+pub mod Views
 pub mod Looks
 pub mod Held
 pub mod Paths
+pub mod Fixed
+pub mod Lasting
 pub mod Fresh
 pub mod Outboxes
 pub mod Stations

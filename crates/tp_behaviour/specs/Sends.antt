@@ -1,5 +1,7 @@
 -- What a send comes to, and what it may speak of.
-use Rattle.std.specs.Prelude.{◌≡◌, ◌<◌, ◌≤◌, ℕ, Option, Some, None, List, ⊤}
+use Rattle.std.specs.Prelude.{◌≡◌, ◌<◌, ◌≤◌, ℕ, Option, Some, None, List, length, ⊤}
+use Rattle.tp_value.specs.declared.message.Message.{Message}
+use Rattle.tp_config.specs.declared.port_type.RouteId.{RouteId}
 use Rattle.tp_body.specs.declared.body.Sent.{Sent}
 use Rattle.tp_body.specs.declared.body.Sent.TheVariants as sent
 use Rattle.tp_body.specs.declared.body.Receiver.{Receiver}
@@ -9,12 +11,16 @@ use Rattle.tp_body.specs.declared.body.Statement.TheVariants as b
 use Rattle.tp_body.specs.Fills.{needed}
 use Rattle.tp_inbox.specs.declared.entry.Entry.{Entry}
 use Rattle.tp_inbox.specs.declared.entry.Entry.TheVariants as entry
+use Rattle.tp_inbox.specs.History.{next_of, sent_on}
 use Rattle.tp_behaviour.specs.Ends.{IsFailure}
 use Rattle.tp_behaviour.specs.declared.held.Held.{Held}
+use Rattle.tp_behaviour.specs.declared.post.Post.{Post}
+use Rattle.tp_behaviour.specs.declared.station.Station.{Station}
+use Rattle.tp_behaviour.specs.declared.station.State.{State}
 use Rattle.tp_behaviour.specs.Held.{Role, Values}
 use Rattle.tp_behaviour.specs.Paths.{IsStep}
 use Rattle.tp_behaviour.specs.Seen.{Grew, One}
-use Rattle.tp_behaviour.specs.Stations.{HoldsComponents, HoldsMessages}
+use Rattle.tp_behaviour.specs.Stations.{HoldsComponents, HoldsMessages, role_of, values_of}
 
 -- what is sent speaks of so many loop variables at most, or of a variable for messages
 abbrev pub CanFill : List (Option Held) → ℕ → Sent → Type 0
@@ -31,4 +37,13 @@ CanName variables references to.All = ⊥
 -- a send comes to this: it is carried out, or the behaviour ends by the refusal of this number
 abbrev pub Sends : Role → Values → Sending → Option ℕ → List Entry → List Entry → Type 0
 Sends r vs x None before after = Grew (λ ts. IsStep r vs.turns vs.variables (b.Send x) ts vs.variables) before after
-Sends r vs x (Some code) before after = Grew (One (λ t. IsFailure r vs x t.before code × (t.entry ≡ entry.Failed code))) before after
+Sends r vs x (Some code) before after =
+    Grew (One (λ t. IsFailure r vs x t.before code × (t.entry ≡ entry.Failed code))) before after
+
+-- the same at a station, by what the behaviour keeps in mind
+abbrev pub SendsAt : Post → State → Sending → Station → Station → Option ℕ → Type 0
+SendsAt p s x here there code = Sends (role_of p) (values_of s) x code here.desk.log there.desk.log
+
+-- the entry of a message that goes out on this route now: it has the next number there, and the next stamp
+abbrev pub next_sent : RouteId → Message → List Entry → Entry
+next_sent route m k = entry.Sent route (length (sent_on route k)) (next_of k m)

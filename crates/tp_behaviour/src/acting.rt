@@ -29,7 +29,8 @@ pub(crate) fn set_verdict(
     requires { IsManned (role_of post.now) station.old }
     ensures manned { OnOk result (IsManned (role_of post.now) station.new) }
     ensures same { OnOk result (IsSame station.old station.new) }
-    ensures stepped { OnOk result (Carries (role_of post.now) (b.SetVerdict verdict) station.old.desk station.new.desk) }
+    ensures stepped { OnOk result
+        (Carries (role_of post.now) (b.SetVerdict verdict) station.old.desk station.new.desk) }
 {
     note(post, &mut *station, Entry::Verdict(verdict))?;
     Ok(())
@@ -69,7 +70,8 @@ fn operate_at<G: Gate>(
     ensures manned { OnOk result (IsManned (role_of post.now) station.new) }
     ensures same { OnOk result (IsSame station.old station.new) }
     ensures own { OnOk result (HasOwn post.now.comp station.new.desk.log) }
-    ensures added { OnOk result (station.new.desk ≡ adding station.old.desk (operated operation port)) }
+    ensures added { OnOk result
+        (station.new.desk ≡ adding station.old.desk (operated operation port)) }
     ensures trace { OnOk result (Adds station.old.desk (operated operation port) station.new.desk) }
 {
     gate.inside(post.comp, port);
@@ -92,14 +94,16 @@ pub(crate) fn control<R: Wait, G: Gate>(
     requires within { port < station.old.desk.ports }
     ensures manned { OnOk result (IsManned (role_of post.now) station.new) }
     ensures same { OnOk result (IsSame station.old station.new) }
-    ensures stepped { OnOk result (Carries (role_of post.now) (b.Control port operation) station.old.desk station.new.desk) }
+    ensures stepped { OnOk result
+        (Carries (role_of post.now) (b.Control port operation) station.old.desk station.new.desk) }
 {
     look_in(rt, post, &mut *station)?;
     operate_at(gate, post, &mut *station, port, operation)?;
     Ok(())
 }
 
-/// Carries out an operation on all ports, in their order (22.5). What comes meanwhile is seen afterwards.
+/// Carries out an operation on all ports, in their order (22.5). What comes meanwhile is seen
+/// afterwards.
 ///
 /// 50 `Memory` only where an allocation was refused.
 pub(crate) fn all_ports<R: Wait, G: Gate>(
@@ -112,7 +116,8 @@ pub(crate) fn all_ports<R: Wait, G: Gate>(
     requires { IsManned (role_of post.now) station.old }
     ensures manned { OnOk result (IsManned (role_of post.now) station.new) }
     ensures same { OnOk result (IsSame station.old station.new) }
-    ensures stepped { OnOk result (Carries (role_of post.now) (b.AllPorts operation) station.old.desk station.new.desk) }
+    ensures stepped { OnOk result
+        (Carries (role_of post.now) (b.AllPorts operation) station.old.desk station.new.desk) }
 {
     look_in(rt, post, &mut *station)?;
     // A component of a configuration has at most 64 ports.

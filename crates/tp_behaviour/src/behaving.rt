@@ -6,6 +6,7 @@ ghost use Rattle.tp_behaviour.specs.Outcomes.{CanBehave, HasEnded, WaitsWithin};
 ghost use Rattle.tp_behaviour.specs.Stations.{IsManned, IsSame, role_of};
 
 use crate::gate::Gate;
+use crate::lasting::lasting_block;
 use crate::outcome::Outcome;
 use crate::post::Post;
 use crate::statements::execute;
@@ -56,6 +57,8 @@ pub fn behave<R: Wait, G: Gate>(
 {
     let mut state = begin(gate, post)?;
     let block = post.conduct.body.statements.as_slice();
-    let outcome = execute(rt, gate, post, &mut *station, &mut state, block)?;
+    let lasting = lasting_block(post.alloc, block)?;
+    let kept = lasting.as_slice();
+    let outcome = execute(rt, gate, post, &mut *station, &mut state, block, kept)?;
     Ok(outcome)
 }

@@ -1,12 +1,14 @@
 //! What trying the branches of an `alt` comes to.
 ghost use Rattle.std.specs.Prelude.{◌<◌, ◌≡◌, All, IfOk};
 ghost use Rattle.tp_behaviour.specs.Looks.{Looked, Tried};
+ghost use Rattle.tp_behaviour.specs.Views.{all_viewed, viewed};
 
 use crate::gate::Gate;
 use std::alloc::Global;
 use tp_body::body::ReceiveKind;
 use tp_inbox::desk::Desk;
 use tp_port::event::{Env, TriggerAnswer};
+use tp_port::payload::Wanted;
 use tp_refusal::memory::Memory;
 use tp_value::message::{Message, MsgTemplate};
 
@@ -23,6 +25,42 @@ pub struct Guard {
     pub sender: Option<u32>,
 }
 
+/// What an operation wants while it is looked at.
+#[derive(Drop)]
+pub enum TemplateView<'t> {
+    /// A template in which no loop variable stands: it was filled once for the whole behaviour.
+    Lasting(&'t MsgTemplate),
+    /// One that was filled for this turn.
+    Filled(MsgTemplate),
+}
+
+/// Whether a message is wanted. Takes no memory.
+impl Wanted<Message> for TemplateView<'_> {
+    ghost use Rattle.tp_behaviour.specs.Views.{Seeks};
+
+    ghost admits = { Seeks };
+
+    fn admits(&self, msg: &Message) -> bool {
+        match self {
+            TemplateView::Lasting(template) => template.admits(msg),
+            TemplateView::Filled(template) => template.admits(msg),
+        }
+    }
+}
+
+/// A [`Guard`] while it is looked at.
+#[derive(Drop)]
+pub struct GuardView<'t> {
+    /// The port, by its place in the component type.
+    pub port: u32,
+    /// What it does with a message.
+    pub kind: ReceiveKind,
+    /// What it wants.
+    pub wanted: TemplateView<'t>,
+    /// The number of the component behind `from`.
+    pub sender: Option<u32>,
+}
+
 /// What trying branches came to.
 #[derive(Drop)]
 pub enum Sight {
@@ -35,10 +73,10 @@ pub enum Sight {
 }
 
 /// Tries a `receive` (ES 201 873-1, 22.2.2).
-fn try_receive(desk: &mut Desk, guard: &Guard, branch: usize) -> Result<Sight, Memory>
+fn try_receive(desk: &mut Desk, guard: &GuardView<'_>, branch: usize) -> Result<Sight, Memory>
     requires within { guard.now.port < desk.old.ports }
     requires kind { guard.now.kind ≡ ReceiveKind.Receive }
-    ensures { IfOk result (λ sight. Tried guard.now branch desk.old sight desk.new) }
+    ensures { IfOk result (λ sight. Tried (viewed guard.now) branch desk.old sight desk.new) }
 {
     match desk.receive(guard.port, &guard.wanted, guard.sender, branch)? {
         Some(env) => Ok(Sight::Taken(branch, env)),
@@ -47,10 +85,10 @@ fn try_receive(desk: &mut Desk, guard: &Guard, branch: usize) -> Result<Sight, M
 }
 
 /// Tries a `trigger` (22.2.3).
-fn try_trigger(desk: &mut Desk, guard: &Guard, branch: usize) -> Result<Sight, Memory>
+fn try_trigger(desk: &mut Desk, guard: &GuardView<'_>, branch: usize) -> Result<Sight, Memory>
     requires within { guard.now.port < desk.old.ports }
     requires kind { guard.now.kind ≡ ReceiveKind.Trigger }
-    ensures { IfOk result (λ sight. Tried guard.now branch desk.old sight desk.new) }
+    ensures { IfOk result (λ sight. Tried (viewed guard.now) branch desk.old sight desk.new) }
 {
     match desk.trigger(guard.port, &guard.wanted, guard.sender, branch)? {
         TriggerAnswer::Took(env) => Ok(Sight::Taken(branch, env)),
@@ -60,10 +98,15 @@ fn try_trigger(desk: &mut Desk, guard: &Guard, branch: usize) -> Result<Sight, M
 }
 
 /// Tries a `check` (22.4). What it finds is copied.
-fn try_check(alloc: Global, desk: &mut Desk, guard: &Guard, branch: usize) -> Result<Sight, Memory>
+fn try_check(
+    alloc: Global,
+    desk: &mut Desk,
+    guard: &GuardView<'_>,
+    branch: usize,
+) -> Result<Sight, Memory>
     requires within { guard.now.port < desk.old.ports }
     requires kind { guard.now.kind ≡ ReceiveKind.Check }
-    ensures { IfOk result (λ sight. Tried guard.now branch desk.old sight desk.new) }
+    ensures { IfOk result (λ sight. Tried (viewed guard.now) branch desk.old sight desk.new) }
 {
     match desk.check(guard.port, &guard.wanted, guard.sender, branch)? {
         Some(env) => {
@@ -78,11 +121,11 @@ fn try_check(alloc: Global, desk: &mut Desk, guard: &Guard, branch: usize) -> Re
 pub(crate) fn attempt(
     alloc: Global,
     desk: &mut Desk,
-    guard: &Guard,
+    guard: &GuardView<'_>,
     branch: usize,
 ) -> Result<Sight, Memory>
     requires { guard.now.port < desk.old.ports }
-    ensures { IfOk result (λ sight. Tried guard.now branch desk.old sight desk.new) }
+    ensures { IfOk result (λ sight. Tried (viewed guard.now) branch desk.old sight desk.new) }
 {
     match guard.kind {
         ReceiveKind::Receive => try_receive(desk, guard, branch),
@@ -91,18 +134,18 @@ pub(crate) fn attempt(
     }
 }
 
-/// Tries the branches from the top to the bottom, up to the first that does something (20.2). The gate
-/// stands before each.
+/// Tries the branches from the top to the bottom, up to the first that does something (20.2). The
+/// gate stands before each.
 ///
 /// 50 `Memory` only where an allocation was refused.
 pub(crate) fn snapshot<G: Gate>(
     gate: &G,
     alloc: Global,
     desk: &mut Desk,
-    guards: &[Guard],
+    guards: &[GuardView<'_>],
 ) -> Result<Sight, Memory>
     requires { All (λ g. g.port < desk.old.ports) guards.now }
-    ensures { IfOk result (λ sight. Looked guards.now desk.old sight desk.new) }
+    ensures { IfOk result (λ sight. Looked (all_viewed guards.now) desk.old sight desk.new) }
 {
     for (branch, guard) in guards.iter().enumerate() {
         gate.inside(desk.comp(), guard.port);

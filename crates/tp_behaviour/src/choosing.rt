@@ -2,8 +2,9 @@
 ghost use Rattle.std.specs.Prelude.{◌<◌, All, IfOk, OnOk};
 ghost use Rattle.tp_behaviour.specs.Seen.{Chose, Grew};
 ghost use Rattle.tp_behaviour.specs.Stations.{IsManned, IsSame, role_of};
+ghost use Rattle.tp_behaviour.specs.Views.{all_viewed};
 
-use crate::choice::{Guard, Sight};
+use crate::choice::{GuardView, Sight};
 use crate::gate::Gate;
 use crate::looking::{look, note};
 use crate::post::Post;
@@ -27,8 +28,8 @@ pub enum Choice {
     Waits,
 }
 
-/// Waits until something comes into the inbox, or nothing can come any more: that is the answer. Where
-/// all wait, it closes all inboxes.
+/// Waits until something comes into the inbox, or nothing can come any more: that is the answer.
+/// Where all wait, it closes all inboxes.
 fn rest<R: Wait>(rt: &R, post: &Post<'_>, owner: &Owner) -> bool {
     match owner.wait(rt) {
         Woken::Arrived => false,
@@ -42,8 +43,8 @@ fn rest<R: Wait>(rt: &R, post: &Post<'_>, owner: &Owner) -> bool {
     }
 }
 
-/// Carries out an `alt` up to the choice of a branch (ES 201 873-1, 20.2): its branches are looked at
-/// until one is chosen, or `[else]`, or until nothing can come any more.
+/// Carries out an `alt` up to the choice of a branch (ES 201 873-1, 20.2): its branches are looked
+/// at until one is chosen, or `[else]`, or until nothing can come any more.
 ///
 /// 50 `Memory` only where an allocation was refused.
 pub(crate) fn choose<R: Wait, G: Gate>(
@@ -51,14 +52,16 @@ pub(crate) fn choose<R: Wait, G: Gate>(
     gate: &G,
     post: &Post<'_>,
     station: &mut Station,
-    guards: &[Guard],
+    guards: &[GuardView<'_>],
     has_else: bool,
 ) -> Result<Choice, Memory>
     requires manned { IsManned (role_of post.now) station.old }
     requires within { All (λ g. g.port < station.old.desk.ports) guards.now }
     ensures manned { OnOk result (IsManned (role_of post.now) station.new) }
     ensures same { OnOk result (IsSame station.old station.new) }
-    ensures chose { IfOk result (λ choice. Grew (Chose guards.now has_else choice) station.old.desk.log station.new.desk.log) }
+    ensures chose { IfOk result (λ choice.
+        Grew (Chose (all_viewed guards.now) has_else choice)
+        station.old.desk.log station.new.desk.log) }
 {
     let mut last = false;
     for _ in rt.forever() {

@@ -1,6 +1,7 @@
 //! What an `alt` goes on with.
 ghost use Rattle.std.specs.Prelude.{◌≡◌, ◌<◌, IfOk, OnOk, length};
 ghost use Rattle.tp_body.specs.Playable.{CanEnterAll};
+ghost use Rattle.tp_behaviour.specs.Lasting.{AreLastingBranches};
 ghost use Rattle.tp_behaviour.specs.Outcomes.{HoldsAsDeclared, depth_of, stage_at};
 ghost use Rattle.tp_behaviour.specs.Parts.{Decided, IsEntered, IsWayOf, RestsWithin};
 ghost use Rattle.tp_behaviour.specs.Stations.{IsManned, IsSame, role_of};
@@ -8,8 +9,9 @@ ghost use Rattle.tp_behaviour.specs.Stations.{IsManned, IsSame, role_of};
 use crate::choice::Guard;
 use crate::choosing::{Choice, choose};
 use crate::gate::Gate;
+use crate::lasting::Lasting;
 use crate::post::Post;
-use crate::receiving::{fill_guards, redirect};
+use crate::receiving::{fill_guards, redirect, view_guards};
 use crate::station::{State, Station};
 use std::sync::Wait;
 use tp_body::body::Branch;
@@ -52,11 +54,13 @@ pub(crate) fn decide<R: Wait, G: Gate>(
     station: &mut Station,
     state: &mut State,
     branches: &[Branch],
+    lasting: &[Lasting],
     has_else: bool,
 ) -> Result<Way, Memory>
     requires manned { IsManned (role_of post.now) station.old }
     requires held { HoldsAsDeclared post.now state.old }
     requires can { CanEnterAll (stage_at post.now) (depth_of state.old) branches.now }
+    requires lasting { AreLastingBranches branches.now lasting.now }
     ensures manned { OnOk result (IsManned (role_of post.now) station.new) }
     ensures same { OnOk result (IsSame station.old station.new) }
     ensures held { OnOk result (HoldsAsDeclared post.now state.new) }
@@ -66,13 +70,16 @@ pub(crate) fn decide<R: Wait, G: Gate>(
     ensures there { IfOk result (IsWayOf branches.now) }
     ensures within { IfOk result (RestsWithin station.old.desk.ports) }
 {
-    let guards = fill_guards(post, &*state, branches)?;
-    match choose(rt, gate, post, &mut *station, guards.as_slice(), has_else)? {
+    let views = view_guards(post, &*state, branches, lasting)?;
+    match choose(rt, gate, post, &mut *station, views.as_slice(), has_else)? {
         Choice::Branch(place, env) => {
             enter(post, &mut *state, branches, place, env);
             Ok(Way::Branch(place))
         }
         Choice::Else => Ok(Way::Else),
-        Choice::Waits => Ok(Way::Waits(guards)),
+        Choice::Waits => {
+            let guards = fill_guards(post, &*state, branches)?;
+            Ok(Way::Waits(guards))
+        }
     }
 }

@@ -6,8 +6,9 @@ ghost use Rattle.tp_behaviour.specs.Fresh.{HasOwn, LooksAtPorts};
 ghost use Rattle.tp_behaviour.specs.Moments.{moments};
 ghost use Rattle.tp_behaviour.specs.Seen.{Adds, Saw};
 ghost use Rattle.tp_behaviour.specs.Stations.{IsManned, IsPlain, IsSame, role_of};
+ghost use Rattle.tp_behaviour.specs.Views.{all_viewed};
 
-use crate::choice::{Guard, Sight, snapshot};
+use crate::choice::{GuardView, Sight, snapshot};
 use crate::gate::Gate;
 use crate::post::Post;
 use crate::station::Station;
@@ -24,14 +25,15 @@ fn draw<R: Wait>(rt: &R, post: &Post<'_>, station: &mut Station) -> Result<(), M
     ensures same { OnOk result (IsSame station.old station.new) }
     ensures ports { OnOk result (station.new.desk.ports ≡ station.old.desk.ports) }
     ensures trace { OnOk result (moments station.new.desk.log ≡ moments station.old.desk.log) }
-    ensures routed { OnOk result (AreArrivals station.new.owner.inbox.routes station.new.owner.drained) }
+    ensures routed { OnOk result
+        (AreArrivals station.new.owner.inbox.routes station.new.owner.drained) }
 {
     station.owner.drain(rt, &mut station.desk)?;
     Ok(())
 }
 
-/// Moves what has come into the inbox to the ports, until all that the component has sent to itself is
-/// there.
+/// Moves what has come into the inbox to the ports, until all that the component has sent to itself
+/// is there.
 ///
 /// 50 `Memory` only where an allocation was refused.
 pub(crate) fn look_in<R: Wait>(rt: &R, post: &Post<'_>, station: &mut Station) -> Result<(), Memory>
@@ -71,8 +73,8 @@ pub(crate) fn note(post: &Post<'_>, station: &mut Station, entry: Entry) -> Resu
     Ok(())
 }
 
-/// Looks at the branches of an `alt`: what has come is moved to the ports, and the branches are tried
-/// from the top (20.2).
+/// Looks at the branches of an `alt`: what has come is moved to the ports, and the branches are
+/// tried from the top (20.2).
 ///
 /// 50 `Memory` only where an allocation was refused.
 pub(crate) fn look<R: Wait, G: Gate>(
@@ -80,14 +82,16 @@ pub(crate) fn look<R: Wait, G: Gate>(
     gate: &G,
     post: &Post<'_>,
     station: &mut Station,
-    guards: &[Guard],
+    guards: &[GuardView<'_>],
 ) -> Result<Sight, Memory>
     requires manned { IsManned (role_of post.now) station.old }
     requires within { All (λ g. g.port < station.old.desk.ports) guards.now }
     ensures manned { OnOk result (IsManned (role_of post.now) station.new) }
     ensures same { OnOk result (IsSame station.old station.new) }
     ensures ports { OnOk result (station.new.desk.ports ≡ station.old.desk.ports) }
-    ensures saw { IfOk result (λ sight. Saw post.now.comp guards.now sight station.old.desk.log station.new.desk.log) }
+    ensures saw { IfOk result (λ sight.
+        Saw post.now.comp (all_viewed guards.now) sight
+        station.old.desk.log station.new.desk.log) }
 {
     look_in(rt, post, &mut *station)?;
     let sight = snapshot(gate, post.alloc, &mut station.desk, guards)?;

@@ -43,8 +43,8 @@ impl Model for Outbox {
     ghost invariant = { λ o. AreFiled o.senders.items o.places o.loops.items };
 }
 
-/// Whether this owner has drained as much of the sender's route, which leads to its component, as the
-/// sender has put. Takes no memory.
+/// Whether this owner has drained as much of the sender's route, which leads to its component, as
+/// the sender has put. Takes no memory.
 fn has_come(owner: &Owner, sender: &Sender) -> bool
     requires { sender.now.route.to.comp ≡ owner.now.inbox.comp }
     ensures { IsTrue result ↔ IsLevel owner.now.drained sender.now }
@@ -104,11 +104,13 @@ impl Outbox {
         senders
     }
 
-    /// Whether all that the component has sent to itself has arrived, by what this owner has drained: on
-    /// each route from the component to itself as much as was put there. Takes no memory.
+    /// Whether all that the component has sent to itself has arrived, by what this owner has
+    /// drained: on each route from the component to itself as much as was put there. Takes no
+    /// memory.
     pub fn is_level(&self, owner: &Owner) -> bool
         requires home { All (IsHome owner.now.inbox) self.now }
-        ensures level { IsTrue result → (s : Sending) → Contains self.now s → LeadsBack s → IsLevel owner.now.drained s }
+        ensures level { IsTrue result → (s : Sending) → Contains self.now s → LeadsBack s
+            → IsLevel owner.now.drained s }
     {
         for place in &self.loops {
             let sender = &self.senders[*place];
@@ -132,8 +134,8 @@ impl Outbox {
 
     /// Sends a message on this route, of which there is a sender: [`Desk::send`], by that sender.
     ///
-    /// 15 `Limit` only where the route has taken all that it takes; else 50 `Memory` where an allocation was
-    /// refused, or where no stamp is left. Nothing is put or noted then.
+    /// 15 `Limit` only where the route has taken all that it takes; else 50 `Memory` where an
+    /// allocation was refused, or where no stamp is left. Nothing is put or noted then.
     pub fn send<R: Wait>(
         &mut self,
         rt: &R,
@@ -144,7 +146,8 @@ impl Outbox {
         requires { Contains (routes_of self.old) route }
         ensures ok { OnOk result ((n : ℕ)
             × HasPut route (next_of desk.old.log message.now) n self.old self.new
-            × (desk.new ≡ adding desk.old (entry.Sent route n (next_of desk.old.log message.now)))) }
+            × (desk.new
+            ≡ adding desk.old (entry.Sent route n (next_of desk.old.log message.now)))) }
         ensures err { OnErr result ((self.new ≡ self.old) × (desk.new ≡ desk.old)) }
     {
         let place = self.place_of(route);

@@ -13,8 +13,8 @@ pub struct Post<'t> {
     pub alloc: Global,
     /// The configuration.
     pub config: &'t Config,
-    /// The types of its messages. They stand here for contracts alone, which say by them what its body
-    /// speaks of.
+    /// The types of its messages. They stand here for contracts alone, which say by them what its
+    /// body speaks of.
     pub types: &'t Types,
     /// The component.
     pub comp: CompId,

@@ -1,28 +1,33 @@
 //! What a behaviour receives.
-ghost use Rattle.std.specs.Prelude.{◌≡◌, ◌<◌, IfOk, IfSome, OnOk, length, map};
+ghost use Rattle.std.specs.Prelude.{◌≡◌, ◌<◌, ◌≤◌, IfOk, IfSome, OnOk, length, map};
 ghost use Rattle.std.specs.Option.{option_map};
 ghost use Rattle.std.specs.List.{slice_index_or};
 ghost use Rattle.tp_body.specs.declared.body.Statement.TheVariants as b;
 ghost use Rattle.tp_body.specs.Playable.{CanEnterAll, CanExpect, CanReceive};
 ghost use Rattle.tp_behaviour.specs.Held.{guard_of, redirected, set_to};
+ghost use Rattle.tp_behaviour.specs.Lasting.{AreLastingBranches, Lasts};
 ghost use Rattle.tp_behaviour.specs.Outcomes.{HoldsAsDeclared, Stepped, WaitsWithin, depth_of, stage_at};
 ghost use Rattle.tp_behaviour.specs.Paths.{guards_of};
 ghost use Rattle.tp_behaviour.specs.Stations.{IsManned, IsSame, role_of, values_of};
+ghost use Rattle.tp_behaviour.specs.Views.{all_viewed, template_in, viewed};
+ghost use Rattle.tp_body.specs.Fills.{filled_wanted, needed_by_wanted};
 
-use crate::choice::Guard;
+use crate::choice::{Guard, GuardView, TemplateView};
 use crate::choosing::{Choice, choose};
 use crate::gate::Gate;
 use crate::held::Held;
+use crate::lasting::Lasting;
 use crate::outcome::Outcome;
 use crate::post::Post;
 use crate::station::{State, Station};
+use std::alloc::Global;
 use std::sync::Wait;
-use tp_body::body::{Branch, Receiving};
+use tp_body::body::{Branch, Receiving, RecvMsg};
 use tp_body::fill::fill_template;
 use tp_config::port_type::CompId;
 use tp_port::event::Env;
 use tp_refusal::memory::Memory;
-use tp_value::message::Message;
+use tp_value::message::{Message, MsgTemplate};
 
 /// The number of the component that a reference names, if one is given. Takes no memory.
 fn sender_of(post: &Post<'_>, place: Option<usize>) -> Option<u32>
@@ -35,14 +40,80 @@ fn sender_of(post: &Post<'_>, place: Option<usize>) -> Option<u32>
     }
 }
 
-/// A receiving operation, by what loop variables and references stand for.
+/// What an operation wants, where the loop variables hold these integers: it is filled only where
+/// nothing lasts of it.
 ///
 /// 50 `Memory` only where an allocation was refused.
-pub(crate) fn fill_guard(
+fn view_template<'t>(
+    alloc: Global,
+    wanted: &RecvMsg,
+    lasting: &'t Option<MsgTemplate>,
+    turns: &[i64],
+) -> Result<TemplateView<'t>, Memory>
+    requires given { needed_by_wanted wanted.now ≤ length turns.now }
+    requires lasting { Lasts wanted.now lasting.now }
+    ensures { IfOk result (λ view. template_in view ≡ filled_wanted turns.now wanted.now) }
+{
+    match lasting {
+        Some(template) => Ok(TemplateView::Lasting(template)),
+        None => {
+            let made = fill_template(alloc, wanted, turns)?;
+            Ok(TemplateView::Filled(made))
+        }
+    }
+}
+
+/// A receiving operation as it is looked at, by what loop variables and references stand for.
+///
+/// 50 `Memory` only where an allocation was refused.
+fn view_guard<'t>(
     post: &Post<'_>,
     state: &State,
     receiving: &Receiving,
-) -> Result<Guard, Memory>
+    lasting: &'t Option<MsgTemplate>,
+) -> Result<GuardView<'t>, Memory>
+    requires can { CanReceive (stage_at post.now) (depth_of state.now) receiving.now }
+    requires lasting { Lasts receiving.now.wanted lasting.now }
+    ensures { IfOk result (λ guard.
+        viewed guard ≡ guard_of (role_of post.now) (values_of state.now) receiving.now) }
+{
+    let turns = state.turns.as_slice();
+    let wanted = view_template(post.alloc, &receiving.wanted, lasting, turns)?;
+    Ok(GuardView {
+        port: receiving.port,
+        kind: receiving.kind,
+        wanted,
+        sender: sender_of(post, receiving.sender),
+    })
+}
+
+/// The operations of these branches as they are looked at.
+///
+/// 50 `Memory` only where an allocation was refused.
+pub(crate) fn view_guards<'t>(
+    post: &Post<'_>,
+    state: &State,
+    branches: &[Branch],
+    lasting: &'t [Lasting],
+) -> Result<Vec<GuardView<'t>>, Memory>
+    requires can { CanEnterAll (stage_at post.now) (depth_of state.now) branches.now }
+    requires lasting { AreLastingBranches branches.now lasting.now }
+    ensures { IfOk result (λ guards.
+        all_viewed guards.items ≡ guards_of (role_of post.now) (values_of state.now) branches.now) }
+{
+    let mut guards = Vec::new(post.alloc);
+    for (place, branch) in branches.iter().enumerate() {
+        let guard = view_guard(post, state, &branch.receiving, &lasting[place].wanted)?;
+        guards.push(guard)?;
+    }
+    Ok(guards)
+}
+
+/// A receiving operation, by what loop variables and references stand for, for whoever waits for
+/// it.
+///
+/// 50 `Memory` only where an allocation was refused.
+fn fill_guard(post: &Post<'_>, state: &State, receiving: &Receiving) -> Result<Guard, Memory>
     requires { CanReceive (stage_at post.now) (depth_of state.now) receiving.now }
     ensures { IfOk result (λ guard.
         guard ≡ guard_of (role_of post.now) (values_of state.now) receiving.now) }
@@ -56,7 +127,8 @@ pub(crate) fn fill_guard(
     })
 }
 
-/// The operations of these branches, by what loop variables and references stand for.
+/// The operations of these branches, by what loop variables and references stand for, for whoever
+/// waits for them.
 ///
 /// 50 `Memory` only where an allocation was refused.
 pub(crate) fn fill_guards(
@@ -86,13 +158,14 @@ fn keep(variables: &mut Vec<Option<Held>>, place: Option<usize>, held: Held)
     }
 }
 
-/// Puts what was taken or found into the variables that the operation names: the value, and then the sender
-/// (ES 201 873-1, 22.2.2). Takes no memory.
+/// Puts what was taken or found into the variables that the operation names: the value, and then
+/// the sender (ES 201 873-1, 22.2.2). Takes no memory.
 pub(crate) fn redirect(post: &Post<'_>, state: &mut State, receiving: &Receiving, env: Env<Message>)
     requires can { CanReceive (stage_at post.now) (depth_of state.old) receiving.now }
     requires held { HoldsAsDeclared post.now state.old }
     ensures turns { state.new.turns.items ≡ state.old.turns.items }
-    ensures set { state.new.variables.items ≡ redirected receiving.now env state.old.variables.items }
+    ensures set { state.new.variables.items
+        ≡ redirected receiving.now env state.old.variables.items }
     ensures held { HoldsAsDeclared post.now state.new }
 {
     // Contracts alone ask where the behaviour is carried out.
@@ -120,10 +193,12 @@ pub(crate) fn receive<R: Wait, G: Gate>(
     station: &mut Station,
     state: &mut State,
     receiving: &Receiving,
+    lasting: &Option<MsgTemplate>,
 ) -> Result<Outcome, Memory>
     requires manned { IsManned (role_of post.now) station.old }
     requires held { HoldsAsDeclared post.now state.old }
     requires can { CanReceive (stage_at post.now) (depth_of state.old) receiving.now }
+    requires lasting { Lasts receiving.now.wanted lasting.now }
     ensures manned { OnOk result (IsManned (role_of post.now) station.new) }
     ensures same { OnOk result (IsSame station.old station.new) }
     ensures held { OnOk result (HoldsAsDeclared post.now state.new) }
@@ -132,15 +207,18 @@ pub(crate) fn receive<R: Wait, G: Gate>(
         Stepped post.now (b.Receive receiving.now) o station.old state.old station.new state.new) }
     ensures within { IfOk result (WaitsWithin station.old.desk.ports) }
 {
-    let guard = fill_guard(post, state, receiving)?;
-    let mut guards = Vec::with_capacity(post.alloc, 1)?;
-    guards.push_reserved(guard);
-    match choose(rt, gate, post, &mut *station, guards.as_slice(), false)? {
+    let view = view_guard(post, &*state, receiving, lasting)?;
+    match choose(rt, gate, post, &mut *station, &[view], false)? {
         Choice::Branch(_, env) => {
             redirect(post, &mut *state, receiving, env);
             Ok(Outcome::Done)
         }
-        Choice::Waits => Ok(Outcome::Waiting(guards)),
+        Choice::Waits => {
+            let guard = fill_guard(post, &*state, receiving)?;
+            let mut guards = Vec::with_capacity(post.alloc, 1)?;
+            guards.push_reserved(guard);
+            Ok(Outcome::Waiting(guards))
+        }
         Choice::Else => unreachable!(),
     }
 }

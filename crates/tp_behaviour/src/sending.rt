@@ -3,15 +3,13 @@ ghost use Rattle.std.specs.Prelude.{◌≡◌, ◌++◌, ◌∷◌, [], ℕ, All
 ghost use Rattle.std.specs.List.{AllZip};
 ghost use Rattle.tp_body.specs.declared.body.Receiver.TheVariants as to;
 ghost use Rattle.tp_body.specs.Playable.{CanSend};
-ghost use Rattle.tp_inbox.specs.declared.entry.Entry.TheVariants as entry;
-ghost use Rattle.tp_inbox.specs.History.{next_of, sent_on};
 ghost use Rattle.tp_behaviour.specs.Ends.{IsFailure, route_number};
 ghost use Rattle.tp_behaviour.specs.Held.{IsNamed, IsSentAs};
 ghost use Rattle.tp_behaviour.specs.Outboxes.{routes_of};
 ghost use Rattle.tp_behaviour.specs.Outcomes.{HoldsAsDeclared, depth_of, stage_at};
 ghost use Rattle.tp_behaviour.specs.Paths.{IsSentOn, IsStarted};
 ghost use Rattle.tp_behaviour.specs.Seen.{Adds, Grew};
-ghost use Rattle.tp_behaviour.specs.Sends.{CanName, Sends};
+ghost use Rattle.tp_behaviour.specs.Sends.{CanName, SendsAt, next_sent};
 ghost use Rattle.tp_behaviour.specs.Stations.{IsManned, IsSame, role_of, values_of};
 
 use crate::looking::note;
@@ -37,10 +35,11 @@ fn fail(
     code: u8,
 ) -> Result<Option<u8>, Memory>
     requires manned { IsManned (role_of post.now) station.old }
-    requires cause { IsFailure (role_of post.now) (values_of state.now) sending.now station.old.desk.log code }
+    requires cause { IsFailure (role_of post.now) (values_of state.now) sending.now
+        station.old.desk.log code }
     ensures manned { OnOk result (IsManned (role_of post.now) station.new) }
     ensures same { OnOk result (IsSame station.old station.new) }
-    ensures sends { IfOk result (λ code. Sends (role_of post.now) (values_of state.now) sending.now code station.old.desk.log station.new.desk.log) }
+    ensures sends { IfOk result (SendsAt post.now state.now sending.now station.old station.new) }
 {
     let (_state, _sending) = (state, sending);
     note(post, &mut *station, Entry::Failed(code))?;
@@ -50,8 +49,8 @@ fn fail(
 /// Sends a message on a route: its number is the next on the route, and its stamp the next in the
 /// history.
 ///
-/// 50 `Memory` where an allocation was refused; and where the route has taken all that it takes, or no
-/// stamp is left, neither of which a test case of at most 100,000 statements reaches.
+/// 50 `Memory` where an allocation was refused; and where the route has taken all that it takes, or
+/// no stamp is left, neither of which a test case of at most 100,000 statements reaches.
 fn send_on<R: Wait>(
     rt: &R,
     post: &Post<'_>,
@@ -63,8 +62,10 @@ fn send_on<R: Wait>(
     requires known { Contains (routes_of station.old.outbox) route }
     ensures manned { OnOk result (IsManned (role_of post.now) station.new) }
     ensures same { OnOk result (IsSame station.old station.new) }
-    ensures log { OnOk result (station.new.desk.log ≡ station.old.desk.log ++ entry.Sent route (length (sent_on route station.old.desk.log)) (next_of station.old.desk.log message.now) ∷ []) }
-    ensures trace { OnOk result (Adds station.old.desk (entry.Sent route (length (sent_on route station.old.desk.log)) (next_of station.old.desk.log message.now)) station.new.desk) }
+    ensures log { OnOk result (station.new.desk.log
+        ≡ station.old.desk.log ++ next_sent route message.now station.old.desk.log ∷ []) }
+    ensures trace { OnOk result (Adds station.old.desk
+        (next_sent route message.now station.old.desk.log) station.new.desk) }
 {
     let _post = post;
     let Ok(()) = station.outbox.send(rt, &mut station.desk, route, message) else {
@@ -83,8 +84,8 @@ fn route_code(fault: RouteFault) -> u8
     }
 }
 
-/// Sends a message on the route that its port has, or the one to the component named; where there is no
-/// such route, the behaviour ends by the refusal of the number that is answered.
+/// Sends a message on the route that its port has, or the one to the component named; where there
+/// is no such route, the behaviour ends by the refusal of the number that is answered.
 ///
 /// 50 `Memory` as [`send_on`].
 fn send_to<R: Wait>(
@@ -102,7 +103,7 @@ fn send_to<R: Wait>(
     requires named { IsNamed (role_of post.now) (values_of state.now) sending.now.to named }
     ensures manned { OnOk result (IsManned (role_of post.now) station.new) }
     ensures same { OnOk result (IsSame station.old station.new) }
-    ensures sends { IfOk result (λ code. Sends (role_of post.now) (values_of state.now) sending.now code station.old.desk.log station.new.desk.log) }
+    ensures sends { IfOk result (SendsAt post.now state.now sending.now station.old station.new) }
 {
     let port = PortRef {
         comp: post.comp,
@@ -132,7 +133,8 @@ fn send_on_each<R: Wait>(
     ensures manned { OnOk result (IsManned (role_of post.now) station.new) }
     ensures same { OnOk result (IsSame station.old station.new) }
     ensures each { OnOk result ((port : ℕ) → IsStarted station.old.desk.log port
-        → Grew (AllZip (IsSentOn port message.now) routes.now) station.old.desk.log station.new.desk.log) }
+        → Grew (AllZip (IsSentOn port message.now) routes.now)
+        station.old.desk.log station.new.desk.log) }
 {
     for route in routes {
         send_on(rt, post, &mut *station, *route, message)?;
@@ -140,8 +142,8 @@ fn send_on_each<R: Wait>(
     Ok(())
 }
 
-/// Sends a message on each route of its port, in the order of the connections (22.2.1, `to all component`);
-/// where there is none, the behaviour ends by the refusal 41, which is answered.
+/// Sends a message on each route of its port, in the order of the connections (22.2.1, `to all
+/// component`); where there is none, the behaviour ends by the refusal 41, which is answered.
 ///
 /// 50 `Memory` as [`send_on`].
 fn send_to_all<R: Wait>(
@@ -158,7 +160,7 @@ fn send_to_all<R: Wait>(
     requires all { sending.now.to ≡ to.All }
     ensures manned { OnOk result (IsManned (role_of post.now) station.new) }
     ensures same { OnOk result (IsSame station.old station.new) }
-    ensures sends { IfOk result (λ code. Sends (role_of post.now) (values_of state.now) sending.now code station.old.desk.log station.new.desk.log) }
+    ensures sends { IfOk result (SendsAt post.now state.now sending.now station.old station.new) }
 {
     let port = PortRef {
         comp: post.comp,
@@ -186,10 +188,11 @@ fn send_to_one<R: Wait>(
     requires manned { IsManned (role_of post.now) station.old }
     requires started { IsStarted station.old.desk.log sending.now.port }
     requires sent { IsSentAs (values_of state.now) sending.now.sent message.now }
-    requires names { CanName state.now.variables.items (length post.now.conduct.references.now) sending.now.to }
+    requires names { CanName state.now.variables.items
+        (length post.now.conduct.references.now) sending.now.to }
     ensures manned { OnOk result (IsManned (role_of post.now) station.new) }
     ensures same { OnOk result (IsSame station.old station.new) }
-    ensures sends { IfOk result (λ code. Sends (role_of post.now) (values_of state.now) sending.now code station.old.desk.log station.new.desk.log) }
+    ensures sends { IfOk result (SendsAt post.now state.now sending.now station.old station.new) }
 {
     match named_of(post, state, sending.to) {
         Some(named) => send_to(rt, post, &mut *station, state, sending, message, named),
@@ -213,7 +216,7 @@ fn send_started<R: Wait>(
     requires can { CanSend (stage_at post.now) (depth_of state.now) sending.now }
     ensures manned { OnOk result (IsManned (role_of post.now) station.new) }
     ensures same { OnOk result (IsSame station.old station.new) }
-    ensures sends { IfOk result (λ code. Sends (role_of post.now) (values_of state.now) sending.now code station.old.desk.log station.new.desk.log) }
+    ensures sends { IfOk result (SendsAt post.now state.now sending.now station.old station.new) }
 {
     let Some(message) = message_of(post.alloc, state, &sending.sent)? else {
         return fail(post, &mut *station, state, sending, 43);
@@ -224,10 +227,10 @@ fn send_started<R: Wait>(
     }
 }
 
-/// Carries out a send (ES 201 873-1, 22.2.1), and answers the number of the refusal by which the behaviour
-/// ends there, if it does: 40 where the port isn't started; else 43 where a variable of which the send
-/// speaks isn't set; else 41 where there is no route, or none to the component named, or 42 where there
-/// are several and no component is named.
+/// Carries out a send (ES 201 873-1, 22.2.1), and answers the number of the refusal by which the
+/// behaviour ends there, if it does: 40 where the port isn't started; else 43 where a variable of
+/// which the send speaks isn't set; else 41 where there is no route, or none to the component
+/// named, or 42 where there are several and no component is named.
 ///
 /// 50 `Memory` as [`send_on`].
 pub(crate) fn send<R: Wait>(
@@ -242,7 +245,7 @@ pub(crate) fn send<R: Wait>(
     requires can { CanSend (stage_at post.now) (depth_of state.now) sending.now }
     ensures manned { OnOk result (IsManned (role_of post.now) station.new) }
     ensures same { OnOk result (IsSame station.old station.new) }
-    ensures sends { IfOk result (λ code. Sends (role_of post.now) (values_of state.now) sending.now code station.old.desk.log station.new.desk.log) }
+    ensures sends { IfOk result (SendsAt post.now state.now sending.now station.old station.new) }
 {
     if station.desk.queue(sending.port).may_send() {
         send_started(rt, post, &mut *station, state, sending)

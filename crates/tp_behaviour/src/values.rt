@@ -19,7 +19,8 @@ use tp_value::message::Message;
 /// The message that the variable at this place holds, where it is set.
 fn message_in(state: &State, place: usize) -> Option<&Message>
     requires { HoldsMessages state.now.variables.items place }
-    ensures { MatchOption result (IsUnset (values_of state.now) place) (λ m. Holds (values_of state.now) place (held.Value m.now)) }
+    ensures { MatchOption result (IsUnset (values_of state.now) place)
+        (λ m. Holds (values_of state.now) place (held.Value m.now)) }
 {
     match &state.variables[place] {
         Some(held) => match held {
@@ -33,7 +34,8 @@ fn message_in(state: &State, place: usize) -> Option<&Message>
 /// The component that the variable at this place holds, where it is set.
 fn component_in(state: &State, place: usize) -> Option<CompId>
     requires { HoldsComponents state.now.variables.items place }
-    ensures { MatchOption result (IsUnset (values_of state.now) place) (λ c. Holds (values_of state.now) place (held.Component c)) }
+    ensures { MatchOption result (IsUnset (values_of state.now) place)
+        (λ c. Holds (values_of state.now) place (held.Component c)) }
 {
     match &state.variables[place] {
         Some(held) => match held {
@@ -53,7 +55,8 @@ pub(crate) fn message_of(
     sent: &Sent,
 ) -> Result<Option<Message>, Memory>
     requires { CanFill state.now.variables.items (length state.now.turns.items) sent.now }
-    ensures { IfOk result (λ m. MatchOption m (SendsUnset (values_of state.now) sent.now) (IsSentAs (values_of state.now) sent.now)) }
+    ensures { IfOk result (λ m. MatchOption m (SendsUnset (values_of state.now) sent.now)
+        (IsSentAs (values_of state.now) sent.now)) }
 {
     match sent {
         Sent::Written(message) => {
@@ -74,7 +77,8 @@ pub(crate) fn message_of(
 /// variable that isn't set. Takes no memory.
 pub(crate) fn named_of(post: &Post<'_>, state: &State, to: Receiver) -> Option<Option<CompId>>
     requires { CanName state.now.variables.items (length post.now.conduct.references.now) to }
-    ensures { MatchOption result (NamesUnset (values_of state.now) to) (IsNamed (role_of post.now) (values_of state.now) to) }
+    ensures { MatchOption result (NamesUnset (values_of state.now) to)
+        (IsNamed (role_of post.now) (values_of state.now) to) }
 {
     match to {
         Receiver::Nobody => Some(None),

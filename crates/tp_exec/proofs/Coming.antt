@@ -16,6 +16,7 @@ use Rattle.tp_inbox.specs.Routed.{AreDelivered, IsArrivalOn, rest_arrivals}
 use Rattle.tp_inbox.specs.Ledgers.{Inbox, Sending, put_by}
 use Rattle.tp_inbox.proofs.Arrivals.{arrivals-append}
 use Rattle.tp_behaviour.specs.Outboxes.{routes_of}
+use Rattle.tp_behaviour.proofs.Outboxes.{route_itself, route_same}
 use Rattle.tp_exec.specs.declared.ended.Ended.{Ended}
 use Rattle.tp_exec.specs.Held.{HasCome, IsBack, counts_of, ways_on}
 
@@ -28,22 +29,6 @@ back_senders logs i (r ∷ routes) [] z = absurd z
 back_senders logs i (r ∷ routes) (s ∷ ss) z =
     let more = back_senders logs i routes ss z.1 in
     (All-cons (λ (s : Sending). s.inbox ≡ i) s ss z.0.0 more.0, λ k. z.0.1 k ∷ more.1 k)
-
-route_itself : (r : RouteId) → same_route r r ≡ true
-route_itself r =
-    and_from ((r.source.0 == r.source.0) && (r.to.comp.0 == r.to.comp.0)) (r.to.port == r.to.port)
-    (and_from (r.source.0 == r.source.0) (r.to.comp.0 == r.to.comp.0) (eq-eqb r.source.0 r.source.0 refl) (eq-eqb r.to.comp.0 r.to.comp.0 refl))
-    (eq-eqb r.to.port r.to.port refl)
-
--- routes of which a test says that they are the same
-route_same : (r q : RouteId) → same_route r q ≡ true → r ≡ q
-route_same r q e =
-    let h = and_parts ((r.source.0 == q.source.0) && (r.to.comp.0 == q.to.comp.0)) (r.to.port == q.to.port) e in
-    let g = and_parts (r.source.0 == q.source.0) (r.to.comp.0 == q.to.comp.0) h.0 in
-    let a : r.source.0 ≡ q.source.0 = eqb-true r.source.0 q.source.0 g.0 in
-    let b : r.to.comp.0 ≡ q.to.comp.0 = eqb-true r.to.comp.0 q.to.comp.0 g.1 in
-    let p : r.to.port ≡ q.to.port = eqb-true r.to.port q.to.port h.1 in
-    λ i. record { source = record { 0 = a i }; to = record { comp = record { 0 = b i }; port = p i } }
 
 -- these count what a sender has put on its route
 abbrev IsCounted : List (RouteId × ℕ) → Sending → Type 0

@@ -1,3 +1,4 @@
+-- One entry for each port, in their order, and there are as many as the component has.
 use Rattle.std.proofs.Common.{◌≡◌, ◌∙◌, add-one, ap, arith, length, refl, subst, sym}
 use Rattle.tp_config.specs.Setup.{ports_at}
 use Rattle.tp_inbox.specs.Desks.{Journal}

@@ -1,3 +1,4 @@
+-- On how many of the ports the operation was carried out.
 use Rattle.std.proofs.Common.{◌≡◌}
 use Rattle.tp_behaviour.specs.Fresh.{HasOwn}
 use Rattle.tp_behaviour.specs.Seen.{Grew}

@@ -1,3 +1,4 @@
+-- The drain before the operation makes no moment, so that the operation is the only one.
 use Rattle.tp_behaviour.specs.Stations.{role_of}
 use Rattle.tp_behaviour.proofs.Acted.{stepped_control}
 use Rattle.tp_behaviour.proofs.acting.control.Goals as goal

@@ -1,3 +1,4 @@
+-- An operation on a port makes one moment, and the station stays manned.
 use Rattle.std.proofs.Common.{ap, sym, subst}
 use Rattle.tp_inbox.specs.Desks.{Journal}
 use Rattle.tp_behaviour.specs.Fresh.{HasOwn}

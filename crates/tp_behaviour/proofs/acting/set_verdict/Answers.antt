@@ -1,3 +1,4 @@
+-- The one entry is a path of the statement.
 use Rattle.tp_behaviour.specs.Stations.{role_of}
 use Rattle.tp_behaviour.proofs.Acted.{stepped_verdict}
 use Rattle.tp_behaviour.proofs.acting.set_verdict.Goals as goal

@@ -1,6 +1,7 @@
 -- The history follows the body from its first statement.
 use Rattle.std.proofs.Common.{length, ap, subst, sym}
 use Rattle.tp_body.specs.Playable.{CanPlayAll}
+use Rattle.tp_behaviour.specs.Lasting.{AreLasting}
 use Rattle.tp_behaviour.specs.Outcomes.{stage_at}
 use Rattle.tp_behaviour.specs.Stations.{role_of}
 use Rattle.tp_behaviour.proofs.Begun.{has_ended, held_unset}
@@ -15,6 +16,10 @@ pub execute-requires-clause-can : goal.execute-requires-clause-can
 execute-requires-clause-can g c κs within =
     subst (λ n. CanPlayAll (stage_at c.args.post.now) n c.as_slice-block.result.now) (sym (ap length c.in_ok-state.ensures.turns))
     (subst (CanPlayAll (stage_at c.args.post.now) 0) (sym c.as_slice-block.ensures) c.requires.can.statements)
+
+-- what lasts of the body was made at its beginning
+pub execute-requires-clause-lasting : goal.execute-requires-clause-lasting
+execute-requires-clause-lasting g c κs within = subst (AreLasting c.as_slice-block.result.now) (sym c.as_slice-kept.ensures) c.in_ok-lasting.ensures
 
 pub returns-clause-ended : goal.returns-clause-ended
 returns-clause-ended g c =

@@ -1,3 +1,5 @@
+-- The looks before `[else]` discarded messages, and the last one found no branch open.
+use Rattle.tp_behaviour.specs.Views.{all_viewed}
 use Rattle.tp_behaviour.proofs.Chosen.{chose_else}
 use Rattle.tp_behaviour.proofs.choosing.choose.Goals as goal
 
@@ -5,5 +7,5 @@ use Rattle.tp_behaviour.proofs.choosing.choose.Goals as goal
 pub returns-then-has_else-clause-chose : goal.returns-then-has_else-clause-chose
 returns-then-has_else-clause-chose g c =
     let saw = rw c.in-Nothing.is at c.in_ok-branch.ensures.saw in
-    chose_else c.args.guards.now c.args.has_else c.args.station.now.desk.log c.loop.station.desk.log c.note.new.station.desk.log c.look.new.station.desk c.if-has_else.true
+    chose_else (all_viewed c.args.guards.now) c.args.has_else c.args.station.now.desk.log c.loop.station.desk.log c.note.new.station.desk.log c.look.new.station.desk c.if-has_else.true
     c.loop.invariant.drops saw.0 saw.1 c.in_ok-note-in-Nothing.ensures.trace

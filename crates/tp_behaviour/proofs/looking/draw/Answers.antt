@@ -1,3 +1,4 @@
+-- What has arrived makes no moment, and the station stays manned.
 use Rattle.tp_behaviour.specs.Stations.{role_of}
 use Rattle.tp_behaviour.proofs.Manned.{drained}
 use Rattle.tp_behaviour.proofs.looking.draw.Goals as goal

@@ -1,3 +1,4 @@
+-- Where the outbox is level, all that the component has sent to itself is there.
 use Rattle.tp_behaviour.specs.Stations.{role_of}
 use Rattle.tp_behaviour.proofs.Manned.{has_own}
 use Rattle.tp_behaviour.proofs.looking.look_in.Goals as goal

@@ -1,3 +1,4 @@
+-- What stays as it is from drain to drain.
 use Rattle.std.proofs.Common.{◌≡◌}
 use Rattle.tp_behaviour.specs.Moments.{moments}
 use Rattle.tp_behaviour.specs.Stations.{IsManned, IsSame, role_of}

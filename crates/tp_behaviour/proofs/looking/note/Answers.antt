@@ -1,3 +1,4 @@
+-- An entry of the behaviour's own makes one moment, and the station stays manned.
 use Rattle.tp_behaviour.specs.Stations.{role_of}
 use Rattle.tp_behaviour.proofs.Noted.{noted, plain_timely}
 use Rattle.tp_behaviour.proofs.looking.note.Goals as goal

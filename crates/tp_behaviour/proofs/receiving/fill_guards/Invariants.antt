@@ -1,3 +1,4 @@
+-- How many of the guards are made.
 use Rattle.std.proofs.Common.{◌≡◌, take}
 use Rattle.tp_behaviour.specs.Paths.{guards_of}
 use Rattle.tp_behaviour.specs.Stations.{role_of, values_of}

@@ -1,3 +1,4 @@
+-- A port that may not send isn't started.
 use Rattle.std.proofs.Common.{◌∙◌, ap, sym, true≢false}
 use Rattle.tp_port.specs.History.{status_of}
 use Rattle.tp_behaviour.specs.Ends.{IsFailure}

@@ -1,3 +1,4 @@
+-- The station after a message was put and noted: what holds of it, its new entry, and what stayed the same.
 use Rattle.std.proofs.Common.{◌∙◌, ap, refl}
 use Rattle.std.specs.Prelude.{◌++◌, ◌∷◌, [], map}
 use Rattle.tp_inbox.specs.declared.entry.Entry.TheVariants as entry

@@ -1,3 +1,4 @@
+-- Each route has a sender, and one entry more stands for each turn.
 use Rattle.std.proofs.Common.{Contains, get_or, refl, subst, sym}
 use Rattle.tp_inbox.specs.Routed.{no_route}
 use Rattle.tp_behaviour.proofs.Manned.{same_then}

@@ -1,3 +1,4 @@
+-- What stays as it is, and on which of the routes the message went out so far.
 use Rattle.std.proofs.Common.{ℕ, take}
 use Rattle.tp_behaviour.specs.Paths.{IsStarted}
 use Rattle.tp_behaviour.specs.Stations.{IsManned, IsSame, role_of}

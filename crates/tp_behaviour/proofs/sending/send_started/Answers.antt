@@ -1,3 +1,4 @@
+-- What is sent can be made or isn't set, and whoever is named is one component.
 use Rattle.std.proofs.Common.{◌≡◌, Option, Some, None, inl, refl}
 use Rattle.std.specs.Prelude.{MatchOption}
 use Rattle.tp_behaviour.specs.Ends.{IsFailure}

@@ -1,3 +1,4 @@
+-- All routes of the port have senders; where there is no route, that is the cause.
 use Rattle.std.proofs.Common.{◌≡◌, ◌∙◌, Contains, arith, get_or, length, subst, sym}
 use Rattle.std.specs.Prelude.{vec_len}
 use Rattle.std.proofs.lemmas.List.Elements.{Contains-get_or}

@@ -1,3 +1,4 @@
+-- A receiver that isn't set is the cause of the refusal.
 use Rattle.std.proofs.Common.{inr}
 use Rattle.tp_behaviour.specs.Ends.{IsFailure}
 use Rattle.tp_behaviour.proofs.sending.send_to_one.Goals as goal

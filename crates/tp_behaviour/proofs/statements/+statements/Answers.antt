@@ -11,18 +11,22 @@ use Rattle.tp_body.specs.Sizes.{turns_between}
 use Rattle.tp_body.proofs.PlayRules.{plays_alt, plays_control, plays_else, plays_for, plays_receive, plays_send}
 use Rattle.tp_behaviour.specs.declared.outcome.Outcome.TheVariants as outcome
 use Rattle.tp_behaviour.specs.declared.deciding.Way.TheVariants as way
+use Rattle.tp_behaviour.specs.declared.lasting.Lasting.{out-Lasting}
+use Rattle.tp_behaviour.specs.Lasting.{AreLasting, AreLastingBranches, IsLasting, IsLastingBranch}
 use Rattle.tp_behaviour.specs.Outcomes.{Executed, Stepped, depth_of, stage_at}
 use Rattle.tp_behaviour.specs.Parts.{Decided, ExecutedIn, IsWayOf, Turned}
 use Rattle.tp_behaviour.proofs.Branched.{step_branch, step_else, step_for, step_waits}
 use Rattle.tp_behaviour.proofs.Executed.{passed_all, passed_more, passed_start, passed_stop}
+use Rattle.tp_behaviour.proofs.LastingRules.{lasts_alt, lasts_block, lasts_else, lasts_for, lasts_receive, zipped_get, zipped_long}
+use Rattle.tp_behaviour.proofs.Manned.{same_then}
 use Rattle.tp_behaviour.proofs.Placed.{plays_at, plays_block}
-use Rattle.tp_behaviour.proofs.Stayed.{same_on, waits_from}
+use Rattle.tp_behaviour.proofs.Stayed.{waits_from}
 use Rattle.tp_behaviour.proofs.Turned.{made_all, made_start, made_more, made_stop, none_there, turned_as, turned_empty}
 use Rattle.tp_behaviour.proofs.statements.+statements.Goals as goal
 
 -- one statement after the other
-pub execute-loop-statement-init : goal.execute-loop-statement-init
-execute-loop-statement-init g t c = record {
+pub execute-loop-place-init : goal.execute-loop-place-init
+execute-loop-place-init g t c = record {
   manned = c.requires.manned;
   same = record { inbox = refl; ends = refl };
   held = c.requires.held;
@@ -32,38 +36,38 @@ execute-loop-statement-init g t c = record {
 
 pub execute-step-requires-clause-can : goal.execute-step-requires-clause-can
 execute-step-requires-clause-can g t c κs within =
-    plays_at (stage_at c.args.post.now) (depth_of c.loop-statement.state) (depth_of c.args.state.now) c.args.block.now c.loop-statement.statement-index c.statement-item.result
-    (ap length c.loop-statement.invariant.turns) c.loop-statement-test.true c.statement-item.is c.requires.can
+    plays_at (stage_at c.args.post.now) (depth_of c.loop-place.state) (depth_of c.args.state.now) c.args.block.now c.loop-place.place c.index-block-place.result
+    (ap length c.loop-place.invariant.turns) c.loop-place-test.true c.index-block-place.is c.requires.can
 
-pub execute-loop-statement-preserved : goal.execute-loop-statement-preserved
-execute-loop-statement-preserved g t c =
+pub execute-loop-place-preserved : goal.execute-loop-place-preserved
+execute-loop-place-preserved g t c =
     let step = c.in_ok-stop.ensures in
-    let done : Stepped c.args.post.now c.statement-item.result outcome.Done c.loop-statement.station c.loop-statement.state c.step.new.station c.step.new.state = rw c.in-Done.is at step.ended in
+    let done : Stepped c.args.post.now c.index-block-place.result outcome.Done c.loop-place.station c.loop-place.state c.step.new.station c.step.new.state = rw c.in-Done.is at step.ended in
     record {
       manned = step.manned;
-      same = same_on c.args.station.now c.loop-statement.station c.step.new.station c.loop-statement.invariant.same step.same;
+      same = same_then c.args.station.now c.loop-place.station c.step.new.station c.loop-place.invariant.same step.same;
       held = step.held;
-      turns = step.turns ∙ c.loop-statement.invariant.turns;
+      turns = step.turns ∙ c.loop-place.invariant.turns;
       passed =
-          passed_more c.args.post.now c.args.block.now c.loop-statement.statement-index c.statement-item.result c.args.station.now c.args.state.now c.loop-statement.station c.loop-statement.state
-          c.step.new.station c.step.new.state c.loop-statement.invariant.turns c.loop-statement-test.true c.statement-item.is c.loop-statement.invariant.passed done;
+          passed_more c.args.post.now c.args.block.now c.loop-place.place c.index-block-place.result c.args.station.now c.args.state.now c.loop-place.station c.loop-place.state
+          c.step.new.station c.step.new.state c.loop-place.invariant.turns c.loop-place-test.true c.index-block-place.is c.loop-place.invariant.passed done;
     }
 
 pub execute-returns-in_default-clause-ended : goal.execute-returns-in_default-clause-ended
 execute-returns-in_default-clause-ended g t c =
-    passed_stop c.args.post.now c.args.block.now c.loop-statement.statement-index c.statement-item.result c.in_ok-stop.stop c.args.station.now c.args.state.now
-    c.loop-statement.station c.loop-statement.state c.step.new.station c.step.new.state c.in_default.not-Done
-    c.loop-statement.invariant.turns c.loop-statement-test.true c.statement-item.is c.loop-statement.invariant.passed c.in_ok-stop.ensures.ended
+    passed_stop c.args.post.now c.args.block.now c.loop-place.place c.index-block-place.result c.in_ok-stop.stop c.args.station.now c.args.state.now
+    c.loop-place.station c.loop-place.state c.step.new.station c.step.new.state c.in_default.not-Done
+    c.loop-place.invariant.turns c.loop-place-test.true c.index-block-place.is c.loop-place.invariant.passed c.in_ok-stop.ensures.ended
 
 pub execute-returns-clause-ended : goal.execute-returns-clause-ended
 execute-returns-clause-ended g t c =
-    passed_all c.args.post.now c.args.block.now c.loop-statement.statement-index c.args.station.now c.args.state.now c.loop-statement.station c.loop-statement.state
-    c.loop-statement-test.false c.loop-statement.invariant.passed
+    passed_all c.args.post.now c.args.block.now c.loop-place.place c.args.station.now c.args.state.now c.loop-place.station c.loop-place.state
+    c.loop-place-test.false c.loop-place.invariant.passed
 
 -- the ports are the same throughout
 pub execute-returns-in_default-clause-within : goal.execute-returns-in_default-clause-within
 execute-returns-in_default-clause-within g t c =
-    waits_from c.args.post.now c.args.station.now c.loop-statement.station c.in_ok-stop.stop c.requires.manned c.loop-statement.invariant.manned c.in_ok-stop.ensures.within
+    waits_from c.args.post.now c.args.station.now c.loop-place.station c.in_ok-stop.stop c.requires.manned c.loop-place.invariant.manned c.in_ok-stop.ensures.within
 
 -- the block of a branch
 pub branch-execute-requires-clause-can : goal.branch-execute-requires-clause-can
@@ -114,15 +118,70 @@ step-branch-rt-requires-clause-can g t c κs within =
 pub step-execute-requires-clause-can : goal.step-execute-requires-clause-can
 step-execute-requires-clause-can g t c κs within =
     let whole = c.in-Alt.is ∙ ap (λ o. b.Alt c.in-Alt.branches o) c.in-Some.is in
-    subst (λ n. CanPlayAll (stage_at c.args.post.now) n c.as_slice.result.now) (sym (ap length c.in_ok-place-in-Alt.ensures.turns))
-    (subst (CanPlayAll (stage_at c.args.post.now) (depth_of c.args.state.now)) (sym c.as_slice.ensures)
+    subst (λ n. CanPlayAll (stage_at c.args.post.now) n c.as_slice-block.result.now) (sym (ap length c.in_ok-place-in-Alt.ensures.turns))
+    (subst (CanPlayAll (stage_at c.args.post.now) (depth_of c.args.state.now)) (sym c.as_slice-block.ensures)
     (plays_else (stage_at c.args.post.now) (depth_of c.args.state.now) c.args.statement.now c.in-Alt.branches c.in-Some.block whole c.requires.can))
 
 pub step-turns-requires-clause-can : goal.step-turns-requires-clause-can
 step-turns-requires-clause-can g t c κs within =
-    subst (CanPlayAll (stage_at c.args.post.now) (depth_of c.args.state.now + 1)) (sym c.as_slice-block.ensures)
+    subst (CanPlayAll (stage_at c.args.post.now) (depth_of c.args.state.now + 1)) (sym c.as_slice-block-in-For.ensures)
     (plays_for (stage_at c.args.post.now) (depth_of c.args.state.now) c.args.statement.now c.in-For.first c.in-For.bound c.in-For.block c.in-For.is c.requires.can)
 
+-- what lasts of each statement, and of what it is made of
+pub execute-bounds-lasting-place : goal.execute-bounds-lasting-place
+execute-bounds-lasting-place g t c = omega (arith, zipped_long IsLasting c.args.block.now c.args.lasting.now c.requires.lasting, c.loop-place-test.true)
+
+pub execute-step-requires-clause-lasting : goal.execute-step-requires-clause-lasting
+execute-step-requires-clause-lasting g t c κs within =
+    let ls = c.args.lasting.now in
+    let i = c.loop-place.place in
+    let x = c.index-block-place.result in
+    let l = c.index-lasting-place.result in
+    subst (IsLasting x) (sym c.index-lasting-place.is)
+    (subst (λ (y : Statement). IsLasting y (get_or ls i l)) (sym c.index-block-place.is)
+    (zipped_get IsLasting c.args.block.now ls i x l c.requires.lasting c.loop-place-test.true))
+
+pub branch-bounds-lasting-place : goal.branch-bounds-lasting-place
+branch-bounds-lasting-place g t c = omega (arith, zipped_long IsLastingBranch c.args.branches.now c.args.lasting.now c.requires.lasting, c.requires.within)
+
+pub branch-execute-requires-clause-lasting : goal.branch-execute-requires-clause-lasting
+branch-execute-requires-clause-lasting g t c κs within =
+    let x = get_or c.args.branches.now c.args.place c.index-branches-place.result in
+    let l = get_or c.args.lasting.now c.args.place c.index-lasting-place.result in
+    subst (λ ls. AreLasting c.as_slice-block.result.now ls) (sym c.as_slice-kept.ensures)
+    (subst (λ xs. AreLasting xs (out-Lasting l).block) (sym c.as_slice-block.ensures)
+    (lasts_block x l
+    (zipped_get IsLastingBranch c.args.branches.now c.args.lasting.now c.args.place c.index-branches-place.result c.index-lasting-place.result c.requires.lasting c.requires.within)))
+
+pub step-receive-requires-clause-lasting : goal.step-receive-requires-clause-lasting
+step-receive-requires-clause-lasting g t c κs within = lasts_receive c.args.statement.now c.args.lasting.now c.in-Receive.receiving c.in-Receive.is c.requires.lasting
+
+pub step-decide-requires-clause-lasting : goal.step-decide-requires-clause-lasting
+step-decide-requires-clause-lasting g t c κs within =
+    subst (λ ls. AreLastingBranches c.as_slice-branches.result.now ls) (sym c.as_slice-kept.ensures)
+    (subst (λ xs. AreLastingBranches xs (out-Lasting c.args.lasting.now).branches) (sym c.as_slice-branches.ensures)
+    (lasts_alt c.args.statement.now c.args.lasting.now c.in-Alt.branches c.in-Alt.otherwise c.in-Alt.is c.requires.lasting))
+
+pub step-branch-rt-requires-clause-lasting : goal.step-branch-rt-requires-clause-lasting
+step-branch-rt-requires-clause-lasting g t c κs within =
+    subst (λ ls. AreLastingBranches c.as_slice-branches.result.now ls) (sym c.as_slice-kept.ensures)
+    (subst (λ xs. AreLastingBranches xs (out-Lasting c.args.lasting.now).branches) (sym c.as_slice-branches.ensures)
+    (lasts_alt c.args.statement.now c.args.lasting.now c.in-Alt.branches c.in-Alt.otherwise c.in-Alt.is c.requires.lasting))
+
+pub step-execute-requires-clause-lasting : goal.step-execute-requires-clause-lasting
+step-execute-requires-clause-lasting g t c κs within =
+    let whole = c.in-Alt.is ∙ ap (λ o. b.Alt c.in-Alt.branches o) c.in-Some.is in
+    subst (λ ls. AreLasting c.as_slice-block.result.now ls) (sym c.as_slice-kept-in-Some.ensures)
+    (subst (λ xs. AreLasting xs (out-Lasting c.args.lasting.now).block) (sym c.as_slice-block.ensures)
+    (lasts_else c.args.statement.now c.args.lasting.now c.in-Alt.branches c.in-Some.block whole c.requires.lasting))
+
+pub step-turns-requires-clause-lasting : goal.step-turns-requires-clause-lasting
+step-turns-requires-clause-lasting g t c κs within =
+    subst (λ ls. AreLasting c.as_slice-block-in-For.result.now ls) (sym c.as_slice-kept-in-For.ensures)
+    (subst (λ xs. AreLasting xs (out-Lasting c.args.lasting.now).block) (sym c.as_slice-block-in-For.ensures)
+    (lasts_for c.args.statement.now c.args.lasting.now c.in-For.first c.in-For.bound c.in-For.block c.in-For.is c.requires.lasting))
+
+-- what each statement comes to
 pub step-returns-in-Branch-clause-ended : goal.step-returns-in-Branch-clause-ended
 step-returns-in-Branch-clause-ended g t c =
     let decide = c.in_ok-place-in-Alt.ensures in
@@ -140,9 +199,9 @@ step-returns-in-Some-clause-ended g t c =
     let decided : Decided c.args.post.now c.as_slice-branches.result.now c.is_some-has_else.result way.Else c.args.station.now c.args.state.now c.decide.new.station c.decide.new.state
     = rw c.in-Else.is at decide.decided in
     IfOk-weaker c.execute.result _ _
-    (λ o h. step_else c.args.post.now c.args.statement.now c.in-Alt.branches c.as_slice-branches.result.now c.in-Alt.otherwise c.in-Some.block c.as_slice.result.now c.is_some-has_else.result o
+    (λ o h. step_else c.args.post.now c.args.statement.now c.in-Alt.branches c.as_slice-branches.result.now c.in-Alt.otherwise c.in-Some.block c.as_slice-block.result.now c.is_some-has_else.result o
     c.args.station.now c.args.state.now c.decide.new.station c.decide.new.state c.execute.new.station c.execute.new.state
-    c.in-Alt.is c.in-Some.is c.as_slice-branches.ensures c.as_slice.ensures decide.turns decided h)
+    c.in-Alt.is c.in-Some.is c.as_slice-branches.ensures c.as_slice-block.ensures decide.turns decided h)
     c.execute.ensures.ended
 
 pub step-returns-in-Waits-clause-ended : goal.step-returns-in-Waits-clause-ended
@@ -160,10 +219,10 @@ step-returns-in-For-clause-ended g t c =
     let first = to_z w64 (of_z w64 c.in-For.first) in
     let bound = to_z w64 (of_z w64 c.in-For.bound) in
     IfOk-weaker c.turns.result
-    (λ o. Turned c.args.post.now first c.as_slice-block.result.now (turns_between first bound) o c.args.station.now c.args.state.now c.turns.new.station c.turns.new.state)
+    (λ o. Turned c.args.post.now first c.as_slice-block-in-For.result.now (turns_between first bound) o c.args.station.now c.args.state.now c.turns.new.station c.turns.new.state)
     (λ o. Stepped c.args.post.now c.args.statement.now o c.args.station.now c.args.state.now c.turns.new.station c.turns.new.state)
-    (λ o h. step_for c.args.post.now c.args.statement.now c.in-For.first c.in-For.bound first bound c.in-For.block c.as_slice-block.result.now o
-    c.args.station.now c.args.state.now c.turns.new.station c.turns.new.state c.in-For.is (to_z-of_z w64 c.in-For.first low) (to_z-of_z w64 c.in-For.bound high) c.as_slice-block.ensures h)
+    (λ o h. step_for c.args.post.now c.args.statement.now c.in-For.first c.in-For.bound first bound c.in-For.block c.as_slice-block-in-For.result.now o
+    c.args.station.now c.args.state.now c.turns.new.station c.turns.new.state c.in-For.is (to_z-of_z w64 c.in-For.first low) (to_z-of_z w64 c.in-For.bound high) c.as_slice-block-in-For.ensures h)
     c.turns.ensures.ended
 
 -- the turns of a `for`
@@ -193,7 +252,7 @@ turns-loop-value-preserved g t c =
     = rw c.in-Done.is at turn.ended in
     record {
       manned = turn.manned;
-      same = same_on c.args.station.now c.loop-value.station c.turn.new.station c.loop-value.invariant.same turn.same;
+      same = same_then c.args.station.now c.loop-value.station c.turn.new.station c.loop-value.invariant.same turn.same;
       held = turn.held;
       turns = turn.turns ∙ c.loop-value.invariant.turns;
       made =
@@ -203,7 +262,7 @@ turns-loop-value-preserved g t c =
 
 pub turns-returns-in_default-clause-same : goal.turns-returns-in_default-clause-same
 turns-returns-in_default-clause-same g t c =
-    same_on c.args.station.now c.loop-value.station c.turn.new.station c.loop-value.invariant.same c.in_ok-outcome.ensures.same
+    same_then c.args.station.now c.loop-value.station c.turn.new.station c.loop-value.invariant.same c.in_ok-outcome.ensures.same
 
 pub turns-returns-in_default-clause-turns : goal.turns-returns-in_default-clause-turns
 turns-returns-in_default-clause-turns g t c = c.in_ok-outcome.ensures.turns ∙ c.loop-value.invariant.turns

@@ -7,13 +7,13 @@ use Rattle.tp_behaviour.proofs.Turned.{Made}
 use Rattle.tp_behaviour.proofs.statements.+statements.Given as goal
 
 -- the statements so far were carried out
-abbrev pub invariant-execute-loop-statement : goal.invariant-execute-loop-statement
-invariant-execute-loop-statement g l = record {
+abbrev pub invariant-execute-loop-place : goal.invariant-execute-loop-place
+invariant-execute-loop-place g l = record {
   manned : IsManned (role_of l.post) l.station;
   same : IsSame l.initial.station l.station;
   held : HoldsAsDeclared l.post l.state;
   turns : l.state.turns.items ≡ l.initial.state.turns.items;
-  passed : Passed l.post l.block l.statement-index l.initial.station l.initial.state l.station l.state;
+  passed : Passed l.post l.block l.place l.initial.station l.initial.state l.station l.state;
 }
 
 -- the turns so far were made

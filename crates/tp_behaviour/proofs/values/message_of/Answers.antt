@@ -1,3 +1,4 @@
+-- A message that is written out is sent as it was filled, and a variable as what it holds.
 use Rattle.std.proofs.Common.{◌∙◌, ap, subst, sym}
 use Rattle.tp_value.specs.declared.message.Message.{Message}
 use Rattle.tp_body.specs.declared.body.Sent.{Sent}

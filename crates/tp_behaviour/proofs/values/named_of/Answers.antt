@@ -1,3 +1,4 @@
+-- The component that is named, for each way to name one.
 use Rattle.std.proofs.Common.{None, Some, get_or, subst, sym}
 use Rattle.tp_config.specs.declared.port_type.CompId.{CompId}
 use Rattle.tp_body.specs.declared.body.Receiver.{Receiver}

@@ -1,3 +1,4 @@
+-- The tables say the truth of one sender more.
 use Rattle.std.proofs.Common.{◌≡◌, ◌∙◌, ◌++◌, ◌∷◌, [], ℕ, All, List, Some, ap, arith, length, subst, sym}
 use Rattle.std.specs.Prelude.{◌≢◌}
 use Rattle.indexmap.specs.IndexMap.{Updates}

@@ -1,3 +1,4 @@
+-- How many of the senders that lead back are known to be level.
 use Rattle.std.proofs.Common.{◌≡◌, Some, take}
 use Rattle.std.specs.Prelude.{All, slice_get}
 use Rattle.tp_inbox.specs.Ledgers.{Sending}

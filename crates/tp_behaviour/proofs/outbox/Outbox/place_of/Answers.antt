@@ -1,3 +1,4 @@
+-- A route that has a sender stands in the table, under the place of that sender.
 use Rattle.std.proofs.Common.{◌≡◌, ◌∙◌, sym, subst, Some, slice_get}
 use Rattle.std.proofs.lemmas.Option.{same_Some}
 use Rattle.indexmap.specs.IndexMap.{get_by}

@@ -1,3 +1,4 @@
+-- The tables stay true while one sender puts a message, and no other sender changes.
 use Rattle.std.proofs.Common.{◌≡◌, ◌∙◌, ap, sym, subst, Some, ℕ, slice_get}
 use Rattle.std.specs.Prelude.{OnOk, slice_set}
 use Rattle.std.proofs.lemmas.Option.{get_or_from_slice_get}

@@ -1,0 +1,58 @@
+-- What of a body lasts while a behaviour runs.
+use Rattle.std.specs.Prelude.{◌≡◌, ℤ, Option, Some, None, List}
+use Rattle.std.specs.List.{AllZip}
+use Rattle.tp_value.specs.declared.message.MsgTemplate.{MsgTemplate}
+use Rattle.tp_body.specs.declared.body.RecvMsg.{RecvMsg}
+use Rattle.tp_body.specs.declared.body.Statement.{Statement}
+use Rattle.tp_body.specs.declared.body.Statement.TheOpen as o
+use Rattle.tp_body.specs.declared.body.Statement.TheFolds.{rec-Statement, rec-Branch}
+use Rattle.tp_body.specs.declared.body.Branch.{Branch}
+use Rattle.tp_body.specs.Fills.{filled_wanted}
+use Rattle.tp_behaviour.specs.declared.lasting.Lasting.{Lasting, out-Lasting}
+
+-- the template, if there is one, is what is wanted, whatever the loop variables hold
+abbrev pub Lasts : RecvMsg → Option MsgTemplate → Type 0
+Lasts x None = Unit {0}
+Lasts x (Some made) = (turns : List ℤ) → made ≡ filled_wanted turns x
+
+-- each of a block that may be missing
+abbrev pub ElseLasts : {X : Type 0} → (X → Lasting → Type 0) → Option (List X) → List Lasting → Type 0
+ElseLasts lasts None kept = Unit {0}
+ElseLasts lasts (Some xs) kept = AllZip lasts xs kept
+
+-- one layer of a statement
+abbrev pub statement_lasts : (X Y : Type 0) → (X → Statement) → (Y → Branch) → (X → Lasting → Type 0) → (Y → Lasting → Type 0)
+    → o.Statement-F X Y → Lasting → Type 0
+statement_lasts X Y statement branch lasts enters (o.Send x) kept = Unit {0}
+statement_lasts X Y statement branch lasts enters (o.Receive x) kept = Lasts x.wanted (out-Lasting kept).wanted
+statement_lasts X Y statement branch lasts enters (o.Control k x) kept = Unit {0}
+statement_lasts X Y statement branch lasts enters (o.AllPorts x) kept = Unit {0}
+statement_lasts X Y statement branch lasts enters (o.SetVerdict x) kept = Unit {0}
+statement_lasts X Y statement branch lasts enters (o.Alt branches otherwise) kept =
+    AllZip enters branches (out-Lasting kept).branches × ElseLasts lasts otherwise (out-Lasting kept).block
+statement_lasts X Y statement branch lasts enters (o.For first bound block) kept = AllZip lasts block (out-Lasting kept).block
+
+-- one layer of a branch
+abbrev pub branch_lasts : (X Y : Type 0) → (X → Statement) → (Y → Branch) → (X → Lasting → Type 0) → (Y → Lasting → Type 0)
+    → o.Branch-F X Y → Lasting → Type 0
+branch_lasts X Y statement branch lasts enters x kept = Lasts x.receiving.wanted (out-Lasting kept).wanted × AllZip lasts x.block (out-Lasting kept).block
+
+-- this is what lasts of the statement
+unfoldable pub IsLasting : Statement → Lasting → Type 0
+IsLasting x kept = rec-Statement (Lasting → Type 0) (Lasting → Type 0) statement_lasts branch_lasts x kept
+
+-- of the branch
+unfoldable pub IsLastingBranch : Branch → Lasting → Type 0
+IsLastingBranch x kept = rec-Branch (Lasting → Type 0) (Lasting → Type 0) statement_lasts branch_lasts x kept
+
+-- of the statements of a block, one for each
+abbrev pub AreLasting : List Statement → List Lasting → Type 0
+AreLasting xs kept = AllZip IsLasting xs kept
+
+-- of the branches of an `alt`
+abbrev pub AreLastingBranches : List Branch → List Lasting → Type 0
+AreLastingBranches xs kept = AllZip IsLastingBranch xs kept
+
+-- of a block that may be missing
+abbrev pub IsLastingElse : Option (List Statement) → List Lasting → Type 0
+IsLastingElse xs kept = ElseLasts IsLasting xs kept

@@ -1,0 +1,139 @@
+//! What of a body lasts while a behaviour runs: the templates in which no loop variable stands.
+ghost use Rattle.std.specs.Prelude.{IfOk};
+ghost use Rattle.tp_behaviour.specs.Lasting.{AreLasting, AreLastingBranches, IsLasting, IsLastingBranch, Lasts};
+
+use crate::fixed::is_fixed;
+use std::alloc::Global;
+use tp_body::body::{Branch, RecvMsg, Statement};
+use tp_body::fill::fill_template;
+use tp_refusal::memory::Memory;
+use tp_value::items::Items;
+use tp_value::message::MsgTemplate;
+
+/// What lasts of a statement, or of a branch of an `alt`.
+#[derive(Drop)]
+pub struct Lasting {
+    /// What its receiving operation wants, if no loop variable stands in that.
+    pub wanted: Option<MsgTemplate>,
+    /// Of an `alt`: what lasts of its branches.
+    pub branches: Items<Lasting>,
+    /// Of a `for`, of a branch, and of an `alt` with `[else]`: what lasts of the statements of its
+    /// block.
+    pub block: Items<Lasting>,
+}
+
+/// What a receiving operation wants, where no loop variable stands in that.
+///
+/// 50 `Memory` only where an allocation was refused.
+fn lasting_template(alloc: Global, wanted: &RecvMsg) -> Result<Option<MsgTemplate>, Memory>
+    ensures { IfOk result (Lasts wanted.now) }
+{
+    match wanted {
+        RecvMsg::Any => Ok(Some(MsgTemplate::Any)),
+        RecvMsg::Of(_, template) => {
+            if !is_fixed(template) {
+                return Ok(None);
+            }
+            let made = fill_template(alloc, wanted, &[])?;
+            Ok(Some(made))
+        }
+    }
+}
+
+/// What lasts of a statement that receives nothing.
+fn nothing(alloc: Global) -> Lasting {
+    Lasting {
+        wanted: None,
+        branches: Items::new(alloc),
+        block: Items::new(alloc),
+    }
+}
+
+/// What lasts of the statements of a block.
+///
+/// 50 `Memory` only where an allocation was refused.
+#[cycle(lasting)]
+pub(crate) fn lasting_block(alloc: Global, block: &[Statement]) -> Result<Items<Lasting>, Memory>
+    ensures { IfOk result (AreLasting block.now) }
+{
+    let mut made = Items::new(alloc);
+    for statement in block {
+        let one = lasting_statement(alloc, statement)?;
+        made.push(one)?;
+    }
+    Ok(made)
+}
+
+/// What lasts of a statement.
+#[cycle(lasting)]
+fn lasting_statement(alloc: Global, statement: &Statement) -> Result<Lasting, Memory>
+    ensures { IfOk result (IsLasting statement.now) }
+{
+    match statement {
+        Statement::Receive(receiving) => {
+            let wanted = lasting_template(alloc, &receiving.wanted)?;
+            Ok(Lasting {
+                wanted,
+                branches: Items::new(alloc),
+                block: Items::new(alloc),
+            })
+        }
+        Statement::Alt(branches, otherwise) => {
+            let branches = lasting_branches(alloc, branches.as_slice())?;
+            match otherwise {
+                Some(block) => {
+                    let block = lasting_block(alloc, block.as_slice())?;
+                    Ok(Lasting {
+                        wanted: None,
+                        branches,
+                        block,
+                    })
+                }
+                None => Ok(Lasting {
+                    wanted: None,
+                    branches,
+                    block: Items::new(alloc),
+                }),
+            }
+        }
+        Statement::For(_, _, block) => {
+            let block = lasting_block(alloc, block.as_slice())?;
+            Ok(Lasting {
+                wanted: None,
+                branches: Items::new(alloc),
+                block,
+            })
+        }
+        Statement::Send(_) => Ok(nothing(alloc)),
+        Statement::Control(_, _) => Ok(nothing(alloc)),
+        Statement::AllPorts(_) => Ok(nothing(alloc)),
+        Statement::SetVerdict(_) => Ok(nothing(alloc)),
+    }
+}
+
+/// What lasts of the branches of an `alt`.
+#[cycle(lasting)]
+fn lasting_branches(alloc: Global, branches: &[Branch]) -> Result<Items<Lasting>, Memory>
+    ensures { IfOk result (AreLastingBranches branches.now) }
+{
+    let mut made = Items::new(alloc);
+    for branch in branches {
+        let one = lasting_branch(alloc, branch)?;
+        made.push(one)?;
+    }
+    Ok(made)
+}
+
+/// What lasts of a branch of an `alt`.
+#[cycle(lasting)]
+fn lasting_branch(alloc: Global, branch: &Branch) -> Result<Lasting, Memory>
+    ensures { IfOk result (IsLastingBranch branch.now) }
+{
+    let wanted = lasting_template(alloc, &branch.receiving.wanted)?;
+    let block = lasting_block(alloc, branch.block.as_slice())?;
+    Ok(Lasting {
+        wanted,
+        branches: Items::new(alloc),
+        block,
+    })
+}
