@@ -6,10 +6,10 @@ ghost use Rattle.tpr.specs.Ran.{IsRunAnswer, IsRunOf, run_fault_text, run_refusa
 use crate::checking::{answer_check_fault, check_script};
 use crate::modes::{ANSWERED, FAULTED, flushed};
 use std::alloc::Global;
-use std::io;
 use std::io::{Read, Write};
 use std::sync::Wait;
 use std::thread::Threads;
+use std::{io, mem};
 use tp_exec::fault::RunFault;
 use tp_exec::gate::Gate;
 use tp_exec::run::run;
@@ -62,7 +62,11 @@ fn answer_test_case<T: Threads + Wait + Sync, W: Write, G: Gate>(
 {
     match run(rt, alloc, test_case, gate) {
         Ok(report) => match write_report(test_case, &report, writer) {
-            Ok(()) => flushed(writer, ANSWERED),
+            Ok(()) => {
+                // The process ends behind this: to drop a long history first is a tenth of a run.
+                mem::forget(report);
+                flushed(writer, ANSWERED)
+            }
             Err(_) => None,
         },
         Err(fault) => answer_run_fault(writer, fault),
