@@ -97,26 +97,26 @@ many_parameters() {
 # A port type with 70 message types.
 many_message_types() {
     local before
-    before="$(on_lines 'type record R@ { }' 71)"
-    module_with "$before" "type port Q message { inout $(listed 'R@' 70); } type component D { port Q r; }" \
-        'testcase t() runs on D { r.send(R69:{}); r.receive(R0:{}); }' '}'
+    before="$(on_lines 'type record Kind@ { }' 71)"
+    module_with "$before" "type port Q message { inout $(listed 'Kind@' 70); } type component D { port Q r; }" \
+        'testcase t() runs on D { r.send(Kind69:{}); r.receive(Kind0:{}); }' '}'
     answered "70 message types" accepted
-    module_with "$before" "type port Q message { inout $(listed 'R@' 70); } type component D { port Q r; }" \
-        'testcase t() runs on D {' 'r.send(R70:{}); }' '}'
+    module_with "$before" "type port Q message { inout $(listed 'Kind@' 70); } type component D { port Q r; }" \
+        'testcase t() runs on D {' 'r.send(Kind70:{}); }' '}'
     answered "70 message types, and another one is sent" '14 Direction 77'
-    module_with "$before" "type port Q message { inout $(listed 'R@' 72); } type component D { port Q r; }" \
+    module_with "$before" "type port Q message { inout $(listed 'Kind@' 72); } type component D { port Q r; }" \
         'testcase t() runs on D { }' '}'
     answered "72 message types, the last unknown" '11 Unknown 75'
-    module_with "$before" "type port Q message { out $(listed 'R@' 70); }" \
+    module_with "$before" "type port Q message { out $(listed 'Kind@' 70); }" \
         'type component D { port Q r; }' 'testcase t() runs on D system D { map(mtc:r, system:r); }' '}'
     answered "70 message types of a port that is mapped" accepted
-    module_with "$before" "type port Q message { out $(listed 'R@' 70); } type port O message { out $(listed 'R@' 69); }" \
+    module_with "$before" "type port Q message { out $(listed 'Kind@' 70); } type port O message { out $(listed 'Kind@' 69); }" \
         'type component D { port Q r; } type component E { port O r; }' 'testcase t() runs on D system E { map(mtc:r, system:r); }' '}'
     answered "70 message types of a port that is mapped, one not sent by the system" '24 MapDirections 77'
-    module_with "$before" "type port Q message { in $(listed 'R@' 70); } type port O message { out $(listed 'R@' 70); }" \
+    module_with "$before" "type port Q message { in $(listed 'Kind@' 70); } type port O message { out $(listed 'Kind@' 70); }" \
         'type component D { port Q r; port O s; }' 'testcase t() runs on D { connect(mtc:r, mtc:s); }' '}'
     answered "70 message types of ports that are connected" accepted
-    module_with "$before" "type port Q message { in $(listed 'R@' 69); } type port O message { out $(listed 'R@' 70); }" \
+    module_with "$before" "type port Q message { in $(listed 'Kind@' 69); } type port O message { out $(listed 'Kind@' 70); }" \
         'type component D { port Q r; port O s; }' 'testcase t() runs on D { connect(mtc:r, mtc:s); }' '}'
     answered "70 message types of ports that are connected, one not received" '20 Directions 77'
 }

@@ -25,17 +25,70 @@ run_again() { # TIMES EXAMPLE [COMMAND..]
     done
 }
 
+# The examples that are run: those that are right.
+runs_of_examples() {
+    local file
+    for file in "$root"/examples/*.ttcn; do
+        if [[ ! -e ${file%.ttcn}.status ]]; then basename -- "$file" .ttcn; fi
+    done
+}
+
 # Half of the runs on one processor, where only one thread is carried out at a time.
 run_each_again() {
-    local file base
-    for file in "$root"/examples/*.ttcn; do
-        base=$(basename -- "$file" .ttcn)
-        if [[ -e ${file%.ttcn}.status ]]; then continue; fi
+    local base
+    for base in $(runs_of_examples); do
         run_again 50 "$base" && run_again 50 "$base" taskset -c 0
         count $?
     done
     run_again 1000 all_wait_for_each_other
     count $?
+}
+
+# Beside a load of two busy processes for each processor, and behind them in rank.
+run_each_beside_a_load() {
+    local base number load=()
+    for ((number = 0; number < 2 * $(nproc); number++)); do
+        yes >/dev/null &
+        load+=($!)
+    done
+    for base in $(runs_of_examples); do
+        kill -0 "${load[@]}" && run_again 20 "$base" nice -n 10
+        count $?
+    done
+    kill "${load[@]}"
+    wait "${load[@]}" 2>/dev/null
+}
+
+# Runs an example where the process may map so many KiB: the program itself, since ./tpr needs some too.
+run_within() { # KIB EXAMPLE
+    local program=$tpr
+    if [[ -z ${TPR-} ]]; then program=$root/crates/tpr/out/tpr; fi
+    (ulimit -v "$1" && exec timeout 20 "$program" run "$root/examples/$2.ttcn") >"$room/printed" 2>"$room/said" </dev/null
+    status=$?
+}
+
+# Runs an example in little memory: as much as it needs, which is found by halving, and then 50 times
+# with a little less and a little more. Where the program starts at all, memory or a thread is refused,
+# or there is a report.
+run_in_little_memory() { # EXAMPLE
+    local low=0 high=1048576 middle kib refusals=0 reports=0
+    while ((high - low > 32)); do
+        middle=$(((low + high) / 2))
+        run_within "$middle" "$1"
+        if is_a_report_of "$1"; then high=$middle; else low=$middle; fi
+    done
+    for ((kib = high - 800; kib < high + 800; kib += 32)); do
+        run_within "$kib" "$1"
+        if ! judge_refused "$1"; then
+            fail_refused "$1 where $kib KiB may be mapped"
+            return 1
+        fi
+        if [[ $status == 3 ]]; then ((refusals += 1)); else ((reports += 1)); fi
+    done
+    if ((refusals == 0 || reports == 0)); then
+        echo "FAILED: $1 in little memory: $refusals refusals and $reports reports"
+        return 1
+    fi
 }
 
 # Whether the last run ended with this fault.
@@ -165,10 +218,23 @@ refuse_each_write() {
     fi
 }
 
-refused_of_each_run() {
-    local base
+write_faults() {
     printf 'fault 50 Memory\n' >"$room/no_memory"
     printf 'fault 51 NoThread\n' >"$room/no_thread"
+}
+
+in_little_memory() {
+    local base
+    write_faults
+    for base in $(runs_of_examples); do
+        run_in_little_memory "$base"
+        count $?
+    done
+}
+
+refused_of_each_run() {
+    local base
+    write_faults
     for base in trigger_skips_to_what_matches two_senders_to_one_that_ended \
         halt_holds_back_what_comes_later system_under_test_answers \
         closed_counter_serves_no_order everyone_is_told_to_stop; do
@@ -192,6 +258,45 @@ refused_of_each_run() {
     set_up "a long report can be made" make_a_long_report || return
     refuse_each_write
     count $?
+}
+
+# A script of 500 turns, each with an alt over a template of 100 lists, one of them with this element.
+write_turns() { # FILE ELEMENT
+    local lists
+    lists=$(yes '{1, 2}' | head -n 99 | tr '\n' ',')
+    cat >"$1" <<END
+module Turns {
+    type record of integer Row
+    type record of Row Table
+    type port Tables message { inout Table; }
+    type component Looker { port Tables tables; }
+    testcase looks() runs on Looker {
+        for (var integer turn := 0; turn < 500; turn := turn + 1) {
+            alt {
+                [] tables.receive(Table:{$lists {1, $2}}) { }
+                [else] { }
+            }
+        }
+    }
+}
+END
+}
+
+# A template in which no loop variable stands is filled once for a behaviour and not at each turn, which
+# would take 50,000 allocations. One with a loop variable is filled at each turn.
+fills_a_template_once() {
+    write_turns "$room/fixed.ttcn" 2
+    write_turns "$room/varied.ttcn" turn
+    with_refused MEMORY=20000 -- "$root/crates/tpr/out/tpr" run "$room/varied.ttcn"
+    if ! is_refused memory; then
+        fail_refused "500 fillings of a template of 100 lists, with allocation 20000 refused"
+        return 1
+    fi
+    with_refused MEMORY=20000 -- "$root/crates/tpr/out/tpr" run "$room/fixed.ttcn"
+    if is_refused memory || [[ $status != 0 ]]; then
+        fail_refused "500 turns over one template of 100 lists, with allocation 20000 refused"
+        return 1
+    fi
 }
 
 # A run on stacks of 128 KiB, also of a script of 1 MiB: the report is the same.

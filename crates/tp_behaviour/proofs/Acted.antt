@@ -17,7 +17,7 @@ use Rattle.tp_inbox.specs.declared.entry.Entry.TheVariants as entry
 use Rattle.tp_inbox.specs.History.{arrival_on, arrived_on}
 use Rattle.tp_behaviour.specs.declared.held.Held.{Held}
 use Rattle.tp_behaviour.specs.Fresh.{HasOwn}
-use Rattle.tp_behaviour.specs.Held.{Role}
+use Rattle.tp_behaviour.specs.Held.{Actor}
 use Rattle.tp_behaviour.specs.Moments.{Moment, moments}
 use Rattle.tp_behaviour.specs.Paths.{AreOperated, IsStep, operated}
 use Rattle.tp_behaviour.specs.Seen.{Grew}
@@ -46,11 +46,11 @@ own_more c k e plain own q from to =
     let came : arrived_on q (k ++ e ∷ []) ≡ arrived_on q k = arrived_more q k (e ∷ []) ∙ ap (λ l. arrived_on q k ++ l) (arrived_alone q e (no_arrival q e h.here)) ∙ append-nil (arrived_on q k) in
     ap length came ∙ own q from to ∙ ap length (sym (sent_same q k e (h.unsent q)))
 
-pub stepped_verdict : (r : Role) (v : Verdict) (k n : List Entry) → moments n ≡ moments k ++ record { before = k; entry = entry.Verdict v } ∷ []
+pub stepped_verdict : (r : Actor) (v : Verdict) (k n : List Entry) → moments n ≡ moments k ++ record { before = k; entry = entry.Verdict v } ∷ []
     → (turns : List ℤ) (vs : List (Option Held)) → Grew (λ ts. IsStep r turns vs (b.SetVerdict v) ts vs) k n
 stepped_verdict r v k n more turns vs = (record { before = k; entry = entry.Verdict v } ∷ [], more, IsStep.set_verdict turns vs v k)
 
-pub stepped_control : (r : Role) (o : PortOperation) (port : ℕ) (k l n : List Entry) → moments l ≡ moments k → moments n ≡ moments l ++ record { before = l; entry = operated o port } ∷ []
+pub stepped_control : (r : Actor) (o : PortOperation) (port : ℕ) (k l n : List Entry) → moments l ≡ moments k → moments n ≡ moments l ++ record { before = l; entry = operated o port } ∷ []
     → (turns : List ℤ) (vs : List (Option Held)) → Grew (λ ts. IsStep r turns vs (b.Control port o) ts vs) k n
 stepped_control r o port k l n same more turns vs =
     (record { before = l; entry = operated o port } ∷ [], more ∙ ap (λ ts. ts ++ record { before = l; entry = operated o port } ∷ []) same, IsStep.control turns vs port o l)
@@ -80,7 +80,7 @@ grew_further o n k l m (ts, grown, so) log more =
     (ts ++ t ∷ [], more ∙ ap (λ xs. xs ++ t ∷ []) grown ∙ append_assoc (moments k) ts (t ∷ []), subst (λ x. AreSoFar o (suc n) x (ts ++ t ∷ [])) (sym log) (one_further o n l ts so))
 
 -- all ports
-pub stepped_all : (r : Role) (o : PortOperation) (n : ℕ) (k l m : List Entry) → n ≡ length (ports_at r.config.types r.config.components r.comp) → moments l ≡ moments k → Grew (AreSoFar o n m) l m
+pub stepped_all : (r : Actor) (o : PortOperation) (n : ℕ) (k l m : List Entry) → n ≡ length (ports_at r.config.types r.config.components r.comp) → moments l ≡ moments k → Grew (AreSoFar o n m) l m
     → (turns : List ℤ) (vs : List (Option Held)) → Grew (λ ts. IsStep r turns vs (b.AllPorts o) ts vs) k m
 stepped_all r o n k l m count same (ts, grown, so) turns vs =
     (ts, grown ∙ ap (λ xs. xs ++ ts) same, IsStep.all_ports turns vs o ts (subst (λ j. AreOperated o j ts) count (all_of o n m ts so)))

@@ -12,7 +12,7 @@ use Rattle.tp_behaviour.specs.declared.held.Held.{Held}
 use Rattle.tp_behaviour.specs.declared.outcome.Outcome.{Outcome}
 use Rattle.tp_behaviour.specs.declared.outcome.Outcome.TheVariants as outcome
 use Rattle.tp_behaviour.specs.Ends.{Follows, Stops}
-use Rattle.tp_behaviour.specs.Held.{Role, unset}
+use Rattle.tp_behaviour.specs.Held.{Actor, unset}
 use Rattle.tp_behaviour.specs.Moments.{Moment, moments}
 use Rattle.tp_behaviour.specs.Outcomes.{Ends, HasEnded}
 use Rattle.tp_behaviour.specs.Paths.{IsPath}
@@ -38,7 +38,7 @@ none_more types i before after below none more =
     more ∙ ap (λ (vs : List (Option Held)). vs ++ None ∷ []) none ∙ sym one
 
 -- the moments of any history that has those of the statements are a path of them, or stop within them
-followed : (r : Role) (body : Body) (o : Outcome) (ts : List Moment) (ws : List (Option Held)) (n : List Entry) → moments n ≡ ts
+followed : (r : Actor) (body : Body) (o : Outcome) (ts : List Moment) (ws : List (Option Held)) (n : List Entry) → moments n ≡ ts
     → Ends r o [] (unset body) body.statements ts ws → HasEnded r body o n
 followed r body outcome.Done ts ws n trace ends =
     λ whole same. Follows.done ws (subst (λ us. IsPath r [] (unset body) body.statements us ws) (sym (same ∙ trace)) ends)
@@ -48,7 +48,7 @@ followed r body (outcome.Waiting guards) ts ws n trace ends =
     λ whole same none. Follows.waiting (subst (Stops r whole ending.Waiting [] (unset body) body.statements) (sym (same ∙ trace)) (ends whole none))
 
 -- a body that was carried out from the beginning
-pub has_ended : (r : Role) (body : Body) (o : Outcome) (turns : List ℤ) (vs : List (Option Held)) (block : List Statement) (ws : List (Option Held)) (k n : List Entry)
+pub has_ended : (r : Actor) (body : Body) (o : Outcome) (turns : List ℤ) (vs : List (Option Held)) (block : List Statement) (ws : List (Option Held)) (k n : List Entry)
     → turns ≡ [] → vs ≡ unset body → block ≡ body.statements → moments k ≡ [] → Grew (λ ts. Ends r o turns vs block ts ws) k n → HasEnded r body o n
 has_ended r body o turns vs block ws k n no_turn not_set whole begun h =
     followed r body o h.0 ws n (h.1 ∙ ap (λ ts. ts ++ h.0) begun)

@@ -20,7 +20,7 @@ use Rattle.tp_behaviour.specs.declared.station.Station.{Station}
 use Rattle.tp_behaviour.specs.declared.station.State.{State}
 use Rattle.tp_behaviour.specs.Choices.{NoneOpen}
 use Rattle.tp_behaviour.specs.Ends.{Stops, StopsWithin}
-use Rattle.tp_behaviour.specs.Held.{Role, redirected}
+use Rattle.tp_behaviour.specs.Held.{Actor, redirected}
 use Rattle.tp_behaviour.specs.Moments.{Moment}
 use Rattle.tp_behaviour.specs.Outcomes.{Ends, EndsStep, EndsTurns, Executed, Stepped, StopsTurn}
 use Rattle.tp_behaviour.specs.Parts.{Decided, Enters, EntersElse, ExecutedAt, Turned}
@@ -33,7 +33,7 @@ use Rattle.tp_behaviour.proofs.Stepped.{grew_on}
 behind : (drops ts more : List Moment) (t : Moment) → ts ≡ drops ++ t ∷ [] → drops ++ t ∷ more ≡ ts ++ more
 behind drops ts more t is = sym (ap (λ xs. xs ++ more) is ∙ append_assoc drops (t ∷ []) more)
 
-module _ (r : Role) (turns : List ℤ) (vs us ws : List (Option Held)) (xs : List Branch) (otherwise : Option (List Statement)) where
+module _ (r : Actor) (turns : List ℤ) (vs us ws : List (Option Held)) (xs : List Branch) (otherwise : Option (List Statement)) where
   set_by : (i : ℕ) (x : Branch) (ts : List Moment) (h : Enters xs (guards_of r (record { turns = turns; variables = vs }) xs) i vs us ts) → slice_get xs i ≡ Some x
       → us ≡ redirected x.receiving h.env vs
   set_by i x ts h at = h.entered.set ∙ ap (λ (y : Branch). redirected y.receiving h.env vs) (same_Some h.entered.branch x (sym h.entered.there ∙ at))
@@ -57,7 +57,7 @@ module _ (r : Role) (turns : List ℤ) (vs us ws : List (Option Held)) (xs : Lis
       (subst (λ us'. Stops r whole ending.Waiting turns us' x.block more) set (block whole none)))
 
 -- the block of `[else]`
-module _ (r : Role) (turns : List ℤ) (vs us ws : List (Option Held)) (xs : List Branch) (has_else : Bool) (items : List Statement) where
+module _ (r : Actor) (turns : List ℤ) (vs us ws : List (Option Held)) (xs : List Branch) (has_else : Bool) (items : List Statement) where
   of_else : (o : Outcome) (ts more : List Moment) → EntersElse (guards_of r (record { turns = turns; variables = vs }) xs) has_else vs us ts
       → Ends r o turns us items more ws → EndsStep r o turns vs (b.Alt xs (Some items)) (ts ++ more) ws
   of_else outcome.Done ts more h block =
@@ -129,7 +129,7 @@ step_waits p x xs ys otherwise has_else waiting here before there after is are t
     (decided.0, decided.1, λ all closed. StopsWithin.waits_at_alt turns vs ys decided.0 h.drops (subst (NoneOpen all) h.same closed))
 
 -- a `for`
-module _ (r : Role) (turns : List ℤ) (vs ws : List (Option Held)) (first bound : ℤ) (block : List Statement) where
+module _ (r : Actor) (turns : List ℤ) (vs ws : List (Option Held)) (first bound : ℤ) (block : List Statement) where
   of_turn : (whole : List Entry) (end : End) (ts : List Moment)
       → StopsTurn r turns vs first block (turns_between first bound) (λ inner us more. Stops r whole end inner us block more) ts
       → StopsWithin r whole end turns vs (b.For first bound block) ts

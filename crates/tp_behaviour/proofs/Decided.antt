@@ -14,7 +14,7 @@ use Rattle.tp_behaviour.specs.declared.choosing.Choice.TheVariants as choice
 use Rattle.tp_behaviour.specs.declared.held.Held.{Held}
 use Rattle.tp_behaviour.specs.declared.post.Post.{Post}
 use Rattle.tp_behaviour.specs.declared.station.Station.{Station}
-use Rattle.tp_behaviour.specs.Held.{Role, Values, guard_of}
+use Rattle.tp_behaviour.specs.Held.{Actor, Values, guard_of}
 use Rattle.tp_behaviour.specs.Outcomes.{stage_at}
 use Rattle.tp_behaviour.specs.Parts.{Enters, IsEntered}
 use Rattle.tp_behaviour.specs.Paths.{guards_of}
@@ -23,7 +23,7 @@ use Rattle.tp_behaviour.specs.Stations.{IsManned, role_of}
 use Rattle.tp_behaviour.proofs.Chosen.{chosen_below}
 use Rattle.tp_behaviour.proofs.Stayed.{ports_there}
 
-below_each : (s : Stage) (n : ℕ) (r : Role) (vs : Values) (xs : List Branch) → CanEnterAll s n xs → All (λ (g : Guard). g.port < s.ports) (guards_of r vs xs)
+below_each : (s : Stage) (n : ℕ) (r : Actor) (vs : Values) (xs : List Branch) → CanEnterAll s n xs → All (λ (g : Guard). g.port < s.ports) (guards_of r vs xs)
 below_each s n r vs [] can = All-nil (λ (g : Guard). g.port < s.ports)
 below_each s n r vs (x ∷ xs) can =
     All-cons (λ (g : Guard). g.port < s.ports) (guard_of r vs x.receiving) (guards_of r vs xs) (enters_receive s n x can.0).port (below_each s n r vs xs can.1)
@@ -36,7 +36,7 @@ guards_within p s n vs xs gs manned can is =
     (subst (All (λ (g : Guard). g.port < (stage_at p).ports)) (sym is) (below_each (stage_at p) n (role_of p) vs xs can))
 
 -- the branch that is chosen is there
-pub chose_within : (r : Role) (vs : Values) (xs : List Branch) (gs : List Guard) (has_else : Bool) (i : ℕ) (e : Env Message) (k n : List Entry)
+pub chose_within : (r : Actor) (vs : Values) (xs : List Branch) (gs : List Guard) (has_else : Bool) (i : ℕ) (e : Env Message) (k n : List Entry)
     → gs ≡ guards_of r vs xs → Grew (Chose gs has_else (choice.Branch i e)) k n → i < length xs
 chose_within r vs xs gs has_else i e k n is grew =
     let t = grew.2 in
@@ -44,7 +44,7 @@ chose_within r vs xs gs has_else i e k n is grew =
     omega (arith, ap length is, length-map xs (λ (x : Branch). guard_of r vs x.receiving))
 
 -- a branch was chosen, and its variables set
-pub entered : (r : Role) (vs : Values) (xs : List Branch) (gs : List Guard) (has_else : Bool) (i : ℕ) (e : Env Message) (ws : List (Option Held)) (k n : List Entry)
+pub entered : (r : Actor) (vs : Values) (xs : List Branch) (gs : List Guard) (has_else : Bool) (i : ℕ) (e : Env Message) (ws : List (Option Held)) (k n : List Entry)
     → gs ≡ guards_of r vs xs → Grew (Chose gs has_else (choice.Branch i e)) k n → IsEntered xs i e vs.variables ws → Grew (Enters xs (guards_of r vs xs) i vs.variables ws) k n
 entered r vs xs gs has_else i e ws k n is grew set =
     let h = subst (λ (ys : List Guard). Grew (Chose ys has_else (choice.Branch i e)) k n) is grew in

@@ -12,7 +12,7 @@ use Rattle.tp_behaviour.specs.declared.post.Post.{Post}
 use Rattle.tp_behaviour.specs.declared.station.Station.{Station}
 use Rattle.tp_behaviour.specs.declared.station.State.{State}
 use Rattle.tp_behaviour.specs.Ends.{Stops, StopsWithin}
-use Rattle.tp_behaviour.specs.Held.{Role}
+use Rattle.tp_behaviour.specs.Held.{Actor}
 use Rattle.tp_behaviour.specs.Moments.{Moment, moments}
 use Rattle.tp_behaviour.specs.Outcomes.{Ends, EndsStep, Executed, Stepped}
 use Rattle.tp_behaviour.specs.Paths.{IsPath, IsStep}
@@ -29,7 +29,7 @@ pub passed_start : (p : Post) (block : List Statement) (here : Station) (before 
 passed_start p block here before = ([], sym (append-nil (moments here.desk.log)), IsPath.no_statement before.turns.items before.variables.items)
 
 -- what a statement came to, where the loop variables hold what they held at first
-as_before : (r : Role) (o : Outcome) (turns us : List ℤ) (vs ws : List (Option Held)) (x : Statement) (k n : List Entry) → us ≡ turns
+as_before : (r : Actor) (o : Outcome) (turns us : List ℤ) (vs ws : List (Option Held)) (x : Statement) (k n : List Entry) → us ≡ turns
     → Grew (λ ts. EndsStep r o us vs x ts ws) k n → Grew (λ ts. EndsStep r o turns vs x ts ws) k n
 as_before r o turns us vs ws x k n same h = subst (λ (l : List ℤ). Grew (λ ts. EndsStep r o l vs x ts ws) k n) same h
 
@@ -57,7 +57,7 @@ passed_all p block i here before there after all passed =
     subst (λ (xs : List Statement). Grew (λ ts. IsPath (role_of p) before.turns.items before.variables.items xs ts after.variables.items) here.desk.log there.desk.log)
     (take_all i block all) passed
 
-module _ (r : Role) (turns : List ℤ) (vs ws us : List (Option Held)) (block : List Statement) (i : ℕ) (x : Statement) (below : i < length block) (is : x ≡ get_or block i x) where
+module _ (r : Actor) (turns : List ℤ) (vs ws us : List (Option Held)) (block : List Statement) (i : ℕ) (x : Statement) (below : i < length block) (is : x ≡ get_or block i x) where
   stops_at : (whole : List Entry) (end : End) (ts more : List Moment) → IsPath r turns vs (take i block) ts ws
       → StopsWithin r whole end turns ws x more → Stops r whole end turns vs block (ts ++ more)
   stops_at whole end ts more path stop =

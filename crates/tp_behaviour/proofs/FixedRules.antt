@@ -2,7 +2,7 @@
 use Rattle.std.proofs.Common.{◌≡◌, ◌∙◌, ℕ, ◌≤◌, ℤ, Bool, List, [], ◌∷◌, Option, Some, map, refl, subst, sym, ap, arith}
 use Rattle.std.specs.Prelude.{All}
 use Rattle.std.proofs.lemmas.List.Elements.{All-head, All-tail}
-use Rattle.tp_value.specs.declared.template.Part.{Part}
+use Rattle.tp_value.specs.declared.template.PatternPart.{PatternPart}
 use Rattle.tp_value.specs.declared.value.Value.TheVariants as x
 use Rattle.tp_value.specs.declared.template.Template.TheVariants as t
 use Rattle.tp_body.specs.declared.body.SendValue.{SendValue}
@@ -39,15 +39,15 @@ needed_by_any : needed_by_template r.Any ≡ 0
 unfolding needed_by_template
 needed_by_any = ap needed_by_template (sym r.rolls-Any) ∙ fold-roll-RecvTemplate ℕ needed_template_step p.Any
 
-needed_by_many : needed_by_template r.Many ≡ 0
+needed_by_many : needed_by_template r.AnyOrNone ≡ 0
 unfolding needed_by_template
-needed_by_many = ap needed_by_template (sym r.rolls-Many) ∙ fold-roll-RecvTemplate ℕ needed_template_step p.Many
+needed_by_many = ap needed_by_template (sym r.rolls-AnyOrNone) ∙ fold-roll-RecvTemplate ℕ needed_template_step p.AnyOrNone
 
 needed_by_range : (low high : Option ℤ) → needed_by_template (r.Range low high) ≡ 0
 unfolding needed_by_template
 needed_by_range low high = ap needed_by_template (sym (r.rolls-Range low high)) ∙ fold-roll-RecvTemplate ℕ needed_template_step (p.Range low high)
 
-needed_by_pattern : (ps : List Part) → needed_by_template (r.Pattern ps) ≡ 0
+needed_by_pattern : (ps : List PatternPart) → needed_by_template (r.Pattern ps) ≡ 0
 unfolding needed_by_template
 needed_by_pattern ps = ap needed_by_template (sym (r.rolls-Pattern ps)) ∙ fold-roll-RecvTemplate ℕ needed_template_step (p.Pattern ps)
 
@@ -96,7 +96,7 @@ fixed_exact y h = (
 pub fixed_any : IsFixed r.Any
 fixed_any = (omega (arith, needed_by_any), λ turns others. template_any turns ∙ sym (template_any others))
 
-pub fixed_many : IsFixed r.Many
+pub fixed_many : IsFixed r.AnyOrNone
 fixed_many = (omega (arith, needed_by_many), λ turns others. template_many turns ∙ sym (template_many others))
 
 pub fixed_one_of : (ts : List RecvTemplate) → All IsFixed ts → IsFixed (r.OneOf ts)
@@ -114,7 +114,7 @@ fixed_none_of ts h = (
 pub fixed_range : (low high : Option ℤ) → IsFixed (r.Range low high)
 fixed_range low high = (omega (arith, needed_by_range low high), λ turns others. template_range turns low high ∙ sym (template_range others low high))
 
-pub fixed_pattern : (ps : List Part) → IsFixed (r.Pattern ps)
+pub fixed_pattern : (ps : List PatternPart) → IsFixed (r.Pattern ps)
 fixed_pattern ps = (omega (arith, needed_by_pattern ps), λ turns others. template_pattern turns ps ∙ sym (template_pattern others ps))
 
 pub fixed_members : (ts : List RecvTemplate) → All IsFixed ts → IsFixed (r.Record ts)

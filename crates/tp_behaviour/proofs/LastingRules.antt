@@ -5,7 +5,7 @@ use Rattle.std.proofs.lemmas.List.{take_all, take_more}
 use Rattle.std.proofs.lemmas.Slice.Zip.{AllZip-long, all_zipped_more}
 use Rattle.tp_value.specs.declared.verdict.Verdict.{Verdict}
 use Rattle.tp_syntax.specs.declared.tree.PortOperation.{PortOperation}
-use Rattle.tp_body.specs.declared.body.Sending.{Sending}
+use Rattle.tp_body.specs.declared.body.SendOperation.{SendOperation}
 use Rattle.tp_body.specs.declared.body.Receiving.{Receiving}
 use Rattle.tp_body.specs.declared.body.Statement.{Statement}
 use Rattle.tp_body.specs.declared.body.Statement.TheVariants as b
@@ -53,7 +53,7 @@ module _ (kept : Lasting) where
   at : (x : Statement) (y : o.Statement-F Statement Branch) → roll-Statement y ≡ x → IsLasting x kept ≡ statement_lasts Statement Branch (λ z. z) (λ z. z) IsLasting IsLastingBranch y kept
   at x y e = ap (λ z. IsLasting z kept) (sym e) ∙ lasting_roll y
 
-  pub lasting_send : (x : Sending) → IsLasting (b.Send x) kept ≡ Unit {0}
+  pub lasting_send : (x : SendOperation) → IsLasting (b.Send x) kept ≡ Unit {0}
   lasting_send x = at (b.Send x) (o.Send x) (b.rolls-Send x)
 
   pub lasting_receive : (x : Receiving) → IsLasting (b.Receive x) kept ≡ Lasts x.wanted (out-Lasting kept).wanted
@@ -98,38 +98,38 @@ pub zipped_long : {X : Type 0} (p : X → Lasting → Type 0) (xs : List X) (ls 
 zipped_long p xs ls h = AllZip-long p xs ls h
 
 -- what was made lasts of a branch
-abbrev Made : Option MsgTemplate → List Lasting → List Lasting → Lasting
-Made wanted branches block = roll-Lasting (record { wanted = wanted; branches = branches; block = block })
+abbrev made_lasting : Option MsgTemplate → List Lasting → List Lasting → Lasting
+made_lasting wanted branches block = roll-Lasting (record { wanted = wanted; branches = branches; block = block })
 
 module _ (w : Option MsgTemplate) (bs ls : List Lasting) where
-  inside : out-Lasting (Made w bs ls) ≡ record { wanted = w; branches = bs; block = ls }
+  inside : out-Lasting (made_lasting w bs ls) ≡ record { wanted = w; branches = bs; block = ls }
   inside = out-roll-Lasting (record { wanted = w; branches = bs; block = ls })
 
-  pub make_branch : (x : Branch) → Lasts x.receiving.wanted w → AreLasting x.block ls → IsLastingBranch x (Made w bs ls)
+  pub make_branch : (x : Branch) → Lasts x.receiving.wanted w → AreLasting x.block ls → IsLastingBranch x (made_lasting w bs ls)
   make_branch x first block =
-      subst (λ (P : Type 0). P) (sym (lasting_branch (Made w bs ls) x ∙ (λ i. Lasts x.receiving.wanted (inside i).wanted × AreLasting x.block (inside i).block))) (first, block)
+      subst (λ (P : Type 0). P) (sym (lasting_branch (made_lasting w bs ls) x ∙ (λ i. Lasts x.receiving.wanted (inside i).wanted × AreLasting x.block (inside i).block))) (first, block)
 
 -- of a statement, by what it is
 module _ (x : Statement) (w : Option MsgTemplate) (bs ls : List Lasting) where
-  kind_of : (P : Type 0) (y : Statement) → x ≡ y → IsLasting y (Made w bs ls) ≡ P → P → IsLasting x (Made w bs ls)
-  kind_of P y e is h = subst (λ z. IsLasting z (Made w bs ls)) (sym e) (subst (λ (Q : Type 0). Q) (sym is) h)
+  kind_of : (P : Type 0) (y : Statement) → x ≡ y → IsLasting y (made_lasting w bs ls) ≡ P → P → IsLasting x (made_lasting w bs ls)
+  kind_of P y e is h = subst (λ z. IsLasting z (made_lasting w bs ls)) (sym e) (subst (λ (Q : Type 0). Q) (sym is) h)
 
-  pub make_receive : (y : Receiving) → x ≡ b.Receive y → Lasts y.wanted w → IsLasting x (Made w bs ls)
-  make_receive y e h = kind_of (Lasts y.wanted w) (b.Receive y) e (lasting_receive (Made w bs ls) y ∙ (λ i. Lasts y.wanted (inside w bs ls i).wanted)) h
+  pub make_receive : (y : Receiving) → x ≡ b.Receive y → Lasts y.wanted w → IsLasting x (made_lasting w bs ls)
+  make_receive y e h = kind_of (Lasts y.wanted w) (b.Receive y) e (lasting_receive (made_lasting w bs ls) y ∙ (λ i. Lasts y.wanted (inside w bs ls i).wanted)) h
 
   pub make_alt : (branches : List Branch) (otherwise : Option (List Statement)) → x ≡ b.Alt branches otherwise → AreLastingBranches branches bs → IsLastingElse otherwise ls
-      → IsLasting x (Made w bs ls)
+      → IsLasting x (made_lasting w bs ls)
   make_alt branches otherwise e each block =
       kind_of (AreLastingBranches branches bs × IsLastingElse otherwise ls) (b.Alt branches otherwise) e
-      (lasting_alt (Made w bs ls) branches otherwise ∙ (λ i. AreLastingBranches branches (inside w bs ls i).branches × IsLastingElse otherwise (inside w bs ls i).block)) (each, block)
+      (lasting_alt (made_lasting w bs ls) branches otherwise ∙ (λ i. AreLastingBranches branches (inside w bs ls i).branches × IsLastingElse otherwise (inside w bs ls i).block)) (each, block)
 
-  pub make_for : (first bound : ℤ) (block : List Statement) → x ≡ b.For first bound block → AreLasting block ls → IsLasting x (Made w bs ls)
+  pub make_for : (first bound : ℤ) (block : List Statement) → x ≡ b.For first bound block → AreLasting block ls → IsLasting x (made_lasting w bs ls)
   make_for first bound block e h =
-      kind_of (AreLasting block ls) (b.For first bound block) e (lasting_for (Made w bs ls) first bound block ∙ (λ i. AreLasting block (inside w bs ls i).block)) h
+      kind_of (AreLasting block ls) (b.For first bound block) e (lasting_for (made_lasting w bs ls) first bound block ∙ (λ i. AreLasting block (inside w bs ls i).block)) h
 
 -- whatever lasts of a statement in which none is received
 module _ (x : Statement) (kept : Lasting) where
-  pub make_send : (y : Sending) → x ≡ b.Send y → IsLasting x kept
+  pub make_send : (y : SendOperation) → x ≡ b.Send y → IsLasting x kept
   make_send y e = subst (λ z. IsLasting z kept) (sym e) (subst (λ (P : Type 0). P) (sym (lasting_send kept y)) tt)
 
   pub make_control : (k : ℕ) (y : PortOperation) → x ≡ b.Control k y → IsLasting x kept

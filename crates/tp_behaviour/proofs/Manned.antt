@@ -12,7 +12,7 @@ use Rattle.tp_inbox.specs.Ledgers.{Draining, Inbox, IsDeskOf, Sending}
 use Rattle.tp_inbox.specs.Routed.{IsArrivalOn}
 use Rattle.tp_behaviour.specs.declared.station.Station.{Station}
 use Rattle.tp_behaviour.specs.Fresh.{HasOwn, LooksAtPorts}
-use Rattle.tp_behaviour.specs.Held.{Role}
+use Rattle.tp_behaviour.specs.Held.{Actor}
 use Rattle.tp_behaviour.specs.Moments.{Moment, moments}
 use Rattle.tp_behaviour.specs.Outboxes.{IsHome, IsLevel, LeadsBack, routes_of}
 use Rattle.tp_behaviour.specs.Stations.{IsManned, IsNoted, IsPosted, IsSame, IsSentBy}
@@ -35,7 +35,7 @@ length-numbered n [] = refl
 length-numbered n (m ∷ ms) = ap suc (length-numbered (n + 1) ms)
 
 -- the station, once these have arrived
-pub drained : (r : Role) (s : Station) (o : Draining) (d : Journal) (more : List Entry) → IsManned r s → o.inbox ≡ s.owner.inbox → d ≡ adding_all s.desk more
+pub drained : (r : Actor) (s : Station) (o : Draining) (d : Journal) (more : List Entry) → IsManned r s → o.inbox ≡ s.owner.inbox → d ≡ adding_all s.desk more
     → o.drained ≡ s.owner.drained ++ more → arrivals d.log ≡ o.drained → All (IsArrivalOn o.inbox.routes) o.drained
     → (moments d.log ≡ moments s.desk.log) × IsManned r (record { owner = o; desk = d; outbox = s.outbox })
 drained r s o d more m same grown longer arrived routed = (
@@ -84,7 +84,7 @@ on_route q (s ∷ ss) = by (same_route q s.route) refl (on_route q ss) where
   by false e (inr not) = inr (further not e)
 
 -- all that the component has sent to itself is there, where each of its senders that lead back is level
-pub has_own : (r : Role) (s : Station) → IsManned r s → All (IsArrivalOn s.owner.inbox.routes) s.owner.drained
+pub has_own : (r : Actor) (s : Station) → IsManned r s → All (IsArrivalOn s.owner.inbox.routes) s.owner.drained
     → ((x : Sending) → Contains s.outbox x → LeadsBack x → IsLevel s.owner.drained x) → HasOwn r.comp s.desk.log
 has_own r s m routed level q from to = by (on_route q s.outbox) where
   out : List RouteId

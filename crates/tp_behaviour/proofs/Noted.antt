@@ -20,7 +20,7 @@ use Rattle.tp_behaviour.specs.declared.choice.Sight.TheVariants as sight
 use Rattle.tp_behaviour.specs.declared.station.Station.{Station}
 use Rattle.tp_behaviour.specs.Choices.{IsChoice, IsDrop, NoneOpen, chosen}
 use Rattle.tp_behaviour.specs.Fresh.{Fresh, HasOwn, LooksAtPorts}
-use Rattle.tp_behaviour.specs.Held.{Role}
+use Rattle.tp_behaviour.specs.Held.{Actor}
 use Rattle.tp_behaviour.specs.Looks.{Looked, moment}
 use Rattle.tp_behaviour.specs.Moments.{Moment, moments}
 use Rattle.tp_behaviour.specs.Outboxes.{routes_of}
@@ -79,13 +79,13 @@ pub sent_same : (q : RouteId) (k : List Entry) (e : Entry) → sending_on q e �
 sent_same q k e none = sent_more q k (e ∷ []) ∙ ap (λ l. sent_on q k ++ l) (sent_alone q e none) ∙ append-nil (sent_on q k)
 
 -- the trace, with one moment more, of which this holds as it does of those before
-pub fresh_more : (r : Role) (k : List Entry) (e : Entry) → is_arrival e ≡ false → Fresh r.comp k → (LooksAtPorts e → HasOwn r.comp k) → Fresh r.comp (k ++ e ∷ [])
+pub fresh_more : (r : Actor) (k : List Entry) (e : Entry) → is_arrival e ≡ false → Fresh r.comp k → (LooksAtPorts e → HasOwn r.comp k) → Fresh r.comp (k ++ e ∷ [])
 fresh_more r k e is fresh own =
     subst (All (λ (t : Moment). LooksAtPorts t.entry → HasOwn r.comp t.before)) (sym (moments-own k e is))
     (All-push (λ (t : Moment). LooksAtPorts t.entry → HasOwn r.comp t.before) (moments k) (record { before = k; entry = e }) fresh own)
 
 -- the station, once this was done
-pub noted : (r : Role) (s : Station) (d : Journal) (e : Entry) → IsManned r s → d ≡ adding s.desk e → IsPlain e → (LooksAtPorts e → HasOwn r.comp s.desk.log)
+pub noted : (r : Actor) (s : Station) (d : Journal) (e : Entry) → IsManned r s → d ≡ adding s.desk e → IsPlain e → (LooksAtPorts e → HasOwn r.comp s.desk.log)
     → (moments d.log ≡ moments s.desk.log ++ moment s.desk e ∷ []) × IsManned r (record { owner = s.owner; desk = d; outbox = s.outbox })
 noted r s d e m grown plain own = (
   ap moments log ∙ moments-own s.desk.log e q.here,
@@ -119,7 +119,7 @@ plain_drop : (gs : List Guard) (t : Moment) → IsDrop gs t → IsPlain t.entry
 plain_drop gs _ (IsDrop.dropped k i g e at kd top not none) = tt
 
 -- the station, once its branches were looked at
-pub looked_at : (r : Role) (s : Station) (gs : List Guard) (x : Sight) (d : Journal) → IsManned r s → HasOwn r.comp s.desk.log → Looked gs s.desk x d
+pub looked_at : (r : Actor) (s : Station) (gs : List Guard) (x : Sight) (d : Journal) → IsManned r s → HasOwn r.comp s.desk.log → Looked gs s.desk x d
     → Saw r.comp gs x s.desk.log d.log × IsManned r (record { owner = s.owner; desk = d; outbox = s.outbox })
 looked_at r s gs (sight.Taken i e) d m own (t, choice, grown) =
     let h = noted r s d t m grown (plain_choice gs false (moment s.desk t) i e (choice false)) (λ _. own) in
@@ -134,7 +134,7 @@ looked_at r s gs sight.Nothing d m own (none, same) =
     )
 
 -- the same, from an earlier history with the same trace
-pub saw_from : (r : Role) (gs : List Guard) (x : Sight) (k l n : List Entry) → moments l ≡ moments k → Saw r.comp gs x l n → Saw r.comp gs x k n
+pub saw_from : (r : Actor) (gs : List Guard) (x : Sight) (k l n : List Entry) → moments l ≡ moments k → Saw r.comp gs x l n → Saw r.comp gs x k n
 saw_from r gs (sight.Taken i e) k l n same (ts, grown, h) = (ts, grown ∙ ap (λ xs. xs ++ ts) same, h)
 saw_from r gs sight.Discarded k l n same (ts, grown, h) = (ts, grown ∙ ap (λ xs. xs ++ ts) same, h)
 saw_from r gs sight.Nothing k l n same (grown, none, own) = (grown ∙ same, none, own)

@@ -20,7 +20,7 @@ use Rattle.tp_behaviour.specs.declared.held.Held.{Held}
 use Rattle.tp_behaviour.specs.declared.held.Held.TheVariants as held
 use Rattle.tp_behaviour.specs.Choices.{IsChoice, NoneOpen}
 use Rattle.tp_behaviour.specs.Ends.{StopsWithin}
-use Rattle.tp_behaviour.specs.Held.{Role, guard_of, redirected, set_to}
+use Rattle.tp_behaviour.specs.Held.{Actor, guard_of, redirected, set_to}
 use Rattle.tp_behaviour.specs.Moments.{Moment}
 use Rattle.tp_behaviour.specs.Paths.{IsStep}
 use Rattle.tp_behaviour.specs.Seen.{Chose, Grew}
@@ -32,7 +32,7 @@ the_first : (g : Guard) (has_else : Bool) (t : Moment) (i : ℕ) (e : Env Messag
 the_first g has_else t i e chosen = let h : i < 1 = chosen_below (g ∷ []) has_else t (Some (i, e)) chosen in omega (arith, h)
 
 -- an operation that stands alone is carried out once it is chosen
-pub received : (r : Role) (turns : List ℤ) (vs : List (Option Held)) (x : Receiving) (gs : List Guard) (i : ℕ) (e : Env Message) (k n : List Entry)
+pub received : (r : Actor) (turns : List ℤ) (vs : List (Option Held)) (x : Receiving) (gs : List Guard) (i : ℕ) (e : Env Message) (k n : List Entry)
     → gs ≡ guard_of r (record { turns = turns; variables = vs }) x ∷ [] → Grew (Chose gs false (choice.Branch i e)) k n
     → Grew (λ ts. IsStep r turns vs (b.Receive x) ts (redirected x e vs)) k n
 received r turns vs x gs i e k n are h =
@@ -47,7 +47,7 @@ received r turns vs x gs i e k n are h =
     )
 
 -- or waits, where it isn't open in the whole history
-pub waits_for : (r : Role) (turns : List ℤ) (vs : List (Option Held)) (x : Receiving) (gs : List Guard) (k n : List Entry)
+pub waits_for : (r : Actor) (turns : List ℤ) (vs : List (Option Held)) (x : Receiving) (gs : List Guard) (k n : List Entry)
     → gs ≡ guard_of r (record { turns = turns; variables = vs }) x ∷ [] → Grew (Chose gs false choice.Waits) k n
     → Grew (λ ts. (whole : List Entry) → NoneOpen whole gs → StopsWithin r whole ending.Waiting turns vs (b.Receive x) ts) k n
 waits_for r turns vs x gs k n are h =

@@ -13,7 +13,7 @@ use Rattle.tp_config.specs.declared.routes.RouteFault.{RouteFault}
 use Rattle.tp_config.specs.Routes.{IsRoute, RouteCause, routes_from}
 use Rattle.tp_body.specs.declared.body.Receiver.{Receiver}
 use Rattle.tp_body.specs.declared.body.Receiver.TheVariants as to
-use Rattle.tp_body.specs.declared.body.Sending.{Sending}
+use Rattle.tp_body.specs.declared.body.SendOperation.{SendOperation}
 use Rattle.tp_body.specs.declared.body.Sent.{Sent}
 use Rattle.tp_inbox.specs.declared.entry.Entry.{Entry}
 use Rattle.tp_inbox.specs.declared.entry.Entry.TheVariants as entry
@@ -23,7 +23,7 @@ use Rattle.tp_inbox.specs.Ledgers.{Inbox, Sending as Sender}
 use Rattle.tp_inbox.proofs.Ports.{history-same}
 use Rattle.tp_behaviour.specs.declared.station.Station.{Station}
 use Rattle.tp_behaviour.specs.Ends.{IsFailure, route_number}
-use Rattle.tp_behaviour.specs.Held.{IsNamed, IsSentAs, NamesUnset, Role, SendsUnset, Values}
+use Rattle.tp_behaviour.specs.Held.{IsNamed, IsSentAs, NamesUnset, Actor, SendsUnset, Values}
 use Rattle.tp_behaviour.specs.Looks.{moment}
 use Rattle.tp_behaviour.specs.Moments.{Moment, moments}
 use Rattle.tp_behaviour.specs.Outboxes.{routes_of}
@@ -37,19 +37,19 @@ is_set : (vs : Values) (s : Sent) (m : Message) → IsSentAs vs s m → SendsUns
 is_set vs _ _ (IsSentAs.written m) unset = absurd unset
 is_set vs _ m (IsSentAs.variable k _ holds) unset = let no_ = sym holds ∙ unset in absurd (cc)
 
-is_named : (r : Role) (vs : Values) (to : Receiver) (c : Option CompId) → IsNamed r vs to c → NamesUnset vs to → ⊥
+is_named : (r : Actor) (vs : Values) (to : Receiver) (c : Option CompId) → IsNamed r vs to c → NamesUnset vs to → ⊥
 is_named r vs _ _ IsNamed.nobody unset = absurd unset
 is_named r vs _ _ (IsNamed.reference k c at) unset = absurd unset
 is_named r vs _ _ (IsNamed.variable k c holds) unset = let no_ = sym holds ∙ unset in absurd (cc)
 
 -- a message that went out
-pub sends_one : (r : Role) (vs : Values) (x : Sending) (m : Message) (named : Option CompId) (q : RouteId) (d : Journal) (n : List Entry) → IsStarted d.log x.port → IsSentAs vs x.sent m
+pub sends_one : (r : Actor) (vs : Values) (x : SendOperation) (m : Message) (named : Option CompId) (q : RouteId) (d : Journal) (n : List Entry) → IsStarted d.log x.port → IsSentAs vs x.sent m
     → IsNamed r vs x.to named → IsRoute r.config (port_of r x.port) named q → moments n ≡ moments d.log ++ moment d (entry.Sent q (length (sent_on q d.log)) (next_of d.log m)) ∷ [] → Sends r vs x None d.log n
 sends_one r vs x m named q d n started sent to route more =
     (moment d (entry.Sent q (length (sent_on q d.log)) (next_of d.log m)) ∷ [], more, IsStep.send vs.turns vs.variables x m named q (moment d (entry.Sent q (length (sent_on q d.log)) (next_of d.log m))) sent to route (started, (next_of d.log m, refl, refl)))
 
 -- and one that has no way
-pub cause_route : (r : Role) (vs : Values) (x : Sending) (m : Message) (named : Option CompId) (f : RouteFault) (code : ℕ) (k : List Entry) → IsStarted k x.port → IsSentAs vs x.sent m
+pub cause_route : (r : Actor) (vs : Values) (x : SendOperation) (m : Message) (named : Option CompId) (f : RouteFault) (code : ℕ) (k : List Entry) → IsStarted k x.port → IsSentAs vs x.sent m
     → IsNamed r vs x.to named → RouteCause r.config (port_of r x.port) named f → code ≡ route_number f → IsFailure r vs x k code
 cause_route r vs x m named f code k started sent to cause is = subst (IsFailure r vs x k) (sym is) (IsFailure.no_single_route named f started set to cause)
   where
@@ -73,7 +73,7 @@ pub some_items : {X : Type 0} (xs : List X) (n : ℕ) → length xs ≡ n → (n
 some_items xs n is e none = let zero : n ≡ 0 = sym is ∙ ap length none in true≢false (sym (eq-eqb n 0 zero) ∙ e)
 
 -- one to all that has no way at all
-pub cause_none : (r : Role) (vs : Values) (x : Sending) (m : Message) (routes : List RouteId) (k : List Entry) → IsStarted k x.port → IsSentAs vs x.sent m → x.to ≡ to.All
+pub cause_none : (r : Actor) (vs : Values) (x : SendOperation) (m : Message) (routes : List RouteId) (k : List Entry) → IsStarted k x.port → IsSentAs vs x.sent m → x.to ≡ to.All
     → routes ≡ routes_from r.config (port_of r x.port) → routes ≡ [] → IsFailure r vs x k 41
 cause_none r vs x m routes k started sent all are none = IsFailure.no_route_at_all started set all (sym are ∙ none)
   where
@@ -121,7 +121,7 @@ some_moment port m (q ∷ qs) [] zip some none = absurd zip
 some_moment port m (q ∷ qs) (t ∷ ts) zip some none = absurd (cc)
 
 -- a message that went out on each route of the port
-pub sends_all : (r : Role) (vs : Values) (x : Sending) (m : Message) (routes : List RouteId) (k n : List Entry) → IsSentAs vs x.sent m → x.to ≡ to.All
+pub sends_all : (r : Actor) (vs : Values) (x : SendOperation) (m : Message) (routes : List RouteId) (k n : List Entry) → IsSentAs vs x.sent m → x.to ≡ to.All
     → routes ≡ routes_from r.config (port_of r x.port) → (routes ≡ [] → ⊥) → Grew (AllZip (IsSentOn x.port m) routes) k n → Sends r vs x None k n
 sends_all r vs x m routes k n sent all are some (ts, grown, zip) =
     (ts, grown, IsStep.send_to_all vs.turns vs.variables x m ts sent all (some_moment x.port m routes ts zip some) (subst (λ l. AllZip (IsSentOn x.port m) l ts) are zip))

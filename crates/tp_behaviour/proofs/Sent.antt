@@ -14,7 +14,7 @@ use Rattle.tp_inbox.specs.Ledgers.{Inbox, IsDeskOf, Sending, putting}
 use Rattle.tp_inbox.proofs.Routes.{numbered-snoc}
 use Rattle.tp_behaviour.specs.declared.station.Station.{Station}
 use Rattle.tp_behaviour.specs.Fresh.{Fresh}
-use Rattle.tp_behaviour.specs.Held.{Role}
+use Rattle.tp_behaviour.specs.Held.{Actor}
 use Rattle.tp_behaviour.specs.Looks.{moment}
 use Rattle.tp_behaviour.specs.Moments.{moments}
 use Rattle.tp_behaviour.specs.Outboxes.{HasPut, IsHome, put_on, routes_of}
@@ -90,7 +90,7 @@ noted_all k q n m (s ∷ ss) number all =
     All-cons (IsNoted (k ++ entry.Sent q n m ∷ [])) (put_on q m s) (map (put_on q m) ss) (noted_one k q n m s number (All-head (IsNoted k) s ss all)) (noted_all k q n m ss number (All-tail (IsNoted k) s ss all))
 
 -- the station, once a message was put on a route and this was noted
-pub has_sent : (r : Role) (s : Station) (d : Journal) (out : List Sending) (q : RouteId) (n : ℕ) (m : Stamped) → IsManned r s → Contains (routes_of s.outbox) q → HasPut q m n s.outbox out
+pub has_sent : (r : Actor) (s : Station) (d : Journal) (out : List Sending) (q : RouteId) (n : ℕ) (m : Stamped) → IsManned r s → Contains (routes_of s.outbox) q → HasPut q m n s.outbox out
     → d ≡ adding s.desk (entry.Sent q n m)
     → (n ≡ length (sent_on q s.desk.log)) × (moments d.log ≡ moments s.desk.log ++ moment s.desk (entry.Sent q n m) ∷ []) × IsManned r (record { owner = s.owner; desk = d; outbox = out })
 has_sent r s d out q n m manned known (one, after) grown = (

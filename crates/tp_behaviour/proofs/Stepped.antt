@@ -1,20 +1,20 @@
 -- How what a statement comes to is put together.
 use Rattle.std.proofs.Common.{◌≡◌, ◌∙◌, ℕ, List, [], ◌∷◌, ◌++◌, ap}
 use Rattle.std.proofs.lemmas.List.{append_assoc}
-use Rattle.tp_body.specs.declared.body.Sending.{Sending}
+use Rattle.tp_body.specs.declared.body.SendOperation.{SendOperation}
 use Rattle.tp_body.specs.declared.body.Statement.TheVariants as b
 use Rattle.tp_inbox.specs.declared.entry.Entry.{Entry}
 use Rattle.tp_inbox.specs.declared.entry.Entry.TheVariants as entry
 use Rattle.tp_report.specs.declared.ending.End.TheVariants as ending
 use Rattle.tp_behaviour.specs.Ends.{StopsWithin}
-use Rattle.tp_behaviour.specs.Held.{Role, Values}
+use Rattle.tp_behaviour.specs.Held.{Actor, Values}
 use Rattle.tp_behaviour.specs.Moments.{Moment, moments}
 use Rattle.tp_behaviour.specs.Seen.{Grew}
 use Rattle.tp_behaviour.specs.Sends.{Sends}
 use Rattle.std.specs.Prelude.{Some}
 
 -- a send that fails ends the behaviour
-pub failed : (r : Role) (vs : Values) (x : Sending) (code : ℕ) (k n : List Entry) → Sends r vs x (Some code) k n
+pub failed : (r : Actor) (vs : Values) (x : SendOperation) (code : ℕ) (k n : List Entry) → Sends r vs x (Some code) k n
     → Grew (λ ts. (whole : List Entry) → StopsWithin r whole (ending.Error code) vs.turns vs.variables (b.Send x) ts) k n
 failed r vs x code k n grew =
     let t = grew.2.0 in

@@ -12,7 +12,7 @@ use Rattle.tp_behaviour.specs.declared.outcome.Outcome.TheVariants as outcome
 use Rattle.tp_behaviour.specs.declared.post.Post.{Post}
 use Rattle.tp_behaviour.specs.declared.station.Station.{Station}
 use Rattle.tp_behaviour.specs.declared.station.State.{State}
-use Rattle.tp_behaviour.specs.Held.{Role}
+use Rattle.tp_behaviour.specs.Held.{Actor}
 use Rattle.tp_behaviour.specs.Moments.{Moment, moments}
 use Rattle.tp_behaviour.specs.Outcomes.{Ends, EndsTurns}
 use Rattle.tp_behaviour.specs.Parts.{ExecutedIn, Turned}
@@ -29,7 +29,7 @@ pub some_between : (first bound : ℤ) → first <ℤ bound → first +ℤ pos (
 some_between first bound below = grind (arith, ints)
 
 -- a block of nothing has as many turns as one likes
-pub empty_turns : (r : Role) (turns : List ℤ) (vs : List (Option Held)) (first : ℤ) (n : ℕ) → AreTurns r turns vs first [] n [] vs
+pub empty_turns : (r : Actor) (turns : List ℤ) (vs : List (Option Held)) (first : ℤ) (n : ℕ) → AreTurns r turns vs first [] n [] vs
 empty_turns r turns vs first zero = AreTurns.no_turn turns vs first []
 empty_turns r turns vs first (suc n) =
     AreTurns.one_turn_more turns vs vs vs first [] n [] [] (empty_turns r turns vs first n) (IsPath.no_statement (turns ++ (first +ℤ pos n) ∷ []) vs)
@@ -47,13 +47,13 @@ turned_empty p first block n here before none = (
 )
 
 -- the turns up to this value of the loop variable were made
-pub record Made (p : Post) (first value bound : ℤ) (block : List Statement) (here : Station) (before : State) (there : Station) (after : State) : Type 0 where
+pub record TurnsMade (p : Post) (first value bound : ℤ) (block : List Statement) (here : Station) (before : State) (there : Station) (after : State) : Type 0 where
   pub count : ℕ
   pub at : value ≡ first +ℤ pos count
   pub within : count ≤ turns_between first bound
   pub grew : Grew (λ ts. AreTurns (role_of p) before.turns.items before.variables.items first block count ts after.variables.items) here.desk.log there.desk.log
 
-pub made_start : (p : Post) (first bound : ℤ) (block : List Statement) (here : Station) (before : State) → Made p first first bound block here before here before
+pub made_start : (p : Post) (first bound : ℤ) (block : List Statement) (here : Station) (before : State) → TurnsMade p first first bound block here before here before
 made_start p first bound block here before = record {
   count = 0;
   at = omega (arith, ints);
@@ -76,8 +76,8 @@ as_counted p o turns us first value n block mid now there after same at h =
 
 -- one turn more
 pub made_more : (p : Post) (first value bound next : ℤ) (block : List Statement) (here : Station) (before : State) (mid : Station) (now : State) (there : Station) (after : State)
-    → now.turns.items ≡ before.turns.items → value <ℤ bound → next ≡ value +ℤ pos 1 → Made p first value bound block here before mid now
-    → ExecutedIn p (now.turns.items ++ value ∷ []) block outcome.Done mid now there after → Made p first next bound block here before there after
+    → now.turns.items ≡ before.turns.items → value <ℤ bound → next ≡ value +ℤ pos 1 → TurnsMade p first value bound block here before mid now
+    → ExecutedIn p (now.turns.items ++ value ∷ []) block outcome.Done mid now there after → TurnsMade p first next bound block here before there after
 made_more p first value bound next block here before mid now there after same below is made turn =
     let r = role_of p in
     let turns = before.turns.items in
@@ -97,7 +97,7 @@ made_more p first value bound next block here before mid now there after same be
 
 -- all of them
 pub made_all : (p : Post) (first value bound : ℤ) (block : List Statement) (here : Station) (before : State) (there : Station) (after : State)
-    → bound ≤ℤ value → Made p first value bound block here before there after → Turned p first block (turns_between first bound) outcome.Done here before there after
+    → bound ≤ℤ value → TurnsMade p first value bound block here before there after → Turned p first block (turns_between first bound) outcome.Done here before there after
 made_all p first value bound block here before there after above made =
     subst (λ (n : ℕ). Turned p first block n outcome.Done here before there after) (all_made first value bound made.count above made.at made.within) made.grew
   where
@@ -105,7 +105,7 @@ made_all p first value bound block here before there after above made =
     all_made first value bound zero above at within = sym (none_between first bound (omega (arith, ints)))
     all_made first value bound (suc n) above at within = by_lt_z first bound (λ low. let whole = some_between first bound low in omega (arith, ints)) (λ high. let none = none_between first bound high in omega (arith, ints))
 
-module _ (r : Role) (turns : List ℤ) (vs ws us : List (Option Held)) (first : ℤ) (block : List Statement) (count n : ℕ) (less : n < count) where
+module _ (r : Actor) (turns : List ℤ) (vs ws us : List (Option Held)) (first : ℤ) (block : List Statement) (count n : ℕ) (less : n < count) where
   ends_in : (o : Outcome) → (o ≡ outcome.Done → ⊥) → (ts more : List Moment) → AreTurns r turns vs first block n ts ws
       → Ends r o (turns ++ (first +ℤ pos n) ∷ []) ws block more us → EndsTurns r o turns vs first block count (ts ++ more) us
   ends_in outcome.Done other ts more so one = absurd (other refl)
@@ -114,7 +114,7 @@ module _ (r : Role) (turns : List ℤ) (vs ws us : List (Option Held)) (first : 
 
 -- the next one ends otherwise: the `for` does
 pub made_stop : (p : Post) (first value bound : ℤ) (block : List Statement) (o : Outcome) (here : Station) (before : State) (mid : Station) (now : State) (there : Station) (after : State)
-    → (o ≡ outcome.Done → ⊥) → now.turns.items ≡ before.turns.items → value <ℤ bound → Made p first value bound block here before mid now
+    → (o ≡ outcome.Done → ⊥) → now.turns.items ≡ before.turns.items → value <ℤ bound → TurnsMade p first value bound block here before mid now
     → ExecutedIn p (now.turns.items ++ value ∷ []) block o mid now there after → Turned p first block (turns_between first bound) o here before there after
 made_stop p first value bound block o here before mid now there after other same below made turn =
     let r = role_of p in

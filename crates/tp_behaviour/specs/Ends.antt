@@ -5,7 +5,7 @@ use Rattle.tp_config.specs.declared.port_type.CompId.{CompId}
 use Rattle.tp_config.specs.declared.routes.RouteFault.{RouteFault}
 use Rattle.tp_config.specs.declared.routes.RouteFault.TheVariants as fault
 use Rattle.tp_config.specs.Routes.{RouteCause, routes_from}
-use Rattle.tp_body.specs.declared.body.Sending.{Sending}
+use Rattle.tp_body.specs.declared.body.SendOperation.{SendOperation}
 use Rattle.tp_body.specs.declared.body.Receiver.TheVariants as to
 use Rattle.tp_body.specs.declared.body.Receiving.{Receiving}
 use Rattle.tp_body.specs.declared.body.Statement.{Statement}
@@ -21,7 +21,7 @@ use Rattle.tp_report.specs.declared.ending.End.TheVariants as ending
 use Rattle.tp_behaviour.specs.Moments.{Moment, moments}
 use Rattle.tp_behaviour.specs.Choices.{IsChoice, IsDrop, NoneOpen}
 use Rattle.tp_value.specs.declared.message.Message.{Message}
-use Rattle.tp_behaviour.specs.Held.{Role, Values, SendsUnset, NamesUnset, IsNamed, guard_of, redirected, unset}
+use Rattle.tp_behaviour.specs.Held.{Actor, Values, SendsUnset, NamesUnset, IsNamed, guard_of, redirected, unset}
 use Rattle.tp_behaviour.specs.Paths.{IsPath, AreTurns, IsStarted, guards_of, port_of}
 
 -- the numbers of the refusals by which a send ends a behaviour
@@ -44,7 +44,7 @@ route_number fault.NeedsTo = needs_to
 
 -- a send ends the behaviour by this number, the first whose cause holds: the port isn't started; a variable that it speaks of isn't set; and
 -- there is no route, or none to the component named, or there are several and none is named
-pub data IsFailure (r : Role) (vs : Values) (x : Sending) (k : List Entry) : ℕ → Type 0 where
+pub data IsFailure (r : Actor) (vs : Values) (x : SendOperation) (k : List Entry) : ℕ → Type 0 where
   not_started : ¬ IsStarted k x.port → IsFailure r vs x k not_sending
   not_set : IsStarted k x.port → SendsUnset vs x.sent ⊎ NamesUnset vs x.to → IsFailure r vs x k unset_variable
   no_single_route : (named : Option CompId) (f : RouteFault) → IsStarted k x.port → ¬ (SendsUnset vs x.sent ⊎ NamesUnset vs x.to)
@@ -55,9 +55,9 @@ pub data IsFailure (r : Role) (vs : Values) (x : Sending) (k : List Entry) : ℕ
 mutual
   -- the moments lead to a statement within this one, or to itself, and the behaviour stops there with this end, the component's whole history
   -- being `whole`
-  pub data StopsWithin (r : Role) (whole : List Entry) : End → List ℤ → List (Option Held) → Statement → List Moment → Type 0 where
+  pub data StopsWithin (r : Actor) (whole : List Entry) : End → List ℤ → List (Option Held) → Statement → List Moment → Type 0 where
     -- at a send that fails
-    fails : (turns : List ℤ) (vs : List (Option Held)) (x : Sending) (k : List Entry) (code : ℕ)
+    fails : (turns : List ℤ) (vs : List (Option Held)) (x : SendOperation) (k : List Entry) (code : ℕ)
         → IsFailure r (record { turns = turns; variables = vs }) x k code
         → StopsWithin r whole (ending.Error code) turns vs (b.Send x) (record { before = k; entry = entry.Failed code } ∷ [])
     -- at a receiving operation that isn't open in the whole history
@@ -89,12 +89,12 @@ mutual
         → StopsWithin r whole end turns vs (b.For first bound block) (ts ++ more)
 
   -- the moments are a path of the first of these statements, and then lead to a stop within the one behind them
-  pub data Stops (r : Role) (whole : List Entry) : End → List ℤ → List (Option Held) → List Statement → List Moment → Type 0 where
+  pub data Stops (r : Actor) (whole : List Entry) : End → List ℤ → List (Option Held) → List Statement → List Moment → Type 0 where
     stops : (end : End) (turns : List ℤ) (vs ws : List (Option Held)) (xs : List Statement) (x : Statement) (rest : List Statement) (ts more : List Moment)
         → IsPath r turns vs xs ts ws → StopsWithin r whole end turns ws x more → Stops r whole end turns vs (xs ++ x ∷ rest) (ts ++ more)
 
 -- the history follows the behaviour to this end
-pub data Follows (r : Role) (body : Body) (k : List Entry) : End → Type 0 where
+pub data Follows (r : Actor) (body : Body) (k : List Entry) : End → Type 0 where
   done : (vs : List (Option Held)) → IsPath r [] (unset body) body.statements (moments k) vs → Follows r body k ending.Done
   error : (code : ℕ) → Stops r k (ending.Error code) [] (unset body) body.statements (moments k) → Follows r body k (ending.Error code)
   waiting : Stops r k ending.Waiting [] (unset body) body.statements (moments k) → Follows r body k ending.Waiting

@@ -19,7 +19,7 @@ use Rattle.tp_behaviour.specs.declared.held.Held.TheVariants as held
 use Rattle.tp_behaviour.specs.declared.choice.Guard.{Guard}
 
 -- who a behaviour is: the configuration, its component, and the numbers of the components that its references name
-pub record Role : Type 0 where
+pub record Actor : Type 0 where
   pub config : Setup
   pub comp : CompId
   pub references : List ℕ
@@ -47,7 +47,7 @@ pub data IsSentAs (vs : Values) : Sent → Message → Type 0 where
   variable : (k : ℕ) (m : Message) → Holds vs k (held.Value m) → IsSentAs vs (sent.Variable k) m
 
 -- the component that is named as the receiver of one message, if one is
-pub data IsNamed (r : Role) (vs : Values) : Receiver → Option CompId → Type 0 where
+pub data IsNamed (r : Actor) (vs : Values) : Receiver → Option CompId → Type 0 where
   nobody : IsNamed r vs to.Nobody None
   reference : (k : ℕ) (c : CompId) → slice_get r.references k ≡ Some c.0 → IsNamed r vs (to.Reference k) (Some c)
   variable : (k : ℕ) (c : CompId) → Holds vs k (held.Component c) → IsNamed r vs (to.Variable k) (Some c)
@@ -62,7 +62,7 @@ NamesUnset vs (to.Variable k) = IsUnset vs k
 NamesUnset vs _ = ⊥
 
 -- a receiving operation once loop variables and references have their values
-abbrev pub guard_of : Role → Values → Receiving → Guard
+abbrev pub guard_of : Actor → Values → Receiving → Guard
 guard_of r vs x = record {
   port = x.port;
   kind = x.kind;

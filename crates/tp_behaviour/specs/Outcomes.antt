@@ -15,7 +15,7 @@ use Rattle.tp_behaviour.specs.declared.station.Station.{Station}
 use Rattle.tp_behaviour.specs.declared.station.State.{State}
 use Rattle.tp_behaviour.specs.Choices.{NoneOpen}
 use Rattle.tp_behaviour.specs.Ends.{Follows, Stops, StopsWithin}
-use Rattle.tp_behaviour.specs.Held.{Role}
+use Rattle.tp_behaviour.specs.Held.{Actor}
 use Rattle.tp_behaviour.specs.Moments.{Moment, moments}
 use Rattle.tp_behaviour.specs.Paths.{AreTurns, IsPath, IsStep}
 use Rattle.tp_behaviour.specs.Seen.{Grew}
@@ -23,25 +23,25 @@ use Rattle.tp_behaviour.specs.Stations.{AreHeld, role_of}
 
 -- statements that end so: they are carried out, and the variables then hold these values; or they stop, whatever the whole history is in which, at
 -- a wait, none of these is open
-abbrev pub Ends : Role → Outcome → List ℤ → List (Option Held) → List Statement → List Moment → List (Option Held) → Type 0
+abbrev pub Ends : Actor → Outcome → List ℤ → List (Option Held) → List Statement → List Moment → List (Option Held) → Type 0
 Ends r outcome.Done turns vs xs ts ws = IsPath r turns vs xs ts ws
 Ends r (outcome.Error code) turns vs xs ts ws = (whole : List Entry) → Stops r whole (ending.Error code) turns vs xs ts
 Ends r (outcome.Waiting guards) turns vs xs ts ws = (whole : List Entry) → NoneOpen whole guards.items → Stops r whole ending.Waiting turns vs xs ts
 
 -- a statement that ends so
-abbrev pub EndsStep : Role → Outcome → List ℤ → List (Option Held) → Statement → List Moment → List (Option Held) → Type 0
+abbrev pub EndsStep : Actor → Outcome → List ℤ → List (Option Held) → Statement → List Moment → List (Option Held) → Type 0
 EndsStep r outcome.Done turns vs x ts ws = IsStep r turns vs x ts ws
 EndsStep r (outcome.Error code) turns vs x ts ws = (whole : List Entry) → StopsWithin r whole (ending.Error code) turns vs x ts
 EndsStep r (outcome.Waiting guards) turns vs x ts ws = (whole : List Entry) → NoneOpen whole guards.items → StopsWithin r whole ending.Waiting turns vs x ts
 
 -- after n whole turns of a block the next stops
-abbrev pub StopsTurn : Role → List ℤ → List (Option Held) → ℤ → List Statement → ℕ → (List ℤ → List (Option Held) → List Moment → Type 0) → List Moment → Type 0
+abbrev pub StopsTurn : Actor → List ℤ → List (Option Held) → ℤ → List Statement → ℕ → (List ℤ → List (Option Held) → List Moment → Type 0) → List Moment → Type 0
 StopsTurn r turns vs first block count stops ts =
     (n : ℕ) × (us : List (Option Held)) × (before : List Moment) × (more : List Moment) × (ts ≡ before ++ more) × (n < count)
     × AreTurns r turns vs first block n before us × stops (turns ++ (first +ℤ pos n) ∷ []) us more
 
 -- so many turns of a block that end so
-abbrev pub EndsTurns : Role → Outcome → List ℤ → List (Option Held) → ℤ → List Statement → ℕ → List Moment → List (Option Held) → Type 0
+abbrev pub EndsTurns : Actor → Outcome → List ℤ → List (Option Held) → ℤ → List Statement → ℕ → List Moment → List (Option Held) → Type 0
 EndsTurns r outcome.Done turns vs first block count ts ws = AreTurns r turns vs first block count ts ws
 EndsTurns r (outcome.Error code) turns vs first block count ts ws =
     (whole : List Entry) → StopsTurn r turns vs first block count (λ inner us more. Stops r whole (ending.Error code) inner us block more) ts
@@ -50,7 +50,7 @@ EndsTurns r (outcome.Waiting guards) turns vs first block count ts ws =
 
 -- a behaviour with this history has ended so: the history, and each that is this one but for arrivals, follows its body to that end, at a wait where
 -- none of these is open in it
-abbrev pub HasEnded : Role → Body → Outcome → List Entry → Type 0
+abbrev pub HasEnded : Actor → Body → Outcome → List Entry → Type 0
 HasEnded r body outcome.Done k = (whole : List Entry) → moments whole ≡ moments k → Follows r body whole ending.Done
 HasEnded r body (outcome.Error code) k = (whole : List Entry) → moments whole ≡ moments k → Follows r body whole (ending.Error code)
 HasEnded r body (outcome.Waiting guards) k = (whole : List Entry) → moments whole ≡ moments k → NoneOpen whole guards.items → Follows r body whole ending.Waiting

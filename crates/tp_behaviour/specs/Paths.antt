@@ -14,7 +14,7 @@ use Rattle.tp_config.specs.Setup.{ports_at}
 use Rattle.tp_config.specs.Routes.{IsRoute, routes_from}
 use Rattle.tp_syntax.specs.declared.tree.PortOperation.{PortOperation}
 use Rattle.tp_syntax.specs.declared.tree.PortOperation.TheVariants as operation
-use Rattle.tp_body.specs.declared.body.Sending.{Sending}
+use Rattle.tp_body.specs.declared.body.SendOperation.{SendOperation}
 use Rattle.tp_body.specs.declared.body.Receiver.TheVariants as to
 use Rattle.tp_body.specs.declared.body.Receiving.{Receiving}
 use Rattle.tp_body.specs.declared.body.Statement.{Statement}
@@ -29,10 +29,10 @@ use Rattle.tp_behaviour.specs.declared.held.Held.{Held}
 use Rattle.tp_behaviour.specs.Moments.{Moment}
 use Rattle.tp_behaviour.specs.declared.choice.Guard.{Guard}
 use Rattle.tp_behaviour.specs.Choices.{IsChoice, IsDrop}
-use Rattle.tp_behaviour.specs.Held.{Role, Values, IsSentAs, IsNamed, guard_of, redirected}
+use Rattle.tp_behaviour.specs.Held.{Actor, Values, IsSentAs, IsNamed, guard_of, redirected}
 
 -- the port of the behaviour's component at this place
-abbrev pub port_of : Role → ℕ → PortRef
+abbrev pub port_of : Actor → ℕ → PortRef
 port_of r port = record { comp = r.comp; port = port }
 
 -- the port is started
@@ -59,19 +59,19 @@ pub data AreOperated (o : PortOperation) : ℕ → List Moment → Type 0 where
       → AreOperated o (suc (suc n)) (ts ++ record { before = k; entry = operated o n } ∷ record { before = k ++ operated o n ∷ []; entry = operated o (suc n) } ∷ [])
 
 -- the branches of an `alt`, once loop variables and references have their values
-abbrev pub guards_of : Role → Values → List Branch → List Guard
+abbrev pub guards_of : Actor → Values → List Branch → List Guard
 guards_of r vs branches = map (λ (x : Branch). guard_of r vs x.receiving) branches
 
 mutual
   -- this is a path of the statement, by which the body's variables come to hold these values
-  pub data IsStep (r : Role) : List ℤ → List (Option Held) → Statement → List Moment → List (Option Held) → Type 0 where
+  pub data IsStep (r : Actor) : List ℤ → List (Option Held) → Statement → List Moment → List (Option Held) → Type 0 where
     -- 22.2.1: one entry, on the route that the port has, or the one to the component that is named
-    send : (turns : List ℤ) (vs : List (Option Held)) (x : Sending) (m : Message) (named : Option CompId) (route : RouteId) (t : Moment)
+    send : (turns : List ℤ) (vs : List (Option Held)) (x : SendOperation) (m : Message) (named : Option CompId) (route : RouteId) (t : Moment)
         → IsSentAs (record { turns = turns; variables = vs }) x.sent m → IsNamed r (record { turns = turns; variables = vs }) x.to named
         → IsRoute r.config (port_of r x.port) named route → IsSentOn x.port m route t
         → IsStep r turns vs (b.Send x) (t ∷ []) vs
     -- `to all component`: one entry for each route of the port, of which there is one at least, in the order of the connections
-    send_to_all : (turns : List ℤ) (vs : List (Option Held)) (x : Sending) (m : Message) (ts : List Moment)
+    send_to_all : (turns : List ℤ) (vs : List (Option Held)) (x : SendOperation) (m : Message) (ts : List Moment)
         → IsSentAs (record { turns = turns; variables = vs }) x.sent m → x.to ≡ to.All → ts ≢ []
         → AllZip (IsSentOn x.port m) (routes_from r.config (port_of r x.port)) ts
         → IsStep r turns vs (b.Send x) ts vs
@@ -110,13 +110,13 @@ mutual
         → IsStep r turns vs (b.For first bound block) ts ws
 
   -- this is a path of the statements, one after the other
-  pub data IsPath (r : Role) : List ℤ → List (Option Held) → List Statement → List Moment → List (Option Held) → Type 0 where
+  pub data IsPath (r : Actor) : List ℤ → List (Option Held) → List Statement → List Moment → List (Option Held) → Type 0 where
     no_statement : (turns : List ℤ) (vs : List (Option Held)) → IsPath r turns vs [] [] vs
     one_statement_more : (turns : List ℤ) (vs ws us : List (Option Held)) (xs : List Statement) (x : Statement) (ts more : List Moment)
         → IsPath r turns vs xs ts ws → IsStep r turns ws x more us → IsPath r turns vs (xs ++ x ∷ []) (ts ++ more) us
 
   -- this is a path of so many turns of a block, where the loop variable begins with this value
-  pub data AreTurns (r : Role) : List ℤ → List (Option Held) → ℤ → List Statement → ℕ → List Moment → List (Option Held) → Type 0 where
+  pub data AreTurns (r : Actor) : List ℤ → List (Option Held) → ℤ → List Statement → ℕ → List Moment → List (Option Held) → Type 0 where
     no_turn : (turns : List ℤ) (vs : List (Option Held)) (first : ℤ) (block : List Statement) → AreTurns r turns vs first block 0 [] vs
     one_turn_more : (turns : List ℤ) (vs ws us : List (Option Held)) (first : ℤ) (block : List Statement) (n : ℕ) (ts more : List Moment)
         → AreTurns r turns vs first block n ts ws → IsPath r (turns ++ (first +ℤ pos n) ∷ []) ws block more us

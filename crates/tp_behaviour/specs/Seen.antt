@@ -11,7 +11,7 @@ use Rattle.tp_behaviour.specs.declared.choosing.Choice.{Choice}
 use Rattle.tp_behaviour.specs.declared.choosing.Choice.TheVariants as choice
 use Rattle.tp_behaviour.specs.declared.held.Held.{Held}
 use Rattle.tp_behaviour.specs.Moments.{Moment, moments}
-use Rattle.tp_behaviour.specs.Held.{Role}
+use Rattle.tp_behaviour.specs.Held.{Actor}
 use Rattle.tp_behaviour.specs.Looks.{moment}
 use Rattle.tp_behaviour.specs.Paths.{IsStep}
 use Rattle.tp_behaviour.specs.Choices.{NoneOpen, IsChoice, IsDrop}
@@ -30,7 +30,7 @@ abbrev pub Adds : Journal → Entry → Journal → Type 0
 Adds before e after = moments after.log ≡ moments before.log ++ moment before e ∷ []
 
 -- a path of the statement, whatever loop variables and variables hold, and they stay as they are
-abbrev pub Carries : Role → Statement → Journal → Journal → Type 0
+abbrev pub Carries : Actor → Statement → Journal → Journal → Type 0
 Carries r x before after = (turns : List ℤ) (vs : List (Option Held)) → Grew (λ ts. IsStep r turns vs x ts vs) before.log after.log
 
 -- what a look at the branches came to

@@ -6,7 +6,7 @@ use Rattle.tp_body.specs.declared.body.Sent.{Sent}
 use Rattle.tp_body.specs.declared.body.Sent.TheVariants as sent
 use Rattle.tp_body.specs.declared.body.Receiver.{Receiver}
 use Rattle.tp_body.specs.declared.body.Receiver.TheVariants as to
-use Rattle.tp_body.specs.declared.body.Sending.{Sending}
+use Rattle.tp_body.specs.declared.body.SendOperation.{SendOperation}
 use Rattle.tp_body.specs.declared.body.Statement.TheVariants as b
 use Rattle.tp_body.specs.Fills.{needed}
 use Rattle.tp_inbox.specs.declared.entry.Entry.{Entry}
@@ -17,7 +17,7 @@ use Rattle.tp_behaviour.specs.declared.held.Held.{Held}
 use Rattle.tp_behaviour.specs.declared.post.Post.{Post}
 use Rattle.tp_behaviour.specs.declared.station.Station.{Station}
 use Rattle.tp_behaviour.specs.declared.station.State.{State}
-use Rattle.tp_behaviour.specs.Held.{Role, Values}
+use Rattle.tp_behaviour.specs.Held.{Actor, Values}
 use Rattle.tp_behaviour.specs.Paths.{IsStep}
 use Rattle.tp_behaviour.specs.Seen.{Grew, One}
 use Rattle.tp_behaviour.specs.Stations.{HoldsComponents, HoldsMessages, role_of, values_of}
@@ -35,13 +35,13 @@ CanName variables references (to.Variable k) = HoldsComponents variables k
 CanName variables references to.All = ⊥
 
 -- a send comes to this: it is carried out, or the behaviour ends by the refusal of this number
-abbrev pub Sends : Role → Values → Sending → Option ℕ → List Entry → List Entry → Type 0
+abbrev pub Sends : Actor → Values → SendOperation → Option ℕ → List Entry → List Entry → Type 0
 Sends r vs x None before after = Grew (λ ts. IsStep r vs.turns vs.variables (b.Send x) ts vs.variables) before after
 Sends r vs x (Some code) before after =
     Grew (One (λ t. IsFailure r vs x t.before code × (t.entry ≡ entry.Failed code))) before after
 
 -- the same at a station, by what the behaviour keeps in mind
-abbrev pub SendsAt : Post → State → Sending → Station → Station → Option ℕ → Type 0
+abbrev pub SendsAt : Post → State → SendOperation → Station → Station → Option ℕ → Type 0
 SendsAt p s x here there code = Sends (role_of p) (values_of s) x code here.desk.log there.desk.log
 
 -- the entry of a message that goes out on this route now: it has the next number there, and the next stamp

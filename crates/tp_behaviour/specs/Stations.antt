@@ -18,12 +18,12 @@ use Rattle.tp_behaviour.specs.declared.post.Post.{Post}
 use Rattle.tp_behaviour.specs.declared.station.Station.{Station}
 use Rattle.tp_behaviour.specs.declared.station.State.{State}
 use Rattle.tp_behaviour.specs.Fresh.{Fresh}
-use Rattle.tp_behaviour.specs.Held.{Role, Values}
+use Rattle.tp_behaviour.specs.Held.{Actor, Values}
 use Rattle.tp_behaviour.specs.Outboxes.{IsHome, routes_of}
 use Rattle.tp_behaviour.specs.Paths.{port_of}
 
 -- who the behaviour is
-abbrev pub role_of : Post → Role
+abbrev pub role_of : Post → Actor
 role_of p = record { config = p.config.now; comp = p.comp; references = map (λ c. c.0) p.conduct.references.now }
 
 -- what it keeps in mind
@@ -31,7 +31,7 @@ abbrev pub values_of : State → Values
 values_of s = record { turns = s.turns.items; variables = s.variables.items }
 
 -- the inbox is the component's, and these are the routes of its senders
-pub record IsPosted (r : Role) (inbox : Inbox) (out : List RouteId) : Type 0 where
+pub record IsPosted (r : Actor) (inbox : Inbox) (out : List RouteId) : Type 0 where
   pub comp : inbox.comp ≡ r.comp
   pub ports : inbox.ports ≡ length (ports_at r.config.types r.config.components r.comp)
   -- the routes into the inbox lead to the component
@@ -56,7 +56,7 @@ abbrev pub IsNoted : List Entry → Sending → Type 0
 IsNoted k s = sent_on s.route k ≡ numbered 0 s.ledger
 
 -- the parts of a station say the same of what has happened, and each operation on ports so far was a fresh one
-pub record IsManned (r : Role) (s : Station) : Type 0 where
+pub record IsManned (r : Actor) (s : Station) : Type 0 where
   pub posted : IsPosted r s.owner.inbox (routes_of s.outbox)
   pub desk : IsDeskOf s.owner.inbox s.desk
   pub arrived : arrivals s.desk.log ≡ s.owner.drained

@@ -41,7 +41,7 @@ pub(crate) fn is_fixed(template: &RecvTemplate) -> bool
     match template {
         RecvTemplate::Exact(value) => is_fixed_value(value),
         RecvTemplate::Any => true,
-        RecvTemplate::Many => true,
+        RecvTemplate::AnyOrNone => true,
         RecvTemplate::OneOf(members) => are_fixed(members.as_slice()),
         RecvTemplate::NoneOf(members) => are_fixed(members.as_slice()),
         RecvTemplate::Range(_, _) => true,

@@ -12,7 +12,7 @@ use crate::post::Post;
 use crate::sending::send;
 use crate::station::{State, Station};
 use std::sync::Wait;
-use tp_body::body::{PortOperation, Sending};
+use tp_body::body::{PortOperation, SendOperation};
 use tp_refusal::memory::Memory;
 use tp_value::verdict::Verdict;
 
@@ -24,7 +24,7 @@ pub(crate) fn play_send<R: Wait>(
     post: &Post<'_>,
     station: &mut Station,
     state: &State,
-    sending: &Sending,
+    sending: &SendOperation,
 ) -> Result<Outcome, Memory>
     requires manned { IsManned (role_of post.now) station.old }
     requires held { HoldsAsDeclared post.now state.now }

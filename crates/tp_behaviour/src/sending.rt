@@ -17,7 +17,7 @@ use crate::post::Post;
 use crate::station::{State, Station};
 use crate::values::{message_of, named_of};
 use std::sync::Wait;
-use tp_body::body::{Receiver, Sending};
+use tp_body::body::{Receiver, SendOperation};
 use tp_config::port_type::{CompId, PortRef, RouteId};
 use tp_config::routes::RouteFault;
 use tp_inbox::entry::Entry;
@@ -31,7 +31,7 @@ fn fail(
     post: &Post<'_>,
     station: &mut Station,
     state: &State,
-    sending: &Sending,
+    sending: &SendOperation,
     code: u8,
 ) -> Result<Option<u8>, Memory>
     requires manned { IsManned (role_of post.now) station.old }
@@ -93,7 +93,7 @@ fn send_to<R: Wait>(
     post: &Post<'_>,
     station: &mut Station,
     state: &State,
-    sending: &Sending,
+    sending: &SendOperation,
     message: &Message,
     named: Option<CompId>,
 ) -> Result<Option<u8>, Memory>
@@ -151,7 +151,7 @@ fn send_to_all<R: Wait>(
     post: &Post<'_>,
     station: &mut Station,
     state: &State,
-    sending: &Sending,
+    sending: &SendOperation,
     message: &Message,
 ) -> Result<Option<u8>, Memory>
     requires manned { IsManned (role_of post.now) station.old }
@@ -182,7 +182,7 @@ fn send_to_one<R: Wait>(
     post: &Post<'_>,
     station: &mut Station,
     state: &State,
-    sending: &Sending,
+    sending: &SendOperation,
     message: &Message,
 ) -> Result<Option<u8>, Memory>
     requires manned { IsManned (role_of post.now) station.old }
@@ -208,7 +208,7 @@ fn send_started<R: Wait>(
     post: &Post<'_>,
     station: &mut Station,
     state: &State,
-    sending: &Sending,
+    sending: &SendOperation,
 ) -> Result<Option<u8>, Memory>
     requires manned { IsManned (role_of post.now) station.old }
     requires started { IsStarted station.old.desk.log sending.now.port }
@@ -238,7 +238,7 @@ pub(crate) fn send<R: Wait>(
     post: &Post<'_>,
     station: &mut Station,
     state: &State,
-    sending: &Sending,
+    sending: &SendOperation,
 ) -> Result<Option<u8>, Memory>
     requires manned { IsManned (role_of post.now) station.old }
     requires held { HoldsAsDeclared post.now state.now }

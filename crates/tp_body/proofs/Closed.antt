@@ -5,7 +5,7 @@ use Rattle.std.proofs.lemmas.Option.{slice_get_within}
 use Rattle.tp_value.specs.declared.types.Ty.{Ty}
 use Rattle.tp_value.specs.declared.types.Field.{Field}
 use Rattle.tp_value.specs.declared.types.Types.{Types}
-use Rattle.tp_value.specs.declared.template.Part.{Part}
+use Rattle.tp_value.specs.declared.template.PatternPart.{PatternPart}
 use Rattle.tp_value.specs.declared.verdict.Verdict.{Verdict}
 use Rattle.tp_syntax.specs.declared.tree.PortOperation.{PortOperation}
 use Rattle.tp_syntax.specs.declared.tree.Value.{Value}
@@ -30,7 +30,7 @@ use Rattle.tp_body.specs.declared.body.RecvTemplate.TheOpen as p
 use Rattle.tp_body.specs.declared.body.RecvTemplate.TheFolds.{fold-roll-RecvTemplate}
 use Rattle.tp_body.specs.declared.body.RecvMsg.{RecvMsg}
 use Rattle.tp_body.specs.declared.body.Sent.{Sent}
-use Rattle.tp_body.specs.declared.body.Sending.{Sending}
+use Rattle.tp_body.specs.declared.body.SendOperation.{SendOperation}
 use Rattle.tp_body.specs.declared.body.Receiving.{Receiving}
 use Rattle.tp_body.specs.declared.body.Statement.{Statement}
 use Rattle.tp_body.specs.declared.body.Statement.TheVariants as s
@@ -69,19 +69,19 @@ needed_by_any : needed_by_template r.Any ≡ 0
 unfolding needed_by_template
 needed_by_any = ap needed_by_template (sym r.rolls-Any) ∙ fold-roll-RecvTemplate ℕ needed_template_step p.Any
 
-needed_by_many : needed_by_template r.Many ≡ 0
+needed_by_many : needed_by_template r.AnyOrNone ≡ 0
 unfolding needed_by_template
-needed_by_many = ap needed_by_template (sym r.rolls-Many) ∙ fold-roll-RecvTemplate ℕ needed_template_step p.Many
+needed_by_many = ap needed_by_template (sym r.rolls-AnyOrNone) ∙ fold-roll-RecvTemplate ℕ needed_template_step p.AnyOrNone
 
 needed_by_range : (low high : Option ℤ) → needed_by_template (r.Range low high) ≡ 0
 unfolding needed_by_template
 needed_by_range low high = ap needed_by_template (sym (r.rolls-Range low high)) ∙ fold-roll-RecvTemplate ℕ needed_template_step (p.Range low high)
 
-needed_by_pattern : (ps : List Part) → needed_by_template (r.Pattern ps) ≡ 0
+needed_by_pattern : (ps : List PatternPart) → needed_by_template (r.Pattern ps) ≡ 0
 unfolding needed_by_template
 needed_by_pattern ps = ap needed_by_template (sym (r.rolls-Pattern ps)) ∙ fold-roll-RecvTemplate ℕ needed_template_step (p.Pattern ps)
 
-around_send : (x : Sending) → needed_around (s.Send x) ≡ needed_by_sent x.sent
+around_send : (x : SendOperation) → needed_around (s.Send x) ≡ needed_by_sent x.sent
 unfolding needed_around
 around_send x = ap needed_around (sym (s.rolls-Send x)) ∙ fold-roll-Statement ℕ ℕ needed_statement_step needed_branch_step (o.Send x)
 
@@ -105,13 +105,15 @@ around_alt : (bs : List Branch) → needed_around (s.Alt bs None) ≡ max (great
 unfolding needed_around needed_around_branch
 around_alt bs = ap needed_around (sym (s.rolls-Alt bs None)) ∙ fold-roll-Statement ℕ ℕ needed_statement_step needed_branch_step (o.Alt bs None)
 
-around_alt_else : (bs : List Branch) (e : List Statement) → needed_around (s.Alt bs (Some e)) ≡ max (greatest (map needed_around_branch bs)) (needed_around_all e)
+around_alt_else : (bs : List Branch) (e : List Statement)
+    → needed_around (s.Alt bs (Some e)) ≡ max (greatest (map needed_around_branch bs)) (needed_around_all e)
 unfolding needed_around needed_around_branch
 around_alt_else bs e = ap needed_around (sym (s.rolls-Alt bs (Some e))) ∙ fold-roll-Statement ℕ ℕ needed_statement_step needed_branch_step (o.Alt bs (Some e))
 
 pub around_for : (first bound : ℤ) (block : List Statement) → needed_around (s.For first bound block) ≡ needed_around_all block - 1
 unfolding needed_around needed_around_branch
-around_for first bound block = ap needed_around (sym (s.rolls-For first bound block)) ∙ fold-roll-Statement ℕ ℕ needed_statement_step needed_branch_step (o.For first bound block)
+around_for first bound block =
+    ap needed_around (sym (s.rolls-For first bound block)) ∙ fold-roll-Statement ℕ ℕ needed_statement_step needed_branch_step (o.For first bound block)
 
 pub around_branch : (x : Branch) → needed_around_branch x ≡ max (needed_by_wanted x.receiving.wanted) (needed_around_all x.block)
 unfolding needed_around needed_around_branch
@@ -155,33 +157,42 @@ module _ (types : Types) (turns : List (List ℕ)) where
     template_closed (d.place_templates u fields ts rs f h) = omega (arith, needed_by_record rs, field_templates_closed h)
     template_closed (d.field_templates u fields ts rs f n h) = omega (arith, needed_by_record rs, named_templates_closed h)
 
-    members_closed : {u : Ty} {xs : List Template} {ys : List RecvTemplate} → AreMembers types turns u xs ys → greatest (map needed_by_template ys) ≤ length turns
+    members_closed : {u : Ty} {xs : List Template} {ys : List RecvTemplate} → AreMembers types turns u xs ys
+        → greatest (map needed_by_template ys) ≤ length turns
     members_closed (d.no_member u) = omega arith
     members_closed (d.one_member_more u ts rs x y h one) = greatest_push needed_by_template rs y (length turns) (members_closed h) (template_closed one)
 
-    element_templates_closed : {u : Ty} {xs : List Template} {ys : List RecvTemplate} → AreElementTemplates types turns u xs ys → greatest (map needed_by_template ys) ≤ length turns
+    element_templates_closed : {u : Ty} {xs : List Template} {ys : List RecvTemplate} → AreElementTemplates types turns u xs ys
+        → greatest (map needed_by_template ys) ≤ length turns
     element_templates_closed (d.no_element_template u) = omega arith
-    element_templates_closed (d.one_element_template_more u ts rs x y h one) = greatest_push needed_by_template rs y (length turns) (element_templates_closed h) (element_template_closed one)
+    element_templates_closed (d.one_element_template_more u ts rs x y h one) =
+        greatest_push needed_by_template rs y (length turns) (element_templates_closed h) (element_template_closed one)
 
     element_template_closed : {u : Ty} {x : Template} {y : RecvTemplate} → IsElementTemplate types turns u x y → needed_by_template y ≤ length turns
     element_template_closed (d.many u) = omega (arith, needed_by_many)
     element_template_closed (d.single u x y one) = template_closed one
 
-    field_templates_closed : {fs : List Field} {xs : List Template} {ys : List RecvTemplate} → AreFieldTemplates types turns fs xs ys → greatest (map needed_by_template ys) ≤ length turns
+    field_templates_closed : {fs : List Field} {xs : List Template} {ys : List RecvTemplate} → AreFieldTemplates types turns fs xs ys
+        → greatest (map needed_by_template ys) ≤ length turns
     field_templates_closed d.no_field_template = omega arith
-    field_templates_closed (d.one_field_template_more fs ts rs f x y h one) = greatest_push needed_by_template rs y (length turns) (field_templates_closed h) (template_closed one)
+    field_templates_closed (d.one_field_template_more fs ts rs f x y h one) =
+        greatest_push needed_by_template rs y (length turns) (field_templates_closed h) (template_closed one)
 
-    named_templates_closed : {xs : List TemplateField} {fs : List Field} {ys : List RecvTemplate} → AreNamedTemplates types turns xs fs ys → greatest (map needed_by_template ys) ≤ length turns
+    named_templates_closed : {xs : List TemplateField} {fs : List Field} {ys : List RecvTemplate} → AreNamedTemplates types turns xs fs ys
+        → greatest (map needed_by_template ys) ≤ length turns
     named_templates_closed (d.no_name_template entries) = omega arith
-    named_templates_closed (d.one_name_template_more entries fs rs f j x y h there same one) = greatest_push needed_by_template rs y (length turns) (named_templates_closed h) (template_closed one)
+    named_templates_closed (d.one_name_template_more entries fs rs f j x y h there same one) =
+        greatest_push needed_by_template rs y (length turns) (named_templates_closed h) (template_closed one)
 
 module _ (scope : Scope) (variables : Variables) where
-  sent_closed : (turns : List (List ℕ)) (sendable : List Ty) {x : SentText} {y : Sent} → IsSent scope variables turns sendable x y → needed_by_sent y ≤ length turns
+  sent_closed : (turns : List (List ℕ)) (sendable : List Ty) {x : SentText} {y : Sent} → IsSent scope variables turns sendable x y
+      → needed_by_sent y ≤ length turns
   sent_closed turns sendable (b.written x m h l) = value_closed scope.types.now turns h.fits
   sent_closed turns sendable (b.counter n k h l) = omega (arith, needed_turn k, slice_get_within turns k (string_bytes n) h.there)
   sent_closed turns sendable (b.held n k u a h l) = omega arith
 
-  pub wanted_closed : (turns : List (List ℕ)) (receivable : List Ty) {x : Option MessageTemplate} {y : RecvMsg} → IsWanted scope turns receivable x y → needed_by_wanted y ≤ length turns
+  pub wanted_closed : (turns : List (List ℕ)) (receivable : List Ty) {x : Option MessageTemplate} {y : RecvMsg} → IsWanted scope turns receivable x y
+      → needed_by_wanted y ≤ length turns
   wanted_closed turns receivable b.every_message = omega arith
   wanted_closed turns receivable (b.matching x u r f l h) = template_closed scope.types.now turns h
 
@@ -194,9 +205,16 @@ module _ (scope : Scope) (variables : Variables) where
     statement_closed (b.set_verdict turns x y other h) = omega (arith, around_set_verdict y)
     statement_closed (b.alt turns xs ys h) = omega (arith, around_alt ys, branches_closed h)
     statement_closed (b.alt_else turns xs ys e otherwise h inner) = omega (arith, around_alt_else ys otherwise, branches_closed h, block_closed inner)
-    statement_closed (b.counted turns x inside new h) = omega (arith, around_for (out-Counted x).turns.first (out-Counted x).turns.bound inside, block_closed h, length_push turns (string_bytes (out-Counted x).turns.name))
+    statement_closed (b.counted turns x inside new h) =
+        omega (
+          arith,
+          around_for (out-Counted x).turns.first (out-Counted x).turns.bound inside,
+          block_closed h,
+          length_push turns (string_bytes (out-Counted x).turns.name),
+        )
 
-    pub block_closed : {turns : List (List ℕ)} {xs : List StatementText} {ys : List Statement} → IsBlock scope variables turns xs ys → needed_around_all ys ≤ length turns
+    pub block_closed : {turns : List (List ℕ)} {xs : List StatementText} {ys : List Statement} → IsBlock scope variables turns xs ys
+        → needed_around_all ys ≤ length turns
     block_closed (b.no_statement turns) = omega arith
     block_closed (b.one_statement_more turns xs ys x y h one) = greatest_push needed_around ys y (length turns) (block_closed h) (statement_closed one)
 
@@ -207,10 +225,12 @@ module _ (scope : Scope) (variables : Variables) where
     after_closed (b.nothing turns) = omega arith
     after_closed (b.block turns xs ys h) = block_closed h
 
-    branches_closed : {turns : List (List ℕ)} {xs : List BranchText} {ys : List Branch} → AreBranches scope variables turns xs ys → greatest (map needed_around_branch ys) ≤ length turns
+    branches_closed : {turns : List (List ℕ)} {xs : List BranchText} {ys : List Branch} → AreBranches scope variables turns xs ys
+        → greatest (map needed_around_branch ys) ≤ length turns
     branches_closed (b.no_branch turns) = omega arith
     branches_closed (b.one_branch_more turns xs ys x y h one) = greatest_push needed_around_branch ys y (length turns) (branches_closed h) (branch_closed one)
 
 -- a body speaks of no loop variables but those around
-pub body_closed : (scope : Scope) (xs : List Variable) (statements : List StatementText) (body : Body) → IsBody scope xs statements body → needed_around_all body.statements ≡ 0
+pub body_closed : (scope : Scope) (xs : List Variable) (statements : List StatementText) (body : Body) → IsBody scope xs statements body
+    → needed_around_all body.statements ≡ 0
 body_closed scope xs statements body h = omega (arith, block_closed scope h.variables h.block)

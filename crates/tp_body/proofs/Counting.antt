@@ -4,7 +4,7 @@ use Rattle.std.proofs.lemmas.Bool.{cases_lt}
 use Rattle.tp_value.specs.declared.verdict.Verdict.{Verdict}
 use Rattle.tp_syntax.specs.declared.tree.PortOperation.{PortOperation}
 use Rattle.tp_body.specs.Sizes.{limit, capped, turns_between, statement_step, branch_step, size_of, size_in, size_of_all, size_in_all}
-use Rattle.tp_body.specs.declared.body.Sending.{Sending}
+use Rattle.tp_body.specs.declared.body.SendOperation.{SendOperation}
 use Rattle.tp_body.specs.declared.body.Receiving.{Receiving}
 use Rattle.tp_body.specs.declared.body.Statement.{Statement}
 use Rattle.tp_body.specs.declared.body.Statement.TheVariants as s
@@ -27,7 +27,7 @@ cap_one a = grind arith
 pub cap_one_and_two : (a b : ℕ) → capped (1 + capped a + capped b) ≡ capped (1 + (a + b))
 cap_one_and_two a b = grind arith
 
-pub size_send : (x : Sending) → size_of (s.Send x) ≡ 1
+pub size_send : (x : SendOperation) → size_of (s.Send x) ≡ 1
 unfolding size_of
 size_send x = ap size_of (sym (s.rolls-Send x)) ∙ fold-roll-Statement ℕ ℕ statement_step branch_step (o.Send x)
 
@@ -63,7 +63,8 @@ pub size_branch : (x : Branch) → size_in x ≡ size_of_all x.block
 unfolding size_of size_in
 size_branch x = fold_out-Branch ℕ ℕ statement_step branch_step x
 
-pub ruleset laws = (size_send, size_receive, size_control, size_all_ports, size_set_verdict, size_alt, size_alt_else, size_branch, cap_add, cap_one, cap_one_and_two)
+pub ruleset laws =
+    (size_send, size_receive, size_control, size_all_ports, size_set_verdict, size_alt, size_alt_else, size_branch, cap_add, cap_one, cap_one_and_two)
 
 zero_left : (n : ℕ) → 0 * n ≡ 0
 zero_left n = omega arith

@@ -8,7 +8,8 @@ use Rattle.tp_value.specs.declared.types.Field.{Field}
 use Rattle.tp_body.specs.Placing.{IsPlacing, field_names}
 
 -- each place is one of a field
-pub place_below : (fields : List Field) (names : List (List ℕ)) (places : List ℕ) → IsPlacing fields names places → (i d : ℕ) → i < length places → get_or places i d < length fields
+pub place_below : (fields : List Field) (names : List (List ℕ)) (places : List ℕ) → IsPlacing fields names places → (i d : ℕ) → i < length places
+    → get_or places i d < length fields
 place_below fields names places p i d below =
     let here : slice_get places i ≡ Some (get_or places i d) = slice_get-get_or places i d below in
     let name : slice_get names i ≡ Some (get_or names i []) = slice_get-get_or names i [] (omega (arith, p.as_many, below)) in
@@ -33,14 +34,18 @@ module _ {E W : Type 0} (name : E → List ℕ) (R : Field → E → W → Type 
   Filled places n ws = (i k : ℕ) → i < n → slice_get places i ≡ Some k → HasEntry k ws
 
   -- one more entry is put at its place
-  pub filled_more : (places : List ℕ) (n : ℕ) (ws : List W) (p : ℕ) (y : W) (f : Field) (x : E) → IsPlacing fields (map name entries) places → length ws ≡ length fields
-      → slice_get places n ≡ Some p → slice_get fields p ≡ Some f → slice_get entries n ≡ Some x → R f x y → Filled places n ws → Filled places (n + 1) (slice_set ws p y)
+  pub filled_more : (places : List ℕ) (n : ℕ) (ws : List W) (p : ℕ) (y : W) (f : Field) (x : E) → IsPlacing fields (map name entries) places
+      → length ws ≡ length fields
+      → slice_get places n ≡ Some p → slice_get fields p ≡ Some f → slice_get entries n ≡ Some x → R f x y → Filled places n ws
+      → Filled places (n + 1) (slice_set ws p y)
   filled_more places n ws p y f x placing many is_place is_field is_entry stands before i k below there = by (cases_lt k p) (cases_lt p k) where
     inside : p < length fields
     inside = slice_get_within fields p f is_field
 
     here : slice_get (slice_set ws p y) p ≡ Some y
-    here = slice_get-get_or (slice_set ws p y) p y (omega (arith, inside, many, length-set ws p y)) ∙ ap Some (get_or-set_same ws p y y (omega (arith, inside, many)))
+    here =
+        slice_get-get_or (slice_set ws p y) p y (omega (arith, inside, many, length-set ws p y))
+        ∙ ap Some (get_or-set_same ws p y y (omega (arith, inside, many)))
 
     same_name : name x ≡ f.name
     same_name =
@@ -58,7 +63,8 @@ module _ {E W : Type 0} (name : E → List ℕ) (R : Field → E → W → Type 
       by_place (inl earlier) =
           let e = before i k earlier there in
           let within : k < length ws = slice_get_within ws k e.made e.is_made in
-          let read : get_or (slice_set ws p y) k e.made ≡ e.made = get_or-set_other ws p k y e.made differ ∙ get_or_from_slice_get ws k e.made e.made e.is_made in
+          let read : get_or (slice_set ws p y) k e.made ≡ e.made =
+          get_or-set_other ws p k y e.made differ ∙ get_or_from_slice_get ws k e.made e.made e.is_made in
           record {
             field = e.field;
             at = e.at;
@@ -81,17 +87,20 @@ module _ {E W : Type 0} (name : E → List ℕ) (R : Field → E → W → Type 
     by (inr le) (inr ge) = let same : p ≡ k = omega arith in subst (λ m. HasEntry m (slice_set ws p y)) same new
 
   -- once all entries are put at their places, each field has one
-  pub all_filled : (places : List ℕ) (n : ℕ) (ws : List W) → IsPlacing fields (map name entries) places → length places ≤ n → Filled places n ws → (k : ℕ) → k < length fields → HasEntry k ws
+  pub all_filled : (places : List ℕ) (n : ℕ) (ws : List W) → IsPlacing fields (map name entries) places → length places ≤ n → Filled places n ws → (k : ℕ)
+      → k < length fields → HasEntry k ws
   all_filled places n ws placing le filled k below =
       let c = placing.each k below in
       filled c.0 k (omega (arith, c.1, le)) (slice_get-get_or places c.0 k c.1 ∙ ap Some c.2)
 
   -- a relation that goes field by field
   pub in_order : (P : List Field → List W → Type 0) → P [] []
-      → ((fs : List Field) (ws : List W) (f : Field) (j : ℕ) (x : E) (y : W) → P fs ws → slice_get entries j ≡ Some x → name x ≡ f.name → R f x y → P (fs ++ f ∷ []) (ws ++ y ∷ []))
+      → ((fs : List Field) (ws : List W) (f : Field) (j : ℕ) (x : E) (y : W)
+      → P fs ws → slice_get entries j ≡ Some x → name x ≡ f.name → R f x y → P (fs ++ f ∷ []) (ws ++ y ∷ []))
       → (ws : List W) → length ws ≡ length fields → ((k : ℕ) → k < length fields → HasEntry k ws) → P fields ws
   in_order P none more ws many all =
-      subst (λ l. P l ws) (take-length fields) (subst (λ l. P (take (length fields) fields) l) (ap (λ m. take m ws) (sym many) ∙ take-length ws) (go (length fields) (omega arith)))
+      subst (λ l. P l ws) (take-length fields)
+      (subst (λ l. P (take (length fields) fields) l) (ap (λ m. take m ws) (sym many) ∙ take-length ws) (go (length fields) (omega arith)))
     where
       next : {A : Type 0} (xs : List A) (i : ℕ) (x : A) → slice_get xs i ≡ Some x → take i xs ++ x ∷ [] ≡ take (i + 1) xs
       next xs i x is = sym (take_more xs i x (slice_get_within xs i x is) ∙ ap (λ y. take i xs ++ y ∷ []) (get_or_from_slice_get xs i x x is))
@@ -102,5 +111,7 @@ module _ {E W : Type 0} (name : E → List ℕ) (R : Field → E → W → Type 
           let below : n < length fields = omega arith in
           let e = all n below in
           let one = more (take n fields) (take n ws) e.field e.at e.entry e.made (go n (omega arith)) e.is_entry e.same e.stands in
-          let grown : P (take (n + 1) fields) (take (n + 1) ws) = subst (λ l. P l (take (n + 1) ws)) (next fields n e.field e.is_field) (subst (λ l. P (take n fields ++ e.field ∷ []) l) (next ws n e.made e.is_made) one) in
+          let grown : P (take (n + 1) fields) (take (n + 1) ws) =
+          subst (λ l. P l (take (n + 1) ws)) (next fields n e.field e.is_field)
+          (subst (λ l. P (take n fields ++ e.field ∷ []) l) (next ws n e.made e.is_made) one) in
           rw add-one at grown

@@ -1,7 +1,7 @@
 -- What values and templates come to, an equation for each variant.
 use Rattle.std.proofs.Common.{◌≡◌, ℕ, ◌+◌, ◌<◌, ◌≤◌, ℤ, pos, Bool, List, Option, length, map, get_or, refl, sym, ap, ◌∙◌, arith}
 use Rattle.std.proofs.lemmas.List.Recursion.{max_bounds}
-use Rattle.tp_value.specs.declared.template.Part.{Part}
+use Rattle.tp_value.specs.declared.template.PatternPart.{PatternPart}
 use Rattle.tp_value.specs.declared.value.Value.{Value}
 use Rattle.tp_value.specs.declared.value.Value.TheVariants as x
 use Rattle.tp_value.specs.declared.template.Template.{Template}
@@ -49,9 +49,9 @@ module _ (turns : List ℤ) where
   unfolding filled_template
   template_any = ap (filled_template turns) (sym r.rolls-Any) ∙ fold-roll-RecvTemplate Template (template_step turns) o.Any
 
-  pub template_many : filled_template turns r.Many ≡ t.Many
+  pub template_many : filled_template turns r.AnyOrNone ≡ t.AnyOrNone
   unfolding filled_template
-  template_many = ap (filled_template turns) (sym r.rolls-Many) ∙ fold-roll-RecvTemplate Template (template_step turns) o.Many
+  template_many = ap (filled_template turns) (sym r.rolls-AnyOrNone) ∙ fold-roll-RecvTemplate Template (template_step turns) o.AnyOrNone
 
   pub template_one_of : (ts : List RecvTemplate) → filled_template turns (r.OneOf ts) ≡ t.OneOf (map (filled_template turns) ts)
   unfolding filled_template
@@ -65,7 +65,7 @@ module _ (turns : List ℤ) where
   unfolding filled_template
   template_range low high = ap (filled_template turns) (sym (r.rolls-Range low high)) ∙ fold-roll-RecvTemplate Template (template_step turns) (o.Range low high)
 
-  pub template_pattern : (ps : List Part) → filled_template turns (r.Pattern ps) ≡ t.Pattern ps
+  pub template_pattern : (ps : List PatternPart) → filled_template turns (r.Pattern ps) ≡ t.Pattern ps
   unfolding filled_template
   template_pattern ps = ap (filled_template turns) (sym (r.rolls-Pattern ps)) ∙ fold-roll-RecvTemplate Template (template_step turns) (o.Pattern ps)
 
@@ -116,4 +116,19 @@ enough_for_each f xs i x n enough below is = omega (arith, enough, max_bounds (�
 
 pub ruleset values = (needed_turn, needed_record, needed_list, filled_int, filled_bool, filled_text, filled_turn, filled_record, filled_list)
 
-pub ruleset templates = (needed_by_exact, needed_by_one_of, needed_by_none_of, needed_by_record, needed_by_list, template_exact, template_any, template_many, template_one_of, template_none_of, template_range, template_pattern, template_record, template_list)
+pub ruleset templates = (
+  needed_by_exact,
+  needed_by_one_of,
+  needed_by_none_of,
+  needed_by_record,
+  needed_by_list,
+  template_exact,
+  template_any,
+  template_many,
+  template_one_of,
+  template_none_of,
+  template_range,
+  template_pattern,
+  template_record,
+  template_list,
+)

@@ -20,12 +20,13 @@ use Rattle.tp_body.specs.Fills.{filled_template}
 use Rattle.tp_body.proofs.Filling.{filled_int, filled_bool, filled_text, filled_turn, template_exact, template_any, template_many, template_one_of, template_none_of, template_range, template_pattern, template_record, template_list}
 use Rattle.tp_body.proofs.Typing.{AllHave-push, FieldsHave-push}
 
-ElementsFit-push : (k : Template → Ty → Type 0) (u : Ty) (xs : List Template) (y : Template) → ElementsFit is_many k u xs → (is_many y ≡ true) ⊎ k y u → ElementsFit is_many k u (xs ++ y ∷ [])
+ElementsFit-push : (k : Template → Ty → Type 0) (u : Ty) (xs : List Template) (y : Template) → ElementsFit is_many k u xs → (is_many y ≡ true) ⊎ k y u
+    → ElementsFit is_many k u (xs ++ y ∷ [])
 ElementsFit-push k u [] y h one = (one, tt)
 ElementsFit-push k u (x ∷ xs) y h one = (h.0, ElementsFit-push k u xs y h.1 one)
 
-many_is_many : is_many made.Many ≡ true
-many_is_many = first_of (search (the_lemmas, made.rolls-Many), search (rules, the_lemmas), grind (arith, the_lemmas, made.rolls-Many))
+many_is_many : is_many made.AnyOrNone ≡ true
+many_is_many = first_of (search (the_lemmas, made.rolls-AnyOrNone), search (rules, the_lemmas), grind (arith, the_lemmas, made.rolls-AnyOrNone))
 
 module _ (types : Types) (turns : List (List ℕ)) (zs : List ℤ) (fit : (k : ℕ) → FitsSigned w64 (get_or zs k (pos 0))) where
   mutual
@@ -43,25 +44,34 @@ module _ (types : Types) (turns : List (List ℕ)) (zs : List ℤ) (fit : (k : �
     fitting u x r (place_templates v fs ts rs e h) = rw (template_record, fits_record, e) (fields_fit fs ts.items rs h)
     fitting u x r (field_templates v fs ts rs e n h) = rw (template_record, fits_record, e) (named_fit ts.items fs rs h)
 
-    members_fit : (u : Ty) (ts : List TemplateText) (rs : List RecvTemplate) → AreMembers types turns u ts rs → AllHave (λ v t. Fits types t v) u (map (filled_template zs) rs)
+    members_fit : (u : Ty) (ts : List TemplateText) (rs : List RecvTemplate) → AreMembers types turns u ts rs
+        → AllHave (λ v t. Fits types t v) u (map (filled_template zs) rs)
     members_fit u ts rs (no_member v) = tt
-    members_fit u ts rs (one_member_more v xs ys x y h one) = rw map-append (AllHave-push (λ v t. Fits types t v) v (map (filled_template zs) ys) (filled_template zs y) (members_fit v xs ys h) (fitting v x y one))
+    members_fit u ts rs (one_member_more v xs ys x y h one) =
+        rw map-append (AllHave-push (λ v t. Fits types t v) v (map (filled_template zs) ys) (filled_template zs y) (members_fit v xs ys h) (fitting v x y one))
 
-    elements_fit : (u : Ty) (ts : List TemplateText) (rs : List RecvTemplate) → AreElementTemplates types turns u ts rs → ElementsFit is_many (λ v t. Fits types t v) u (map (filled_template zs) rs)
+    elements_fit : (u : Ty) (ts : List TemplateText) (rs : List RecvTemplate) → AreElementTemplates types turns u ts rs
+        → ElementsFit is_many (λ v t. Fits types t v) u (map (filled_template zs) rs)
     elements_fit u ts rs (no_element_template v) = tt
     elements_fit u ts rs (one_element_template_more v xs ys x y h one) =
-        rw map-append (ElementsFit-push (λ v t. Fits types t v) v (map (filled_template zs) ys) (filled_template zs y) (elements_fit v xs ys h) (element_fits v x y one))
+        rw map-append
+        (ElementsFit-push (λ v t. Fits types t v) v (map (filled_template zs) ys) (filled_template zs y) (elements_fit v xs ys h) (element_fits v x y one))
 
-    element_fits : (u : Ty) (x : TemplateText) (r : RecvTemplate) → IsElementTemplate types turns u x r → (is_many (filled_template zs r) ≡ true) ⊎ Fits types u (filled_template zs r)
+    element_fits : (u : Ty) (x : TemplateText) (r : RecvTemplate) → IsElementTemplate types turns u x r
+        → (is_many (filled_template zs r) ≡ true) ⊎ Fits types u (filled_template zs r)
     element_fits u x r (many v) = inl (ap is_many (template_many zs) ∙ many_is_many)
     element_fits u x r (single v y s h) = inr (fitting v y s h)
 
-    fields_fit : (fs : List Field) (ts : List TemplateText) (rs : List RecvTemplate) → AreFieldTemplates types turns fs ts rs → FieldsHave (λ v t. Fits types t v) fs (map (filled_template zs) rs)
+    fields_fit : (fs : List Field) (ts : List TemplateText) (rs : List RecvTemplate) → AreFieldTemplates types turns fs ts rs
+        → FieldsHave (λ v t. Fits types t v) fs (map (filled_template zs) rs)
     fields_fit fs ts rs no_field_template = tt
     fields_fit fs ts rs (one_field_template_more gs xs ys f x y h one) =
-        rw map-append (FieldsHave-push (λ v t. Fits types t v) gs (map (filled_template zs) ys) f (filled_template zs y) (fields_fit gs xs ys h) (fitting f.ty x y one))
+        rw map-append
+        (FieldsHave-push (λ v t. Fits types t v) gs (map (filled_template zs) ys) f (filled_template zs y) (fields_fit gs xs ys h) (fitting f.ty x y one))
 
-    named_fit : (entries : List TemplateField) (fs : List Field) (rs : List RecvTemplate) → AreNamedTemplates types turns entries fs rs → FieldsHave (λ v t. Fits types t v) fs (map (filled_template zs) rs)
+    named_fit : (entries : List TemplateField) (fs : List Field) (rs : List RecvTemplate) → AreNamedTemplates types turns entries fs rs
+        → FieldsHave (λ v t. Fits types t v) fs (map (filled_template zs) rs)
     named_fit entries fs rs (no_name_template es) = tt
     named_fit entries fs rs (one_name_template_more es gs ys f j x y h e n one) =
-        rw map-append (FieldsHave-push (λ v t. Fits types t v) gs (map (filled_template zs) ys) f (filled_template zs y) (named_fit es gs ys h) (fitting f.ty x.template y one))
+        rw map-append (FieldsHave-push (λ v t. Fits types t v) gs (map (filled_template zs) ys) f (filled_template zs y) (named_fit es gs ys h)
+        (fitting f.ty x.template y one))

@@ -36,7 +36,8 @@ module _ (scope : Scope) (variables : Variables) (turns : List (List ℕ)) where
       → IsSent scope variables turns types x (s.Written m)
   sent_written types x t m e h l = rw e (b.written t m h l)
 
-  pub sent_counter : (types : List Ty) (x : Sent) (n : String Global) (k : ℕ) (m : SendMsg) → x ≡ sent.Variable n → m ≡ record { ty = ty.Integer; value = w.Turn k }
+  pub sent_counter : (types : List Ty) (x : Sent) (n : String Global) (k : ℕ) (m : SendMsg) → x ≡ sent.Variable n
+      → m ≡ record { ty = ty.Integer; value = w.Turn k }
       → IsPlace turns (string_bytes n) k → Contains types ty.Integer → IsSent scope variables turns types x (s.Written m)
   sent_counter types x n k m e f p l = rw (e, f) (b.counter n k p l)
 
@@ -50,38 +51,44 @@ module _ (scope : Scope) (variables : Variables) (turns : List (List ℕ)) where
   pub receiver_all : (x : Option Destination) → x ≡ Some d.AllComponents → IsReceiver scope variables turns x to.All
   receiver_all x e = rw e b.all
 
-  pub receiver_reference : (x : ComponentName) (k : ℕ) → IsReference scope variables turns x k → IsReceiver scope variables turns (Some (d.Component x)) (to.Reference k)
+  pub receiver_reference : (x : ComponentName) (k : ℕ) → IsReference scope variables turns x k
+      → IsReceiver scope variables turns (Some (d.Component x)) (to.Reference k)
   receiver_reference x k h = b.reference x k h
 
-  pub receiver_variable : (x : ComponentName) (n : String Global) (k : ℕ) → x ≡ c.Named n → IsAbsent turns (string_bytes n) → IsVariable variables (string_bytes n) k kind.Component
+  pub receiver_variable : (x : ComponentName) (n : String Global) (k : ℕ) → x ≡ c.Named n → IsAbsent turns (string_bytes n)
+      → IsVariable variables (string_bytes n) k kind.Component
       → IsReceiver scope variables turns (Some (d.Component x)) (to.Variable k)
   receiver_variable x n k e a v = rw e (b.variable n k a v)
 
   pub wanted_any : (types : List Ty) (x : Option MessageTemplate) → x ≡ None → IsWanted scope turns types x wanted.Any
   wanted_any types x e = rw e b.every_message
 
-  pub wanted_of : (types : List Ty) (x : Option MessageTemplate) (t : MessageTemplate) (u : Ty) (r : RecvTemplate) → x ≡ Some t → IsType scope.types.now t.type_name u → Contains types u
+  pub wanted_of : (types : List Ty) (x : Option MessageTemplate) (t : MessageTemplate) (u : Ty) (r : RecvTemplate) → x ≡ Some t
+      → IsType scope.types.now t.type_name u → Contains types u
       → IsTemplate scope.types.now turns u t.template r → IsWanted scope turns types x (wanted.Of u r)
   wanted_of types x t u r e f l h = rw e (b.matching t u r f l h)
 
   pub sender_whoever : (x : Option ComponentName) → x ≡ None → IsSender scope variables turns x None
   sender_whoever x e = rw e b.whoever
 
-  pub sender_this : (x : Option ComponentName) (n : ComponentName) (k : ℕ) → x ≡ Some n → IsReference scope variables turns n k → IsSender scope variables turns x (Some k)
+  pub sender_this : (x : Option ComponentName) (n : ComponentName) (k : ℕ) → x ≡ Some n → IsReference scope variables turns n k
+      → IsSender scope variables turns x (Some k)
   sender_this x n k e h = rw e (b.this_one n k h)
 
 module _ (variables : Variables) (turns : List (List ℕ)) where
   pub value_nowhere : (m : RecvMsg) (x : Option (String Global)) → x ≡ None → IsValueTarget variables turns m x None
   value_nowhere m x e = rw e (b.no_target m)
 
-  pub value_target : (m : RecvMsg) (x : Option (String Global)) (u : Ty) (r : RecvTemplate) (n : String Global) (k : ℕ) → x ≡ Some n → m ≡ wanted.Of u r → IsAbsent turns (string_bytes n)
+  pub value_target : (m : RecvMsg) (x : Option (String Global)) (u : Ty) (r : RecvTemplate) (n : String Global) (k : ℕ) → x ≡ Some n → m ≡ wanted.Of u r
+      → IsAbsent turns (string_bytes n)
       → IsVariable variables (string_bytes n) k (kind.Message u) → IsValueTarget variables turns m x (Some k)
   value_target m x u r n k e f a v = rw (e, f) (b.target u r n k a v)
 
   pub sender_nowhere : (x : Option (String Global)) → x ≡ None → IsSenderTarget variables turns x None
   sender_nowhere x e = rw e b.no_sender_target
 
-  pub sender_target : (x : Option (String Global)) (n : String Global) (k : ℕ) → x ≡ Some n → IsAbsent turns (string_bytes n) → IsVariable variables (string_bytes n) k kind.Component
+  pub sender_target : (x : Option (String Global)) (n : String Global) (k : ℕ) → x ≡ Some n → IsAbsent turns (string_bytes n)
+      → IsVariable variables (string_bytes n) k kind.Component
       → IsSenderTarget variables turns x (Some k)
   sender_target x n k e a v = rw e (b.sender_target n k a v)
 
@@ -97,4 +104,24 @@ verdict_inconc x e = rw e b.inconc
 pub verdict_fail : (x : VerdictName) → x ≡ named_verdict.Fail → IsVerdict x verdict.Fail
 verdict_fail x e = rw e b.fail
 
-pub ruleset cases = (sent_written, sent_counter, sent_held, receiver_nobody, receiver_all, receiver_reference, receiver_variable, wanted_any, wanted_of, sender_whoever, sender_this, value_nowhere, value_target, sender_nowhere, sender_target, verdict_none, verdict_pass, verdict_inconc, verdict_fail)
+pub ruleset cases = (
+  sent_written,
+  sent_counter,
+  sent_held,
+  receiver_nobody,
+  receiver_all,
+  receiver_reference,
+  receiver_variable,
+  wanted_any,
+  wanted_of,
+  sender_whoever,
+  sender_this,
+  value_nowhere,
+  value_target,
+  sender_nowhere,
+  sender_target,
+  verdict_none,
+  verdict_pass,
+  verdict_inconc,
+  verdict_fail,
+)

@@ -7,7 +7,8 @@ use Rattle.std.proofs.lemmas.List.Elements.{Contains-push, Contains-append_left}
 use Rattle.std.proofs.lemmas.Option.{slice_get-get_or, slice_get_within, get_or_from_slice_get}
 
 -- an element of a list with one more behind it
-pub push_cases : {A : Type 0} (xs : List A) (y : A) (i : ℕ) (k : A) → slice_get (xs ++ y ∷ []) i ≡ Some k → (slice_get xs i ≡ Some k) ⊎ ((i ≡ length xs) × (k ≡ y))
+pub push_cases : {A : Type 0} (xs : List A) (y : A) (i : ℕ) (k : A) → slice_get (xs ++ y ∷ []) i ≡ Some k
+    → (slice_get xs i ≡ Some k) ⊎ ((i ≡ length xs) × (k ≡ y))
 push_cases xs y i k there = by (cases_lt i (length xs)) where
   read : get_or (xs ++ y ∷ []) i k ≡ k
   read = get_or_from_slice_get (xs ++ y ∷ []) i k k there
@@ -21,7 +22,8 @@ push_cases xs y i k there = by (cases_lt i (length xs)) where
 
 -- what holds of each place, and of one more
 pub pairs_more : (fs ns : List (List ℕ)) (places : List ℕ) (p : ℕ) → slice_get fs p ≡ slice_get ns (length places)
-    → ((i k : ℕ) → slice_get places i ≡ Some k → slice_get fs k ≡ slice_get ns i) → (i k : ℕ) → slice_get (places ++ p ∷ []) i ≡ Some k → slice_get fs k ≡ slice_get ns i
+    → ((i k : ℕ) → slice_get places i ≡ Some k → slice_get fs k ≡ slice_get ns i) → (i k : ℕ) → slice_get (places ++ p ∷ []) i ≡ Some k
+    → slice_get fs k ≡ slice_get ns i
 pairs_more fs ns places p here before i k there = by (push_cases places p i k there) where
   by : (slice_get places i ≡ Some k) ⊎ ((i ≡ length places) × (k ≡ p)) → slice_get fs k ≡ slice_get ns i
   by (inl earlier) = before i k earlier
@@ -36,7 +38,8 @@ taken_more taken places p before k there = by (cases_lt k p) (cases_lt p k) wher
       let within : k < length (slice_set taken p true) = slice_get_within (slice_set taken p true) k true there in
       let inside : k < length taken = omega (arith, within, length-set taken p true) in
       let read : get_or (slice_set taken p true) k true ≡ true = get_or_from_slice_get (slice_set taken p true) k true true there in
-      Contains-append_left places (p ∷ []) k (before k (slice_get-get_or taken k true inside ∙ ap Some (sym (get_or-set_other taken p k true true differ) ∙ read)))
+      Contains-append_left places (p ∷ []) k
+      (before k (slice_get-get_or taken k true inside ∙ ap Some (sym (get_or-set_other taken p k true true differ) ∙ read)))
 
   by : (k < p) ⊎ (p ≤ k) → (p < k) ⊎ (k ≤ p) → Contains (places ++ p ∷ []) k
   by (inl below) after = other (omega arith)

@@ -11,7 +11,7 @@ use Rattle.tp_body.specs.declared.body.Sent.{Sent}
 use Rattle.tp_body.specs.declared.body.Sent.TheVariants as sent
 use Rattle.tp_body.specs.declared.body.Receiver.{Receiver}
 use Rattle.tp_body.specs.declared.body.Receiver.TheVariants as to
-use Rattle.tp_body.specs.declared.body.Sending.{Sending}
+use Rattle.tp_body.specs.declared.body.SendOperation.{SendOperation}
 use Rattle.tp_body.specs.declared.body.Receiving.{Receiving}
 use Rattle.tp_body.specs.declared.body.Statement.{Statement}
 use Rattle.tp_body.specs.declared.body.Statement.TheVariants as b
@@ -21,7 +21,7 @@ use Rattle.tp_body.specs.Playable.{Stage, HoldsValues, HoldsComponents, CanWrite
 use Rattle.tp_body.proofs.Playing.{play_send, play_receive, play_control, play_alt, play_alt_else, play_for, enter_branch, Each-all}
 
 module _ (s : Stage) (n : ℕ) where
-  pub plays_send : (x : Statement) (y : Sending) → x ≡ b.Send y → CanPlay s n x → CanSend s n y
+  pub plays_send : (x : Statement) (y : SendOperation) → x ≡ b.Send y → CanPlay s n x → CanSend s n y
   plays_send x y e h = rw (e, play_send) at h
 
   pub plays_receive : (x : Statement) (y : Receiving) → x ≡ b.Receive y → CanPlay s n x → CanReceive s n y
@@ -30,7 +30,8 @@ module _ (s : Stage) (n : ℕ) where
   pub plays_control : (x : Statement) (k : ℕ) (o : PortOperation) → x ≡ b.Control k o → CanPlay s n x → k < s.ports
   plays_control x k o e h = rw (e, play_control) at h
 
-  pub plays_alt : (x : Statement) (branches : List Branch) (otherwise : Option (List Statement)) → x ≡ b.Alt branches otherwise → CanPlay s n x → CanEnterAll s n branches
+  pub plays_alt : (x : Statement) (branches : List Branch) (otherwise : Option (List Statement)) → x ≡ b.Alt branches otherwise → CanPlay s n x
+      → CanEnterAll s n branches
   plays_alt x branches None e h = (rw (e, play_alt) at h).0
   plays_alt x branches (Some block) e h = (rw (e, play_alt_else) at h).0
 
@@ -70,7 +71,8 @@ module _ (s : Stage) where
   expects_reference x k e h = rw e at h
 
   -- a value is kept only where a type is wanted, and that is the variable's
-  pub keeps_value : (x : RecvMsg) (y : Option ℕ) (k : ℕ) → y ≡ Some k → CanKeepValue s x y → (u : Ty) × (r : RecvTemplate) × (x ≡ wanted.Of u r) × HoldsValues s k u
+  pub keeps_value : (x : RecvMsg) (y : Option ℕ) (k : ℕ) → y ≡ Some k → CanKeepValue s x y
+      → (u : Ty) × (r : RecvTemplate) × (x ≡ wanted.Of u r) × HoldsValues s k u
   keeps_value wanted.Any y k e h = absurd (rw e at h)
   keeps_value (wanted.Of u r) y k e h = (u, r, refl, rw e at h)
 
@@ -84,4 +86,24 @@ module _ (s : Stage) where
   pub components_within : (k : ℕ) → HoldsComponents s k → k < length s.variables
   components_within k h = slice_get_within s.variables k kind.Component h
 
-pub ruleset playing = (plays_send, plays_receive, plays_control, plays_alt, plays_else, plays_for, enters_receive, enters_block, plays_each, enters_each, says_written, says_variable, addresses_reference, addresses_variable, expects_reference, keeps_value, keeps_sender, values_within, components_within)
+pub ruleset playing = (
+  plays_send,
+  plays_receive,
+  plays_control,
+  plays_alt,
+  plays_else,
+  plays_for,
+  enters_receive,
+  enters_block,
+  plays_each,
+  enters_each,
+  says_written,
+  says_variable,
+  addresses_reference,
+  addresses_variable,
+  expects_reference,
+  keeps_value,
+  keeps_sender,
+  values_within,
+  components_within,
+)

@@ -22,7 +22,7 @@ use Rattle.tp_syntax.specs.declared.tree.Counted.{out-Counted}
 use Rattle.tp_body.specs.declared.body.RecvMsg.{RecvMsg}
 use Rattle.tp_body.specs.declared.body.Sent.{Sent}
 use Rattle.tp_body.specs.declared.body.Receiver.{Receiver}
-use Rattle.tp_body.specs.declared.body.Sending.{Sending}
+use Rattle.tp_body.specs.declared.body.SendOperation.{SendOperation}
 use Rattle.tp_body.specs.declared.body.Receiving.{Receiving}
 use Rattle.tp_body.specs.declared.body.Statement.{Statement}
 use Rattle.tp_body.specs.declared.body.Branch.{Branch}
@@ -46,14 +46,19 @@ module _ (scope : Scope) (variables : Variables) where
   stage = record { types = scope.types.now; ports = length scope.ports.now.ports.entries; references = reference_count scope; variables = variables.types }
 
   port_there : (name : List ℕ) (place : ℕ) (port : PortType) → IsPort scope.ports.now name place port → place < length scope.ports.now.ports.entries
-  port_there name place port h = omega (arith, slice_get_within (port_names scope.ports.now) place name h.named.there, length-map scope.ports.now.ports.entries (λ e. string_bytes e.0))
+  port_there name place port h =
+      omega (arith, slice_get_within (port_names scope.ports.now) place name h.named.there, length-map scope.ports.now.ports.entries (λ e. string_bytes e.0))
 
   module _ (turns : List (List ℕ)) where
     reference_there : (x : ComponentName) (k : ℕ) → IsReference scope variables turns x k → k < reference_count scope
     reference_there x k n.mtc = omega arith
     reference_there x k n.itself = omega arith
     reference_there x k (n.component_named name j no_turn no_variable h) =
-        omega (arith, slice_get_within (scope.parameters.now ++ scope.components.now) j (string_bytes name) h.there, length-append scope.parameters.now scope.components.now)
+        omega (
+          arith,
+          slice_get_within (scope.parameters.now ++ scope.components.now) j (string_bytes name) h.there,
+          length-append scope.parameters.now scope.components.now,
+        )
 
     sent_played : (sendable : List Ty) (x : SentText) (y : Sent) → IsSent scope variables turns sendable x y → CanSay stage (length turns) y
     sent_played sendable x y (b.written t m h l) = record {
@@ -72,7 +77,7 @@ module _ (scope : Scope) (variables : Variables) where
     receiver_played x y (b.variable name k absent h) = h.typed
     receiver_played x y b.all = tt
 
-    send_played : (x : Send) (y : Sending) → IsSend scope variables turns x y → CanSend stage (length turns) y
+    send_played : (x : Send) (y : SendOperation) → IsSend scope variables turns x y → CanSend stage (length turns) y
     send_played x y h = record {
       port = port_there (string_bytes x.port) y.port h.port h.port_known;
       sent = sent_played _ x.sent y.sent h.sent;
@@ -119,7 +124,8 @@ module _ (scope : Scope) (variables : Variables) where
     statement_played (b.counted turns x block new h) =
         rw play_for (subst (λ n. CanPlayAll stage n block) (length_push turns (string_bytes (out-Counted x).turns.name)) (block_played h))
 
-    pub block_played : {turns : List (List ℕ)} {xs : List StatementText} {ys : List Statement} → IsBlock scope variables turns xs ys → CanPlayAll stage (length turns) ys
+    pub block_played : {turns : List (List ℕ)} {xs : List StatementText} {ys : List Statement} → IsBlock scope variables turns xs ys
+        → CanPlayAll stage (length turns) ys
     block_played (b.no_statement turns) = tt
     block_played (b.one_statement_more turns xs ys x y h one) = Each-push (λ x n. CanPlay stage n x) (length turns) ys y (block_played h) (statement_played one)
 
@@ -130,14 +136,22 @@ module _ (scope : Scope) (variables : Variables) where
     after_played (b.nothing turns) = tt
     after_played (b.block turns xs ys h) = block_played h
 
-    branches_played : {turns : List (List ℕ)} {xs : List BranchText} {ys : List Branch} → AreBranches scope variables turns xs ys → CanEnterAll stage (length turns) ys
+    branches_played : {turns : List (List ℕ)} {xs : List BranchText} {ys : List Branch} → AreBranches scope variables turns xs ys
+        → CanEnterAll stage (length turns) ys
     branches_played (b.no_branch turns) = tt
-    branches_played (b.one_branch_more turns xs ys x y h one) = Each-push (λ x n. CanEnter stage n x) (length turns) ys y (branches_played h) (branch_played one)
+    branches_played (b.one_branch_more turns xs ys x y h one) =
+        Each-push (λ x n. CanEnter stage n x) (length turns) ys y (branches_played h) (branch_played one)
 
 -- a body can be played on the component type of its scope, with the references of the scope
 pub body_played : (scope : Scope) (xs : List Variable) (statements : List StatementText) (body : Body) → IsBody scope xs statements body
     → IsPlayable scope.types.now (length scope.ports.now.ports.entries) (reference_count scope) body
 body_played scope xs statements body h = record {
-  statements = subst (λ types. CanPlayAll (record { types = scope.types.now; ports = length scope.ports.now.ports.entries; references = reference_count scope; variables = types }) 0 body.statements)
+  statements =
+      subst (λ types. CanPlayAll (record {
+        types = scope.types.now;
+        ports = length scope.ports.now.ports.entries;
+        references = reference_count scope;
+        variables = types;
+      }) 0 body.statements)
       (sym h.same_types) (block_played scope h.variables h.block);
 }

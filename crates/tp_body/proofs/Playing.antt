@@ -3,7 +3,7 @@ use Rattle.std.proofs.Common.{◌≡◌, ℕ, ◌+◌, ◌<◌, ℤ, List, [], �
 use Rattle.std.proofs.lemmas.List.Elements.{All-nil, All-cons}
 use Rattle.tp_value.specs.declared.verdict.Verdict.{Verdict}
 use Rattle.tp_syntax.specs.declared.tree.PortOperation.{PortOperation}
-use Rattle.tp_body.specs.declared.body.Sending.{Sending}
+use Rattle.tp_body.specs.declared.body.SendOperation.{SendOperation}
 use Rattle.tp_body.specs.declared.body.Receiving.{Receiving}
 use Rattle.tp_body.specs.declared.body.Statement.{Statement}
 use Rattle.tp_body.specs.declared.body.Statement.TheVariants as b
@@ -19,7 +19,8 @@ module _ {X Y : Type 0} (g : X → Y) (k : Y → ℕ → Type 0) where
   Each-map n (x ∷ xs) = λ i. k (g x) n × Each-map n xs i
 
 natural : (s : Stage) (X Y : Type 0) (g : X → Statement) (h : Y → Branch) (k : Statement → ℕ → Type 0) (l : Branch → ℕ → Type 0) (x : o.Statement-F X Y)
-    → statement_plays s X Y g h (λ p. k (g p)) (λ p. l (h p)) x ≡ statement_plays s Statement Branch (λ y. y) (λ y. y) k l (map-Statement X Y Statement Branch g h x)
+    → statement_plays s X Y g h (λ p. k (g p)) (λ p. l (h p)) x
+    ≡ statement_plays s Statement Branch (λ y. y) (λ y. y) k l (map-Statement X Y Statement Branch g h x)
 natural s X Y g h k l (o.Send x) = refl
 natural s X Y g h k l (o.Receive x) = refl
 natural s X Y g h k l (o.Control p x) = refl
@@ -35,15 +36,17 @@ natural_branch s X Y g h k l x = λ i n. CanReceive s n x.receiving × Each-map 
 
 module _ (s : Stage) (n : ℕ) where
   -- one layer
-  play_roll : (x : o.Statement-F Statement Branch) → CanPlay s n (roll-Statement x) ≡ statement_plays s Statement Branch (λ y. y) (λ y. y) (λ y m. CanPlay s m y) (λ y m. CanEnter s m y) x n
+  play_roll : (x : o.Statement-F Statement Branch)
+      → CanPlay s n (roll-Statement x) ≡ statement_plays s Statement Branch (λ y. y) (λ y. y) (λ y m. CanPlay s m y) (λ y m. CanEnter s m y) x n
   unfolding CanPlay CanEnter
   play_roll x = λ i. rec-roll-Statement (ℕ → Type 0) (ℕ → Type 0) (statement_plays s) (branch_plays s) (natural s) x i n
 
-  enter_roll : (x : o.Branch-F Statement Branch) → CanEnter s n (roll-Branch x) ≡ branch_plays s Statement Branch (λ y. y) (λ y. y) (λ y m. CanPlay s m y) (λ y m. CanEnter s m y) x n
+  enter_roll : (x : o.Branch-F Statement Branch)
+      → CanEnter s n (roll-Branch x) ≡ branch_plays s Statement Branch (λ y. y) (λ y. y) (λ y m. CanPlay s m y) (λ y m. CanEnter s m y) x n
   unfolding CanPlay CanEnter
   enter_roll x = λ i. rec-roll-Branch (ℕ → Type 0) (ℕ → Type 0) (statement_plays s) (branch_plays s) (natural_branch s) x i n
 
-  pub play_send : (x : Sending) → CanPlay s n (b.Send x) ≡ CanSend s n x
+  pub play_send : (x : SendOperation) → CanPlay s n (b.Send x) ≡ CanSend s n x
   play_send x = ap (CanPlay s n) (sym (b.rolls-Send x)) ∙ play_roll (o.Send x)
 
   pub play_receive : (x : Receiving) → CanPlay s n (b.Receive x) ≡ CanReceive s n x

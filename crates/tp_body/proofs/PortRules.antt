@@ -24,5 +24,6 @@ module _ {K V : Type 0} (v : K → List ℕ) where
   keys_shown [] = refl
   keys_shown (e ∷ es) = ap (λ r. v e.0 ∷ r) (keys_shown es)
 
-  pub position_shown : (es : List (K × V)) (name : List ℕ) → position (λ k. bytes_eq name (v k)) (map (λ e. e.0) es) ≡ position (bytes_eq name) (map (λ e. v e.0) es)
+  pub position_shown : (es : List (K × V)) (name : List ℕ)
+      → position (λ k. bytes_eq name (v k)) (map (λ e. e.0) es) ≡ position (bytes_eq name) (map (λ e. v e.0) es)
   position_shown es name = position_map v (bytes_eq name) (map (λ e. e.0) es) ∙ ap (position (bytes_eq name)) (keys_shown es)

@@ -16,7 +16,7 @@ use Rattle.tp_syntax.specs.declared.tree.BranchBody.{BranchBody}
 use Rattle.tp_syntax.specs.declared.tree.BranchBody.TheVariants as after
 use Rattle.tp_syntax.specs.declared.tree.ElseBranch.{ElseBranch, out-ElseBranch}
 use Rattle.tp_syntax.specs.declared.tree.Counted.{Counted, out-Counted}
-use Rattle.tp_body.specs.declared.body.Sending.{Sending}
+use Rattle.tp_body.specs.declared.body.SendOperation.{SendOperation}
 use Rattle.tp_body.specs.declared.body.Receiving.{Receiving}
 use Rattle.tp_body.specs.declared.body.Statement.{Statement}
 use Rattle.tp_body.specs.declared.body.Statement.TheVariants as b
@@ -30,20 +30,23 @@ use Rattle.tp_body.specs.Bodies.{IsSend, IsReceive, IsVerdict, IsStatement, IsBl
 use Rattle.tp_body.proofs.ValueRules.{pushed}
 
 module _ (scope : Scope) (variables : Variables) (turns : List (List ℕ)) where
-  pub statement_send : (x : Action) (t : Send) (y : Sending) → x ≡ a.Send t → IsSend scope variables turns t y → IsStatement scope variables turns x (b.Send y)
+  pub statement_send : (x : Action) (t : Send) (y : SendOperation) → x ≡ a.Send t → IsSend scope variables turns t y → IsStatement scope variables turns x (b.Send y)
   statement_send x t y e h = rw e (d.send turns t y h)
 
-  pub statement_receive : (x : Action) (t : Receive) (y : Receiving) → x ≡ a.Receive t → IsReceive scope variables turns t y → IsStatement scope variables turns x (b.Receive y)
+  pub statement_receive : (x : Action) (t : Receive) (y : Receiving) → x ≡ a.Receive t → IsReceive scope variables turns t y
+      → IsStatement scope variables turns x (b.Receive y)
   statement_receive x t y e h = rw e (d.receive turns t y h)
 
-  pub statement_control : (x : Control) (k : ℕ) (port : PortType) → scope.behaviour ≢ behaviour.SystemUnderTest → IsPort scope.ports.now (string_bytes x.port) k port
+  pub statement_control : (x : Control) (k : ℕ) (port : PortType) → scope.behaviour ≢ behaviour.SystemUnderTest
+      → IsPort scope.ports.now (string_bytes x.port) k port
       → IsStatement scope variables turns (a.Control x) (b.Control k x.operation)
   statement_control x k port n h = d.control turns x k port n h
 
   pub statement_all_ports : (x : PortOperation) → scope.behaviour ≢ behaviour.SystemUnderTest → IsStatement scope variables turns (a.AllPorts x) (b.AllPorts x)
   statement_all_ports x n = d.all_ports turns x n
 
-  pub statement_set_verdict : (x : VerdictName) (y : Verdict) → scope.behaviour ≢ behaviour.SystemUnderTest → IsVerdict x y → IsStatement scope variables turns (a.SetVerdict x) (b.SetVerdict y)
+  pub statement_set_verdict : (x : VerdictName) (y : Verdict) → scope.behaviour ≢ behaviour.SystemUnderTest → IsVerdict x y
+      → IsStatement scope variables turns (a.SetVerdict x) (b.SetVerdict y)
   statement_set_verdict x y n h = d.set_verdict turns x y n h
 
   pub statement_as : (x y : Action) (z : Statement) → x ≡ y → IsStatement scope variables turns y z → IsStatement scope variables turns x z
@@ -53,7 +56,8 @@ module _ (scope : Scope) (variables : Variables) (turns : List (List ℕ)) where
       → IsStatement scope variables turns x (b.Alt ys None)
   statement_alt x xs ys e h = rw e (d.alt turns xs ys h)
 
-  pub statement_alt_else : (x : Action) (xs : Vec BranchText Global) (ys : List Branch) (o : ElseBranch) (block : List Statement) → x ≡ a.Alt xs (Some o) → AreBranches scope variables turns xs.items ys
+  pub statement_alt_else : (x : Action) (xs : Vec BranchText Global) (ys : List Branch) (o : ElseBranch) (block : List Statement) → x ≡ a.Alt xs (Some o)
+      → AreBranches scope variables turns xs.items ys
       → IsBlock scope variables turns (out-ElseBranch o).block.items block → IsStatement scope variables turns x (b.Alt ys (Some block))
   statement_alt_else x xs ys o block e h i = rw e (d.alt_else turns xs ys o block h i)
 
@@ -65,15 +69,30 @@ module _ (scope : Scope) (variables : Variables) (turns : List (List ℕ)) where
   pub after_nothing : (x : BranchBody) → x ≡ after.Nothing → IsAfter scope variables turns x []
   after_nothing x e = rw e (d.nothing turns)
 
-  pub after_block : (x : BranchBody) (xs : Vec StatementText Global) (ys : List Statement) → x ≡ after.Block xs → IsBlock scope variables turns xs.items ys → IsAfter scope variables turns x ys
+  pub after_block : (x : BranchBody) (xs : Vec StatementText Global) (ys : List Statement) → x ≡ after.Block xs → IsBlock scope variables turns xs.items ys
+      → IsAfter scope variables turns x ys
   after_block x xs ys e h = rw e (d.block turns xs ys h)
 
-  pub block_more : (xs : List StatementText) (i : ℕ) (x : StatementText) (ys : List Statement) (y : Statement) → i < length xs → x ≡ get_or xs i x → IsBlock scope variables turns (take i xs) ys
+  pub block_more : (xs : List StatementText) (i : ℕ) (x : StatementText) (ys : List Statement) (y : Statement) → i < length xs → x ≡ get_or xs i x
+      → IsBlock scope variables turns (take i xs) ys
       → IsStatement scope variables turns x.action y → IsBlock scope variables turns (take (i + 1) xs) (ys ++ y ∷ [])
-  block_more xs i x ys y lt is h one = subst (λ l. IsBlock scope variables turns l (ys ++ y ∷ [])) (pushed xs i x lt is) (d.one_statement_more turns (take i xs) ys x y h one)
+  block_more xs i x ys y lt is h one =
+      subst (λ l. IsBlock scope variables turns l (ys ++ y ∷ [])) (pushed xs i x lt is) (d.one_statement_more turns (take i xs) ys x y h one)
 
-  pub branches_more : (xs : List BranchText) (i : ℕ) (x : BranchText) (ys : List Branch) (y : Branch) → i < length xs → x ≡ get_or xs i x → AreBranches scope variables turns (take i xs) ys
+  pub branches_more : (xs : List BranchText) (i : ℕ) (x : BranchText) (ys : List Branch) (y : Branch) → i < length xs → x ≡ get_or xs i x
+      → AreBranches scope variables turns (take i xs) ys
       → IsBranch scope variables turns x y → AreBranches scope variables turns (take (i + 1) xs) (ys ++ y ∷ [])
-  branches_more xs i x ys y lt is h one = subst (λ l. AreBranches scope variables turns l (ys ++ y ∷ [])) (pushed xs i x lt is) (d.one_branch_more turns (take i xs) ys x y h one)
+  branches_more xs i x ys y lt is h one =
+      subst (λ l. AreBranches scope variables turns l (ys ++ y ∷ [])) (pushed xs i x lt is) (d.one_branch_more turns (take i xs) ys x y h one)
 
-pub ruleset cases = (statement_send, statement_receive, statement_control, statement_all_ports, statement_set_verdict, statement_alt, statement_alt_else, after_nothing, after_block)
+pub ruleset cases = (
+  statement_send,
+  statement_receive,
+  statement_control,
+  statement_all_ports,
+  statement_set_verdict,
+  statement_alt,
+  statement_alt_else,
+  after_nothing,
+  after_block,
+)

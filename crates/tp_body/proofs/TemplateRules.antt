@@ -28,40 +28,49 @@ module _ (types : Types) (turns : List (List ℕ)) where
   pub template_bool : (u : Ty) (x : Template) (b : Bool) → x ≡ t.Bool b → u ≡ ty.Boolean → IsTemplate types turns u x (r.Exact (w.Bool b))
   template_bool u x b e f = rw (e, f) (d.bool_template b)
 
-  pub template_text : (u : Ty) (x : Template) (cs : Vec ℕ Global) → x ≡ t.Text cs → u ≡ ty.Charstring → ArePrintable cs.items → IsTemplate types turns u x (r.Exact (w.Text cs.items))
+  pub template_text : (u : Ty) (x : Template) (cs : Vec ℕ Global) → x ≡ t.Text cs → u ≡ ty.Charstring → ArePrintable cs.items
+      → IsTemplate types turns u x (r.Exact (w.Text cs.items))
   template_text u x cs e f h = rw (e, f) (d.text_template cs h)
 
-  pub template_turn : (u : Ty) (x : Template) (n : String Global) (k : ℕ) → x ≡ t.Name n → u ≡ ty.Integer → IsPlace turns (string_bytes n) k → IsTemplate types turns u x (r.Exact (w.Turn k))
+  pub template_turn : (u : Ty) (x : Template) (n : String Global) (k : ℕ) → x ≡ t.Name n → u ≡ ty.Integer → IsPlace turns (string_bytes n) k
+      → IsTemplate types turns u x (r.Exact (w.Turn k))
   template_turn u x n k e f p = rw (e, f) (d.turn_template n k p)
 
   pub template_any : (u : Ty) (x : Template) → x ≡ t.Any → IsTemplate types turns u x r.Any
   template_any u x e = rw e (d.any u)
 
-  pub template_one_of : (u : Ty) (x : Template) (ts : Vec Template Global) (rs : List RecvTemplate) → x ≡ t.OneOf ts → AreMembers types turns u ts.items rs → IsTemplate types turns u x (r.OneOf rs)
+  pub template_one_of : (u : Ty) (x : Template) (ts : Vec Template Global) (rs : List RecvTemplate) → x ≡ t.OneOf ts → AreMembers types turns u ts.items rs
+      → IsTemplate types turns u x (r.OneOf rs)
   template_one_of u x ts rs e h = rw e (d.one_of u ts rs h)
 
-  pub template_none_of : (u : Ty) (x : Template) (ts : Vec Template Global) (rs : List RecvTemplate) → x ≡ t.Complement ts → AreMembers types turns u ts.items rs → IsTemplate types turns u x (r.NoneOf rs)
+  pub template_none_of : (u : Ty) (x : Template) (ts : Vec Template Global) (rs : List RecvTemplate) → x ≡ t.Complement ts
+      → AreMembers types turns u ts.items rs → IsTemplate types turns u x (r.NoneOf rs)
   template_none_of u x ts rs e h = rw e (d.none_of u ts rs h)
 
-  pub template_range : (u : Ty) (x : Template) (low high : Option ℤ) → x ≡ t.Range low high → u ≡ ty.Integer → AreOrdered low high → IsTemplate types turns u x (r.Range low high)
+  pub template_range : (u : Ty) (x : Template) (low high : Option ℤ) → x ≡ t.Range low high → u ≡ ty.Integer → AreOrdered low high
+      → IsTemplate types turns u x (r.Range low high)
   template_range u x low high e f h = rw (e, f) (d.range low high h)
 
-  pub template_pattern : (u : Ty) (x : Template) (cs : Vec ℕ Global) → x ≡ t.Pattern cs → u ≡ ty.Charstring → IsTemplate types turns u x (r.Pattern (map part_of cs.items))
+  pub template_pattern : (u : Ty) (x : Template) (cs : Vec ℕ Global) → x ≡ t.Pattern cs → u ≡ ty.Charstring
+      → IsTemplate types turns u x (r.Pattern (map part_of cs.items))
   template_pattern u x cs e f = rw (e, f) (d.pattern cs)
 
-  pub template_elements : (u element : Ty) (x : Template) (ts : Vec Template Global) (rs : List RecvTemplate) → x ≡ t.List ts → named types u ≡ Some (def.ListOf element)
+  pub template_elements : (u element : Ty) (x : Template) (ts : Vec Template Global) (rs : List RecvTemplate) → x ≡ t.List ts
+      → named types u ≡ Some (def.ListOf element)
       → AreElementTemplates types turns element ts.items rs → IsTemplate types turns u x (r.List rs)
   template_elements u element x ts rs e f h = rw e (d.element_templates u element ts rs f h)
 
-  pub template_places : (u : Ty) (fields : List Field) (x : Template) (ts : Vec Template Global) (rs : List RecvTemplate) → x ≡ t.List ts → named types u ≡ Some (def.Record fields)
+  pub template_places : (u : Ty) (fields : List Field) (x : Template) (ts : Vec Template Global) (rs : List RecvTemplate) → x ≡ t.List ts
+      → named types u ≡ Some (def.Record fields)
       → AreFieldTemplates types turns fields ts.items rs → IsTemplate types turns u x (r.Record rs)
   template_places u fields x ts rs e f h = rw e (d.place_templates u fields ts rs f h)
 
-  pub template_fields : (u : Ty) (fields : List Field) (x : Template) (ts : Vec TemplateField Global) (rs : List RecvTemplate) → x ≡ t.Record ts → named types u ≡ Some (def.Record fields)
+  pub template_fields : (u : Ty) (fields : List Field) (x : Template) (ts : Vec TemplateField Global) (rs : List RecvTemplate) → x ≡ t.Record ts
+      → named types u ≡ Some (def.Record fields)
       → length ts.items ≡ length fields → AreNamedTemplates types turns ts.items fields rs → IsTemplate types turns u x (r.Record rs)
   template_fields u fields x ts rs e f n h = rw e (d.field_templates u fields ts rs f n h)
 
-  pub template_many : (u : Ty) (x : Template) → x ≡ t.AnyOrNone → IsElementTemplate types turns u x r.Many
+  pub template_many : (u : Ty) (x : Template) → x ≡ t.AnyOrNone → IsElementTemplate types turns u x r.AnyOrNone
   template_many u x e = rw e (d.many u)
 
   pub template_single : (u : Ty) (x : Template) (y : RecvTemplate) → IsTemplate types turns u x y → IsElementTemplate types turns u x y
@@ -69,16 +78,38 @@ module _ (types : Types) (turns : List (List ℕ)) where
 
   pub members_more : (u : Ty) (xs : List Template) (i : ℕ) (x : Template) (rs : List RecvTemplate) (z : RecvTemplate) → i < length xs → x ≡ get_or xs i x
       → AreMembers types turns u (take i xs) rs → IsTemplate types turns u x z → AreMembers types turns u (take (i + 1) xs) (rs ++ z ∷ [])
-  members_more u xs i x rs z lt is h one = subst (λ l. AreMembers types turns u l (rs ++ z ∷ [])) (pushed xs i x lt is) (d.one_member_more u (take i xs) rs x z h one)
+  members_more u xs i x rs z lt is h one =
+      subst (λ l. AreMembers types turns u l (rs ++ z ∷ [])) (pushed xs i x lt is) (d.one_member_more u (take i xs) rs x z h one)
 
-  pub element_templates_more : (u : Ty) (xs : List Template) (i : ℕ) (x : Template) (rs : List RecvTemplate) (z : RecvTemplate) → i < length xs → x ≡ get_or xs i x
-      → AreElementTemplates types turns u (take i xs) rs → IsElementTemplate types turns u x z → AreElementTemplates types turns u (take (i + 1) xs) (rs ++ z ∷ [])
-  element_templates_more u xs i x rs z lt is h one = subst (λ l. AreElementTemplates types turns u l (rs ++ z ∷ [])) (pushed xs i x lt is) (d.one_element_template_more u (take i xs) rs x z h one)
+  pub element_templates_more : (u : Ty) (xs : List Template) (i : ℕ) (x : Template) (rs : List RecvTemplate) (z : RecvTemplate) → i < length xs
+      → x ≡ get_or xs i x
+      → AreElementTemplates types turns u (take i xs) rs → IsElementTemplate types turns u x z
+      → AreElementTemplates types turns u (take (i + 1) xs) (rs ++ z ∷ [])
+  element_templates_more u xs i x rs z lt is h one =
+      subst (λ l. AreElementTemplates types turns u l (rs ++ z ∷ [])) (pushed xs i x lt is) (d.one_element_template_more u (take i xs) rs x z h one)
 
-  pub field_templates_more : (fs : List Field) (xs : List Template) (i : ℕ) (f : Field) (x : Template) (rs : List RecvTemplate) (z : RecvTemplate) → i < length fs → f ≡ get_or fs i f → i < length xs → x ≡ get_or xs i x
-      → AreFieldTemplates types turns (take i fs) (take i xs) rs → IsTemplate types turns f.ty x z → AreFieldTemplates types turns (take (i + 1) fs) (take (i + 1) xs) (rs ++ z ∷ [])
+  pub field_templates_more : (fs : List Field) (xs : List Template) (i : ℕ) (f : Field) (x : Template) (rs : List RecvTemplate) (z : RecvTemplate)
+      → i < length fs → f ≡ get_or fs i f → i < length xs → x ≡ get_or xs i x
+      → AreFieldTemplates types turns (take i fs) (take i xs) rs → IsTemplate types turns f.ty x z
+      → AreFieldTemplates types turns (take (i + 1) fs) (take (i + 1) xs) (rs ++ z ∷ [])
   field_templates_more fs xs i f x rs z lf fis lt is h one =
       subst (λ g. AreFieldTemplates types turns g (take (i + 1) xs) (rs ++ z ∷ [])) (pushed fs i f lf fis)
-      (subst (λ l. AreFieldTemplates types turns (take i fs ++ f ∷ []) l (rs ++ z ∷ [])) (pushed xs i x lt is) (d.one_field_template_more (take i fs) (take i xs) rs f x z h one))
+      (subst (λ l. AreFieldTemplates types turns (take i fs ++ f ∷ []) l (rs ++ z ∷ [])) (pushed xs i x lt is)
+      (d.one_field_template_more (take i fs) (take i xs) rs f x z h one))
 
-pub ruleset cases = (template_int, template_bool, template_text, template_turn, template_any, template_one_of, template_none_of, template_range, template_pattern, template_elements, template_places, template_fields, template_many, template_single)
+pub ruleset cases = (
+  template_int,
+  template_bool,
+  template_text,
+  template_turn,
+  template_any,
+  template_one_of,
+  template_none_of,
+  template_range,
+  template_pattern,
+  template_elements,
+  template_places,
+  template_fields,
+  template_many,
+  template_single,
+)

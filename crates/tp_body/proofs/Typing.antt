@@ -41,17 +41,23 @@ module _ (types : Types) (turns : List (List ℕ)) (zs : List ℤ) (fit : (k : �
     typed u x w (places v fs vs ws e h) = rw (filled_record, has_record, e) (fields_typed fs vs.items ws h)
     typed u x w (fields v fs vs ws e n h) = rw (filled_record, has_record, e) (named_typed vs.items fs ws h)
 
-    all_typed : (u : Ty) (vs : List ValueText) (ws : List SendValue) → AreElements types turns u vs ws → AllHave (λ v t. HasType types t v) u (map (filled zs) ws)
+    all_typed : (u : Ty) (vs : List ValueText) (ws : List SendValue) → AreElements types turns u vs ws
+        → AllHave (λ v t. HasType types t v) u (map (filled zs) ws)
     all_typed u vs ws (no_element v) = tt
-    all_typed u vs ws (one_element_more v xs ys x y h one) = rw map-append (AllHave-push (λ v t. HasType types t v) v (map (filled zs) ys) (filled zs y) (all_typed v xs ys h) (typed v x y one))
+    all_typed u vs ws (one_element_more v xs ys x y h one) =
+        rw map-append (AllHave-push (λ v t. HasType types t v) v (map (filled zs) ys) (filled zs y) (all_typed v xs ys h) (typed v x y one))
 
-    fields_typed : (fs : List Field) (vs : List ValueText) (ws : List SendValue) → AreFields types turns fs vs ws → FieldsHave (λ v t. HasType types t v) fs (map (filled zs) ws)
+    fields_typed : (fs : List Field) (vs : List ValueText) (ws : List SendValue) → AreFields types turns fs vs ws
+        → FieldsHave (λ v t. HasType types t v) fs (map (filled zs) ws)
     fields_typed fs vs ws no_field = tt
-    fields_typed fs vs ws (one_field_more gs xs ys f x y h one) = rw map-append (FieldsHave-push (λ v t. HasType types t v) gs (map (filled zs) ys) f (filled zs y) (fields_typed gs xs ys h) (typed f.ty x y one))
+    fields_typed fs vs ws (one_field_more gs xs ys f x y h one) =
+        rw map-append (FieldsHave-push (λ v t. HasType types t v) gs (map (filled zs) ys) f (filled zs y) (fields_typed gs xs ys h) (typed f.ty x y one))
 
-    named_typed : (entries : List ValueField) (fs : List Field) (ws : List SendValue) → AreNamed types turns entries fs ws → FieldsHave (λ v t. HasType types t v) fs (map (filled zs) ws)
+    named_typed : (entries : List ValueField) (fs : List Field) (ws : List SendValue) → AreNamed types turns entries fs ws
+        → FieldsHave (λ v t. HasType types t v) fs (map (filled zs) ws)
     named_typed entries fs ws (no_name es) = tt
-    named_typed entries fs ws (one_name_more es gs ys f j x y h e n one) = rw map-append (FieldsHave-push (λ v t. HasType types t v) gs (map (filled zs) ys) f (filled zs y) (named_typed es gs ys h) (typed f.ty x.value y one))
+    named_typed entries fs ws (one_name_more es gs ys f j x y h e n one) =
+        rw map-append (FieldsHave-push (λ v t. HasType types t v) gs (map (filled zs) ys) f (filled zs y) (named_typed es gs ys h) (typed f.ty x.value y one))
 
 -- the integer of each place: 0 beyond the last
 pub fits_64_bits : (zs : List ℤ) → All (FitsSigned w64) zs → (k : ℕ) → FitsSigned w64 (get_or zs k (pos 0))

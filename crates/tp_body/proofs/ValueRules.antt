@@ -30,32 +30,40 @@ module _ (types : Types) (turns : List (List ℕ)) where
   pub value_bool : (u : Ty) (x : Value) (b : Bool) → x ≡ v.Bool b → u ≡ ty.Boolean → IsValue types turns u x (w.Bool b)
   value_bool u x b e f = rw (e, f) (d.bool b)
 
-  pub value_text : (u : Ty) (x : Value) (cs : Vec ℕ Global) → x ≡ v.Text cs → u ≡ ty.Charstring → ArePrintable cs.items → IsValue types turns u x (w.Text cs.items)
+  pub value_text : (u : Ty) (x : Value) (cs : Vec ℕ Global) → x ≡ v.Text cs → u ≡ ty.Charstring → ArePrintable cs.items
+      → IsValue types turns u x (w.Text cs.items)
   value_text u x cs e f h = rw (e, f) (d.text cs h)
 
-  pub value_turn : (u : Ty) (x : Value) (n : String Global) (k : ℕ) → x ≡ v.Name n → u ≡ ty.Integer → IsPlace turns (string_bytes n) k → IsValue types turns u x (w.Turn k)
+  pub value_turn : (u : Ty) (x : Value) (n : String Global) (k : ℕ) → x ≡ v.Name n → u ≡ ty.Integer → IsPlace turns (string_bytes n) k
+      → IsValue types turns u x (w.Turn k)
   value_turn u x n k e f p = rw (e, f) (d.turn n k p)
 
   pub value_elements : (u element : Ty) (x : Value) (vs : Vec Value Global) (ws : List SendValue) → x ≡ v.List vs → named types u ≡ Some (def.ListOf element)
       → AreElements types turns element vs.items ws → IsValue types turns u x (w.List ws)
   value_elements u element x vs ws e f h = rw e (d.elements u element vs ws f h)
 
-  pub value_places : (u : Ty) (fields : List Field) (x : Value) (vs : Vec Value Global) (ws : List SendValue) → x ≡ v.List vs → named types u ≡ Some (def.Record fields)
+  pub value_places : (u : Ty) (fields : List Field) (x : Value) (vs : Vec Value Global) (ws : List SendValue) → x ≡ v.List vs
+      → named types u ≡ Some (def.Record fields)
       → AreFields types turns fields vs.items ws → IsValue types turns u x (w.Record ws)
   value_places u fields x vs ws e f h = rw e (d.places u fields vs ws f h)
 
-  pub value_fields : (u : Ty) (fields : List Field) (x : Value) (vs : Vec ValueField Global) (ws : List SendValue) → x ≡ v.Record vs → named types u ≡ Some (def.Record fields)
+  pub value_fields : (u : Ty) (fields : List Field) (x : Value) (vs : Vec ValueField Global) (ws : List SendValue) → x ≡ v.Record vs
+      → named types u ≡ Some (def.Record fields)
       → length vs.items ≡ length fields → AreNamed types turns vs.items fields ws → IsValue types turns u x (w.Record ws)
   value_fields u fields x vs ws e f n h = rw e (d.fields u fields vs ws f n h)
 
   pub elements_more : (u : Ty) (xs : List Value) (i : ℕ) (x : Value) (ws : List SendValue) (z : SendValue) → i < length xs → x ≡ get_or xs i x
       → AreElements types turns u (take i xs) ws → IsValue types turns u x z → AreElements types turns u (take (i + 1) xs) (ws ++ z ∷ [])
-  elements_more u xs i x ws z lt is h one = subst (λ l. AreElements types turns u l (ws ++ z ∷ [])) (pushed xs i x lt is) (d.one_element_more u (take i xs) ws x z h one)
+  elements_more u xs i x ws z lt is h one =
+      subst (λ l. AreElements types turns u l (ws ++ z ∷ [])) (pushed xs i x lt is) (d.one_element_more u (take i xs) ws x z h one)
 
-  pub fields_more : (fs : List Field) (xs : List Value) (i : ℕ) (f : Field) (x : Value) (ws : List SendValue) (z : SendValue) → i < length fs → f ≡ get_or fs i f → i < length xs → x ≡ get_or xs i x
-      → AreFields types turns (take i fs) (take i xs) ws → IsValue types turns f.ty x z → AreFields types turns (take (i + 1) fs) (take (i + 1) xs) (ws ++ z ∷ [])
+  pub fields_more : (fs : List Field) (xs : List Value) (i : ℕ) (f : Field) (x : Value) (ws : List SendValue) (z : SendValue) → i < length fs
+      → f ≡ get_or fs i f → i < length xs → x ≡ get_or xs i x
+      → AreFields types turns (take i fs) (take i xs) ws → IsValue types turns f.ty x z
+      → AreFields types turns (take (i + 1) fs) (take (i + 1) xs) (ws ++ z ∷ [])
   fields_more fs xs i f x ws z lf fis lt is h one =
       subst (λ g. AreFields types turns g (take (i + 1) xs) (ws ++ z ∷ [])) (pushed fs i f lf fis)
-      (subst (λ l. AreFields types turns (take i fs ++ f ∷ []) l (ws ++ z ∷ [])) (pushed xs i x lt is) (d.one_field_more (take i fs) (take i xs) ws f x z h one))
+      (subst (λ l. AreFields types turns (take i fs ++ f ∷ []) l (ws ++ z ∷ [])) (pushed xs i x lt is)
+      (d.one_field_more (take i fs) (take i xs) ws f x z h one))
 
 pub ruleset cases = (value_int, value_bool, value_text, value_turn, value_elements, value_places, value_fields)

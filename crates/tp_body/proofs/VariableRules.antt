@@ -16,7 +16,8 @@ module _ (scope : Scope) where
   pub held_message : (x : TypeName) (u : Ty) → IsType scope.types.now x u → IsHeld scope x (kind.Message u)
   held_message x u h = b.message x u h
 
-  pub held_component : (x : TypeName) (n : String Global) (k : ℕ) → x ≡ t.Named n → IsPlace scope.component_types.now (string_bytes n) k → IsHeld scope x kind.Component
+  pub held_component : (x : TypeName) (n : String Global) (k : ℕ) → x ≡ t.Named n → IsPlace scope.component_types.now (string_bytes n) k
+      → IsHeld scope x kind.Component
   held_component x n k e p = rw e (b.component n k p)
 
 pub ruleset cases = (held_message, held_component)

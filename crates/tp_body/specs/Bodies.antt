@@ -43,7 +43,7 @@ use Rattle.tp_body.specs.declared.body.Sent.{Sent}
 use Rattle.tp_body.specs.declared.body.Sent.TheVariants as s
 use Rattle.tp_body.specs.declared.body.Receiver.{Receiver}
 use Rattle.tp_body.specs.declared.body.Receiver.TheVariants as to
-use Rattle.tp_body.specs.declared.body.Sending.{Sending}
+use Rattle.tp_body.specs.declared.body.SendOperation.{SendOperation}
 use Rattle.tp_body.specs.declared.body.Receiving.{Receiving}
 use Rattle.tp_body.specs.declared.body.Statement.{Statement}
 use Rattle.tp_body.specs.declared.body.Statement.TheVariants as b
@@ -59,56 +59,72 @@ use Rattle.tp_body.specs.Scoping.{IsPort, sends, receives, IsType, IsVariable, I
 use Rattle.tp_body.specs.Messages.{IsMessage, IsTemplate}
 
 -- what is sent, where this is the list of the types that can be sent there
-pub data IsSent (scope : Scope) (variables : Variables) (turns : List (List ℕ)) (sendable : List Ty) : SentText → Sent → Type 0 where
+pub data IsSent (scope : Scope) (variables : Variables) (turns : List (List ℕ)) (sendable : List Ty)
+    : SentText → Sent → Type 0 where
   written : (x : Message) (m : SendMsg) → IsMessage scope.types.now turns x m → Contains sendable m.ty
       → IsSent scope variables turns sendable (sent.Message x) (s.Written m)
   -- what a loop variable holds, as an integer
   counter : (n : String Global) (k : ℕ) → IsPlace turns (string_bytes n) k → Contains sendable ty.Integer
-      → IsSent scope variables turns sendable (sent.Variable n) (s.Written (record { ty = ty.Integer; value = w.Turn k }))
+      → IsSent scope variables turns sendable (sent.Variable n)
+      (s.Written (record { ty = ty.Integer; value = w.Turn k }))
   -- what a variable holds, under its type
-  held : (n : String Global) (k : ℕ) (u : Ty) → IsAbsent turns (string_bytes n) → IsVariable variables (string_bytes n) k (kind.Message u)
-      → Contains sendable u → IsSent scope variables turns sendable (sent.Variable n) (s.Variable k)
+  held : (n : String Global) (k : ℕ) (u : Ty) → IsAbsent turns (string_bytes n)
+      → IsVariable variables (string_bytes n) k (kind.Message u) → Contains sendable u
+      → IsSent scope variables turns sendable (sent.Variable n) (s.Variable k)
 
 -- to whom is sent
-pub data IsReceiver (scope : Scope) (variables : Variables) (turns : List (List ℕ)) : Option Destination → Receiver → Type 0 where
+pub data IsReceiver (scope : Scope) (variables : Variables) (turns : List (List ℕ))
+    : Option Destination → Receiver → Type 0 where
   nobody : IsReceiver scope variables turns None to.Nobody
-  reference : (x : ComponentName) (k : ℕ) → IsReference scope variables turns x k → IsReceiver scope variables turns (Some (d.Component x)) (to.Reference k)
-  variable : (n : String Global) (k : ℕ) → IsAbsent turns (string_bytes n) → IsVariable variables (string_bytes n) k kind.Component
+  reference : (x : ComponentName) (k : ℕ) → IsReference scope variables turns x k
+      → IsReceiver scope variables turns (Some (d.Component x)) (to.Reference k)
+  variable : (n : String Global) (k : ℕ) → IsAbsent turns (string_bytes n)
+      → IsVariable variables (string_bytes n) k kind.Component
       → IsReceiver scope variables turns (Some (d.Component (c.Named n))) (to.Variable k)
   all : IsReceiver scope variables turns (Some d.AllComponents) to.All
 
 -- a send: the port is known, and its type lists the type of what is sent
-pub record IsSend (scope : Scope) (variables : Variables) (turns : List (List ℕ)) (x : Send) (y : Sending) : Type 0 where
+pub record IsSend (scope : Scope) (variables : Variables) (turns : List (List ℕ)) (x : Send) (y : SendOperation)
+    : Type 0 where
   pub port : PortType
   pub port_known : IsPort scope.ports.now (string_bytes x.port) y.port port
   pub sent : IsSent scope variables turns (sends scope.behaviour port) x.sent y.sent
   pub receiver : IsReceiver scope variables turns x.to y.to
 
 -- what is wanted, where this is the list of the types that can be received there
-pub data IsWanted (scope : Scope) (turns : List (List ℕ)) (receivable : List Ty) : Option MessageTemplate → RecvMsg → Type 0 where
+pub data IsWanted (scope : Scope) (turns : List (List ℕ)) (receivable : List Ty)
+    : Option MessageTemplate → RecvMsg → Type 0 where
   every_message : IsWanted scope turns receivable None wanted.Any
-  matching : (x : MessageTemplate) (u : Ty) (r : RecvTemplate) → IsType scope.types.now x.type_name u → Contains receivable u
-      → IsTemplate scope.types.now turns u x.template r → IsWanted scope turns receivable (Some x) (wanted.Of u r)
+  matching : (x : MessageTemplate) (u : Ty) (r : RecvTemplate) → IsType scope.types.now x.type_name u
+      → Contains receivable u → IsTemplate scope.types.now turns u x.template r
+      → IsWanted scope turns receivable (Some x) (wanted.Of u r)
 
 -- the component behind `from`, if there is one
-pub data IsSender (scope : Scope) (variables : Variables) (turns : List (List ℕ)) : Option ComponentName → Option ℕ → Type 0 where
+pub data IsSender (scope : Scope) (variables : Variables) (turns : List (List ℕ))
+    : Option ComponentName → Option ℕ → Type 0 where
   whoever : IsSender scope variables turns None None
-  this_one : (x : ComponentName) (k : ℕ) → IsReference scope variables turns x k → IsSender scope variables turns (Some x) (Some k)
+  this_one : (x : ComponentName) (k : ℕ) → IsReference scope variables turns x k
+      → IsSender scope variables turns (Some x) (Some k)
 
 -- the variable behind `value`: it has the type of the template
-pub data IsValueTarget (variables : Variables) (turns : List (List ℕ)) : RecvMsg → Option (String Global) → Option ℕ → Type 0 where
+pub data IsValueTarget (variables : Variables) (turns : List (List ℕ))
+    : RecvMsg → Option (String Global) → Option ℕ → Type 0 where
   no_target : (m : RecvMsg) → IsValueTarget variables turns m None None
-  target : (u : Ty) (r : RecvTemplate) (n : String Global) (k : ℕ) → IsAbsent turns (string_bytes n) → IsVariable variables (string_bytes n) k (kind.Message u)
+  target : (u : Ty) (r : RecvTemplate) (n : String Global) (k : ℕ) → IsAbsent turns (string_bytes n)
+      → IsVariable variables (string_bytes n) k (kind.Message u)
       → IsValueTarget variables turns (wanted.Of u r) (Some n) (Some k)
 
 -- the variable behind `sender`: it holds components
-pub data IsSenderTarget (variables : Variables) (turns : List (List ℕ)) : Option (String Global) → Option ℕ → Type 0 where
+pub data IsSenderTarget (variables : Variables) (turns : List (List ℕ))
+    : Option (String Global) → Option ℕ → Type 0 where
   no_sender_target : IsSenderTarget variables turns None None
-  sender_target : (n : String Global) (k : ℕ) → IsAbsent turns (string_bytes n) → IsVariable variables (string_bytes n) k kind.Component
+  sender_target : (n : String Global) (k : ℕ) → IsAbsent turns (string_bytes n)
+      → IsVariable variables (string_bytes n) k kind.Component
       → IsSenderTarget variables turns (Some n) (Some k)
 
 -- a receiving operation: the port is known, and its type lists the type of what is wanted
-pub record IsReceive (scope : Scope) (variables : Variables) (turns : List (List ℕ)) (x : Receive) (y : Receiving) : Type 0 where
+pub record IsReceive (scope : Scope) (variables : Variables) (turns : List (List ℕ)) (x : Receive) (y : Receiving)
+    : Type 0 where
   pub port : PortType
   pub port_known : IsPort scope.ports.now (string_bytes x.port) y.port port
   pub same_kind : y.kind ≡ x.kind
@@ -127,62 +143,80 @@ pub data IsVerdict : VerdictName → Verdict → Type 0 where
 mutual
   -- what a statement does
   pub data IsStatement (scope : Scope) (variables : Variables) : List (List ℕ) → Action → Statement → Type 0 where
-    send : (turns : List (List ℕ)) (x : Send) (y : Sending) → IsSend scope variables turns x y → IsStatement scope variables turns (a.Send x) (b.Send y)
+    send : (turns : List (List ℕ)) (x : Send) (y : SendOperation) → IsSend scope variables turns x y
+        → IsStatement scope variables turns (a.Send x) (b.Send y)
     receive : (turns : List (List ℕ)) (x : Receive) (y : Receiving) → IsReceive scope variables turns x y
         → IsStatement scope variables turns (a.Receive x) (b.Receive y)
     -- not in the system under test
-    control : (turns : List (List ℕ)) (x : Control) (k : ℕ) (port : PortType) → scope.behaviour ≢ behaviour.SystemUnderTest
-        → IsPort scope.ports.now (string_bytes x.port) k port → IsStatement scope variables turns (a.Control x) (b.Control k x.operation)
+    control : (turns : List (List ℕ)) (x : Control) (k : ℕ) (port : PortType)
+        → scope.behaviour ≢ behaviour.SystemUnderTest → IsPort scope.ports.now (string_bytes x.port) k port
+        → IsStatement scope variables turns (a.Control x) (b.Control k x.operation)
     all_ports : (turns : List (List ℕ)) (x : PortOperation) → scope.behaviour ≢ behaviour.SystemUnderTest
         → IsStatement scope variables turns (a.AllPorts x) (b.AllPorts x)
-    set_verdict : (turns : List (List ℕ)) (x : VerdictName) (y : Verdict) → scope.behaviour ≢ behaviour.SystemUnderTest → IsVerdict x y
+    set_verdict : (turns : List (List ℕ)) (x : VerdictName) (y : Verdict) → scope.behaviour ≢ behaviour.SystemUnderTest
+        → IsVerdict x y
         → IsStatement scope variables turns (a.SetVerdict x) (b.SetVerdict y)
-    alt : (turns : List (List ℕ)) (xs : Vec BranchText Global) (ys : List Branch) → AreBranches scope variables turns xs.items ys
+    alt : (turns : List (List ℕ)) (xs : Vec BranchText Global) (ys : List Branch)
+        → AreBranches scope variables turns xs.items ys
         → IsStatement scope variables turns (a.Alt xs None) (b.Alt ys None)
-    alt_else : (turns : List (List ℕ)) (xs : Vec BranchText Global) (ys : List Branch) (e : ElseBranch) (otherwise : List Statement)
-        → AreBranches scope variables turns xs.items ys → IsBlock scope variables turns (out-ElseBranch e).block.items otherwise
+    alt_else : (turns : List (List ℕ)) (xs : Vec BranchText Global) (ys : List Branch) (e : ElseBranch)
+        (otherwise : List Statement) → AreBranches scope variables turns xs.items ys
+        → IsBlock scope variables turns (out-ElseBranch e).block.items otherwise
         → IsStatement scope variables turns (a.Alt xs (Some e)) (b.Alt ys (Some otherwise))
     -- inside of it there is one loop variable more
-    counted : (turns : List (List ℕ)) (x : Counted) (block : List Statement) → IsNew scope variables turns (string_bytes (out-Counted x).turns.name)
-        → IsBlock scope variables (turns ++ string_bytes (out-Counted x).turns.name ∷ []) (out-Counted x).block.items block
-        → IsStatement scope variables turns (a.For x) (b.For (out-Counted x).turns.first (out-Counted x).turns.bound block)
+    counted : (turns : List (List ℕ)) (x : Counted) (block : List Statement)
+        → IsNew scope variables turns (string_bytes (out-Counted x).turns.name)
+        → IsBlock scope variables (turns ++ string_bytes (out-Counted x).turns.name ∷ [])
+        (out-Counted x).block.items block
+        → IsStatement scope variables turns (a.For x)
+        (b.For (out-Counted x).turns.first (out-Counted x).turns.bound block)
 
-  pub data IsBlock (scope : Scope) (variables : Variables) : List (List ℕ) → List StatementText → List Statement → Type 0 where
+  pub data IsBlock (scope : Scope) (variables : Variables)
+      : List (List ℕ) → List StatementText → List Statement → Type 0 where
     no_statement : (turns : List (List ℕ)) → IsBlock scope variables turns [] []
-    one_statement_more : (turns : List (List ℕ)) (xs : List StatementText) (ys : List Statement) (x : StatementText) (y : Statement)
-        → IsBlock scope variables turns xs ys → IsStatement scope variables turns x.action y → IsBlock scope variables turns (xs ++ x ∷ []) (ys ++ y ∷ [])
+    one_statement_more :
+        (turns : List (List ℕ)) (xs : List StatementText) (ys : List Statement) (x : StatementText) (y : Statement)
+        → IsBlock scope variables turns xs ys → IsStatement scope variables turns x.action y
+        → IsBlock scope variables turns (xs ++ x ∷ []) (ys ++ y ∷ [])
 
   pub data IsBranch (scope : Scope) (variables : Variables) : List (List ℕ) → BranchText → Branch → Type 0 where
-    branch : (turns : List (List ℕ)) (x : BranchText) (y : Branch) → IsReceive scope variables turns x.receive y.receiving
-        → IsAfter scope variables turns x.body y.block → IsBranch scope variables turns x y
+    branch : (turns : List (List ℕ)) (x : BranchText) (y : Branch)
+        → IsReceive scope variables turns x.receive y.receiving → IsAfter scope variables turns x.body y.block
+        → IsBranch scope variables turns x y
 
   -- what stands behind the operation of a branch: nothing, or a block
   pub data IsAfter (scope : Scope) (variables : Variables) : List (List ℕ) → BranchBody → List Statement → Type 0 where
     nothing : (turns : List (List ℕ)) → IsAfter scope variables turns after.Nothing []
-    block : (turns : List (List ℕ)) (xs : Vec StatementText Global) (ys : List Statement) → IsBlock scope variables turns xs.items ys
+    block : (turns : List (List ℕ)) (xs : Vec StatementText Global) (ys : List Statement)
+        → IsBlock scope variables turns xs.items ys
         → IsAfter scope variables turns (after.Block xs) ys
 
-  pub data AreBranches (scope : Scope) (variables : Variables) : List (List ℕ) → List BranchText → List Branch → Type 0 where
+  pub data AreBranches (scope : Scope) (variables : Variables)
+      : List (List ℕ) → List BranchText → List Branch → Type 0 where
     no_branch : (turns : List (List ℕ)) → AreBranches scope variables turns [] []
     one_branch_more : (turns : List (List ℕ)) (xs : List BranchText) (ys : List Branch) (x : BranchText) (y : Branch)
-        → AreBranches scope variables turns xs ys → IsBranch scope variables turns x y → AreBranches scope variables turns (xs ++ x ∷ []) (ys ++ y ∷ [])
+        → AreBranches scope variables turns xs ys → IsBranch scope variables turns x y
+        → AreBranches scope variables turns (xs ++ x ∷ []) (ys ++ y ∷ [])
 
 -- the type of a variable: a type of messages, or a component type
 pub data IsHeld (scope : Scope) : TypeName → VariableType → Type 0 where
   message : (x : TypeName) (u : Ty) → IsType scope.types.now x u → IsHeld scope x (kind.Message u)
-  component : (n : String Global) (k : ℕ) → IsPlace scope.component_types.now (string_bytes n) k → IsHeld scope (t.Named n) kind.Component
+  component : (n : String Global) (k : ℕ) → IsPlace scope.component_types.now (string_bytes n) k
+      → IsHeld scope (t.Named n) kind.Component
 
 -- the variables of a body, each with a new name
 pub data AreVariables (scope : Scope) : List Variable → Variables → Type 0 where
   no_variable : (vs : Variables) → vs.names ≡ [] → vs.types ≡ [] → AreVariables scope [] vs
-  one_variable_more : (xs : List Variable) (vs ws : Variables) (x : Variable) (held : VariableType) → AreVariables scope xs vs
-      → IsHeld scope x.type_name held → IsNew scope vs [] (string_bytes x.name)
-      → ws.names ≡ vs.names ++ string_bytes x.name ∷ [] → ws.types ≡ vs.types ++ held ∷ [] → AreVariables scope (xs ++ x ∷ []) ws
+  one_variable_more : (xs : List Variable) (vs ws : Variables) (x : Variable) (held : VariableType)
+      → AreVariables scope xs vs → IsHeld scope x.type_name held → IsNew scope vs [] (string_bytes x.name)
+      → ws.names ≡ vs.names ++ string_bytes x.name ∷ [] → ws.types ≡ vs.types ++ held ∷ []
+      → AreVariables scope (xs ++ x ∷ []) ws
 
 -- a body: no parameter has the name of a port, the variables come first, and the statements may speak of them
 pub record IsBody (scope : Scope) (xs : List Variable) (statements : List StatementText) (body : Body) : Type 0 where
   pub variables : Variables
-  pub no_port : (k : ℕ) (name : List ℕ) → slice_get (port_names scope.ports.now) k ≡ Some name → IsAbsent scope.parameters.now name
+  pub no_port : (k : ℕ) (name : List ℕ) → slice_get (port_names scope.ports.now) k ≡ Some name
+      → IsAbsent scope.parameters.now name
   pub declared : AreVariables scope xs variables
   pub same_types : body.variables ≡ variables.types
   pub block : IsBlock scope variables [] statements body.statements

@@ -37,7 +37,7 @@ needed = fold-SendValue ℕ needed_step
 abbrev pub needed_template_step : r.RecvTemplate-F ℕ → ℕ
 needed_template_step (r.Exact w) = needed w
 needed_template_step r.Any = 0
-needed_template_step r.Many = 0
+needed_template_step r.AnyOrNone = 0
 needed_template_step (r.OneOf ns) = greatest ns
 needed_template_step (r.NoneOf ns) = greatest ns
 needed_template_step (r.Range low high) = 0
@@ -71,7 +71,7 @@ filled turns = fold-SendValue Value (value_step turns)
 abbrev pub template_step : List ℤ → r.RecvTemplate-F Template → Template
 template_step turns (r.Exact w) = t.Exact (filled turns w)
 template_step turns r.Any = t.Any
-template_step turns r.Many = t.Many
+template_step turns r.AnyOrNone = t.AnyOrNone
 template_step turns (r.OneOf ts) = t.OneOf ts
 template_step turns (r.NoneOf ts) = t.NoneOf ts
 template_step turns (r.Range low high) = t.Range low high

@@ -16,11 +16,14 @@ use Rattle.tp_body.specs.Playable.{IsAlwaysTyped, IsAlwaysFitting, WantedFits}
 
 -- where a message stands for a value of the text, what it is filled to has its type
 abbrev pub IsTyped : SendMsg → Message → Type 0
-IsTyped message made = (types : Types) (turns : List (List ℕ)) (text : Value) → IsValue types turns message.ty text message.value → HasType types made.ty made.value
+IsTyped message made =
+    (types : Types) (turns : List (List ℕ)) (text : Value) → IsValue types turns message.ty text message.value
+    → HasType types made.ty made.value
 
 -- where a template stands for one of the text, what it is filled to fits its type
 abbrev pub IsFitting : RecvMsg → MsgTemplate → Type 0
-IsFitting (wanted.Of u r) (m.Of v t) = (types : Types) (turns : List (List ℕ)) (text : Template) → IsTemplate types turns u text r → Fits types v t
+IsFitting (wanted.Of u r) (m.Of v t) =
+    (types : Types) (turns : List (List ℕ)) (text : Template) → IsTemplate types turns u text r → Fits types v t
 IsFitting (wanted.Of u r) m.Any = ⊥
 IsFitting wanted.Any made = Unit {0}
 

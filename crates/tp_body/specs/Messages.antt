@@ -9,8 +9,8 @@ use Rattle.tp_value.specs.declared.types.Ty.TheVariants as ty
 use Rattle.tp_value.specs.declared.types.Field.{Field}
 use Rattle.tp_value.specs.declared.types.TypeDef.TheVariants as def
 use Rattle.tp_value.specs.declared.types.Types.{Types}
-use Rattle.tp_value.specs.declared.template.Part.{Part}
-use Rattle.tp_value.specs.declared.template.Part.TheVariants as part
+use Rattle.tp_value.specs.declared.template.PatternPart.{PatternPart}
+use Rattle.tp_value.specs.declared.template.PatternPart.TheVariants as part
 use Rattle.tp_value.specs.Types.{named}
 use Rattle.tp_value.specs.HasType.{ArePrintable}
 use Rattle.tp_value.specs.Fits.{AreOrdered}
@@ -36,81 +36,109 @@ mutual
     bool : (b : Bool) → IsValue types turns ty.Boolean (v.Bool b) (w.Bool b)
     text : (cs : Vec ℕ Global) → ArePrintable cs.items → IsValue types turns ty.Charstring (v.Text cs) (w.Text cs.items)
     -- a loop variable stands for an integer
-    turn : (n : String Global) (k : ℕ) → IsPlace turns (string_bytes n) k → IsValue types turns ty.Integer (v.Name n) (w.Turn k)
+    turn : (n : String Global) (k : ℕ) → IsPlace turns (string_bytes n) k
+        → IsValue types turns ty.Integer (v.Name n) (w.Turn k)
     -- elements in braces, of a record of
-    elements : (u : Ty) (element : Ty) (vs : Vec Value Global) (ws : List SendValue) → named types u ≡ Some (def.ListOf element)
-        → AreElements types turns element vs.items ws → IsValue types turns u (v.List vs) (w.List ws)
+    elements : (u : Ty) (element : Ty) (vs : Vec Value Global) (ws : List SendValue)
+        → named types u ≡ Some (def.ListOf element) → AreElements types turns element vs.items ws
+        → IsValue types turns u (v.List vs) (w.List ws)
     -- fields in braces by their places, one for each declared field
-    places : (u : Ty) (fields : List Field) (vs : Vec Value Global) (ws : List SendValue) → named types u ≡ Some (def.Record fields)
-        → AreFields types turns fields vs.items ws → IsValue types turns u (v.List vs) (w.Record ws)
+    places : (u : Ty) (fields : List Field) (vs : Vec Value Global) (ws : List SendValue)
+        → named types u ≡ Some (def.Record fields) → AreFields types turns fields vs.items ws
+        → IsValue types turns u (v.List vs) (w.Record ws)
     -- fields in braces by their names: as many as there are declared, and one for each of these
-    fields : (u : Ty) (fields : List Field) (vs : Vec ValueField Global) (ws : List SendValue) → named types u ≡ Some (def.Record fields)
-        → length vs.items ≡ length fields → AreNamed types turns vs.items fields ws → IsValue types turns u (v.Record vs) (w.Record ws)
+    fields : (u : Ty) (fields : List Field) (vs : Vec ValueField Global) (ws : List SendValue)
+        → named types u ≡ Some (def.Record fields) → length vs.items ≡ length fields
+        → AreNamed types turns vs.items fields ws
+        → IsValue types turns u (v.Record vs) (w.Record ws)
 
   pub data AreElements (types : Types) (turns : List (List ℕ)) : Ty → List Value → List SendValue → Type 0 where
     no_element : (u : Ty) → AreElements types turns u [] []
-    one_element_more : (u : Ty) (vs : List Value) (ws : List SendValue) (x : Value) (y : SendValue) → AreElements types turns u vs ws
-        → IsValue types turns u x y → AreElements types turns u (vs ++ x ∷ []) (ws ++ y ∷ [])
+    one_element_more : (u : Ty) (vs : List Value) (ws : List SendValue) (x : Value) (y : SendValue)
+        → AreElements types turns u vs ws → IsValue types turns u x y
+        → AreElements types turns u (vs ++ x ∷ []) (ws ++ y ∷ [])
 
   pub data AreFields (types : Types) (turns : List (List ℕ)) : List Field → List Value → List SendValue → Type 0 where
     no_field : AreFields types turns [] [] []
-    one_field_more : (fs : List Field) (vs : List Value) (ws : List SendValue) (f : Field) (x : Value) (y : SendValue) → AreFields types turns fs vs ws
-        → IsValue types turns f.ty x y → AreFields types turns (fs ++ f ∷ []) (vs ++ x ∷ []) (ws ++ y ∷ [])
+    one_field_more : (fs : List Field) (vs : List Value) (ws : List SendValue) (f : Field) (x : Value) (y : SendValue)
+        → AreFields types turns fs vs ws → IsValue types turns f.ty x y
+        → AreFields types turns (fs ++ f ∷ []) (vs ++ x ∷ []) (ws ++ y ∷ [])
 
   -- for each declared field there is an entry of its name
-  pub data AreNamed (types : Types) (turns : List (List ℕ)) : List ValueField → List Field → List SendValue → Type 0 where
+  pub data AreNamed (types : Types) (turns : List (List ℕ))
+      : List ValueField → List Field → List SendValue → Type 0 where
     no_name : (entries : List ValueField) → AreNamed types turns entries [] []
-    one_name_more : (entries : List ValueField) (fs : List Field) (ws : List SendValue) (f : Field) (j : ℕ) (x : ValueField) (y : SendValue) → AreNamed types turns entries fs ws
-        → slice_get entries j ≡ Some x → string_bytes x.name ≡ f.name → IsValue types turns f.ty x.value y
+    one_name_more : (entries : List ValueField) (fs : List Field) (ws : List SendValue) (f : Field) (j : ℕ)
+        (x : ValueField) (y : SendValue) → AreNamed types turns entries fs ws → slice_get entries j ≡ Some x
+        → string_bytes x.name ≡ f.name → IsValue types turns f.ty x.value y
         → AreNamed types turns entries (fs ++ f ∷ []) (ws ++ y ∷ [])
 
 -- a character of a pattern: `?` is 63 and `*` is 42
-abbrev pub part_of : ℕ → Part
-part_of c = if nat_eq c 63 then part.One else (if nat_eq c 42 then part.Many else part.Literal c)
+abbrev pub part_of : ℕ → PatternPart
+part_of c = if nat_eq c 63 then part.One else (if nat_eq c 42 then part.AnyOrNone else part.Literal c)
 
 -- a template fits a type and stands for this
 mutual
   pub data IsTemplate (types : Types) (turns : List (List ℕ)) : Ty → Template → RecvTemplate → Type 0 where
     int_template : (z : ℤ) → FitsSigned w64 z → IsTemplate types turns ty.Integer (t.Int z) (r.Exact (w.Int z))
     bool_template : (b : Bool) → IsTemplate types turns ty.Boolean (t.Bool b) (r.Exact (w.Bool b))
-    text_template : (cs : Vec ℕ Global) → ArePrintable cs.items → IsTemplate types turns ty.Charstring (t.Text cs) (r.Exact (w.Text cs.items))
-    turn_template : (n : String Global) (k : ℕ) → IsPlace turns (string_bytes n) k → IsTemplate types turns ty.Integer (t.Name n) (r.Exact (w.Turn k))
+    text_template : (cs : Vec ℕ Global) → ArePrintable cs.items
+        → IsTemplate types turns ty.Charstring (t.Text cs) (r.Exact (w.Text cs.items))
+    turn_template : (n : String Global) (k : ℕ) → IsPlace turns (string_bytes n) k
+        → IsTemplate types turns ty.Integer (t.Name n) (r.Exact (w.Turn k))
     any : (u : Ty) → IsTemplate types turns u t.Any r.Any
-    one_of : (u : Ty) (ts : Vec Template Global) (rs : List RecvTemplate) → AreMembers types turns u ts.items rs → IsTemplate types turns u (t.OneOf ts) (r.OneOf rs)
-    none_of : (u : Ty) (ts : Vec Template Global) (rs : List RecvTemplate) → AreMembers types turns u ts.items rs → IsTemplate types turns u (t.Complement ts) (r.NoneOf rs)
-    range : (low high : Option ℤ) → AreOrdered low high → IsTemplate types turns ty.Integer (t.Range low high) (r.Range low high)
-    pattern : (cs : Vec ℕ Global) → IsTemplate types turns ty.Charstring (t.Pattern cs) (r.Pattern (map part_of cs.items))
-    element_templates : (u : Ty) (element : Ty) (ts : Vec Template Global) (rs : List RecvTemplate) → named types u ≡ Some (def.ListOf element)
-        → AreElementTemplates types turns element ts.items rs → IsTemplate types turns u (t.List ts) (r.List rs)
-    place_templates : (u : Ty) (fields : List Field) (ts : Vec Template Global) (rs : List RecvTemplate) → named types u ≡ Some (def.Record fields)
-        → AreFieldTemplates types turns fields ts.items rs → IsTemplate types turns u (t.List ts) (r.Record rs)
-    field_templates : (u : Ty) (fields : List Field) (ts : Vec TemplateField Global) (rs : List RecvTemplate) → named types u ≡ Some (def.Record fields)
-        → length ts.items ≡ length fields → AreNamedTemplates types turns ts.items fields rs → IsTemplate types turns u (t.Record ts) (r.Record rs)
+    one_of : (u : Ty) (ts : Vec Template Global) (rs : List RecvTemplate) → AreMembers types turns u ts.items rs
+        → IsTemplate types turns u (t.OneOf ts) (r.OneOf rs)
+    none_of : (u : Ty) (ts : Vec Template Global) (rs : List RecvTemplate) → AreMembers types turns u ts.items rs
+        → IsTemplate types turns u (t.Complement ts) (r.NoneOf rs)
+    range : (low high : Option ℤ) → AreOrdered low high
+        → IsTemplate types turns ty.Integer (t.Range low high) (r.Range low high)
+    pattern : (cs : Vec ℕ Global)
+        → IsTemplate types turns ty.Charstring (t.Pattern cs) (r.Pattern (map part_of cs.items))
+    element_templates : (u : Ty) (element : Ty) (ts : Vec Template Global) (rs : List RecvTemplate)
+        → named types u ≡ Some (def.ListOf element) → AreElementTemplates types turns element ts.items rs
+        → IsTemplate types turns u (t.List ts) (r.List rs)
+    place_templates : (u : Ty) (fields : List Field) (ts : Vec Template Global) (rs : List RecvTemplate)
+        → named types u ≡ Some (def.Record fields) → AreFieldTemplates types turns fields ts.items rs
+        → IsTemplate types turns u (t.List ts) (r.Record rs)
+    field_templates : (u : Ty) (fields : List Field) (ts : Vec TemplateField Global) (rs : List RecvTemplate)
+        → named types u ≡ Some (def.Record fields) → length ts.items ≡ length fields
+        → AreNamedTemplates types turns ts.items fields rs
+        → IsTemplate types turns u (t.Record ts) (r.Record rs)
 
   -- templates in parentheses
   pub data AreMembers (types : Types) (turns : List (List ℕ)) : Ty → List Template → List RecvTemplate → Type 0 where
     no_member : (u : Ty) → AreMembers types turns u [] []
-    one_member_more : (u : Ty) (ts : List Template) (rs : List RecvTemplate) (x : Template) (y : RecvTemplate) → AreMembers types turns u ts rs
-        → IsTemplate types turns u x y → AreMembers types turns u (ts ++ x ∷ []) (rs ++ y ∷ [])
+    one_member_more : (u : Ty) (ts : List Template) (rs : List RecvTemplate) (x : Template) (y : RecvTemplate)
+        → AreMembers types turns u ts rs → IsTemplate types turns u x y
+        → AreMembers types turns u (ts ++ x ∷ []) (rs ++ y ∷ [])
 
   -- templates of the elements of a record of: here alone `*` can stand
-  pub data AreElementTemplates (types : Types) (turns : List (List ℕ)) : Ty → List Template → List RecvTemplate → Type 0 where
+  pub data AreElementTemplates (types : Types) (turns : List (List ℕ))
+      : Ty → List Template → List RecvTemplate → Type 0 where
     no_element_template : (u : Ty) → AreElementTemplates types turns u [] []
-    one_element_template_more : (u : Ty) (ts : List Template) (rs : List RecvTemplate) (x : Template) (y : RecvTemplate) → AreElementTemplates types turns u ts rs
-        → IsElementTemplate types turns u x y → AreElementTemplates types turns u (ts ++ x ∷ []) (rs ++ y ∷ [])
+    one_element_template_more : (u : Ty) (ts : List Template) (rs : List RecvTemplate) (x : Template) (y : RecvTemplate)
+        → AreElementTemplates types turns u ts rs → IsElementTemplate types turns u x y
+        → AreElementTemplates types turns u (ts ++ x ∷ []) (rs ++ y ∷ [])
 
   pub data IsElementTemplate (types : Types) (turns : List (List ℕ)) : Ty → Template → RecvTemplate → Type 0 where
-    many : (u : Ty) → IsElementTemplate types turns u t.AnyOrNone r.Many
-    single : (u : Ty) (x : Template) (y : RecvTemplate) → IsTemplate types turns u x y → IsElementTemplate types turns u x y
+    many : (u : Ty) → IsElementTemplate types turns u t.AnyOrNone r.AnyOrNone
+    single : (u : Ty) (x : Template) (y : RecvTemplate) → IsTemplate types turns u x y
+        → IsElementTemplate types turns u x y
 
-  pub data AreFieldTemplates (types : Types) (turns : List (List ℕ)) : List Field → List Template → List RecvTemplate → Type 0 where
+  pub data AreFieldTemplates (types : Types) (turns : List (List ℕ))
+      : List Field → List Template → List RecvTemplate → Type 0 where
     no_field_template : AreFieldTemplates types turns [] [] []
-    one_field_template_more : (fs : List Field) (ts : List Template) (rs : List RecvTemplate) (f : Field) (x : Template) (y : RecvTemplate) → AreFieldTemplates types turns fs ts rs
-        → IsTemplate types turns f.ty x y → AreFieldTemplates types turns (fs ++ f ∷ []) (ts ++ x ∷ []) (rs ++ y ∷ [])
+    one_field_template_more :
+        (fs : List Field) (ts : List Template) (rs : List RecvTemplate) (f : Field) (x : Template) (y : RecvTemplate)
+        → AreFieldTemplates types turns fs ts rs → IsTemplate types turns f.ty x y
+        → AreFieldTemplates types turns (fs ++ f ∷ []) (ts ++ x ∷ []) (rs ++ y ∷ [])
 
-  pub data AreNamedTemplates (types : Types) (turns : List (List ℕ)) : List TemplateField → List Field → List RecvTemplate → Type 0 where
+  pub data AreNamedTemplates (types : Types) (turns : List (List ℕ))
+      : List TemplateField → List Field → List RecvTemplate → Type 0 where
     no_name_template : (entries : List TemplateField) → AreNamedTemplates types turns entries [] []
-    one_name_template_more : (entries : List TemplateField) (fs : List Field) (rs : List RecvTemplate) (f : Field) (j : ℕ) (x : TemplateField) (y : RecvTemplate) → AreNamedTemplates types turns entries fs rs
+    one_name_template_more : (entries : List TemplateField) (fs : List Field) (rs : List RecvTemplate) (f : Field)
+        (j : ℕ) (x : TemplateField) (y : RecvTemplate) → AreNamedTemplates types turns entries fs rs
         → slice_get entries j ≡ Some x → string_bytes x.name ≡ f.name → IsTemplate types turns f.ty x.template y
         → AreNamedTemplates types turns entries (fs ++ f ∷ []) (rs ++ y ∷ [])
 

@@ -1,5 +1,6 @@
--- What an executor needs of a body: that each place of which it speaks is there and holds what it has to, and that what is sent and what is
--- wanted is of its type. A predicate for each kind of statement says it, where so many loop variables are around.
+-- What an executor needs of a body: that each place of which it speaks is there and holds what it has to, and that what
+-- is sent and what is wanted is of its type. A predicate for each kind of statement says it, where so many loop
+-- variables are around.
 use Rattle.std.specs.Prelude.{◌≡◌, ◌≤◌, ◌<◌, ◌+◌, ℕ, ℤ, List, [], ◌∷◌, Option, Some, None, All, FitsSigned, length, slice_get}
 use Rattle.std.specs.Int.{w64}
 use Rattle.tp_value.specs.declared.types.Ty.{Ty}
@@ -15,7 +16,7 @@ use Rattle.tp_body.specs.declared.body.Sent.{Sent}
 use Rattle.tp_body.specs.declared.body.Sent.TheVariants as sent
 use Rattle.tp_body.specs.declared.body.Receiver.{Receiver}
 use Rattle.tp_body.specs.declared.body.Receiver.TheVariants as to
-use Rattle.tp_body.specs.declared.body.Sending.{Sending}
+use Rattle.tp_body.specs.declared.body.SendOperation.{SendOperation}
 use Rattle.tp_body.specs.declared.body.Receiving.{Receiving}
 use Rattle.tp_body.specs.declared.body.Statement.{Statement}
 use Rattle.tp_body.specs.declared.body.Statement.TheOpen as o
@@ -27,8 +28,8 @@ use Rattle.tp_body.specs.declared.body.Body.{Body}
 use Rattle.tp_body.specs.declared.scope.Scope.{Scope}
 use Rattle.tp_body.specs.Fills.{needed, needed_by_wanted, filled, filled_wanted}
 
--- where a body is played: the record and record-of types, how many ports the component has, how many components the references name, and what
--- the body's variables hold
+-- where a body is played: the record and record-of types, how many ports the component has, how many components the
+-- references name, and what the body's variables hold
 pub record Stage : Type 0 where
   pub types : Types
   pub ports : ℕ
@@ -74,7 +75,7 @@ CanAddress s (to.Variable k) = HoldsComponents s k
 CanAddress s to.All = Unit {0}
 
 -- a send
-pub record CanSend (s : Stage) (n : ℕ) (x : Sending) : Type 0 where
+pub record CanSend (s : Stage) (n : ℕ) (x : SendOperation) : Type 0 where
   pub port : x.port < s.ports
   pub sent : CanSay s n x.sent
   pub to : CanAddress s x.to
@@ -119,17 +120,22 @@ EachElse can n None = Unit {0}
 EachElse can n (Some xs) = Each can n xs
 
 -- one layer of a statement: inside of a `for` there is one loop variable more
-abbrev pub statement_plays : Stage → (X Y : Type 0) → (X → Statement) → (Y → Branch) → (X → ℕ → Type 0) → (Y → ℕ → Type 0) → o.Statement-F X Y → ℕ → Type 0
+abbrev pub statement_plays :
+    Stage → (X Y : Type 0) → (X → Statement) → (Y → Branch) → (X → ℕ → Type 0) → (Y → ℕ → Type 0)
+    → o.Statement-F X Y → ℕ → Type 0
 statement_plays s X Y statement branch plays enters (o.Send x) n = CanSend s n x
 statement_plays s X Y statement branch plays enters (o.Receive x) n = CanReceive s n x
 statement_plays s X Y statement branch plays enters (o.Control k x) n = k < s.ports
 statement_plays s X Y statement branch plays enters (o.AllPorts x) n = Unit {0}
 statement_plays s X Y statement branch plays enters (o.SetVerdict x) n = Unit {0}
-statement_plays s X Y statement branch plays enters (o.Alt branches otherwise) n = Each enters n branches × EachElse plays n otherwise
+statement_plays s X Y statement branch plays enters (o.Alt branches otherwise) n =
+    Each enters n branches × EachElse plays n otherwise
 statement_plays s X Y statement branch plays enters (o.For first bound block) n = Each plays (n + 1) block
 
 -- one layer of a branch: its operation, and its block
-abbrev pub branch_plays : Stage → (X Y : Type 0) → (X → Statement) → (Y → Branch) → (X → ℕ → Type 0) → (Y → ℕ → Type 0) → o.Branch-F X Y → ℕ → Type 0
+abbrev pub branch_plays :
+    Stage → (X Y : Type 0) → (X → Statement) → (Y → Branch) → (X → ℕ → Type 0) → (Y → ℕ → Type 0)
+    → o.Branch-F X Y → ℕ → Type 0
 branch_plays s X Y statement branch plays enters x n = CanReceive s n x.receiving × Each plays n x.block
 
 -- the statement can be played where n loop variables are around it
@@ -150,9 +156,11 @@ CanEnterAll s n branches = Each (λ x m. CanEnter s m x) n branches
 
 -- where a body is played that a component with so many ports and references has
 abbrev pub stage_of : Types → ℕ → ℕ → Body → Stage
-stage_of types ports references body = record { types = types; ports = ports; references = references; variables = body.variables }
+stage_of types ports references body =
+    record { types = types; ports = ports; references = references; variables = body.variables }
 
--- how many components the references of a body name: `mtc`, the component itself, the parameters and the component variables
+-- how many components the references of a body name: `mtc`, the component itself, the parameters and the component
+-- variables
 abbrev pub reference_count : Scope → ℕ
 reference_count scope = length scope.parameters.now + length scope.components.now + 2
 

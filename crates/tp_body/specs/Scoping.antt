@@ -49,7 +49,8 @@ pub data IsType (types : Types) : TypeName → Ty → Type 0 where
   integer : IsType types t.Integer ty.Integer
   boolean : IsType types t.Boolean ty.Boolean
   charstring : IsType types t.Charstring ty.Charstring
-  type_named : (n : String Global) (k : ℕ) → number_of types (string_bytes n) ≡ Some k → IsType types (t.Named n) (ty.Named k)
+  type_named : (n : String Global) (k : ℕ) → number_of types (string_bytes n) ≡ Some k
+      → IsType types (t.Named n) (ty.Named k)
 
 -- the variable of this name stands at this place and holds this
 pub record IsVariable (variables : Variables) (name : List ℕ) (place : ℕ) (held : VariableType) : Type 0 where
@@ -62,8 +63,10 @@ pub record IsVariable (variables : Variables) (name : List ℕ) (place : ℕ) (h
 pub data IsReference (scope : Scope) (variables : Variables) (turns : List (List ℕ)) : ComponentName → ℕ → Type 0 where
   mtc : IsReference scope variables turns c.Mtc 0
   itself : IsReference scope variables turns c.SelfComponent 1
-  component_named : (n : String Global) (k : ℕ) → IsAbsent turns (string_bytes n) → IsAbsent variables.names (string_bytes n)
-      → IsPlace (scope.parameters.now ++ scope.components.now) (string_bytes n) k → IsReference scope variables turns (c.Named n) (2 + k)
+  component_named : (n : String Global) (k : ℕ) → IsAbsent turns (string_bytes n)
+      → IsAbsent variables.names (string_bytes n)
+      → IsPlace (scope.parameters.now ++ scope.components.now) (string_bytes n) k
+      → IsReference scope variables turns (c.Named n) (2 + k)
 
 -- a new name for a variable or a loop variable: no port, parameter, variable or loop variable has it, and in the
 -- test case no component variable

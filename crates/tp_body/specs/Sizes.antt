@@ -23,7 +23,8 @@ abbrev pub else_size : Option (List ℕ) → ℕ
 else_size None = 0
 else_size (Some sizes) = sum sizes
 
--- a statement is 1; an `alt` is 1 and the statements of its blocks; a `for` is 1 and those of its block once for each turn
+-- a statement is 1; an `alt` is 1 and the statements of its blocks; a `for` is 1 and those of its block once for each
+-- turn
 abbrev pub statement_step : o.Statement-F ℕ ℕ → ℕ
 statement_step (o.Send x) = 1
 statement_step (o.Receive x) = 1

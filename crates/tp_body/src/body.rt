@@ -1,7 +1,8 @@
 //! The bodies of a test case: what its statements stand for.
 pub use tp_syntax::tree::{PortOperation, ReceiveKind};
 use tp_value::items::Items;
-use tp_value::template::Part;
+use tp_value::shared::Shared;
+use tp_value::template::PatternPart;
 use tp_value::types::Ty;
 use tp_value::verdict::Verdict;
 
@@ -12,8 +13,8 @@ pub enum SendValue {
     Int(i64),
     /// A boolean.
     Bool(bool),
-    /// A charstring, as its characters.
-    Text(Items<u8>),
+    /// A charstring, as its characters, which each message that is made of it shares.
+    Text(Shared<u8>),
     /// What the loop variable at this place holds; the outermost one has place 0.
     Turn(usize),
     /// A record, as the values of its fields in declared order.
@@ -39,7 +40,7 @@ pub enum RecvTemplate {
     /// `?`
     Any,
     /// `*`, which stands only among the elements of a `List`.
-    Many,
+    AnyOrNone,
     /// `(t1, t2, ..)`
     OneOf(Items<RecvTemplate>),
     /// `complement (t1, ..)`
@@ -47,7 +48,7 @@ pub enum RecvTemplate {
     /// `(lower .. upper)`; an absent bound is `-infinity` or `infinity`.
     Range(Option<i64>, Option<i64>),
     /// `pattern "..."`
-    Pattern(Items<Part>),
+    Pattern(Items<PatternPart>),
     /// `{..}` for a record: one template for each field, in declared order.
     Record(Items<RecvTemplate>),
     /// `{..}` for a record of.
@@ -87,7 +88,7 @@ pub enum Receiver {
 
 /// A send (ES 201 873-1, 22.2.1).
 #[derive(Debug, Drop)]
-pub struct Sending {
+pub struct SendOperation {
     /// The port, by its place in the component type.
     pub port: u32,
     /// What is sent.
@@ -118,7 +119,7 @@ pub struct Receiving {
 #[cycle(body)]
 pub enum Statement {
     /// A send.
-    Send(Sending),
+    Send(SendOperation),
     /// A receiving operation that stands alone.
     Receive(Receiving),
     /// An operation on the port at this place.

@@ -9,6 +9,7 @@ use std::alloc::Global;
 use tp_refusal::memory::Memory;
 use tp_value::items::Items;
 use tp_value::message::{Message, MsgTemplate};
+use tp_value::shared::Shared;
 use tp_value::template::Template;
 use tp_value::value::Value;
 
@@ -22,15 +23,15 @@ fn fill_value(alloc: Global, value: &SendValue, turns: &[i64]) -> Result<Value, 
     match value {
         SendValue::Int(number) => Ok(Value::Int(*number)),
         SendValue::Bool(truth) => Ok(Value::Bool(*truth)),
-        SendValue::Text(text) => Ok(Value::Text(Items::from_slice(alloc, text.as_slice())?)),
+        SendValue::Text(text) => Ok(Value::Text(text.share()?)),
         SendValue::Turn(place) => Ok(Value::Int(turns[*place])),
         SendValue::Record(fields) => {
             let made = fill_values(alloc, fields.as_slice(), turns)?;
-            Ok(Value::Record(made))
+            Ok(Value::Record(Shared::new(alloc, made)?))
         }
         SendValue::List(elements) => {
             let made = fill_values(alloc, elements.as_slice(), turns)?;
-            Ok(Value::List(made))
+            Ok(Value::List(Shared::new(alloc, made)?))
         }
     }
 }
@@ -59,10 +60,11 @@ fn read_integers(integers: &[i64])
     }
 }
 
-/// The message that a send sends, where the loop variables around it hold these integers, the outermost
-/// first: one for each loop variable of which the message speaks (ES 201 873-1, 22.2.1). Under all types
-/// for which the send stands for a value of a text, the message's value has the message's type; likewise
-/// under all types under which it has its type whatever the loop variables hold.
+/// The message that a send sends, where the loop variables around it hold these integers, the
+/// outermost first: one for each loop variable of which the message speaks (ES 201 873-1, 22.2.1).
+/// Under all types for which the send stands for a value of a text, the message's value has the
+/// message's type; likewise under all types under which it has its type whatever the loop variables
+/// hold.
 ///
 /// 50 `Memory` only where an allocation was refused.
 pub fn fill_message(alloc: Global, message: &SendMsg, turns: &[i64]) -> Result<Message, Memory>
@@ -93,7 +95,7 @@ fn fill_one(alloc: Global, template: &RecvTemplate, turns: &[i64]) -> Result<Tem
             Ok(Template::Exact(made))
         }
         RecvTemplate::Any => Ok(Template::Any),
-        RecvTemplate::Many => Ok(Template::Many),
+        RecvTemplate::AnyOrNone => Ok(Template::AnyOrNone),
         RecvTemplate::OneOf(members) => {
             let made = fill_all(alloc, members.as_slice(), turns)?;
             Ok(Template::OneOf(made))
@@ -139,8 +141,9 @@ fn fill_all(
 
 /// What a receiving operation wants, where the loop variables around it hold these integers, the
 /// outermost first: one for each loop variable of which the template speaks (ES 201 873-1, 15 and
-/// Annex B). Under all types for which the operation stands for a template of a text, what is made fits
-/// its type; likewise under all types under which it fits its type whatever the loop variables hold.
+/// Annex B). Under all types for which the operation stands for a template of a text, what is made
+/// fits its type; likewise under all types under which it fits its type whatever the loop variables
+/// hold.
 ///
 /// 50 `Memory` only where an allocation was refused.
 pub fn fill_template(alloc: Global, wanted: &RecvMsg, turns: &[i64]) -> Result<MsgTemplate, Memory>

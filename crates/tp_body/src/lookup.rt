@@ -90,7 +90,8 @@ pub fn find_variable(variables: &Variables, name: &str) -> Option<(usize, Variab
 
 /// The place of a name among the references, from the third on. Takes no memory.
 fn find_component(scope: &Scope, name: &str) -> Option<usize>
-    ensures { IfSome result (IsPlace (scope.now.parameters.now ++ scope.now.components.now) name.now) }
+    ensures { IfSome result
+        (IsPlace (scope.now.parameters.now ++ scope.now.components.now) name.now) }
 {
     if let Some(place) = scope.parameters.find(name) {
         return Some(place as usize);

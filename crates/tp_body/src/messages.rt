@@ -13,6 +13,7 @@ use tp_name::name::{Name, find};
 use tp_name::name_set::NameSet;
 use tp_syntax::tree::{Value, ValueField};
 use tp_value::items::Items;
+use tp_value::shared::Shared;
 use tp_value::types::{Field, Ty, TypeDef, Types};
 
 /// Where a value or a template stands: what its names may mean, and the line for its refusals.
@@ -34,8 +35,8 @@ impl<'a, 'm> Context<'a, 'm> {
         refused(Refusal::WrongType, self.line)
     }
 
-    /// What a name is refused with that is no loop variable: 13 `WrongType` for a variable of the body,
-    /// otherwise 11 `Unknown`.
+    /// What a name is refused with that is no loop variable: 13 `WrongType` for a variable of the
+    /// body, otherwise 11 `Unknown`.
     pub fn no_turn(&self, name: &str) -> ScriptFault {
         match self.variables.find(name) {
             Some(_) => refused(Refusal::WrongType, self.line),
@@ -58,10 +59,10 @@ pub fn are_printable(text: &[u8]) -> bool
 
 /// What a value of this type stands for.
 ///
-/// The first fault from left to right is answered, the number and the names of a record's fields before
-/// what stands in them: 13 `WrongType` for a value of another type, a field that the record hasn't, or
-/// that is missing or given twice, and a variable; 11 `Unknown` for any other name that is no loop
-/// variable; 50.
+/// The first fault from left to right is answered, the number and the names of a record's fields
+/// before what stands in them: 13 `WrongType` for a value of another type, a field that the record
+/// hasn't, or that is missing or given twice, and a variable; 11 `Unknown` for any other name that
+/// is no loop variable; 50.
 #[cycle(value)]
 #[tactic(auto, using(crate::proofs::ValueRules::cases))]
 pub fn resolve_value(
@@ -70,7 +71,8 @@ pub fn resolve_value(
     ty: Ty,
     value: &Value,
 ) -> Result<SendValue, ScriptFault>
-    ensures { IfOk result (IsValue context.now.types.now (texts context.now.turns.now) ty value.now) }
+    ensures { IfOk result
+        (IsValue context.now.types.now (texts context.now.turns.now) ty value.now) }
 {
     match value {
         Value::Int(number) => {
@@ -88,7 +90,7 @@ pub fn resolve_value(
             if ty != Ty::Charstring || !are_printable(text) {
                 return Err(context.wrong_type());
             }
-            Ok(SendValue::Text(Items::from_slice(alloc, text)?))
+            Ok(SendValue::Text(Shared::from_slice(alloc, text)?))
         }
         Value::Name(name) => match find(context.turns, name.as_str()) {
             Some(place) => match ty {
@@ -127,7 +129,8 @@ fn resolve_elements(
     ty: Ty,
     values: &[Value],
 ) -> Result<Items<SendValue>, ScriptFault>
-    ensures { IfOk result (AreElements context.now.types.now (texts context.now.turns.now) ty values.now) }
+    ensures { IfOk result
+        (AreElements context.now.types.now (texts context.now.turns.now) ty values.now) }
 {
     let mut made = Items::new(alloc);
     for value in values {
@@ -146,7 +149,8 @@ fn resolve_fields(
     fields: &[Field],
     values: &[Value],
 ) -> Result<Items<SendValue>, ScriptFault>
-    ensures { IfOk result (AreFields context.now.types.now (texts context.now.turns.now) fields.now values.now) }
+    ensures { IfOk result
+        (AreFields context.now.types.now (texts context.now.turns.now) fields.now values.now) }
 {
     if fields.len() != values.len() {
         return Err(context.wrong_type());
@@ -161,7 +165,8 @@ fn resolve_fields(
 
 /// The names of the entries.
 fn entry_names<'v>(alloc: Global, entries: &'v [ValueField]) -> Result<Vec<Name<'v>>, ScriptFault>
-    ensures { IfOk result (λ names. texts names.items ≡ map (λ x. string_bytes x.name) entries.now) }
+    ensures { IfOk result (λ names.
+        texts names.items ≡ map (λ x. string_bytes x.name) entries.now) }
 {
     let mut names = Vec::new(alloc);
     for entry in entries {
@@ -192,7 +197,8 @@ fn resolve_named(
     fields: &[Field],
     entries: &[ValueField],
 ) -> Result<Items<SendValue>, ScriptFault>
-    ensures named { IfOk result (λ made. AreNamed context.now.types.now (texts context.now.turns.now) entries.now fields.now made) }
+    ensures named { IfOk result (λ made. AreNamed
+        context.now.types.now (texts context.now.turns.now) entries.now fields.now made) }
     ensures count { IfOk result (λ _. length entries.now ≡ length fields.now) }
 {
     let names = entry_names(alloc, entries)?;

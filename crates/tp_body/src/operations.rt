@@ -5,7 +5,9 @@ ghost use Rattle.tp_body.specs.Scoping.{IsVariable};
 ghost use Rattle.tp_body.specs.Messages.{IsMessage};
 ghost use Rattle.tp_body.specs.Bodies.{IsReceive, IsReceiver, IsSend, IsSender, IsSenderTarget, IsSent, IsValueTarget, IsVerdict, IsWanted};
 
-use crate::body::{Receiver, Receiving, RecvMsg, SendMsg, SendValue, Sending, Sent, VariableType};
+use crate::body::{
+    Receiver, Receiving, RecvMsg, SendMsg, SendOperation, SendValue, Sent, VariableType,
+};
 use crate::lookup::{
     find_port, find_reference, find_type, find_variable, lists, receivable, sendable,
 };
@@ -21,8 +23,8 @@ use tp_syntax::tree::{ComponentName, Destination, Message, MessageTemplate, Verd
 use tp_value::types::Ty;
 use tp_value::verdict::Verdict;
 
-/// What a name is refused with where a variable has to stand, and that is neither a variable nor a loop
-/// variable: 13 `WrongType` for a parameter or a component variable, otherwise 11 `Unknown`.
+/// What a name is refused with where a variable has to stand, and that is neither a variable nor a
+/// loop variable: 13 `WrongType` for a parameter or a component variable, otherwise 11 `Unknown`.
 fn no_variable(scope: &Scope, name: &str, line: u32) -> ScriptFault {
     if scope.parameters.find(name).is_some() || scope.components.find(name).is_some() {
         return refused(Refusal::WrongType, line);
@@ -30,15 +32,16 @@ fn no_variable(scope: &Scope, name: &str, line: u32) -> ScriptFault {
     refused(Refusal::Unknown, line)
 }
 
-/// What a message that is written out stands for: 11 `Unknown` for its type, 14 `Direction` where it
-/// isn't among those that can be sent, then the refusals of the value.
+/// What a message that is written out stands for: 11 `Unknown` for its type, 14 `Direction` where
+/// it isn't among those that can be sent, then the refusals of the value.
 fn resolve_written(
     alloc: Global,
     context: &Context,
     sendable: &TypeList,
     message: &Message,
 ) -> Result<SendMsg, ScriptFault>
-    ensures message { IfOk result (IsMessage context.now.types.now (texts context.now.turns.now) message.now) }
+    ensures message { IfOk result
+        (IsMessage context.now.types.now (texts context.now.turns.now) message.now) }
     ensures listed { IfOk result (λ m. Contains sendable.now m.ty) }
 {
     let Some(ty) = find_type(context.types, &message.type_name) else {
@@ -53,7 +56,8 @@ fn resolve_written(
 
 /// What a loop variable sends, as an integer: 14 `Direction` where no integer can be sent.
 fn resolve_counter(sendable: &TypeList, place: usize, line: u32) -> Result<SendMsg, ScriptFault>
-    ensures value { IfOk result (λ m. m ≡ record { ty = Ty.Integer; value = SendValue.Turn place }) }
+    ensures value { IfOk result (λ m.
+        m ≡ record { ty = Ty.Integer; value = SendValue.Turn place }) }
     ensures listed { IfOk result (λ _. Contains sendable.now Ty.Integer) }
 {
     if !lists(sendable, Ty::Integer) {
@@ -65,8 +69,8 @@ fn resolve_counter(sendable: &TypeList, place: usize, line: u32) -> Result<SendM
     })
 }
 
-/// The variable of messages that has this name: its place, and its type. 11 `Unknown` for an unknown
-/// name, 13 `WrongType` for a name of anything else.
+/// The variable of messages that has this name: its place, and its type. 11 `Unknown` for an
+/// unknown name, 13 `WrongType` for a name of anything else.
 fn message_variable(
     scope: &Scope,
     variables: &Variables,
@@ -75,7 +79,8 @@ fn message_variable(
     name: &str,
 ) -> Result<(usize, Ty), ScriptFault>
     ensures no_turn { IfOk result (λ _. IsAbsent (texts turns.now) name.now) }
-    ensures held { IfOk result (λ found. IsVariable variables.now name.now found.0 (VariableType.Message found.1)) }
+    ensures held { IfOk result (λ found.
+        IsVariable variables.now name.now found.0 (VariableType.Message found.1)) }
 {
     let None = find(turns, name) else {
         return Err(refused(Refusal::WrongType, line));
@@ -99,7 +104,8 @@ fn component_variable(
     name: &str,
 ) -> Result<usize, ScriptFault>
     ensures no_turn { IfOk result (λ _. IsAbsent (texts turns.now) name.now) }
-    ensures held { IfOk result (λ place. IsVariable variables.now name.now place VariableType.Component) }
+    ensures held { IfOk result (λ place.
+        IsVariable variables.now name.now place VariableType.Component) }
 {
     let None = find(turns, name) else {
         return Err(refused(Refusal::WrongType, line));
@@ -113,7 +119,8 @@ fn component_variable(
     }
 }
 
-/// What is sent: a message that is written out, what a loop variable holds, or what a variable holds.
+/// What is sent: a message that is written out, what a loop variable holds, or what a variable
+/// holds.
 #[tactic(auto, using(crate::proofs::OperationRules::cases))]
 fn resolve_sent(
     alloc: Global,
@@ -152,8 +159,8 @@ fn resolve_sent(
     }
 }
 
-/// The component behind `to`: a variable's, or a reference. 13 `WrongType` for a variable of messages, 11
-/// `Unknown` for any other name that is no component.
+/// The component behind `to`: a variable's, or a reference. 13 `WrongType` for a variable of
+/// messages, 11 `Unknown` for any other name that is no component.
 #[tactic(auto, using(crate::proofs::OperationRules::cases))]
 fn resolve_component(
     scope: &Scope,
@@ -162,7 +169,8 @@ fn resolve_component(
     line: u32,
     component: &ComponentName,
 ) -> Result<Receiver, ScriptFault>
-    ensures { IfOk result (IsReceiver scope.now variables.now (texts turns.now) (Some (Destination.Component component.now))) }
+    ensures { IfOk result (IsReceiver scope.now variables.now (texts turns.now)
+        (Some (Destination.Component component.now))) }
 {
     if let ComponentName::Named(name) = component {
         let name = name.as_str();
@@ -201,8 +209,8 @@ fn resolve_receiver(
 /// What a send stands for (ES 201 873-1, 22.2.1).
 ///
 /// In this order: 11 `Unknown` for the port; for a message its type (11), the port's direction (14
-/// `Direction`) and the value; for a variable its name (11, 13 `WrongType`) and the direction (14); then
-/// the receiver (11, 13); 50.
+/// `Direction`) and the value; for a variable its name (11, 13 `WrongType`) and the direction (14);
+/// then the receiver (11, 13); 50.
 pub fn resolve_send(
     alloc: Global,
     scope: &Scope,
@@ -210,7 +218,7 @@ pub fn resolve_send(
     turns: &[Name],
     line: u32,
     send: &tree::Send,
-) -> Result<Sending, ScriptFault>
+) -> Result<SendOperation, ScriptFault>
     ensures { IfOk result (IsSend scope.now variables.now (texts turns.now) send.now) }
 {
     let Some((place, port)) = find_port(scope.ports, send.port.as_str()) else {
@@ -219,15 +227,15 @@ pub fn resolve_send(
     let sendable = sendable(scope.behaviour, port);
     let sent = resolve_sent(alloc, scope, variables, turns, sendable, line, &send.sent)?;
     let to = resolve_receiver(scope, variables, turns, line, &send.to)?;
-    Ok(Sending {
+    Ok(SendOperation {
         port: place,
         sent,
         to,
     })
 }
 
-/// What a receiving operation wants: 11 `Unknown` for the type, 14 `Direction` where it isn't among those
-/// that can be received, then the refusals of the template.
+/// What a receiving operation wants: 11 `Unknown` for the type, 14 `Direction` where it isn't among
+/// those that can be received, then the refusals of the template.
 #[tactic(auto, using(crate::proofs::OperationRules::cases))]
 fn resolve_wanted(
     alloc: Global,
@@ -259,8 +267,8 @@ fn resolve_wanted(
     Ok(RecvMsg::Of(ty, made))
 }
 
-/// The component behind `from`, if there is one: 13 `WrongType` for a variable, 11 `Unknown` for any other
-/// name that is no component.
+/// The component behind `from`, if there is one: 13 `WrongType` for a variable, 11 `Unknown` for
+/// any other name that is no component.
 #[tactic(auto, using(crate::proofs::OperationRules::cases))]
 fn resolve_sender(
     scope: &Scope,
@@ -291,8 +299,8 @@ fn no_reference(variables: &Variables, component: &ComponentName, line: u32) -> 
     refused(Refusal::Unknown, line)
 }
 
-/// The variable behind `value`, if there is one: 11 `Unknown` for an unknown name, 13 `WrongType` for
-/// anything but a variable of the template's type, and without a template.
+/// The variable behind `value`, if there is one: 11 `Unknown` for an unknown name, 13 `WrongType`
+/// for anything but a variable of the template's type, and without a template.
 #[tactic(auto, using(crate::proofs::OperationRules::cases))]
 fn resolve_value_target(
     scope: &Scope,
@@ -319,8 +327,8 @@ fn resolve_value_target(
     }
 }
 
-/// The variable behind `sender`, if there is one: 11 `Unknown` for an unknown name, 13 `WrongType` for
-/// anything but a variable of components.
+/// The variable behind `sender`, if there is one: 11 `Unknown` for an unknown name, 13 `WrongType`
+/// for anything but a variable of components.
 #[tactic(auto, using(crate::proofs::OperationRules::cases))]
 fn resolve_sender_target(
     scope: &Scope,
@@ -341,8 +349,8 @@ fn resolve_sender_target(
 /// What a receiving operation stands for (ES 201 873-1, 22.2.2 to 22.2.4).
 ///
 /// In this order: 11 `Unknown` for the port; the template's type (11), the port's direction (14
-/// `Direction`) and the template; the component behind `from` (11, 13 `WrongType`); the variable behind
-/// `value`, then the one behind `sender` (11, 13); 50.
+/// `Direction`) and the template; the component behind `from` (11, 13 `WrongType`); the variable
+/// behind `value`, then the one behind `sender` (11, 13); 50.
 pub fn resolve_receive(
     alloc: Global,
     scope: &Scope,

@@ -19,8 +19,8 @@ fn is_field(fields: &[Field], place: usize, name: &str) -> bool
     }
 }
 
-/// Puts the names of the fields into the table, in declared order. A name that stands twice is put in
-/// once. 50 `Memory` only where an allocation was refused.
+/// Puts the names of the fields into the table, in declared order. A name that stands twice is put
+/// in once. 50 `Memory` only where an allocation was refused.
 fn list_names<'f>(table: &mut IndexSet<&'f [u8]>, fields: &'f [Field]) -> Result<(), ScriptFault> {
     for field in fields {
         let Ok(_) = table.insert(field.name.as_slice()) else {
@@ -30,16 +30,18 @@ fn list_names<'f>(table: &mut IndexSet<&'f [u8]>, fields: &'f [Field]) -> Result
     Ok(())
 }
 
-/// A place at which the field of this name stands, or `None` where there is none. It looks at the given
-/// place first, where a field in declared order stands, and then into the table, which holds the names of
-/// the fields once one was looked for there. 50 `Memory` only where an allocation was refused.
+/// A place at which the field of this name stands, or `None` where there is none. It looks at the
+/// given place first, where a field in declared order stands, and then into the table, which holds
+/// the names of the fields once one was looked for there. 50 `Memory` only where an allocation was
+/// refused.
 fn find_field<'f>(
     fields: &'f [Field],
     table: &mut IndexSet<&'f [u8]>,
     likely: usize,
     name: &str,
 ) -> Result<Option<usize>, ScriptFault>
-    ensures { IfOk result (λ found. IfSome found (λ place. slice_get (field_names fields.now) place ≡ Some name.now)) }
+    ensures { IfOk result (λ found. IfSome found (λ place.
+        slice_get (field_names fields.now) place ≡ Some name.now)) }
 {
     if is_field(fields, likely, name) {
         return Ok(Some(likely));
@@ -79,10 +81,11 @@ fn are_all(taken: &[bool]) -> bool
     true
 }
 
-/// The places of the fields that the entries of these names stand for: each field has exactly one entry.
+/// The places of the fields that the entries of these names stand for: each field has exactly one
+/// entry.
 ///
-/// 13 `WrongType` at the line where there are more or fewer entries than fields, a name that no field
-/// has, or a name given twice; 50.
+/// 13 `WrongType` at the line where there are more or fewer entries than fields, a name that no
+/// field has, or a name given twice; 50.
 pub fn field_places(
     alloc: Global,
     fields: &[Field],

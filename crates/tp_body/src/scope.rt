@@ -12,8 +12,8 @@ pub enum Behaviour {
     TestCase,
     /// That of a function, whose names hide the component variables of the test case.
     Function,
-    /// That of the system under test: it sends what its ports receive, and receives what they send. It
-    /// has no verdicts and no operations on ports.
+    /// That of the system under test: it sends what its ports receive, and receives what they send.
+    /// It has no verdicts and no operations on ports.
     SystemUnderTest,
 }
 

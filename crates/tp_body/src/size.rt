@@ -84,8 +84,8 @@ fn count_branches(branches: &[Branch]) -> u64
     sum
 }
 
-/// How many statements a body has, once each `for` stands for its copies; 100,001 where there are more.
-/// Each variable counts 1. Takes no memory.
+/// How many statements a body has, once each `for` stands for its copies; 100,001 where there are
+/// more. Each variable counts 1. Takes no memory.
 #[tactic(auto, using(crate::proofs::Counting::laws))]
 pub fn count_body(body: &Body) -> u64
     ensures { result ≡ capped (size_of_body body.now) }

@@ -38,8 +38,8 @@ fn counted(turns: &Turns, block: Items<Statement>) -> Statement
     Statement::For(turns.first, turns.bound, block)
 }
 
-/// What an operation on one port stands for: 16 `NotInSut` in the system under test, then 11 `Unknown` for
-/// the port.
+/// What an operation on one port stands for: 16 `NotInSut` in the system under test, then
+/// 11 `Unknown` for the port.
 #[tactic(auto, using(crate::proofs::StatementRules::cases))]
 fn resolve_control(
     scope: &Scope,
@@ -48,7 +48,8 @@ fn resolve_control(
     line: u32,
     control: &Control,
 ) -> Result<Statement, ScriptFault>
-    ensures { IfOk result (IsStatement scope.now variables.now (texts turns.now) (Action.Control control.now)) }
+    ensures { IfOk result
+        (IsStatement scope.now variables.now (texts turns.now) (Action.Control control.now)) }
 {
     if scope.behaviour == Behaviour::SystemUnderTest {
         return Err(refused(Refusal::NotInSut, line));
@@ -68,7 +69,8 @@ fn resolve_all_ports(
     line: u32,
     operation: PortOperation,
 ) -> Result<Statement, ScriptFault>
-    ensures { IfOk result (IsStatement scope.now variables.now (texts turns.now) (Action.AllPorts operation)) }
+    ensures { IfOk result
+        (IsStatement scope.now variables.now (texts turns.now) (Action.AllPorts operation)) }
 {
     if scope.behaviour == Behaviour::SystemUnderTest {
         return Err(refused(Refusal::NotInSut, line));
@@ -76,7 +78,8 @@ fn resolve_all_ports(
     Ok(Statement::AllPorts(operation))
 }
 
-/// What `setverdict` stands for: 16 `NotInSut` in the system under test, then 13 `WrongType` for `error`.
+/// What `setverdict` stands for: 16 `NotInSut` in the system under test, then 13 `WrongType` for
+/// `error`.
 #[tactic(auto, using(crate::proofs::StatementRules::cases))]
 fn resolve_set_verdict(
     scope: &Scope,
@@ -85,7 +88,8 @@ fn resolve_set_verdict(
     line: u32,
     name: VerdictName,
 ) -> Result<Statement, ScriptFault>
-    ensures { IfOk result (IsStatement scope.now variables.now (texts turns.now) (Action.SetVerdict name)) }
+    ensures { IfOk result
+        (IsStatement scope.now variables.now (texts turns.now) (Action.SetVerdict name)) }
 {
     if scope.behaviour == Behaviour::SystemUnderTest {
         return Err(refused(Refusal::NotInSut, line));
@@ -96,9 +100,10 @@ fn resolve_set_verdict(
 
 /// What a statement stands for.
 ///
-/// The first fault in the order of the text is answered, at the line of the statement or branch in which
-/// it stands: those of a send, of a receiving operation, of an operation on ports and of `setverdict`, and
-/// 12 `Duplicate` for a loop variable whose name isn't new, before what stands in its block; 50.
+/// The first fault in the order of the text is answered, at the line of the statement or branch in
+/// which it stands: those of a send, of a receiving operation, of an operation on ports and of
+/// `setverdict`, and 12 `Duplicate` for a loop variable whose name isn't new, before what stands in
+/// its block; 50.
 #[cycle(statement)]
 #[tactic(auto, using(crate::proofs::StatementRules::cases))]
 fn resolve_statement<'m>(
@@ -234,10 +239,11 @@ fn resolve_branches<'m>(
 
 /// What a body stands for: its variables, and its statements.
 ///
-/// The first fault in the order of the text is answered: 12 `Duplicate`, at the given line, which is that
-/// of the function, for a parameter that has the name of a port; then those of the variables; then those
-/// of the statements; 50. A body's statements speak of no loop variables but those around them, and of no
-/// other place that isn't there: the ports of the component type, the references and the variables.
+/// The first fault in the order of the text is answered: 12 `Duplicate`, at the given line, which
+/// is that of the function, for a parameter that has the name of a port; then those of the
+/// variables; then those of the statements; 50. A body's statements speak of no loop variables but
+/// those around them, and of no other place that isn't there: the ports of the component type, the
+/// references and the variables.
 pub fn resolve_body(
     alloc: Global,
     scope: &Scope,

@@ -12,7 +12,8 @@ use tp_name::fault::ScriptFault;
 use tp_name::name::{Name, find};
 use tp_syntax::tree::{Template, TemplateField};
 use tp_value::items::Items;
-use tp_value::template::Part;
+use tp_value::shared::Shared;
+use tp_value::template::PatternPart;
 use tp_value::types::{Field, Ty, TypeDef};
 
 /// Whether the lower bound is at most the upper, where there are both.
@@ -29,20 +30,20 @@ fn are_ordered(lower: Option<i64>, upper: Option<i64>) -> bool
 }
 
 /// What a character of a pattern stands for.
-fn part(character: u8) -> Part
+fn part(character: u8) -> PatternPart
     ensures { result ≡ part_of character }
 {
     if character == b'?' {
-        return Part::One;
+        return PatternPart::One;
     }
     if character == b'*' {
-        return Part::Many;
+        return PatternPart::AnyOrNone;
     }
-    Part::Literal(character)
+    PatternPart::Literal(character)
 }
 
 /// The parts of a pattern.
-fn parts(alloc: Global, text: &[u8]) -> Result<Items<Part>, ScriptFault>
+fn parts(alloc: Global, text: &[u8]) -> Result<Items<PatternPart>, ScriptFault>
     ensures { IfOk result (λ parts. parts ≡ map part_of text.now) }
 {
     let mut parts = Items::new(alloc);
@@ -54,11 +55,11 @@ fn parts(alloc: Global, text: &[u8]) -> Result<Items<Part>, ScriptFault>
 
 /// What a template of this type stands for.
 ///
-/// The first fault from left to right is answered, the number and the names of a record's fields before
-/// what stands in them: 13 `WrongType` for a template that doesn't fit the type, a lower bound above the
-/// upper, a `*` elsewhere than among the elements of a record of, a field that the record hasn't, or that
-/// is missing or given twice, and a variable; 11 `Unknown` for any other name that is no loop variable;
-/// 50.
+/// The first fault from left to right is answered, the number and the names of a record's fields
+/// before what stands in them: 13 `WrongType` for a template that doesn't fit the type, a lower
+/// bound above the upper, a `*` elsewhere than among the elements of a record of, a field that the
+/// record hasn't, or that is missing or given twice, and a variable; 11 `Unknown` for any other
+/// name that is no loop variable; 50.
 #[cycle(template)]
 #[tactic(auto, using(crate::proofs::TemplateRules::cases))]
 pub fn resolve_template(
@@ -67,7 +68,8 @@ pub fn resolve_template(
     ty: Ty,
     template: &Template,
 ) -> Result<RecvTemplate, ScriptFault>
-    ensures { IfOk result (IsTemplate context.now.types.now (texts context.now.turns.now) ty template.now) }
+    ensures { IfOk result
+        (IsTemplate context.now.types.now (texts context.now.turns.now) ty template.now) }
 {
     match template {
         Template::Int(number) => {
@@ -85,7 +87,7 @@ pub fn resolve_template(
             if ty != Ty::Charstring || !are_printable(text) {
                 return Err(context.wrong_type());
             }
-            let text = Items::from_slice(alloc, text)?;
+            let text = Shared::from_slice(alloc, text)?;
             Ok(RecvTemplate::Exact(SendValue::Text(text)))
         }
         Template::Name(name) => match find(context.turns, name.as_str()) {
@@ -148,7 +150,8 @@ fn resolve_members(
     ty: Ty,
     members: &[Template],
 ) -> Result<Items<RecvTemplate>, ScriptFault>
-    ensures { IfOk result (AreMembers context.now.types.now (texts context.now.turns.now) ty members.now) }
+    ensures { IfOk result
+        (AreMembers context.now.types.now (texts context.now.turns.now) ty members.now) }
 {
     let mut made = Items::new(alloc);
     for member in members {
@@ -167,10 +170,11 @@ fn resolve_element_template(
     ty: Ty,
     member: &Template,
 ) -> Result<RecvTemplate, ScriptFault>
-    ensures { IfOk result (IsElementTemplate context.now.types.now (texts context.now.turns.now) ty member.now) }
+    ensures { IfOk result
+        (IsElementTemplate context.now.types.now (texts context.now.turns.now) ty member.now) }
 {
     if let Template::AnyOrNone = member {
-        return Ok(RecvTemplate::Many);
+        return Ok(RecvTemplate::AnyOrNone);
     }
     let one = resolve_template(alloc, context, ty, member)?;
     Ok(one)
@@ -185,7 +189,8 @@ fn resolve_element_templates(
     ty: Ty,
     members: &[Template],
 ) -> Result<Items<RecvTemplate>, ScriptFault>
-    ensures { IfOk result (AreElementTemplates context.now.types.now (texts context.now.turns.now) ty members.now) }
+    ensures { IfOk result
+        (AreElementTemplates context.now.types.now (texts context.now.turns.now) ty members.now) }
 {
     let mut made = Items::new(alloc);
     for member in members {
@@ -204,7 +209,8 @@ fn resolve_field_templates(
     fields: &[Field],
     members: &[Template],
 ) -> Result<Items<RecvTemplate>, ScriptFault>
-    ensures { IfOk result (AreFieldTemplates context.now.types.now (texts context.now.turns.now) fields.now members.now) }
+    ensures { IfOk result (AreFieldTemplates context.now.types.now (texts context.now.turns.now)
+        fields.now members.now) }
 {
     if fields.len() != members.len() {
         return Err(context.wrong_type());
@@ -222,7 +228,8 @@ fn entry_names<'v>(
     alloc: Global,
     entries: &'v [TemplateField],
 ) -> Result<Vec<Name<'v>>, ScriptFault>
-    ensures { IfOk result (λ names. texts names.items ≡ map (λ x. string_bytes x.name) entries.now) }
+    ensures { IfOk result (λ names.
+        texts names.items ≡ map (λ x. string_bytes x.name) entries.now) }
 {
     let mut names = Vec::new(alloc);
     for entry in entries {
@@ -244,8 +251,8 @@ fn room(alloc: Global, count: usize) -> Result<Vec<RecvTemplate>, ScriptFault>
     Ok(made)
 }
 
-/// What the templates of the fields of a record stand for, which are given by their names: in declared
-/// order.
+/// What the templates of the fields of a record stand for, which are given by their names: in
+/// declared order.
 #[cycle(template)]
 #[tactic(auto, using(crate::proofs::TemplateRules::cases))]
 fn resolve_named_templates(
@@ -254,7 +261,8 @@ fn resolve_named_templates(
     fields: &[Field],
     entries: &[TemplateField],
 ) -> Result<Items<RecvTemplate>, ScriptFault>
-    ensures named { IfOk result (λ made. AreNamedTemplates context.now.types.now (texts context.now.turns.now) entries.now fields.now made) }
+    ensures named { IfOk result (λ made. AreNamedTemplates
+        context.now.types.now (texts context.now.turns.now) entries.now fields.now made) }
     ensures count { IfOk result (λ _. length entries.now ≡ length fields.now) }
 {
     let names = entry_names(alloc, entries)?;

@@ -14,8 +14,8 @@ use tp_name::name_set::NameSet;
 use tp_syntax::tree::{TypeName, Variable};
 use tp_value::items::Items;
 
-/// Whether the name is new: no port, parameter, variable or loop variable has it, and in the test case no
-/// component variable. Takes no memory.
+/// Whether the name is new: no port, parameter, variable or loop variable has it, and in the test
+/// case no component variable. Takes no memory.
 pub fn is_new(scope: &Scope, variables: &Variables, turns: &[Name], name: &str) -> bool
     ensures { IsTrue result → IsNew scope.now variables.now (texts turns.now) name.now }
 {
@@ -40,8 +40,8 @@ pub fn is_new(scope: &Scope, variables: &Variables, turns: &[Name], name: &str) 
     true
 }
 
-/// What a variable of this type holds, or `None` where the name stands for no type of messages and no
-/// component type. Takes no memory.
+/// What a variable of this type holds, or `None` where the name stands for no type of messages and
+/// no component type. Takes no memory.
 #[tactic(auto, using(crate::proofs::VariableRules::cases))]
 fn find_held(scope: &Scope, name: &TypeName) -> Option<VariableType>
     ensures { IfSome result (IsHeld scope.now name.now) }
@@ -58,8 +58,8 @@ fn find_held(scope: &Scope, name: &TypeName) -> Option<VariableType>
     }
 }
 
-/// Adds a variable behind the others. 12 `Duplicate` for a name that is there; 15 `Limit` for more than
-/// 4,294,967,295 variables; 50.
+/// Adds a variable behind the others. 12 `Duplicate` for a name that is there; 15 `Limit` for more
+/// than 4,294,967,295 variables; 50.
 fn declare<'m>(
     variables: &mut Variables<'m>,
     name: &'m str,
@@ -78,8 +78,8 @@ fn declare<'m>(
 
 /// The variables of a body (ES 201 873-1, 11.1).
 ///
-/// For each of them in the order of the text 11 `Unknown` for its type, then 12 `Duplicate` for a name
-/// that isn't new, and 15 `Limit` for more than 4,294,967,295 variables; 50.
+/// For each of them in the order of the text 11 `Unknown` for its type, then 12 `Duplicate` for a
+/// name that isn't new, and 15 `Limit` for more than 4,294,967,295 variables; 50.
 pub fn resolve_variables<'m>(
     alloc: Global,
     scope: &Scope,
@@ -106,7 +106,9 @@ pub fn resolve_variables<'m>(
 
 /// Whether no parameter has the name of a port. Takes no memory.
 pub fn are_no_ports(scope: &Scope) -> bool
-    ensures { IsTrue result → (k : ℕ) (name : List ℕ) → slice_get (port_names scope.now.ports.now) k ≡ Some name → IsAbsent scope.now.parameters.now name }
+    ensures { IsTrue result → (k : ℕ) (name : List ℕ)
+        → slice_get (port_names scope.now.ports.now) k ≡ Some name
+        → IsAbsent scope.now.parameters.now name }
 {
     for place in 0..scope.ports.ports.len() {
         let Some((name, _)) = scope.ports.ports.get_index(place) else {

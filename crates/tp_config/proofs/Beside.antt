@@ -23,7 +23,8 @@ pub cons_keeps : {X : Type 0} (o : Option X) (xs : List X) (q : X) → Contains 
 cons_keeps None xs q h = h
 cons_keeps (Some x) xs q h = Contains-later q x xs h
 
-by_tests : (a b p q : PortRef) (s t : Bool) → same_port p a ≡ s → same_port p b ≡ t → cond s (Some b) (cond t (Some a) None) ≡ Some q → ((p ≡ a) × (q ≡ b)) ⊎ ((p ≡ b) × (q ≡ a))
+by_tests : (a b p q : PortRef) (s t : Bool) → same_port p a ≡ s → same_port p b ≡ t → cond s (Some b) (cond t (Some a) None) ≡ Some q
+    → ((p ≡ a) × (q ≡ b)) ⊎ ((p ≡ b) × (q ≡ a))
 by_tests a b p q true t e f h = inl ((port_decides p a).0 e, sym (same_Some b q h))
 by_tests a b p q false true e f h = inr ((port_decides p b).0 f, sym (same_Some a q h))
 by_tests a b p q false false e f h = absurd (cc)
@@ -91,7 +92,8 @@ beside_of_one s l p q r hq hr e =
 few_pairs : {X : Type 0} (R : X → X → Type 0) (xs : List X) → length xs ≤ 1 → AllPairs R xs
 few_pairs R xs n = λ i j d below within. absurd (omega (arith, n))
 
-distinct_parts : (xs ys : List PortRef) → AllPairs (λ q r. q ≢ r) xs → length ys ≤ 1 → ((q r : PortRef) → Contains xs q → Contains ys r → ⊥) → AllPairs (λ q r. q ≢ r) (xs ++ ys)
+distinct_parts : (xs ys : List PortRef) → AllPairs (λ q r. q ≢ r) xs → length ys ≤ 1 → ((q r : PortRef) → Contains xs q → Contains ys r → ⊥)
+    → AllPairs (λ q r. q ≢ r) (xs ++ ys)
 distinct_parts xs [] d n apart = subst (λ l. AllPairs (λ q r. q ≢ r) l) (sym (append-nil xs)) d
 distinct_parts [] (y ∷ ys) d n apart = few_pairs (λ q r. q ≢ r) (y ∷ ys) n
 distinct_parts (x ∷ xs) (y ∷ ys) d n apart = absurd (apart x y (Contains-here x xs) (Contains-here y ys))
@@ -99,4 +101,5 @@ distinct_parts (x ∷ xs) (y ∷ ys) d n apart = absurd (apart x y (Contains-her
 -- no port stands beside p twice
 pub beside_distinct : (s : Setup) → IsSetup s → (p : PortRef) → AllPairs (λ q r. q ≢ r) (beside s p)
 beside_distinct s l p =
-    subst (λ xs. AllPairs (λ q r. q ≢ r) xs) (sym (beside_parts s p)) (distinct_parts (partners s.connected p) (partners s.mapped p) (l.once p) (l.allowed.one_mapping p) (λ q r. l.allowed.apart p q r))
+    subst (λ xs. AllPairs (λ q r. q ≢ r) xs) (sym (beside_parts s p))
+    (distinct_parts (partners s.connected p) (partners s.mapped p) (l.once p) (l.allowed.one_mapping p) (λ q r. l.allowed.apart p q r))

@@ -29,7 +29,13 @@ unfolding ports_at beside
 keeps_empty types few =
     record {
       setup = record {
-        allowed = record { may_connect = λ k d n. absurd (omega arith); one_of_each = λ p q r h. absurd (omega (arith, h.1)); may_map = λ k d n. absurd (omega arith); one_mapping = λ p. omega arith; apart = λ p q r h. absurd (omega (arith, h.1)) };
+        allowed = record {
+          may_connect = λ k d n. absurd (omega arith);
+          one_of_each = λ p q r h. absurd (omega (arith, h.1));
+          may_map = λ k d n. absurd (omega arith);
+          one_mapping = λ p. omega arith;
+          apart = λ p q r h. absurd (omega (arith, h.1));
+        };
         connected_ports = λ k d n. absurd (omega arith);
         mapped_ports = λ k d n. absurd (omega arith);
         once = λ p i j d below n. absurd (omega arith);
@@ -55,14 +61,19 @@ refused_at s m trouble.Limit h = (h, λ can. full h can)
     full (inl w) can = absurd (let e : trouble.Limit ≡ trouble.Duplicate = w.0 in cc)
     full (inr w) can = elim w.1 [ inl v ↦ omega (arith, v.1, can.1) | inr v ↦ absurd v.1 ]
 refused_at s m trouble.Memory h =
-    absurd (elim h [ inl w ↦ let e : trouble.Memory ≡ trouble.Duplicate = w.0 in absurd (cc) | inr w ↦ elim w.1 [ inl v ↦ let e : trouble.Memory ≡ trouble.Limit = v.0 in absurd (cc) | inr v ↦ absurd v.1 ] ])
+    absurd (elim h [
+      | inl w ↦ let e : trouble.Memory ≡ trouble.Duplicate = w.0 in absurd (cc)
+      | inr w ↦ elim w.1 [ inl v ↦ let e : trouble.Memory ≡ trouble.Limit = v.0 in absurd (cc) | inr v ↦ absurd v.1 ]
+    ])
 
 pub create_refused : (s : Setup) (m : Member) (f : CreateFault) → Some f ≡ find (create_test s.components m.name m.role) create_order → CreateRefused s m f
-create_refused s m f h = refused_at s m f (first_from_find (create_test s.components m.name m.role) (CreateCause s m) (create_decides s m) create_order f (sym h))
+create_refused s m f h =
+    refused_at s m f (first_from_find (create_test s.components m.name m.role) (CreateCause s m) (create_decides s m) create_order f (sym h))
 
 pub can_create : (s : Setup) (m : Member) → None ≡ find (create_test s.components m.name m.role) create_order → CanCreate s m
 can_create s m h =
-    let none : AllByRecursion (λ f. ¬ CreateCause s m f) create_order = none_from_find (create_test s.components m.name m.role) (CreateCause s m) (create_decides s m) create_order (sym h) in
+    let none : AllByRecursion (λ f. ¬ CreateCause s m f) create_order =
+    none_from_find (create_test s.components m.name m.role) (CreateCause s m) (create_decides s m) create_order (sym h) in
     (none.0, elim (cases_lt (length s.components) 64) [ inl below ↦ below | inr full ↦ absurd (none.1.0 full) ])
 
 -- an element of a list with one more
@@ -87,7 +98,8 @@ all_same (suc n) (suc k) d = all_same n k d
 ports_last : (t : List (List PortDecl)) (ms : List Member) (m : Member) (c : CompId) → c.0 ≡ length ms → ports_at t (ms ++ m ∷ []) c ≡ get_or t m.kind []
 unfolding ports_at
 ports_last t ms m c e =
-    ap (λ k. option_map_or (λ (x : Member). get_or t x.kind []) (slice_get (ms ++ m ∷ []) k) []) e ∙ ap (λ o. option_map_or (λ (x : Member). get_or t x.kind []) o []) (slice_get_last ms m)
+    ap (λ k. option_map_or (λ (x : Member). get_or t x.kind []) (slice_get (ms ++ m ∷ []) k) []) e
+    ∙ ap (λ o. option_map_or (λ (x : Member). get_or t x.kind []) o []) (slice_get_last ms m)
 
 module _ (s : Setup) (links : List (List (List PortRef))) (m : Member) (n : ℕ) (k : Keeps s links) (same : length links ≡ length s.components) where
   row_past : (c : CompId) → length links ≤ c.0 → row links c ≡ []
@@ -102,13 +114,15 @@ module _ (s : Setup) (links : List (List (List PortRef))) (m : Member) (n : ℕ)
   row_behind : (c : CompId) → length links < c.0 → row (links ++ replicate n [] ∷ []) c ≡ []
   row_behind c past = get_or_past (links ++ replicate n [] ∷ []) c.0 [] (omega (arith, length-append links (replicate n [] ∷ [])))
 
-  grown_shape : n ≡ length (get_or s.types m.kind []) → (c : CompId) → length (row (links ++ replicate n [] ∷ []) c) ≡ length (ports_at s.types (s.components ++ m ∷ []) c)
+  grown_shape : n ≡ length (get_or s.types m.kind []) → (c : CompId)
+      → length (row (links ++ replicate n [] ∷ []) c) ≡ length (ports_at s.types (s.components ++ m ∷ []) c)
   grown_shape count c =
       elim (cases_lt c.0 (length links)) [
         | inl below ↦ ap length (row_before c below) ∙ k.shape c ∙ ap length (sym (ports_before s.types s.components m c (omega (arith, same))))
         | inr past ↦ elim (cases_eq c.0 (length links)) [
           | inl here ↦ ap length (row_last c here) ∙ length-replicate n [] ∙ count ∙ ap length (sym (ports_last s.types s.components m c (here ∙ same)))
-          | inr not ↦ ap length (row_behind c (omega (arith, not, past))) ∙ ap length (sym (ports_past s.types (s.components ++ m ∷ []) c (omega (arith, not, past, same, length-append s.components (m ∷ [])))))
+          | inr not ↦ ap length (row_behind c (omega (arith, not, past)))
+              ∙ ap length (sym (ports_past s.types (s.components ++ m ∷ []) c (omega (arith, not, past, same, length-append s.components (m ∷ [])))))
         ]
       ]
 
@@ -132,9 +146,11 @@ module _ (s : Setup) (links : List (List (List PortRef))) (m : Member) (n : ℕ)
 -- a member's name is among the names
 name_among : (s : Setup) (m : Member) (i : ℕ) (d : Member) → i < length s.components → (get_or s.components i d).name ≡ m.name → Contains (names s) m.name
 name_among s m i d n e =
-    subst (Contains (names s)) (get_or-map (λ (x : Member). x.name) s.components i d m.name n ∙ e) (Contains-get_or (names s) i m.name (omega (arith, n, length-map s.components (λ (x : Member). x.name))))
+    subst (Contains (names s)) (get_or-map (λ (x : Member). x.name) s.components i d m.name n ∙ e)
+    (Contains-get_or (names s) i m.name (omega (arith, n, length-map s.components (λ (x : Member). x.name))))
 
-keeps_creating : (s : Setup) (links : List (List (List PortRef))) (m : Member) (n : ℕ) → Keeps s links → length links ≡ length s.components → m.kind < length s.types → n ≡ length (get_or s.types m.kind []) → CanCreate s m → Keeps (creating s m) (links ++ replicate n [] ∷ [])
+keeps_creating : (s : Setup) (links : List (List (List PortRef))) (m : Member) (n : ℕ) → Keeps s links → length links ≡ length s.components
+    → m.kind < length s.types → n ≡ length (get_or s.types m.kind []) → CanCreate s m → Keeps (creating s m) (links ++ replicate n [] ∷ [])
 keeps_creating s links m n k same kind count can =
     record {
       setup = record {
@@ -145,17 +161,25 @@ keeps_creating s links m n k same kind count can =
         few_ports = k.setup.few_ports;
         few_components = omega (arith, can.1, length-append s.components (m ∷ []));
         kinds = All-push (λ (x : Member). x.kind < length s.types) s.components m k.setup.kinds kind;
-        names_differ = all_pairs_push (λ (x y : Member). x.name ≢ y.name) s.components m k.setup.names_differ (λ i d below e. can.0 (inl (name_among s m i d below e)));
-        one_system = all_pairs_push (λ (x y : Member). ¬ ((is_system_member x ≡ true) × (is_system_member y ≡ true))) s.components m k.setup.one_system (λ i d below w. can.0 (inr (w.1, (get_or s.components i d, Contains-get_or s.components i d below, w.0))));
+        names_differ = all_pairs_push (λ (x y : Member). x.name ≢ y.name) s.components m k.setup.names_differ
+            (λ i d below e. can.0 (inl (name_among s m i d below e)));
+        one_system = all_pairs_push (λ (x y : Member). ¬ ((is_system_member x ≡ true) × (is_system_member y ≡ true))) s.components m
+            k.setup.one_system (λ i d below w. can.0 (inr (w.1, (get_or s.components i d, Contains-get_or s.components i d below, w.0))));
       };
       shape = grown_shape s links m n k same count;
       kept = grown_kept s links m n k same;
     }
 
 -- the configuration after a create, by its parts
-pub after_create : (s now : Setup) (links more : List (List (List PortRef))) (members : List Member) (m : Member) (n : ℕ) → s ≡ now → Keeps s links → length links ≡ length s.components → m.kind < length now.types → n ≡ length (get_or s.types m.kind []) → None ≡ find (create_test s.components m.name m.role) create_order → members ≡ s.components ++ m ∷ [] → more ≡ links ++ replicate n [] ∷ [] → Keeps (record s { components = members }) more × (CanCreate now m × (record s { components = members } ≡ creating now m))
+pub after_create : (s now : Setup) (links more : List (List (List PortRef))) (members : List Member) (m : Member) (n : ℕ) → s ≡ now → Keeps s links
+    → length links ≡ length s.components → m.kind < length now.types → n ≡ length (get_or s.types m.kind [])
+    → None ≡ find (create_test s.components m.name m.role) create_order → members ≡ s.components ++ m ∷ [] → more ≡ links ++ replicate n [] ∷ []
+    → Keeps (record s { components = members }) more × (CanCreate now m × (record s { components = members } ≡ creating now m))
 after_create s now links more members m n whole k same kind count h e l =
     let can : CanCreate s m = can_create s m h in
-    let kept : Keeps (creating s m) (links ++ replicate n [] ∷ []) = keeps_creating s links m n k same (subst (λ t. m.kind < length t.types) (sym whole) kind) count can in
-    let made : record s { components = members } ≡ creating s m = ap (λ x. record s { components = x }) e in
-    (subst (λ t. Keeps t more) (sym made) (subst (Keeps (creating s m)) (sym l) kept), (subst (λ t. CanCreate t m) whole can, made ∙ ap (λ t. creating t m) whole))
+    let kept : Keeps (creating s m) (links ++ replicate n [] ∷ []) =
+    keeps_creating s links m n k same (subst (λ t. m.kind < length t.types) (sym whole) kind) count can in
+    let made : record s { components = members } ≡ creating s m = ap (λ x. record s { components = x }) e in (
+      subst (λ t. Keeps t more) (sym made) (subst (Keeps (creating s m)) (sym l) kept),
+      (subst (λ t. CanCreate t m) whole can, made ∙ ap (λ t. creating t m) whole),
+    )

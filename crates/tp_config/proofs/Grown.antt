@@ -29,7 +29,8 @@ ports_past t ms c n = ap (λ o. option_map_or (λ (x : Member). get_or t x.kind 
 
 no_decl : (t : List (List PortDecl)) (ms : List Member) (p : PortRef) → ports_at t ms p.comp ≡ [] → IsSome (decl_at t ms p) → ⊥
 unfolding decl_at
-no_decl t ms p e h = absurd (let f : is_some (slice_get (ports_at t ms p.comp) p.port) ≡ false = ap (λ (l : List PortDecl). is_some (slice_get l p.port)) e in cc)
+no_decl t ms p e h =
+    absurd (let f : is_some (slice_get (ports_at t ms p.comp) p.port) ≡ false = ap (λ (l : List PortDecl). is_some (slice_get l p.port)) e in cc)
 
 -- the component of a port is there
 pub comp_there : (t : List (List PortDecl)) (ms : List Member) (p : PortRef) → IsSome (decl_at t ms p) → p.comp.0 < length ms
@@ -51,13 +52,20 @@ outs_before : (t : List (List PortDecl)) (ms : List Member) (m : Member) (p : Po
 unfolding outs
 outs_before t ms m p n = ap (λ o. option_map_or (λ (d : PortDecl). d.outs) o []) (decl_before t ms m p n)
 
-may_connect_before : (t : List (List PortDecl)) (ms : List Member) (m : Member) (pair : PortRef × PortRef) → AreWithin (length ms) pair → MayConnect t ms pair → MayConnect t (ms ++ m ∷ []) pair
+may_connect_before : (t : List (List PortDecl)) (ms : List Member) (m : Member) (pair : PortRef × PortRef) → AreWithin (length ms) pair
+    → MayConnect t ms pair → MayConnect t (ms ++ m ∷ []) pair
 may_connect_before t ms m pair n c =
     let directed : Directed t (ms ++ m ∷ []) pair.0 pair.1 =
     rw (ins_before t ms m pair.0 n.0, ins_before t ms m pair.1 n.1, outs_before t ms m pair.0 n.0, outs_before t ms m pair.1 n.1) c.directed in
-    record { first_own = system_before ms m pair.0 n.0 ∙ c.first_own; second_own = system_before ms m pair.1 n.1 ∙ c.second_own; differ = c.differ; directed = directed }
+    record {
+      first_own = system_before ms m pair.0 n.0 ∙ c.first_own;
+      second_own = system_before ms m pair.1 n.1 ∙ c.second_own;
+      differ = c.differ;
+      directed = directed;
+    }
 
-may_map_before : (t : List (List PortDecl)) (ms : List Member) (m : Member) (pair : PortRef × PortRef) → AreWithin (length ms) pair → MayMap t ms pair → MayMap t (ms ++ m ∷ []) pair
+may_map_before : (t : List (List PortDecl)) (ms : List Member) (m : Member) (pair : PortRef × PortRef) → AreWithin (length ms) pair → MayMap t ms pair
+    → MayMap t (ms ++ m ∷ []) pair
 may_map_before t ms m pair n c =
     let sys0 : is_system (ms ++ m ∷ []) pair.0 ≡ is_system ms pair.0 = system_before ms m pair.0 n.0 in
     let sys1 : is_system (ms ++ m ∷ []) pair.1 ≡ is_system ms pair.1 = system_before ms m pair.1 n.1 in
@@ -80,7 +88,8 @@ ports_kept s m pairs h = λ k d n. (port_kept s m (get_or pairs k d).0 (h k d n)
 pub create_allowed : (s : Setup) (m : Member) → All (ArePorts s) s.connected → All (ArePorts s) s.mapped → Allowed s → Allowed (creating s m)
 create_allowed s m c d l =
     record {
-      may_connect = λ k x n. may_connect_before s.types s.components m (get_or s.connected k x) (pair_within s (get_or s.connected k x) (c k x n)) (l.may_connect k x n);
+      may_connect = λ k x n. may_connect_before s.types s.components m (get_or s.connected k x) (pair_within s (get_or s.connected k x) (c k x n))
+          (l.may_connect k x n);
       one_of_each = l.one_of_each;
       may_map = λ k x n. may_map_before s.types s.components m (get_or s.mapped k x) (pair_within s (get_or s.mapped k x) (d k x n)) (l.may_map k x n);
       one_mapping = l.one_mapping;

@@ -58,7 +58,8 @@ any_alike ty (k ∷ ks) = ap (λ b. b || list_any (eq-value.it ty) ks) (alike ty
 
 -- one more type is put into the set
 pub one_listed : (old new types : List Ty) (i : ℕ) (d : Ty) → i < length types
-    → ((q : Ty) → list_any (eq-value.it q) new ≡ cond (eq-value.it (get_or types i d) q) true (list_any (eq-value.it q) old)) → HaveSame old (take i types) → HaveSame new (take (i + 1) types)
+    → ((q : Ty) → list_any (eq-value.it q) new ≡ cond (eq-value.it (get_or types i d) q) true (list_any (eq-value.it q) old))
+    → HaveSame old (take i types) → HaveSame new (take (i + 1) types)
 one_listed old new types i d below update same ty =
     sym (any_alike ty new)
     ∙ update ty

@@ -32,10 +32,12 @@ unfolding ports_at
 ports_none ts cs c e =
     sym (ap (λ o. option_map_or (λ (m : Member). get_or (map ports_of ts) m.kind []) o []) (slice_get-map member_of cs c.0 ∙ ap (option_map member_of) e))
 
-pub ports_some : (ts : List CompType) (cs : List Component) (c : CompId) (x : Component) (o : Option CompType) → slice_get cs c.0 ≡ Some x → o ≡ slice_get ts x.kind → option_map_or ports_of o [] ≡ ports_at (map ports_of ts) (map member_of cs) c
+pub ports_some : (ts : List CompType) (cs : List Component) (c : CompId) (x : Component) (o : Option CompType) → slice_get cs c.0 ≡ Some x
+    → o ≡ slice_get ts x.kind → option_map_or ports_of o [] ≡ ports_at (map ports_of ts) (map member_of cs) c
 unfolding ports_at member_of
 ports_some ts cs c x o e f =
-    sym (ap (λ o. option_map_or (λ (m : Member). get_or (map ports_of ts) m.kind []) o []) (slice_get-map member_of cs c.0 ∙ ap (option_map member_of) e) ∙ get_or_mapped ports_of ts x.kind [] ∙ ap (λ o. option_map_or ports_of o []) (sym f))
+    sym (ap (λ o. option_map_or (λ (m : Member). get_or (map ports_of ts) m.kind []) o [])
+    (slice_get-map member_of cs c.0 ∙ ap (option_map member_of) e) ∙ get_or_mapped ports_of ts x.kind [] ∙ ap (λ o. option_map_or ports_of o []) (sym f))
 
 pub length_ports : (t : CompType) → length (ports_of t) ≡ length t.ports.entries
 unfolding ports_of
@@ -49,27 +51,34 @@ types_in : {A : Type 0} (o : Option (String A × PortType)) → option_map type_
 types_in None = refl
 types_in (Some e) = refl
 
-pub types_entry : (ts : List (List PortDecl)) (ms : List Member) (p : PortRef) (t : CompType) (o : Option PortType) → ports_of t ≡ ports_at ts ms p.comp → o ≡ option_map (λ e. e.1) (slice_get t.ports.entries p.port) → option_map type_of o ≡ option_map types_of_decl (decl_at ts ms p)
+pub types_entry : (ts : List (List PortDecl)) (ms : List Member) (p : PortRef) (t : CompType) (o : Option PortType)
+    → ports_of t ≡ ports_at ts ms p.comp → o ≡ option_map (λ e. e.1) (slice_get t.ports.entries p.port)
+    → option_map type_of o ≡ option_map types_of_decl (decl_at ts ms p)
 unfolding decl_at ports_of
 types_entry ts ms p t o e is =
-    ap (option_map type_of) is ∙ types_in (slice_get t.ports.entries p.port) ∙ ap (option_map types_of_decl) (sym (slice_get-map decl_of t.ports.entries p.port) ∙ ap (λ (l : List PortDecl). slice_get l p.port) e)
+    ap (option_map type_of) is ∙ types_in (slice_get t.ports.entries p.port)
+    ∙ ap (option_map types_of_decl) (sym (slice_get-map decl_of t.ports.entries p.port) ∙ ap (λ (l : List PortDecl). slice_get l p.port) e)
 
-ins_in : (o : Option PortType) (d : Option PortDecl) → option_map type_of o ≡ option_map types_of_decl d → option_map_or (λ (t : PortType). t.ins) o [] ≡ option_map_or (λ (e : PortDecl). e.ins) d []
+ins_in : (o : Option PortType) (d : Option PortDecl) → option_map type_of o ≡ option_map types_of_decl d
+    → option_map_or (λ (t : PortType). t.ins) o [] ≡ option_map_or (λ (e : PortDecl). e.ins) d []
 ins_in None None h = refl
 ins_in None (Some d) h = absurd (cc)
 ins_in (Some t) None h = absurd (cc)
 ins_in (Some t) (Some d) h = let x : type_of t ≡ types_of_decl d = cc in ap (λ (y : List Ty × List Ty). y.0) x
 
-outs_in : (o : Option PortType) (d : Option PortDecl) → option_map type_of o ≡ option_map types_of_decl d → option_map_or (λ (t : PortType). t.outs) o [] ≡ option_map_or (λ (e : PortDecl). e.outs) d []
+outs_in : (o : Option PortType) (d : Option PortDecl) → option_map type_of o ≡ option_map types_of_decl d
+    → option_map_or (λ (t : PortType). t.outs) o [] ≡ option_map_or (λ (e : PortDecl). e.outs) d []
 outs_in None None h = refl
 outs_in None (Some d) h = absurd (cc)
 outs_in (Some t) None h = absurd (cc)
 outs_in (Some t) (Some d) h = let x : type_of t ≡ types_of_decl d = cc in ap (λ (y : List Ty × List Ty). y.1) x
 
-pub ins_by : (ts : List (List PortDecl)) (cs : List Member) (p : PortRef) (o : Option PortType) → option_map type_of o ≡ option_map types_of_decl (decl_at ts cs p) → option_map_or (λ (t : PortType). t.ins) o [] ≡ ins ts cs p
+pub ins_by : (ts : List (List PortDecl)) (cs : List Member) (p : PortRef) (o : Option PortType)
+    → option_map type_of o ≡ option_map types_of_decl (decl_at ts cs p) → option_map_or (λ (t : PortType). t.ins) o [] ≡ ins ts cs p
 unfolding ins
 ins_by ts cs p o h = ins_in o (decl_at ts cs p) h
 
-pub outs_by : (ts : List (List PortDecl)) (cs : List Member) (p : PortRef) (o : Option PortType) → option_map type_of o ≡ option_map types_of_decl (decl_at ts cs p) → option_map_or (λ (t : PortType). t.outs) o [] ≡ outs ts cs p
+pub outs_by : (ts : List (List PortDecl)) (cs : List Member) (p : PortRef) (o : Option PortType)
+    → option_map type_of o ≡ option_map types_of_decl (decl_at ts cs p) → option_map_or (λ (t : PortType). t.outs) o [] ≡ outs ts cs p
 unfolding outs
 outs_by ts cs p o h = outs_in o (decl_at ts cs p) h

@@ -16,23 +16,29 @@ use Rattle.tp_config.specs.Tests.{create_test, has_name, has_system}
 use Rattle.tp_config.proofs.Look.{length_ports}
 use Rattle.tp_config.proofs.Places.{mapped_at}
 
-pub tested : (cs ds : List Component) (n o : List ℕ) (role : Role) → cs ≡ ds → n ≡ o → find (create_test (map member_of cs) n role) create_order ≡ find (create_test (map member_of ds) o role) create_order
-tested cs ds n o role e f = ap (λ l. find (create_test (map member_of l) n role) create_order) e ∙ ap (λ x. find (create_test (map member_of ds) x role) create_order) f
+pub tested : (cs ds : List Component) (n o : List ℕ) (role : Role) → cs ≡ ds → n ≡ o
+    → find (create_test (map member_of cs) n role) create_order ≡ find (create_test (map member_of ds) o role) create_order
+tested cs ds n o role e f =
+    ap (λ l. find (create_test (map member_of l) n role) create_order) e ∙ ap (λ x. find (create_test (map member_of ds) x role) create_order) f
 
-pub tested_now : (t : List CompType) (cs ds : List Component) (n o : List ℕ) (now : Setup) (role : Role) (c m : List (PortRef × PortRef)) → cs ≡ ds → n ≡ o → setup_of t ds c m ≡ now → find (create_test (map member_of cs) n role) create_order ≡ find (create_test now.components o role) create_order
+pub tested_now : (t : List CompType) (cs ds : List Component) (n o : List ℕ) (now : Setup) (role : Role) (c m : List (PortRef × PortRef)) → cs ≡ ds
+    → n ≡ o → setup_of t ds c m ≡ now → find (create_test (map member_of cs) n role) create_order ≡ find (create_test now.components o role) create_order
 tested_now t cs ds n o now role c m e f same = tested cs ds n o role e f ∙ ap (λ (s : Setup). find (create_test s.components o role) create_order) same
 
 pub same_lengths : (cs : List Component) → length (map links_of cs) ≡ length (map member_of cs)
 same_lengths cs = length-map cs links_of ∙ sym (length-map cs member_of)
 
-pub count_is : (ts : List CompType) (k : ℕ) (t : CompType) (n : ℕ) → k < length ts → t ≡ get_or ts k t → n ≡ length t.ports.entries → n ≡ length (get_or (map ports_of ts) k [])
+pub count_is : (ts : List CompType) (k : ℕ) (t : CompType) (n : ℕ) → k < length ts → t ≡ get_or ts k t → n ≡ length t.ports.entries
+    → n ≡ length (get_or (map ports_of ts) k [])
 count_is ts k t n below e len = len ∙ sym (length_ports t) ∙ ap length (sym (mapped_at ports_of ts k t [] below e))
 
-pub members_made : (cs more : List Component) (x : Component) → more ≡ cs ++ x ∷ [] → map member_of more ≡ map member_of cs ++ member (string_bytes x.name) x.kind x.role ∷ []
+pub members_made : (cs more : List Component) (x : Component) → more ≡ cs ++ x ∷ []
+    → map member_of more ≡ map member_of cs ++ member (string_bytes x.name) x.kind x.role ∷ []
 unfolding member_of
 members_made cs more x e = ap (map member_of) e ∙ map-append member_of cs (x ∷ [])
 
-pub links_made : (cs more : List Component) (x : Component) (n : ℕ) → more ≡ cs ++ x ∷ [] → x.links ≡ replicate n [] → map links_of more ≡ map links_of cs ++ replicate n [] ∷ []
+pub links_made : (cs more : List Component) (x : Component) (n : ℕ) → more ≡ cs ++ x ∷ [] → x.links ≡ replicate n []
+    → map links_of more ≡ map links_of cs ++ replicate n [] ∷ []
 links_made cs more x n e made = ap (map links_of) e ∙ map-append links_of cs (x ∷ []) ∙ ap (λ l. map links_of cs ++ l ∷ []) made
 
 -- the place of a type

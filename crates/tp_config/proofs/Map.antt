@@ -25,25 +25,34 @@ implies_decides false y d = (λ _ e. absurd (cc), λ _. refl)
 
 map_directed_decides : (s : Setup) (p q : PortRef) → Decides (map_directed s.types s.components p q) (MapDirected s.types s.components p q)
 map_directed_decides s p q =
-    Decides-and (are_among (outs s.types s.components p) (outs s.types s.components q)) (are_among (ins s.types s.components q) (ins s.types s.components p)) (among_decides (outs s.types s.components p) (outs s.types s.components q)) (among_decides (ins s.types s.components q) (ins s.types s.components p))
+    Decides-and (are_among (outs s.types s.components p) (outs s.types s.components q))
+    (are_among (ins s.types s.components q) (ins s.types s.components p)) (among_decides (outs s.types s.components p) (outs s.types s.components q))
+    (among_decides (ins s.types s.components q) (ins s.types s.components p))
 
 -- the pair has the directions that a mapping needs
 Fits : Setup → PortRef → PortRef → Type 0
 Fits s p q = (is_system s.components q ≡ true → MapDirected s.types s.components p q) × (is_system s.components p ≡ true → MapDirected s.types s.components q p)
 
 abbrev fits : Setup → PortRef → PortRef → Bool
-fits s p q = (not (is_system s.components q) || map_directed s.types s.components p q) && (not (is_system s.components p) || map_directed s.types s.components q p)
+fits s p q =
+    (not (is_system s.components q) || map_directed s.types s.components p q) && (not (is_system s.components p) || map_directed s.types s.components q p)
 
 fits_decides : (s : Setup) (p q : PortRef) → Decides (fits s p q) (Fits s p q)
 unfolding Fits
 fits_decides s p q =
-    Decides-and (not (is_system s.components q) || map_directed s.types s.components p q) (not (is_system s.components p) || map_directed s.types s.components q p) (implies_decides (is_system s.components q) (map_directed s.types s.components p q) (map_directed_decides s p q)) (implies_decides (is_system s.components p) (map_directed s.types s.components q p) (map_directed_decides s q p))
+    Decides-and (not (is_system s.components q) || map_directed s.types s.components p q)
+    (not (is_system s.components p) || map_directed s.types s.components q p)
+    (implies_decides (is_system s.components q) (map_directed s.types s.components p q) (map_directed_decides s p q))
+    (implies_decides (is_system s.components p) (map_directed s.types s.components q p) (map_directed_decides s q p))
 
-pub map_decides : (s : Setup) (links : List (List (List PortRef))) (p q : PortRef) → Keeps s links → (f : MapFault) → Decides (map_test s.types s.components links p q f) (MapCause s p q f)
+pub map_decides : (s : Setup) (links : List (List (List PortRef))) (p q : PortRef) → Keeps s links → (f : MapFault)
+    → Decides (map_test s.types s.components links p q f) (MapCause s p q f)
 unfolding Fits
 map_decides s links p q k refusal.NotSystem = same_decides (is_system s.components p) (is_system s.components q)
-map_decides s links p q k refusal.Mixed = Decides-or (is_connected s.components links p) (is_connected s.components links q) (connected_decides s links k p) (connected_decides s links k q)
-map_decides s links p q k refusal.NotOneToOne = Decides-or (is_mapped s.components links p) (is_mapped s.components links q) (mapped_decides s links k p) (mapped_decides s links k q)
+map_decides s links p q k refusal.Mixed =
+    Decides-or (is_connected s.components links p) (is_connected s.components links q) (connected_decides s links k p) (connected_decides s links k q)
+map_decides s links p q k refusal.NotOneToOne =
+    Decides-or (is_mapped s.components links p) (is_mapped s.components links q) (mapped_decides s links k p) (mapped_decides s links k q)
 map_decides s links p q k refusal.MapDirections = Decides-not (fits s p q) (fits_decides s p q)
 map_decides s links p q k refusal.Memory = (λ e. absurd (cc), λ h. absurd h)
 
@@ -54,10 +63,12 @@ no_partners_in (x ∷ l) h = absurd (h x (Contains-here x l))
 pub no_partners : (pairs : List (PortRef × PortRef)) (p : PortRef) → ¬ Stands pairs p → partners pairs p ≡ []
 no_partners pairs p h = no_partners_in (partners pairs p) (λ q c. h (q, c))
 
-length_push : (xs : List (PortRef × PortRef)) (pair : PortRef × PortRef) (p : PortRef) → length (partners (xs ++ pair ∷ []) p) ≡ length (partners xs p) + length (cons_option (partner p pair) [])
+length_push : (xs : List (PortRef × PortRef)) (pair : PortRef × PortRef) (p : PortRef)
+    → length (partners (xs ++ pair ∷ []) p) ≡ length (partners xs p) + length (cons_option (partner p pair) [])
 length_push xs pair p = ap length (partners_push xs pair p) ∙ length-append (partners xs p) (cons_option (partner p pair) [])
 
-one_at_most : (a b p : PortRef) (n : ℕ) (s t : Bool) → same_port p a ≡ s → same_port p b ≡ t → (p ≡ a → n ≡ 0) → (p ≡ b → n ≡ 0) → n ≤ 1 → n + length (cons_option (cond s (Some b) (cond t (Some a) None)) []) ≤ 1
+one_at_most : (a b p : PortRef) (n : ℕ) (s t : Bool) → same_port p a ≡ s → same_port p b ≡ t → (p ≡ a → n ≡ 0) → (p ≡ b → n ≡ 0) → n ≤ 1
+    → n + length (cons_option (cond s (Some b) (cond t (Some a) None)) []) ≤ 1
 one_at_most a b p n true t e f ha hb h = let z : n ≡ 0 = ha ((port_decides p a).0 e) in omega arith
 one_at_most a b p n false true e f ha hb h = let z : n ≡ 0 = hb ((port_decides p b).0 f) in omega arith
 one_at_most a b p n false false e f ha hb h = omega arith
@@ -65,7 +76,8 @@ one_at_most a b p n false false e f ha hb h = omega arith
 no_length : (pairs : List (PortRef × PortRef)) (a p : PortRef) → ¬ Stands pairs a → p ≡ a → length (partners pairs p) ≡ 0
 no_length pairs a p h e = ap (λ x. length (partners pairs x)) e ∙ ap length (no_partners pairs a h)
 
-map_apart : (connected : List (PortRef × PortRef)) (a b x y r : PortRef) → ¬ Stands connected a → ¬ Stands connected b → ((x ≡ a) × (r ≡ b)) ⊎ ((x ≡ b) × (r ≡ a)) → Contains (partners connected x) y → ⊥
+map_apart : (connected : List (PortRef × PortRef)) (a b x y r : PortRef) → ¬ Stands connected a → ¬ Stands connected b
+    → ((x ≡ a) × (r ≡ b)) ⊎ ((x ≡ b) × (r ≡ a)) → Contains (partners connected x) y → ⊥
 map_apart connected a b x y r na nb (inl u) h = na (y, subst (λ w. Contains (partners connected w) y) u.0 h)
 map_apart connected a b x y r na nb (inr u) h = nb (y, subst (λ w. Contains (partners connected w) y) u.0 h)
 
@@ -84,15 +96,19 @@ map_allowed s a b l none =
       may_map = All-push (MayMap s.types s.components) s.mapped (a, b) l.may_map pair;
       one_mapping = λ p.
           let before : length (partners s.mapped p) ≤ 1 = l.one_mapping p in
-          let after : length (partners s.mapped p) + length (cons_option (partner p (a, b)) []) ≤ 1 = one_at_most a b p (length (partners s.mapped p)) (same_port p a) (same_port p b) refl refl (no_length s.mapped a p unmapped_a) (no_length s.mapped b p unmapped_b) before in
+          let after : length (partners s.mapped p) + length (cons_option (partner p (a, b)) []) ≤ 1 =
+          one_at_most a b p (length (partners s.mapped p)) (same_port p a) (same_port p b) refl refl (no_length s.mapped a p unmapped_a)
+          (no_length s.mapped b p unmapped_b) before in
           omega (arith, length_push s.mapped (a, b) p);
-      apart = λ x y r hy hr. elim (push_cases s.mapped a b x r hr) [ inl old ↦ l.apart x y r hy old | inr new ↦ map_apart s.connected a b x y r free_a free_b new hy ];
+      apart = λ x y r hy hr. elim (push_cases s.mapped a b x r hr)
+          [ inl old ↦ l.apart x y r hy old | inr new ↦ map_apart s.connected a b x y r free_a free_b new hy ];
     }
 
 two_partners : (l : List PortRef) (q : PortRef) → Contains l q → 1 ≤ length l
 two_partners l q h = omega (arith, h.1)
 
-pushed_two : (s : Setup) (a b p q : PortRef) → Contains (partners s.mapped p) q → 1 ≤ length (cons_option (partner p (a, b)) []) → length (partners (s.mapped ++ (a, b) ∷ []) p) ≤ 1 → ⊥
+pushed_two : (s : Setup) (a b p q : PortRef) → Contains (partners s.mapped p) q → 1 ≤ length (cons_option (partner p (a, b)) [])
+    → length (partners (s.mapped ++ (a, b) ∷ []) p) ≤ 1 → ⊥
 pushed_two s a b p q h new one = omega (arith, length_push s.mapped (a, b) p, two_partners (partners s.mapped p) q h)
 
 partner_first : (a b : PortRef) → 1 ≤ length (cons_option (partner a (a, b)) [])
@@ -106,7 +122,8 @@ partner_second_at a b false = omega arith
 
 partner_second : (a b : PortRef) → 1 ≤ length (cons_option (partner b (a, b)) [])
 partner_second a b =
-    let new : partner b (a, b) ≡ cond (same_port b a) (Some b) (Some a) = ap (λ t. cond (same_port b a) (Some b) (cond t (Some a) None)) ((port_decides b b).1 refl) in
+    let new : partner b (a, b) ≡ cond (same_port b a) (Some b) (Some a) =
+    ap (λ t. cond (same_port b a) (Some b) (cond t (Some a) None)) ((port_decides b b).1 refl) in
     subst (λ o. 1 ≤ length (cons_option o [])) (sym new) (partner_second_at a b (same_port b a))
 
 new_pair : (s : Setup) (a b : PortRef) → CanMap s a b → MayMap s.types s.components (a, b)
@@ -134,15 +151,18 @@ refused_at s a b refusal.NotOneToOne h = (h, cause_refuses s a b refusal.NotOneT
 refused_at s a b refusal.MapDirections h = (h, cause_refuses s a b refusal.MapDirections (first_cause (MapCause s a b) map_order refusal.MapDirections h))
 refused_at s a b refusal.Memory h = absurd (first_cause (MapCause s a b) map_order refusal.Memory h)
 
-pub map_refused : (s : Setup) (links : List (List (List PortRef))) (a b : PortRef) (f : MapFault) → Keeps s links → Some f ≡ find (map_test s.types s.components links a b) map_order → MapRefused s a b f
+pub map_refused : (s : Setup) (links : List (List (List PortRef))) (a b : PortRef) (f : MapFault) → Keeps s links
+    → Some f ≡ find (map_test s.types s.components links a b) map_order → MapRefused s a b f
 map_refused s links a b f k h =
     refused_at s a b f (first_from_find (map_test s.types s.components links a b) (MapCause s a b) (map_decides s links a b k) map_order f (sym h))
 
 -- where no test passes no cause holds
-pub no_cause : (s : Setup) (links : List (List (List PortRef))) (a b : PortRef) → Keeps s links → None ≡ find (map_test s.types s.components links a b) map_order → AllByRecursion (λ f. ¬ MapCause s a b f) map_order
+pub no_cause : (s : Setup) (links : List (List (List PortRef))) (a b : PortRef) → Keeps s links
+    → None ≡ find (map_test s.types s.components links a b) map_order → AllByRecursion (λ f. ¬ MapCause s a b f) map_order
 no_cause s links a b k h = none_from_find (map_test s.types s.components links a b) (MapCause s a b) (map_decides s links a b k) map_order (sym h)
 
-pub can_map : (s : Setup) (links : List (List (List PortRef))) (a b : PortRef) → Keeps s links → None ≡ find (map_test s.types s.components links a b) map_order → CanMap s a b
+pub can_map : (s : Setup) (links : List (List (List PortRef))) (a b : PortRef) → Keeps s links
+    → None ≡ find (map_test s.types s.components links a b) map_order → CanMap s a b
 can_map s links a b k h =
     let none : AllByRecursion (λ f. ¬ MapCause s a b f) map_order = no_cause s links a b k h in
     (λ c. none.1.1.0 (inl (b, c)), map_allowed s a b k.setup.allowed none)

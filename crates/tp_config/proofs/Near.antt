@@ -22,7 +22,8 @@ use Rattle.tp_config.proofs.Decide.{Contains-here, Contains-later, any_decides, 
 use Rattle.tp_config.proofs.Beside.{beside_cases, beside_parts, cons_cases, pair_cases}
 
 -- the pair of the list in which p stands with q
-pair_of : (pairs : List (PortRef × PortRef)) (p q : PortRef) → Contains (partners pairs p) q → (pair : PortRef × PortRef) × Contains pairs pair × (partner p pair ≡ Some q)
+pair_of : (pairs : List (PortRef × PortRef)) (p q : PortRef) → Contains (partners pairs p) q
+    → (pair : PortRef × PortRef) × Contains pairs pair × (partner p pair ≡ Some q)
 pair_of [] p q h = absurd (omega (arith, h.1))
 pair_of (pair ∷ pairs) p q h =
     elim (cons_cases (partner p pair) (partners pairs p) q h) [
@@ -86,42 +87,67 @@ both_false false false e = refl
 
 module _ (s : Setup) (links : List (List (List PortRef))) (k : Keeps s links) where
   -- a test of the ports in the list beside p decides whether one beside it has P
-  kept_decides : (test : PortRef → Bool) (P : PortRef → Type 0) → ((r : PortRef) → Decides (test r) (P r)) → (p : PortRef) → Decides (list_any test (links_at links p)) ((r : PortRef) × Contains (beside s p) r × P r)
-  kept_decides test P each p = subst (λ xs. Decides (list_any test (links_at links p)) ((r : PortRef) × Contains xs r × P r)) (k.kept p) (any_decides test P each (links_at links p))
+  kept_decides : (test : PortRef → Bool) (P : PortRef → Type 0) → ((r : PortRef) → Decides (test r) (P r)) → (p : PortRef)
+      → Decides (list_any test (links_at links p)) ((r : PortRef) × Contains (beside s p) r × P r)
+  kept_decides test P each p =
+      subst (λ xs. Decides (list_any test (links_at links p)) ((r : PortRef) × Contains xs r × P r)) (k.kept p) (any_decides test P each (links_at links p))
 
   pub connected_decides : (p : PortRef) → Decides (is_connected s.components links p) (Stands s.connected p)
   unfolding is_connected
   connected_decides p =
-      Decides-like (is_connected s.components links p) (λ (w : (r : PortRef) × Contains (beside s p) r × (is_system s.components p ≡ is_system s.components r)). (w.0, connected_here s k.setup.allowed p w.0 w.1 w.2)) (λ h. (h.0, connected_beside s k.setup.allowed p h.0 h.1, connected_alike s k.setup.allowed p h.0 h.1)) (kept_decides (λ r. same_bool (is_system s.components p) (is_system s.components r)) (λ r. is_system s.components p ≡ is_system s.components r) (λ r. same_decides (is_system s.components p) (is_system s.components r)) p)
+      Decides-like (is_connected s.components links p)
+      (λ (w : (r : PortRef) × Contains (beside s p) r × (is_system s.components p ≡ is_system s.components r)).
+      (w.0, connected_here s k.setup.allowed p w.0 w.1 w.2)) (λ h.
+      (h.0, connected_beside s k.setup.allowed p h.0 h.1, connected_alike s k.setup.allowed p h.0 h.1))
+      (kept_decides (λ r. same_bool (is_system s.components p) (is_system s.components r)) (λ r. is_system s.components p ≡ is_system s.components r)
+      (λ r. same_decides (is_system s.components p) (is_system s.components r)) p)
 
   pub mapped_decides : (p : PortRef) → Decides (is_mapped s.components links p) (Stands s.mapped p)
   unfolding is_mapped
   mapped_decides p =
-      Decides-like (is_mapped s.components links p) (λ (w : (r : PortRef) × Contains (beside s p) r × (is_system s.components p ≢ is_system s.components r)). (w.0, mapped_here s k.setup.allowed p w.0 w.1 w.2)) (λ h. (h.0, mapped_beside s k.setup.allowed p h.0 h.1, mapped_unlike s k.setup.allowed p h.0 h.1)) (kept_decides (λ r. not (same_bool (is_system s.components p) (is_system s.components r))) (λ r. is_system s.components p ≢ is_system s.components r) (λ r. Decides-not (same_bool (is_system s.components p) (is_system s.components r)) (same_decides (is_system s.components p) (is_system s.components r))) p)
+      Decides-like (is_mapped s.components links p)
+      (λ (w : (r : PortRef) × Contains (beside s p) r × (is_system s.components p ≢ is_system s.components r)).
+      (w.0, mapped_here s k.setup.allowed p w.0 w.1 w.2)) (λ h. (
+        h.0,
+        mapped_beside s k.setup.allowed p h.0 h.1,
+        mapped_unlike s k.setup.allowed p h.0 h.1,
+      )) (kept_decides (λ r. not (same_bool (is_system s.components p) (is_system s.components r)))
+      (λ r. is_system s.components p ≢ is_system s.components r) (λ r. Decides-not (same_bool (is_system s.components p) (is_system s.components r))
+      (same_decides (is_system s.components p) (is_system s.components r))) p)
 
-  pub beside_decides : (p q : PortRef) → is_system s.components p ≡ is_system s.components q → Decides (is_beside links p q) (Contains (partners s.connected p) q)
+  pub beside_decides : (p q : PortRef) → is_system s.components p ≡ is_system s.components q
+      → Decides (is_beside links p q) (Contains (partners s.connected p) q)
   unfolding is_beside
   beside_decides p q alike =
-      Decides-like (is_beside links p q) (λ h. connected_here s k.setup.allowed p q (subst (λ xs. Contains xs q) (k.kept p) h) alike) (λ h. subst (λ xs. Contains xs q) (sym (k.kept p)) (connected_beside s k.setup.allowed p q h)) (contains_by same_port port_decides (links_at links p) q)
+      Decides-like (is_beside links p q) (λ h. connected_here s k.setup.allowed p q (subst (λ xs. Contains xs q) (k.kept p) h) alike)
+      (λ h. subst (λ xs. Contains xs q) (sym (k.kept p)) (connected_beside s k.setup.allowed p q h)) (contains_by same_port port_decides (links_at links p) q)
 
   pub other_decides : (p q : PortRef) → is_system s.components p ≡ is_system s.components q → Decides (has_other links p q) (HasOther s.connected p q)
   unfolding has_other
   other_decides p q alike =
-      Decides-like (has_other links p q) (λ (w : (r : PortRef) × Contains (beside s p) r × ((r.comp ≡ q.comp) × (r ≢ q))). (w.0, connected_here s k.setup.allowed p w.0 w.1 (alike ∙ system_of s.components q w.0 (sym w.2.0)), w.2.0, w.2.1)) (λ h. (h.0, connected_beside s k.setup.allowed p h.0 h.1, (h.2, h.3))) (kept_decides (λ r. (r.comp.0 == q.comp.0) && not (same_port r q)) (λ r. (r.comp ≡ q.comp) × (r ≢ q)) (λ r. Decides-and (r.comp.0 == q.comp.0) (not (same_port r q)) (comp_decides r q) (Decides-not (same_port r q) (port_decides r q))) p)
+      Decides-like (has_other links p q) (λ (w : (r : PortRef) × Contains (beside s p) r × ((r.comp ≡ q.comp) × (r ≢ q))).
+      (w.0, connected_here s k.setup.allowed p w.0 w.1 (alike ∙ system_of s.components q w.0 (sym w.2.0)), w.2.0, w.2.1))
+      (λ h. (h.0, connected_beside s k.setup.allowed p h.0 h.1, (h.2, h.3)))
+      (kept_decides (λ r. (r.comp.0 == q.comp.0) && not (same_port r q)) (λ r. (r.comp ≡ q.comp) × (r ≢ q))
+      (λ r. Decides-and (r.comp.0 == q.comp.0) (not (same_port r q)) (comp_decides r q) (Decides-not (same_port r q) (port_decides r q))) p)
 
   -- whether one of the two is a system port
   pub system_decides : (p q : PortRef) → Decides (connect_test s.types s.components links p q fault.SystemPort) (ConnectCause s p q fault.SystemPort)
   system_decides p q = Decides-or (is_system s.components p) (is_system s.components q) (itself (is_system s.components p)) (itself (is_system s.components q))
 
-  own_decides : (p q : PortRef) → is_system s.components p ≡ is_system s.components q → (f : ConnectFault) → Decides (connect_test s.types s.components links p q f) (ConnectCause s p q f)
+  own_decides : (p q : PortRef) → is_system s.components p ≡ is_system s.components q → (f : ConnectFault)
+      → Decides (connect_test s.types s.components links p q f) (ConnectCause s p q f)
   own_decides p q alike fault.SystemPort = system_decides p q
   own_decides p q alike fault.SamePort = port_decides p q
   own_decides p q alike fault.Already = beside_decides p q alike
   own_decides p q alike fault.Mixed = Decides-or (is_mapped s.components links p) (is_mapped s.components links q) (mapped_decides p) (mapped_decides q)
   own_decides p q alike fault.TwoPortsOfOne = Decides-or (has_other links p q) (has_other links q p) (other_decides p q alike) (other_decides q p (sym alike))
-  own_decides p q alike fault.Directions = Decides-not (are_among (outs s.types s.components p) (ins s.types s.components q) && are_among (outs s.types s.components q) (ins s.types s.components p)) (directed_decides s p q)
+  own_decides p q alike fault.Directions =
+      Decides-not (are_among (outs s.types s.components p) (ins s.types s.components q)
+      && are_among (outs s.types s.components q) (ins s.types s.components p)) (directed_decides s p q)
   own_decides p q alike fault.Memory = (λ e. absurd (cc), λ h. absurd h)
 
   -- where none of the two is one, each test decides its cause
-  pub cause_decides : (p q : PortRef) → connect_test s.types s.components links p q fault.SystemPort ≡ false → (f : ConnectFault) → Decides (connect_test s.types s.components links p q f) (ConnectCause s p q f)
+  pub cause_decides : (p q : PortRef) → connect_test s.types s.components links p q fault.SystemPort ≡ false → (f : ConnectFault)
+      → Decides (connect_test s.types s.components links p q f) (ConnectCause s p q f)
   cause_decides p q none f = own_decides p q (both_false (is_system s.components p) (is_system s.components q) none) f

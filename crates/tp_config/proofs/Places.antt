@@ -39,12 +39,15 @@ length_mapped f (x ∷ xs) = ap suc (length_mapped f xs)
 pub comp_within : (cs : List Component) (p : PortRef) → p.port < length (row (map links_of cs) p.comp) → p.comp.0 < length cs
 comp_within cs p n = omega (arith, within (map links_of cs) p.comp.0 p.port n, length_mapped links_of cs)
 
-pub members_put : (cs : List Component) (p : PortRef) (x y : Component) → p.port < length (row (map links_of cs) p.comp) → x ≡ get_or cs p.comp.0 x → member_of y ≡ member_of x → map member_of (slice_set cs p.comp.0 y) ≡ map member_of cs
+pub members_put : (cs : List Component) (p : PortRef) (x y : Component) → p.port < length (row (map links_of cs) p.comp) → x ≡ get_or cs p.comp.0 x
+    → member_of y ≡ member_of x → map member_of (slice_set cs p.comp.0 y) ≡ map member_of cs
 members_put cs p x y n e same = map-set_same member_of cs p.comp.0 y x (same ∙ ap member_of e)
 
-pub links_put : (cs : List Component) (p : PortRef) (b : List PortRef) (x y : Component) → p.port < length (row (map links_of cs) p.comp) → x ≡ get_or cs p.comp.0 x → y.links ≡ slice_set x.links p.port b → map links_of (slice_set cs p.comp.0 y) ≡ with_links (map links_of cs) p b
+pub links_put : (cs : List Component) (p : PortRef) (b : List PortRef) (x y : Component) → p.port < length (row (map links_of cs) p.comp)
+    → x ≡ get_or cs p.comp.0 x → y.links ≡ slice_set x.links p.port b → map links_of (slice_set cs p.comp.0 y) ≡ with_links (map links_of cs) p b
 links_put cs p b x y n e put =
-    map-set links_of cs p.comp.0 y ∙ ap (slice_set (map links_of cs) p.comp.0) (put ∙ ap (λ l. slice_set l p.port b) (sym (mapped_at links_of cs p.comp.0 x [] (comp_within cs p n) e)))
+    map-set links_of cs p.comp.0 y ∙ ap (slice_set (map links_of cs) p.comp.0)
+    (put ∙ ap (λ l. slice_set l p.port b) (sym (mapped_at links_of cs p.comp.0 x [] (comp_within cs p n) e)))
 
 port_by : ℕ → ℕ → PortRef
 port_by i j = record { comp = record { 0 = i }; port = j }
@@ -58,19 +61,26 @@ module _ (links : List (List (List PortRef))) (p : PortRef) (b : List PortRef) (
   pub rows_kept : (c : CompId) → length (row (with_links links p b) c) ≡ length (row links c)
   rows_kept c =
       elim (cases_eq c.0 p.comp.0) [
-        | inl same ↦ ap (λ k. length (get_or (with_links links p b) k [])) same ∙ ap length (get_or-set_same links p.comp.0 (slice_set (row links p.comp) p.port b) [] (within links p.comp.0 p.port n)) ∙ length-set (row links p.comp) p.port b ∙ ap (λ k. length (get_or links k [])) (sym same)
+        | inl same ↦ ap (λ k. length (get_or (with_links links p b) k [])) same
+            ∙ ap length (get_or-set_same links p.comp.0 (slice_set (row links p.comp) p.port b) [] (within links p.comp.0 p.port n))
+            ∙ length-set (row links p.comp) p.port b ∙ ap (λ k. length (get_or links k [])) (sym same)
         | inr other ↦ ap length (get_or-set_other links p.comp.0 c.0 (slice_set (row links p.comp) p.port b) [] other)
       ]
 
   -- the list that was put
   pub links_same : links_at (with_links links p b) p ≡ b
   links_same =
-      ap (λ (l : List (List PortRef)). get_or l p.port []) (get_or-set_same links p.comp.0 (slice_set (row links p.comp) p.port b) [] (within links p.comp.0 p.port n)) ∙ get_or-set_same (row links p.comp) p.port b [] n
+      ap (λ (l : List (List PortRef)). get_or l p.port []) (get_or-set_same links p.comp.0 (slice_set (row links p.comp) p.port b) []
+      (within links p.comp.0 p.port n)) ∙ get_or-set_same (row links p.comp) p.port b [] n
 
   -- the other lists
   pub links_other : (r : PortRef) → r ≢ p → links_at (with_links links p b) r ≡ links_at links r
   links_other r differ =
       elim (cases_eq r.comp.0 p.comp.0) [
-        | inl same ↦ ap (λ k. get_or (get_or (with_links links p b) k []) r.port []) same ∙ ap (λ (l : List (List PortRef)). get_or l r.port []) (get_or-set_same links p.comp.0 (slice_set (row links p.comp) p.port b) [] (within links p.comp.0 p.port n)) ∙ get_or-set_other (row links p.comp) p.port r.port b [] (λ e. differ (same_port_by r p same e)) ∙ ap (λ k. get_or (get_or links k []) r.port []) (sym same)
-        | inr other ↦ ap (λ (l : List (List PortRef)). get_or l r.port []) (get_or-set_other links p.comp.0 r.comp.0 (slice_set (row links p.comp) p.port b) [] other)
+        | inl same ↦ ap (λ k. get_or (get_or (with_links links p b) k []) r.port []) same
+            ∙ ap (λ (l : List (List PortRef)). get_or l r.port []) (get_or-set_same links p.comp.0 (slice_set (row links p.comp) p.port b) []
+            (within links p.comp.0 p.port n)) ∙ get_or-set_other (row links p.comp) p.port r.port b [] (λ e. differ (same_port_by r p same e))
+            ∙ ap (λ k. get_or (get_or links k []) r.port []) (sym same)
+        | inr other ↦ ap (λ (l : List (List PortRef)). get_or l r.port [])
+            (get_or-set_other links p.comp.0 r.comp.0 (slice_set (row links p.comp) p.port b) [] other)
       ]

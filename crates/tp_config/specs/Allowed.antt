@@ -29,7 +29,8 @@ pub record MayMap (t : List (List PortDecl)) (m : List Member) (pair : PortRef �
 pub record Allowed (s : Setup) : Type 0 where
   pub may_connect : All (MayConnect s.types s.components) s.connected
   -- no port is connected with two different ports of one component
-  pub one_of_each : (p q r : PortRef) → Contains (partners s.connected p) q → Contains (partners s.connected p) r → q.comp ≡ r.comp → q ≡ r
+  pub one_of_each : (p q r : PortRef) → Contains (partners s.connected p) q → Contains (partners s.connected p) r
+      → q.comp ≡ r.comp → q ≡ r
   pub may_map : All (MayMap s.types s.components) s.mapped
   -- no port stands in two mapped pairs
   pub one_mapping : (p : PortRef) → length (partners s.mapped p) ≤ 1
@@ -63,4 +64,5 @@ pub record IsSetup (s : Setup) : Type 0 where
   -- no two components have one name
   pub names_differ : AllPairs (λ (m n : Member). m.name ≢ n.name) s.components
   -- no two of them are test system interfaces
-  pub one_system : AllPairs (λ (m n : Member). ¬ ((is_system_member m ≡ true) × (is_system_member n ≡ true))) s.components
+  pub one_system :
+      AllPairs (λ (m n : Member). ¬ ((is_system_member m ≡ true) × (is_system_member n ≡ true))) s.components

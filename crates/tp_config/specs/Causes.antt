@@ -45,7 +45,8 @@ CreateRefused s m f = IsFirst (CreateCause s m) create_order f × ¬ CanCreate s
 
 -- the order in which the causes of a refused connect are looked at
 abbrev pub connect_order : List ConnectFault
-connect_order = fault.SystemPort ∷ fault.SamePort ∷ fault.Already ∷ fault.Mixed ∷ fault.TwoPortsOfOne ∷ fault.Directions ∷ []
+connect_order =
+    fault.SystemPort ∷ fault.SamePort ∷ fault.Already ∷ fault.Mixed ∷ fault.TwoPortsOfOne ∷ fault.Directions ∷ []
 
 -- p stands in a pair of the list
 abbrev pub Stands : List (PortRef × PortRef) → PortRef → Type 0
@@ -80,7 +81,8 @@ MapCause s p q refusal.NotSystem = is_system s.components p ≡ is_system s.comp
 MapCause s p q refusal.Mixed = Stands s.connected p ⊎ Stands s.connected q
 MapCause s p q refusal.NotOneToOne = Stands s.mapped p ⊎ Stands s.mapped q
 MapCause s p q refusal.MapDirections =
-    ¬ ((is_system s.components q ≡ true → MapDirected s.types s.components p q) × (is_system s.components p ≡ true → MapDirected s.types s.components q p))
+    ¬ ((is_system s.components q ≡ true → MapDirected s.types s.components p q)
+    × (is_system s.components p ≡ true → MapDirected s.types s.components q p))
 MapCause s p q refusal.Memory = ⊥
 
 -- why a map is refused: by the first cause that holds, or, where the pair can be mapped, for want of memory

@@ -26,4 +26,5 @@ joined links p q = with_links (with_links links p (links_at links p ++ q ∷ [])
 abbrev pub routes_kept : List (List (List PortRef)) → CompId → ℕ → List RouteId
 routes_kept links c zero = []
 routes_kept links c (suc n) =
-    let p : PortRef = record { comp = c; port = n } in routes_kept links c n ++ map (λ q. route_to q p) (links_at links p)
+    let p : PortRef = record { comp = c; port = n } in
+    routes_kept links c n ++ map (λ q. route_to q p) (links_at links p)

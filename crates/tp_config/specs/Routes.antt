@@ -56,8 +56,10 @@ AreDistinct routes = AllPairs (λ r t. r ≢ t) routes
 
 -- a route determines the port that sends on it
 abbrev pub SendersAreDetermined : Setup → Type 0
-SendersAreDetermined s = (p q : PortRef) (r : RouteId) → Contains (routes_from s p) r → Contains (routes_from s q) r → p ≡ q
+SendersAreDetermined s =
+    (p q : PortRef) (r : RouteId) → Contains (routes_from s p) r → Contains (routes_from s q) r → p ≡ q
 
 -- the routes into a component are those from any port to a port of it
 abbrev pub AreRoutesInto : Setup → CompId → List RouteId → Type 0
-AreRoutesInto s c routes = (r : RouteId) → Contains routes r ↔ ((r.to.comp ≡ c) × ((p : PortRef) × Contains (routes_from s p) r))
+AreRoutesInto s c routes =
+    (r : RouteId) → Contains routes r ↔ ((r.to.comp ≡ c) × ((p : PortRef) × Contains (routes_from s p) r))

@@ -40,4 +40,5 @@ types_of_decl d = (d.ins, d.outs)
 
 -- what contracts see of a configuration
 abbrev pub setup_of : List CompType → List Component → List (PortRef × PortRef) → List (PortRef × PortRef) → Setup
-setup_of types components connected mapped = record { types = map ports_of types; components = map member_of components; connected = connected; mapped = mapped }
+setup_of types components connected mapped =
+    record { types = map ports_of types; components = map member_of components; connected = connected; mapped = mapped }

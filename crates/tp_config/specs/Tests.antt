@@ -56,13 +56,15 @@ unfoldable pub are_among : List Ty → List Ty → Bool
 are_among these those = list_all (λ ty. list_any (λ other. same_type other ty) those) these
 
 -- the causes of a refused connect, each where those before it don't hold
-abbrev pub connect_test : List (List PortDecl) → List Member → List (List (List PortRef)) → PortRef → PortRef → ConnectFault → Bool
+abbrev pub connect_test :
+    List (List PortDecl) → List Member → List (List (List PortRef)) → PortRef → PortRef → ConnectFault → Bool
 connect_test t m links p q fault.SystemPort = is_system m p || is_system m q
 connect_test t m links p q fault.SamePort = same_port p q
 connect_test t m links p q fault.Already = is_beside links p q
 connect_test t m links p q fault.Mixed = is_mapped m links p || is_mapped m links q
 connect_test t m links p q fault.TwoPortsOfOne = has_other links p q || has_other links q p
-connect_test t m links p q fault.Directions = not (are_among (outs t m p) (ins t m q) && are_among (outs t m q) (ins t m p))
+connect_test t m links p q fault.Directions =
+    not (are_among (outs t m p) (ins t m q) && are_among (outs t m q) (ins t m p))
 connect_test t m links p q fault.Memory = false
 
 -- the system port q sends all that p sends, and p receives all that q receives
@@ -70,9 +72,11 @@ abbrev pub map_directed : List (List PortDecl) → List Member → PortRef → P
 map_directed t m p q = are_among (outs t m p) (outs t m q) && are_among (ins t m q) (ins t m p)
 
 -- the causes of a refused map
-abbrev pub map_test : List (List PortDecl) → List Member → List (List (List PortRef)) → PortRef → PortRef → MapFault → Bool
+abbrev pub map_test :
+    List (List PortDecl) → List Member → List (List (List PortRef)) → PortRef → PortRef → MapFault → Bool
 map_test t m links p q refusal.NotSystem = same_bool (is_system m p) (is_system m q)
 map_test t m links p q refusal.Mixed = is_connected m links p || is_connected m links q
 map_test t m links p q refusal.NotOneToOne = is_mapped m links p || is_mapped m links q
-map_test t m links p q refusal.MapDirections = not ((not (is_system m q) || map_directed t m p q) && (not (is_system m p) || map_directed t m q p))
+map_test t m links p q refusal.MapDirections =
+    not ((not (is_system m q) || map_directed t m p q) && (not (is_system m p) || map_directed t m q p))
 map_test t m links p q refusal.Memory = false

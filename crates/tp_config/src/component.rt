@@ -76,8 +76,8 @@ fn port_type<'a>(
     components: &[Component],
     p: PortRef,
 ) -> Option<&'a PortType>
-    ensures { option_map type_of (option_copied result)
-        ≡ option_map types_of_decl (decl_at (map ports_of types.now) (map member_of components.now) p) }
+    ensures { let m = map member_of components.now in option_map type_of (option_copied result)
+        ≡ option_map types_of_decl (decl_at (map ports_of types.now) m p) }
 {
     let Some(kind) = type_in(types, components, p.comp) else {
         return None;
@@ -91,7 +91,8 @@ pub(crate) fn ins<'a>(
     components: &[Component],
     p: PortRef,
 ) -> Option<&'a TypeList>
-    ensures { listed (option_copied result) ≡ ins (map ports_of types.now) (map member_of components.now) p }
+    ensures { listed (option_copied result)
+        ≡ ins (map ports_of types.now) (map member_of components.now) p }
 {
     match port_type(types, components, p) {
         Some(port_type) => Some(&port_type.ins),
@@ -105,7 +106,8 @@ pub(crate) fn outs<'a>(
     components: &[Component],
     p: PortRef,
 ) -> Option<&'a TypeList>
-    ensures { listed (option_copied result) ≡ outs (map ports_of types.now) (map member_of components.now) p }
+    ensures { listed (option_copied result)
+        ≡ outs (map ports_of types.now) (map member_of components.now) p }
 {
     match port_type(types, components, p) {
         Some(port_type) => Some(&port_type.outs),
@@ -115,7 +117,8 @@ pub(crate) fn outs<'a>(
 
 /// How many ports the component has.
 pub(crate) fn port_count(types: &[CompType], components: &[Component], comp: CompId) -> usize
-    ensures { result ≡ length (ports_at (map ports_of types.now) (map member_of components.now) comp) }
+    ensures { result
+        ≡ length (ports_at (map ports_of types.now) (map member_of components.now) comp) }
 {
     match type_in(types, components, comp) {
         Some(kind) => kind.ports.len(),
@@ -137,7 +140,8 @@ pub(crate) fn beside(components: &[Component], p: PortRef) -> &[PortRef]
 fn put_beside(components: &mut Vec<Component>, p: PortRef, beside: Items<PortRef>)
     requires { p.port < length (row (map links_of components.old.items) p.comp) }
     ensures members { map member_of components.new.items ≡ map member_of components.old.items }
-    ensures links { map links_of components.new.items ≡ with_links (map links_of components.old.items) p beside }
+    ensures links { map links_of components.new.items
+        ≡ with_links (map links_of components.old.items) p beside }
 {
     let component = &mut components[p.comp.0 as usize];
     component.links.put(p.port, beside);
@@ -152,9 +156,9 @@ fn with_last(alloc: Global, ports: &[PortRef], last: PortRef) -> Result<Items<Po
     Ok(longer)
 }
 
-/// Joins two different ports: adds their pair, and puts each at the end of what stands beside the other.
-/// Both lists are made first, so that nothing has changed where an allocation is refused. A list has 64
-/// ports at most, one for each component.
+/// Joins two different ports: adds their pair, and puts each at the end of what stands beside the
+/// other. Both lists are made first, so that nothing has changed where an allocation is refused. A
+/// list has 64 ports at most, one for each component.
 ///
 /// 50 `Memory` only where an allocation was refused; everything is then as before.
 pub(crate) fn join(
@@ -167,8 +171,10 @@ pub(crate) fn join(
     requires p_in { p.port < length (row (map links_of components.old.items) p.comp) }
     requires q_in { q.port < length (row (map links_of components.old.items) q.comp) }
     ensures pairs { OnOk result (pairs.new.items ≡ pairs.old.items ++ (p, q) ∷ []) }
-    ensures members { OnOk result (map member_of components.new.items ≡ map member_of components.old.items) }
-    ensures links { OnOk result (map links_of components.new.items ≡ joined (map links_of components.old.items) p q) }
+    ensures members { OnOk result
+        (map member_of components.new.items ≡ map member_of components.old.items) }
+    ensures links { OnOk result (map links_of components.new.items
+        ≡ joined (map links_of components.old.items) p q) }
     ensures no_pair { OnErr result (pairs.new.items ≡ pairs.old.items) }
     ensures no_link { OnErr result (components.new.items ≡ components.old.items) }
 {

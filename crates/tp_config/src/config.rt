@@ -21,16 +21,16 @@ use tp_refusal::memory::Memory;
 /// 21.1, 21.2.1). Contracts see the component types, the components, and the pairs in the order of
 /// their statements; a pair itself has no order.
 ///
-/// At every moment the configuration is allowed: no port is connected with two ports of one component,
-/// a port has at most one mapping, no mapped port is connected, what a connected port sends the other
-/// receives, and the mapped ones fit together. No pair is there twice, no two components have one name,
-/// and at most one is the test system interface.
+/// At every moment the configuration is allowed: no port is connected with two ports of one
+/// component, a port has at most one mapping, no mapped port is connected, what a connected port
+/// sends the other receives, and the mapped ones fit together. No pair is there twice, no two
+/// components have one name, and at most one is the test system interface.
 #[derive(Drop)]
 pub struct Config {
     types: Vec<CompType>,
     components: Vec<Component>,
-    /// The connected pairs, in the order of their statements. Contracts see them. No call looks through
-    /// them: it finds what stands beside a port in the port's component.
+    /// The connected pairs, in the order of their statements. Contracts see them. No call looks
+    /// through them: it finds what stands beside a port in the port's component.
     connected: Vec<(PortRef, PortRef)>,
     /// The mapped pairs, likewise.
     mapped: Vec<(PortRef, PortRef)>,
@@ -46,14 +46,17 @@ impl Model for Config {
     ghost use Rattle.tp_config.specs.Shape.{links_of, setup_of};
     ghost use Rattle.tp_config.specs.Kept.{Keeps};
 
-    ghost view = { λ c. setup_of c.types.items c.components.items c.connected.items c.mapped.items };
+    ghost view = { λ c.
+        setup_of c.types.items c.components.items c.connected.items c.mapped.items };
 
-    ghost invariant = { λ c. Keeps (setup_of c.types.items c.components.items c.connected.items c.mapped.items) (map links_of c.components.items) };
+    ghost invariant = { λ c. Keeps
+        (setup_of c.types.items c.components.items c.connected.items c.mapped.items)
+        (map links_of c.components.items) };
 }
 
 impl Config {
-    /// A configuration with these component types, numbered from 0, no component and no pair. Takes no
-    /// memory; later calls take it from `alloc`. Each type has at most 64 ports.
+    /// A configuration with these component types, numbered from 0, no component and no pair. Takes
+    /// no memory; later calls take it from `alloc`. Each type has at most 64 ports.
     pub fn new(alloc: Global, types: Vec<CompType>) -> Config
         requires { All (λ t. length t.ports.entries ≤ 64) types.items }
         ensures empty { result ≡ empty_setup (map ports_of types.items) }
@@ -99,8 +102,8 @@ impl Config {
         self.components[comp.0 as usize].role
     }
 
-    /// The number of the type of a component of this configuration, from 0, among the component types.
-    /// Takes no memory.
+    /// The number of the type of a component of this configuration, from 0, among the component
+    /// types. Takes no memory.
     pub fn kind(&self, comp: CompId) -> u32
         requires { IsComponent self.now comp }
         ensures { option_map (λ m. m.kind) (slice_get self.now.components comp.0) ≡ Some result }
@@ -117,12 +120,12 @@ impl Config {
         &self.types[kind as usize]
     }
 
-    /// Creates a component (21.2.1): a component of this name, whose type is the one of this number, from
-    /// 0, among the component types. Its number is the number of components before.
+    /// Creates a component (21.2.1): a component of this name, whose type is the one of this
+    /// number, from 0, among the component types. Its number is the number of components before.
     ///
-    /// 12 `Duplicate` exactly where a component has the name, or where it would be a second test system
-    /// interface; else 15 `Limit` exactly where there are 64 components; else 50 `Memory` only where an
-    /// allocation was refused. The configuration is then as before.
+    /// 12 `Duplicate` exactly where a component has the name, or where it would be a second test
+    /// system interface; else 15 `Limit` exactly where there are 64 components; else 50 `Memory`
+    /// only where an allocation was refused. The configuration is then as before.
     pub fn create(&mut self, name: String, kind: u32, role: Role) -> Result<CompId, CreateFault>
         requires { kind < length self.old.types }
         ensures number { IfOk result (λ comp. comp.0 ≡ length self.old.components) }
@@ -163,10 +166,11 @@ impl Config {
         }
     }
 
-    /// The port of this name of the component, or `None` where the component has none of that name, or
-    /// where there is no such component. Takes no memory.
+    /// The port of this name of the component, or `None` where the component has none of that name,
+    /// or where there is no such component. Takes no memory.
     pub fn port_of(&self, comp: CompId, name: &str) -> Option<PortRef>
-        ensures there { IfSome result (λ p. (p.comp ≡ comp) × (slice_get (port_names self.now comp) p.port ≡ Some name.now)) }
+        ensures there { IfSome result (λ p. (p.comp ≡ comp)
+            × (slice_get (port_names self.now comp) p.port ≡ Some name.now)) }
         ensures port { IfSome result (λ p. IsPort self.now p) }
         ensures known { IsSome result ↔ Contains (port_names self.now comp) name.now }
     {
@@ -182,15 +186,16 @@ impl Config {
 
     /// Connects two ports of this configuration (21.1.1). The two stand in either order.
     ///
-    /// 25 `SystemPort`, 26 `SamePort`, 27 `Already`, 22 `Mixed`, 21 `TwoPortsOfOne`, 20 `Directions`: the
-    /// first of these whose cause holds. Where none does, 50 `Memory` only where an allocation was
-    /// refused. The configuration is then as before. Looks at what stands beside the two ports, and not at
-    /// the pairs of others.
+    /// 25 `SystemPort`, 26 `SamePort`, 27 `Already`, 22 `Mixed`, 21 `TwoPortsOfOne`,
+    /// 20 `Directions`: the first of these whose cause holds. Where none does, 50 `Memory` only
+    /// where an allocation was refused. The configuration is then as before. Looks at what stands
+    /// beside the two ports, and not at the pairs of others.
     pub fn connect(&mut self, p: PortRef, q: PortRef) -> Result<(), ConnectFault>
         requires p_in { IsPort self.old p }
         requires q_in { IsPort self.old q }
         ensures ok { OnOk result (CanConnect self.old p q × (self.new ≡ connecting self.old p q)) }
-        ensures err { IfErr result (λ fault. (self.new ≡ self.old) × ConnectRefused self.old p q fault) }
+        ensures err { IfErr result (λ fault.
+            (self.new ≡ self.old) × ConnectRefused self.old p q fault) }
         ensures lawful { IsSetup self.new }
     {
         let types = self.types.as_slice();
@@ -204,17 +209,19 @@ impl Config {
         Ok(())
     }
 
-    /// Maps two ports of this configuration (21.1.1), one of them a port of the test system interface. The
-    /// two stand in either order.
+    /// Maps two ports of this configuration (21.1.1), one of them a port of the test system
+    /// interface. The two stand in either order.
     ///
-    /// 28 `NotSystem`, 22 `Mixed`, 23 `NotOneToOne`, 24 `MapDirections`: the first of these whose cause
-    /// holds. Where none does, 50 `Memory` only where an allocation was refused. The configuration is
-    /// then as before. Looks at what stands beside the two ports, and not at the pairs of others.
+    /// 28 `NotSystem`, 22 `Mixed`, 23 `NotOneToOne`, 24 `MapDirections`: the first of these whose
+    /// cause holds. Where none does, 50 `Memory` only where an allocation was refused. The
+    /// configuration is then as before. Looks at what stands beside the two ports, and not at the
+    /// pairs of others.
     pub fn map(&mut self, p: PortRef, q: PortRef) -> Result<(), MapFault>
         requires p_in { IsPort self.old p }
         requires q_in { IsPort self.old q }
         ensures ok { OnOk result (CanMap self.old p q × (self.new ≡ mapping self.old p q)) }
-        ensures err { IfErr result (λ fault. (self.new ≡ self.old) × MapRefused self.old p q fault) }
+        ensures err { IfErr result (λ fault.
+            (self.new ≡ self.old) × MapRefused self.old p q fault) }
         ensures lawful { IsSetup self.new }
     {
         let types = self.types.as_slice();
@@ -228,8 +235,8 @@ impl Config {
         Ok(())
     }
 
-    /// The routes from a port, in the order of the connecting statements. No two of them are equal, and
-    /// none of them is a route from another port. A port that isn't there has none.
+    /// The routes from a port, in the order of the connecting statements. No two of them are equal,
+    /// and none of them is a route from another port. A port that isn't there has none.
     ///
     /// 50 `Memory` only where an allocation was refused.
     pub fn routes_from(&self, p: PortRef) -> Result<Vec<RouteId>, Memory>
@@ -255,14 +262,16 @@ impl Config {
         routes_in(self.alloc, components, comp, count)
     }
 
-    /// The route of a send at the port (22.2.1): the only route from it, or, where a component is named,
-    /// the one that leads to that component. Takes no memory, and looks at the routes of this port
-    /// alone.
+    /// The route of a send at the port (22.2.1): the only route from it, or, where a component is
+    /// named, the one that leads to that component. Takes no memory, and looks at the routes of
+    /// this port alone.
     ///
     /// 41 `NoRoute` exactly where there is no route, or none to the component named; 42 `NeedsTo`
     /// exactly where there are several and no component is named.
     pub fn route(&self, p: PortRef, to: Option<CompId>) -> Result<RouteId, RouteFault>
-        ensures route { MatchResult result (λ r. IsRoute self.now p to r) (λ fault. RouteCause self.now p to fault) }
+        ensures route { MatchResult result
+            (λ r. IsRoute self.now p to r)
+            (λ fault. RouteCause self.now p to fault) }
         ensures source { IfOk result (λ r. r.source ≡ p.comp) }
         ensures among { IfOk result (Contains (routes_from self.now p)) }
     {

@@ -55,15 +55,16 @@ impl ConnectFault {
     }
 }
 
-/// Why the two ports are not connected, as far as memory isn't wanting. It looks at what stands beside the
-/// two, and at no other port.
+/// Why the two ports are not connected, as far as memory isn't wanting. It looks at what stands
+/// beside the two, and at no other port.
 pub(crate) fn connect_fault(
     types: &[CompType],
     components: &[Component],
     p: PortRef,
     q: PortRef,
 ) -> Option<ConnectFault>
-    ensures { result ≡ find (connect_test (map ports_of types.now) (map member_of components.now) (map links_of components.now) p q) connect_order }
+    ensures { let m = map member_of components.now in let links = map links_of components.now in
+        result ≡ find (connect_test (map ports_of types.now) m links p q) connect_order }
 {
     if is_system(components, p) || is_system(components, q) {
         return Some(ConnectFault::SystemPort);

@@ -78,7 +78,8 @@ pub(crate) fn place_of(components: &[Component], name: &str) -> Option<usize>
 
 /// Why a component of this name and role is not created, as far as memory isn't wanting.
 pub(crate) fn create_fault(components: &[Component], name: &str, role: Role) -> Option<CreateFault>
-    ensures { result ≡ find (create_test (map member_of components.now) name.now role) create_order }
+    ensures { result
+        ≡ find (create_test (map member_of components.now) name.now role) create_order }
 {
     if has_name(components, name) || role.is_system() && has_system(components) {
         return Some(CreateFault::Duplicate);

@@ -38,7 +38,8 @@ fn are_all_among(these: &[Ty], those: Option<&TypeList>) -> bool
 
 /// Whether each type of `these` is among `those`. It looks once at each type of `these`.
 pub(crate) fn are_among(these: Option<&TypeList>, those: Option<&TypeList>) -> bool
-    ensures { result ≡ are_among (listed (option_copied these.entry)) (listed (option_copied those.entry)) }
+    ensures { result
+        ≡ are_among (listed (option_copied these.entry)) (listed (option_copied those.entry)) }
 {
     are_all_among(types_of(these), those)
 }

@@ -1,5 +1,5 @@
-//! The components of a test, their ports, and which ports are connected and mapped: what is allowed,
-//! and which routes messages can take.
+//! The components of a test, their ports, and which ports are connected and mapped: what is
+//! allowed, and which routes messages can take.
 #![tactic(auto)]
 
 mod component;

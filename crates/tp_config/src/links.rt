@@ -8,9 +8,9 @@ use std::marker::Model;
 use tp_refusal::memory::Memory;
 use tp_value::items::Items;
 
-/// For each port of a component, in declared order, the ports that it is connected or mapped with, in
-/// the order of the statements. So a route is found, and why two ports are not connected or mapped,
-/// without a look at the pairs of other ports.
+/// For each port of a component, in declared order, the ports that it is connected or mapped with,
+/// in the order of the statements. So a route is found, and why two ports are not connected or
+/// mapped, without a look at the pairs of other ports.
 #[derive(Drop)]
 pub(crate) struct Links {
     ports: Vec<Items<PortRef>>,

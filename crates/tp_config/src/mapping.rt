@@ -24,8 +24,8 @@ pub enum MapFault {
     /// 23 NotOneToOne: one of them is mapped.
     #[error("one is mapped")]
     NotOneToOne,
-    /// 24 MapDirections: the component's port sends a message type that the system's port doesn't send,
-    /// or doesn't receive one that the system's port receives.
+    /// 24 MapDirections: the component's port sends a message type that the system's port doesn't
+    /// send, or doesn't receive one that the system's port receives.
     #[error("the message types of the two don't fit together")]
     MapDirections,
     /// 50 Memory: an allocation was refused.
@@ -48,8 +48,8 @@ impl MapFault {
     }
 }
 
-/// Whether q, a port of the test system interface, sends all that p sends, and p receives all that q
-/// receives.
+/// Whether q, a port of the test system interface, sends all that p sends, and p receives all that
+/// q receives.
 fn map_directed(types: &[CompType], components: &[Component], p: PortRef, q: PortRef) -> bool
     ensures { result ≡ map_directed (map ports_of types.now) (map member_of components.now) p q }
 {
@@ -58,15 +58,16 @@ fn map_directed(types: &[CompType], components: &[Component], p: PortRef, q: Por
     sent && received
 }
 
-/// Why the two ports are not mapped, as far as memory isn't wanting. It looks at what stands beside the
-/// two, and at no other port.
+/// Why the two ports are not mapped, as far as memory isn't wanting. It looks at what stands beside
+/// the two, and at no other port.
 pub(crate) fn map_fault(
     types: &[CompType],
     components: &[Component],
     p: PortRef,
     q: PortRef,
 ) -> Option<MapFault>
-    ensures { result ≡ find (map_test (map ports_of types.now) (map member_of components.now) (map links_of components.now) p q) map_order }
+    ensures { let m = map member_of components.now in let links = map links_of components.now in
+        result ≡ find (map_test (map ports_of types.now) m links p q) map_order }
 {
     let first = is_system(components, p);
     let second = is_system(components, q);

@@ -1,5 +1,5 @@
-//! Which ports a port is connected or mapped with, by what stands beside it. So the pairs of other ports
-//! are not looked at.
+//! Which ports a port is connected or mapped with, by what stands beside it. So the pairs of other
+//! ports are not looked at.
 ghost use Rattle.std.specs.Prelude.{◌≡◌, map};
 ghost use Rattle.tp_config.specs.Shape.{links_of, member_of};
 ghost use Rattle.tp_config.specs.Tests.{has_other, is_beside, is_connected, is_mapped, same_bool};
@@ -32,8 +32,9 @@ pub(crate) fn has_other(components: &[Component], p: PortRef, q: PortRef) -> boo
         .any(|r| r.comp.0 == q.comp.0 && !r.is(q))
 }
 
-/// Whether p is connected. None of two connected ports is of the test system interface, and exactly one of
-/// two mapped ports is: so p is connected with a port beside it where both are of it or none.
+/// Whether p is connected. None of two connected ports is of the test system interface, and exactly
+/// one of two mapped ports is: so p is connected with a port beside it where both are of it or
+/// none.
 #[tactic(auto, unfolding(crate::specs::Tests::is_connected))]
 pub(crate) fn is_connected(components: &[Component], p: PortRef) -> bool
     ensures { result ≡ is_connected (map member_of components.now) (map links_of components.now) p }

@@ -12,7 +12,8 @@ pub const COMPONENT_LIMIT: usize = 64;
 /// How many ports a component type has at most.
 pub const PORT_LIMIT: usize = 64;
 
-/// A type of message ports (ES 201 873-1, 6.2.9). A message type listed as `inout` stands in both lists.
+/// A type of message ports (ES 201 873-1, 6.2.9). A message type listed as `inout` stands in both
+/// lists.
 #[derive(Debug, Drop)]
 pub struct PortType {
     /// The message types that a port of this type receives.
@@ -42,8 +43,8 @@ pub struct PortRef {
     pub port: u32,
 }
 
-/// The way of messages from a component to a port. The port that sends on it is determined by it, since
-/// no port is connected with two ports of one component.
+/// The way of messages from a component to a port. The port that sends on it is determined by it,
+/// since no port is connected with two ports of one component.
 #[derive(Clone, Copy, Debug, PartialEq, Eq, Hash)]
 pub struct RouteId {
     /// The component that sends.

@@ -92,7 +92,8 @@ pub(crate) fn choose(
 
 /// Adds the routes to p, beside which these ports stand.
 fn add_routes_to(routes: &mut Vec<RouteId>, p: PortRef, beside: &[PortRef]) -> Result<(), Memory>
-    ensures { OnOk result (routes.new.items ≡ routes.old.items ++ map (λ q. route_to q p) beside.now) }
+    ensures { OnOk result
+        (routes.new.items ≡ routes.old.items ++ map (λ q. route_to q p) beside.now) }
 {
     for q in beside {
         routes.push(RouteId {

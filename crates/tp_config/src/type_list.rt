@@ -11,7 +11,8 @@ use tp_refusal::memory::Memory;
 use tp_value::items::Items;
 use tp_value::types::Ty;
 
-/// Message types in their order, with the set of them, so that one is looked for without a look at each.
+/// Message types in their order, with the set of them, so that one is looked for without a look at
+/// each.
 #[derive(Debug, Drop)]
 struct Listed {
     items: Items<Ty>,
@@ -65,9 +66,9 @@ impl Listed {
     }
 }
 
-/// The message types that a port type receives or sends, in the order in which it lists them (ES 201
-/// 873-1, 6.2.9). Contracts see the list. It never changes, and several port types may share one list:
-/// each then holds a handle of its own, and the types stand in memory once.
+/// The message types that a port type receives or sends, in the order in which it lists them
+/// (ES 201 873-1, 6.2.9). Contracts see the list. It never changes, and several port types may
+/// share one list: each then holds a handle of its own, and the types stand in memory once.
 #[derive(Debug, Drop)]
 pub struct TypeList {
     listed: Arc<Listed>,
@@ -92,8 +93,8 @@ impl TypeList {
         Ok(TypeList { listed })
     }
 
-    /// A second handle of the same list. It copies no type, whatever the length. 50 `Memory` only where
-    /// the list can have no more handles.
+    /// A second handle of the same list. It copies no type, whatever the length. 50 `Memory` only
+    /// where the list can have no more handles.
     pub fn share(&self) -> Result<TypeList, Memory>
         ensures { IfOk result (λ other. other ≡ self.now) }
     {

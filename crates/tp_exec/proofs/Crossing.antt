@@ -7,7 +7,7 @@ use denote.Param.Send.{IsSend, struct_send, sendable}
 use Rattle.std.specs.Prelude.{List, [], ◌∷◌}
 use Rattle.std.proofs.Crossing.{crosses}
 use Rattle.indexmap.proofs.map.IndexMap.TheSendSync.{the_send as map_send}
-use Rattle.tp_value.proofs.value.Value.TheLaws.TheKnot.{crosses as value_knot}
+use Rattle.tp_value.proofs.value.Value.TheLaws.TheKnot.{crosses_both as value_knot}
 use Rattle.tp_value.proofs.template.Template.TheLaws.TheKnot.{crosses as template_knot}
 use Rattle.tp_config.proofs.port_type.RouteId.TheSendSync.{the_send as route_send}
 use Rattle.tp_inbox.proofs.Crossing.{owner_send, desk_send, sender_send}

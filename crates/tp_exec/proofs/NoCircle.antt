@@ -191,9 +191,9 @@ same_stamp : (made : Made) (report : Report) → IsReportOf made report → (r :
     → env.sender ≡ r.source.0 → env.number ≡ number → stamp ≡ m.stamp
 same_stamp made report h r j k number stamp m env out into from same =
     let d = on_route made report h r k stamp env into from in
-    let source = d.line.source.desk.log in
-    let x = among_sent r source j number m (ap (λ o. slice_get (log_of o) j) (sym d.line.source_is) ∙ out) in
-    let y = among_arrived r d.line.receiver.desk.log k stamp env (ap (λ o. slice_get (log_of o) k) (sym d.line.receiver_is) ∙ into) from in
+    let source = d.pair.source.desk.log in
+    let x = among_sent r source j number m (ap (λ o. slice_get (log_of o) j) (sym d.pair.source_is) ∙ out) in
+    let y = among_arrived r d.pair.receiver.desk.log k stamp env (ap (λ o. slice_get (log_of o) k) (sym d.pair.receiver_is) ∙ into) from in
     let z = ap (λ l. slice_get l y.0) d.same ∙ y.1 in
     let one = one_number (sent_on r source) d.numbered y.0 x.0 (env.number, record { stamp = stamp; message = env.msg }) (number, m) z x.1 same in
     ap (λ (p : ℕ × Stamped). p.1.stamp) one

@@ -137,7 +137,7 @@ module _ (made : Made) (ended : List Ended) (run : IsOfARun made ended) (xs : Li
       let out : sent_on r from.0.desk.log ≡ sent_on r t.source.desk.log = ap (λ (d : Journal). sent_on r d.log) from.2.desk in
       let numbered_so : sent_on r from.0.desk.log ≡ numbered 0 t.ledger = out ∙ t.numbered in
       record {
-        line = record { source = from.0; source_is = from.1; receiver = to.0; receiver_is = to.1 };
+        pair = record { source = from.0; source_is = from.1; receiver = to.0; receiver_is = to.1 };
         same = out ∙ t.same ∙ ap (λ (d : Journal). arrived_on r d.log) (sym to.2.desk);
         numbered = subst (λ l. map (λ (y : ℕ × Stamped). y.0) l ≡ numbers_from 0 l) (sym numbered_so) (numbers 0 t.ledger);
         counted = ap (count_of r) to.2.counts ∙ t.counted ∙ sym (length-numbered 0 t.ledger) ∙ ap length (sym numbered_so);

@@ -15,7 +15,7 @@ use Rattle.tp_behaviour.specs.declared.outcome.Outcome.TheVariants as outcome
 use Rattle.tp_behaviour.specs.declared.post.Post.{Post}
 use Rattle.tp_behaviour.specs.declared.station.Station.{Station}
 use Rattle.tp_behaviour.specs.Ends.{Follows}
-use Rattle.tp_behaviour.specs.Held.{Role}
+use Rattle.tp_behaviour.specs.Held.{Actor}
 use Rattle.tp_behaviour.specs.Moments.{Moment, moments}
 use Rattle.tp_behaviour.specs.Paths.{IsPath}
 use Rattle.tp_behaviour.specs.Outcomes.{HasEnded}
@@ -38,7 +38,7 @@ manned_for s c references others x h = record {
 }
 
 -- a body without a statement is at its end at once
-nothing_to_do : (r : Role) (whole : List Entry) → moments whole ≡ [] → Follows r (record { variables = []; statements = [] }) whole ending.Done
+nothing_to_do : (r : Actor) (whole : List Entry) → moments whole ≡ [] → Follows r (record { variables = []; statements = [] }) whole ending.Done
 nothing_to_do r whole none = Follows.done [] (subst (λ (ts : List Moment). IsPath r [] [] [] ts []) (sym none) (IsPath.no_statement [] []))
 
 none_at_all : moments [] ≡ []
@@ -68,17 +68,17 @@ behaved_back made post before p its behaved =
     let same : before.owner.inbox.comp ≡ c = ap (λ (i : Inbox). i.comp) (sym inbox) in
     let is : post.comp ≡ c = its.comp ∙ same in
     let references : List ℕ = (seen post.conduct).references in
-    let r : Role = record { config = made.config; comp = c; references = references } in
+    let r : Actor = record { config = made.config; comp = c; references = references } in
     let role : role_of post ≡ r = λ i. record { config = its.config i; comp = is i; references = references } in
     let duty : duty_at made c.0 ≡ Some (seen post.conduct) = subst (λ (d : CompId). duty_at made d.0 ≡ Some (seen post.conduct)) same its.duty in
-    let manned : IsManned r p.station = subst (λ (q : Role). IsManned q p.station) role behaved.manned in
+    let manned : IsManned r p.station = subst (λ (q : Actor). IsManned q p.station) role behaved.manned in
     record {
       badge = behaved.badge;
       returned = record {
         staffed = λ others. manned_for made.config c references others p.station manned;
         played = record {
           ended = subst (λ (d : Option Duty). DutyEnded made.config c d p.outcome p.station.desk.log) (sym duty)
-              (subst (λ (q : Role). HasEnded q post.conduct.body.now p.outcome p.station.desk.log) role behaved.ended);
+              (subst (λ (q : Actor). HasEnded q post.conduct.body.now p.outcome p.station.desk.log) role behaved.ended);
           within = behaved.within;
         };
       };
@@ -88,10 +88,10 @@ behaved_back made post before p its behaved =
 pub waiting_begins : (made : Made) (post : Post) (x : Station) → IsPostOf made x.owner.inbox.comp post → IsWaiting made x → CanBegin post x
 waiting_begins made post x its waits =
     let references : List ℕ = (seen post.conduct).references in
-    let r : Role = record { config = made.config; comp = x.owner.inbox.comp; references = references } in
+    let r : Actor = record { config = made.config; comp = x.owner.inbox.comp; references = references } in
     let role : role_of post ≡ r = λ i. record { config = its.config i; comp = its.comp i; references = references } in
     record {
-      manned = subst (λ (q : Role). IsManned q x) (sym role) (waits.staffed references);
+      manned = subst (λ (q : Actor). IsManned q x) (sym role) (waits.staffed references);
       begun = no_moment x.desk.log waits.begun;
       can = its.can;
     }

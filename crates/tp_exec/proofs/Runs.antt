@@ -23,7 +23,7 @@ use Rattle.tp_behaviour.specs.declared.outcome.Outcome.{Outcome}
 use Rattle.tp_behaviour.specs.declared.outcome.Outcome.TheVariants as outcome
 use Rattle.tp_behaviour.specs.declared.station.Station.{Station}
 use Rattle.tp_behaviour.specs.Fresh.{HasOwn, LooksAtPorts}
-use Rattle.tp_behaviour.specs.Held.{Role}
+use Rattle.tp_behaviour.specs.Held.{Actor}
 use Rattle.tp_behaviour.specs.Moments.{Moment, moments, moments_after, own}
 use Rattle.tp_behaviour.specs.Outboxes.{routes_of}
 use Rattle.tp_behaviour.specs.Outcomes.{HasEnded, WaitsWithin}
@@ -132,7 +132,7 @@ module _ (s : Setup) (stations : List Station) (are : AreStations s stations) wh
       subst (λ (q : RouteId). (q.source ≡ comp_at k) × IsWay s q) w.2 (λ i. record { 0 = source i }, way)
 
 -- a behaviour that has ended has done so in each history with its trace
-ended_so : (r : Role) (body : Body) (o : Outcome) (k l : List Entry) → moments l ≡ moments k → HasEnded r body o k → HasEnded r body o l
+ended_so : (r : Actor) (body : Body) (o : Outcome) (k l : List Entry) → moments l ≡ moments k → HasEnded r body o k → HasEnded r body o l
 ended_so r body outcome.Done k l same h = λ whole is. h whole (is ∙ same)
 ended_so r body (outcome.Error code) k l same h = λ whole is. h whole (is ∙ same)
 ended_so r body (outcome.Waiting guards) k l same h = λ whole is none. h whole (is ∙ same) none

@@ -23,8 +23,8 @@ abbrev pub numbers_from : {X : Type 0} → ℕ → List X → List ℕ
 numbers_from n [] = []
 numbers_from n (x ∷ xs) = n ∷ numbers_from (1 + n) xs
 
--- a route between two components of the report
-pub record Line (components : List CompReport) (r : RouteId) : Type 0 where
+-- the two components of the report that a route joins
+pub record Correspondents (components : List CompReport) (r : RouteId) : Type 0 where
   pub source : CompReport
   pub source_is : slice_get components r.source.0 ≡ Some source
   pub receiver : CompReport
@@ -33,10 +33,10 @@ pub record Line (components : List CompReport) (r : RouteId) : Type 0 where
 -- on a route, what the sender's trace says was sent is what came to the receiver, in that order and each once, numbered
 -- from 0 and with its stamp, and as much as the sender's ledger held
 pub record IsDelivered (components : List CompReport) (r : RouteId) : Type 0 where
-  pub line : Line components r
-  pub same : sent_on r line.source.desk.log ≡ arrived_on r line.receiver.desk.log
-  pub numbered : map (λ s. s.0) (sent_on r line.source.desk.log) ≡ numbers_from 0 (sent_on r line.source.desk.log)
-  pub counted : count_of r line.receiver.counts.items ≡ length (sent_on r line.source.desk.log)
+  pub pair : Correspondents components r
+  pub same : sent_on r pair.source.desk.log ≡ arrived_on r pair.receiver.desk.log
+  pub numbered : map (λ s. s.0) (sent_on r pair.source.desk.log) ≡ numbers_from 0 (sent_on r pair.source.desk.log)
+  pub counted : count_of r pair.receiver.counts.items ≡ length (sent_on r pair.source.desk.log)
 
 -- the arrival came on a route of the configuration
 abbrev pub IsOnRoute : Setup → CompId → Entry → Type 0

@@ -1,4 +1,5 @@
 pub mod Delivery
+pub mod Faults
 pub mod Openings
 pub mod Held
 pub mod Order

@@ -1,5 +1,12 @@
-//! Why a run has no report.
+//! Why a run has no report, and how that is told.
+ghost use Rattle.std.specs.Prelude.{◌≡◌, OnOk};
+ghost use Rattle.std.specs.Io.KnownBytes.{Appends};
+ghost use Rattle.tp_exec.specs.Faults.{run_fault_text, run_refusal};
+
+use std::io;
+use std::io::Write;
 use thiserror::Error;
+use tp_refusal::refusal::Refusal;
 
 /// Why a run has no report. Where several hold, the first of this order is answered.
 #[derive(Clone, Copy, Debug, PartialEq, Eq, Hash, Error)]
@@ -13,4 +20,27 @@ pub enum RunFault {
     /// 61 Restless: a behaviour ended as waiting, and a branch of it is open in the final queues.
     #[error("a behaviour waits for what has come")]
     Restless,
+}
+
+impl RunFault {
+    /// The refusal whose number and name it has. Takes no memory.
+    pub fn refusal(self) -> Refusal
+        ensures { result ≡ run_refusal self }
+    {
+        match self {
+            RunFault::NoThread => Refusal::NoThread,
+            RunFault::Memory => Refusal::Memory,
+            RunFault::Restless => Refusal::Restless,
+        }
+    }
+}
+
+/// Writes the line of a fault: `fault`, its number and its name. An error where the writer failed;
+/// how much of the line is written then is open.
+pub fn write_run_fault<W: Write>(writer: &mut W, fault: RunFault) -> io::Result<()>
+    ensures { OnOk result (Appends (W.contents writer.old) (W.contents writer.new)
+        (run_fault_text fault)) }
+{
+    let (number, name) = fault.refusal().label();
+    write!(writer, "fault {number} {name}\n")
 }

@@ -2,7 +2,7 @@
 -- A message holds values of a recursive type, so `search` has to be told of the values first, and then of each type in turn.
 use denote.Param.Send.{IsSend, IsSync, sendable}
 use Rattle.std.proofs.Crossing.{crosses}
-use Rattle.tp_value.proofs.value.Value.TheLaws.TheKnot.{crosses as knot}
+use Rattle.tp_value.proofs.value.Value.TheLaws.TheKnot.{crosses_both as knot}
 use Rattle.tp_value.specs.contracts.message.Message as message
 use Rattle.tp_config.proofs.port_type.RouteId.TheSendSync.{the_send as route_send}
 use Rattle.crossbeam_queue.proofs.seg_queue.Chained.TheSendSync.{the_send as chained_send, the_sync as chained_sync}
@@ -81,7 +81,7 @@ pub closer_sync : IsSync closer.the_row
 closer_sync = search (sendable, crosses, hub_send, hub_sync) depth 40
 
 pub entry_send : IsSend entry.the_row
-entry_send = search (sendable, crosses, knot, stamped_send, stamped_field_send) depth 40
+entry_send = search (sendable, crosses, knot, stamped_field_send) depth 40 fits 20000
 
 desk_inside_send : IsSend desk_inside.the_row
 desk_inside_send = search (sendable, crosses, knot, message_send, entry_send) depth 40 fits 20000

@@ -5,7 +5,7 @@ ghost use Rattle.tp_inbox.specs.Routed.{AreRoutes, env_of, route_at};
 use crate::bell::Bell;
 use crate::envelope::Envelope;
 use crate::floor::Floor;
-use crate::rule::Line;
+use crate::rule::InboxQueue;
 use crate::stamped::Stamped;
 use std::alloc::Global;
 use std::sync::{Arc, Condvar, Mutex, MutexGuard, Wait};
@@ -35,7 +35,7 @@ pub enum Woken {
 /// awake. The floor's lock is taken inside the inbox's lock, never the other way round.
 pub(crate) struct Hub {
     /// The queue. It has a rule, and no lock.
-    pub(crate) line: Line,
+    pub(crate) line: InboxQueue,
     /// Whose inbox it is.
     pub(crate) comp: CompId,
     /// How many ports that component has.
@@ -51,7 +51,7 @@ pub(crate) struct Hub {
 impl Hub {
     /// An open inbox over this queue, to which nothing was announced.
     pub(crate) fn over(
-        line: Line,
+        line: InboxQueue,
         comp: CompId,
         ports: usize,
         routes: Vec<RouteId>,

@@ -15,7 +15,7 @@ use crate::desk::port_count;
 use crate::floor::Floor;
 use crate::hub::Hub;
 use crate::owner::{Closer, Owner};
-use crate::rule::{Line, Pass, Route};
+use crate::rule::{InboxQueue, Pass, Route};
 use crate::sender::Sender;
 use indexmap::IndexMap;
 use std::alloc::Global;
@@ -102,7 +102,7 @@ pub fn inbox(
     let sent = Vec::with_capacity(alloc, count)?;
     let rest = Vec::with_capacity(alloc, 1)?;
     let floor = Arc::try_clone(floor)?;
-    let (line, mut pass) = Line::with_rule(alloc)?;
+    let (line, mut pass) = InboxQueue::with_rule(alloc)?;
     let hub = Hub::over(line, comp, port_count(config, comp), routes, floor);
     let hub = Arc::new(alloc, hub)?;
     let senders = split(alloc, &hub, &mut pass)?;

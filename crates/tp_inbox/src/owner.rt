@@ -12,7 +12,7 @@ ghost use Rattle.tp_inbox.specs.Ledgers.{IsDeskOf, drained_on};
 use crate::desk::Desk;
 use crate::envelope::Envelope;
 use crate::hub::{Hub, Woken};
-use crate::rule::{Line, Pass, Take};
+use crate::rule::{InboxQueue, Pass, Take};
 use crate::stamped::Stamped;
 use indexmap::IndexMap;
 use std::alloc::Global;
@@ -61,7 +61,7 @@ impl Model for Owner {
 }
 
 /// The next envelope of the queue. Nothing where the queue was found empty.
-pub(crate) fn take_out<R: Wait>(rt: &R, line: &Line, pass: &mut Pass) -> Option<Envelope>
+pub(crate) fn take_out<R: Wait>(rt: &R, line: &InboxQueue, pass: &mut Pass) -> Option<Envelope>
     requires queue { IsSegPassOf line.now pass.old }
     requires sound { Sound pass.old.me.view.client }
     ensures queue { IsSegPassOf line.now pass.new }

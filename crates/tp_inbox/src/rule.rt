@@ -85,7 +85,7 @@ impl Lesson<Envelope, View> for Take {
 }
 
 /// The queue of an inbox.
-pub(crate) type Line = RuledSegQueue<Envelope, View, Delivery>;
+pub(crate) type InboxQueue = RuledSegQueue<Envelope, View, Delivery>;
 
 /// What a sender or the owner reaches the queue with.
 pub(crate) type Pass = SegPass<Envelope, View>;

@@ -17,7 +17,8 @@ place_map v p (x ∷ xs) = ap (λ n. cond (not (p (v x))) (1 + n) 0) (place_map 
 -- a look-up by what is seen of the items
 pub position_map : {X Y : Type 0} (v : X → Y) (p : Y → Bool) (xs : List X) → position (λ x. p (v x)) xs ≡ position p (map v xs)
 position_map v p xs =
-    ap (λ n. cond (nat_lt n (length xs)) (Some n) None) (place_map v p xs) ∙ ap (λ m. cond (nat_lt (position_or_len p (map v xs)) m) (Some (position_or_len p (map v xs))) None) (sym (length-map xs v))
+    ap (λ n. cond (nat_lt n (length xs)) (Some n) None) (place_map v p xs)
+    ∙ ap (λ m. cond (nat_lt (position_or_len p (map v xs)) m) (Some (position_or_len p (map v xs))) None) (sym (length-map xs v))
 
 -- the name that has the place is the one that was looked for
 pub place_there : (names : List (List ℕ)) (name : List ℕ) (n : ℕ) → Some n ≡ place_of names name → slice_get names n ≡ Some name
@@ -61,6 +62,7 @@ module _ {K : Type 0} (v : K → List ℕ) where
   key_added ks k new = ap (λ b. map v (cond b ks (ks ++ k ∷ []))) (none_equal ks k new) ∙ map_push v ks k
 
 -- what stands at the place of a name has the name
-pub named_at : {A : Type 0} (names : List (List ℕ)) (f : A → List ℕ) (xs : List A) (name : List ℕ) (k : ℕ) (x : A) → names ≡ map f xs → Some k ≡ place_of names name → slice_get xs k ≡ Some x → f x ≡ name
+pub named_at : {A : Type 0} (names : List (List ℕ)) (f : A → List ℕ) (xs : List A) (name : List ℕ) (k : ℕ) (x : A) → names ≡ map f xs
+    → Some k ≡ place_of names name → slice_get xs k ≡ Some x → f x ≡ name
 named_at names f xs name k x named placed there =
     same_Some (f x) name (sym (slice_get-map f xs k ∙ ap (option_map f) there) ∙ ap (λ l. slice_get l k) (sym named) ∙ place_there names name k placed)

@@ -21,8 +21,8 @@ pub enum NameFault {
     Memory,
 }
 
-/// Names, no two of them equal, numbered from 0 in the order in which they were added. Contracts see
-/// the list of them, each as its bytes.
+/// Names, no two of them equal, numbered from 0 in the order in which they were added. Contracts
+/// see the list of them, each as its bytes.
 #[derive(Drop)]
 pub struct NameSet<'m> {
     names: IndexSet<&'m str>,
@@ -74,8 +74,9 @@ impl<'m> NameSet<'m> {
 
     /// Adds a name, whose number is the number of names before.
     ///
-    /// 12 `Duplicate` exactly where the name is there; otherwise 15 `Limit` where 4,294,967,295 names
-    /// are there, and 50 `Memory` only where an allocation was refused. The names are then as before.
+    /// 12 `Duplicate` exactly where the name is there; otherwise 15 `Limit` where 4,294,967,295
+    /// names are there, and 50 `Memory` only where an allocation was refused. The names are then as
+    /// before.
     pub fn add(&mut self, name: &'m str) -> Result<(), NameFault>
         ensures ok { OnOk result (self.new ≡ self.old ++ name.now ∷ []) }
         ensures duplicate { IsErrOf result NameFault.Duplicate ↔ Contains self.old name.now }

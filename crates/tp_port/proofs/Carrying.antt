@@ -19,7 +19,8 @@ abbrev staged : List (List ℕ) → List (Event ℤ) → Stage
 staged senders history = record { senders = senders; history = history }
 
 -- the same stage, by its parts
-same_stage : (senders names : List (List ℕ)) (history events : List (Event ℤ)) → senders ≡ names → history ≡ events → staged senders history ≡ staged names events
+same_stage : (senders names : List (List ℕ)) (history events : List (Event ℤ)) → senders ≡ names → history ≡ events
+    → staged senders history ≡ staged names events
 same_stage senders names history events e f = ap (λ s. staged s history) e ∙ ap (λ h. staged names h) f
 
 accepted_quiet : (h es : List (Event ℤ)) → accepted es ≡ [] → accepted (h ++ es) ≡ accepted h
@@ -27,7 +28,11 @@ unfolding accepted
 accepted_quiet h es q = filter_map-append arrival h es ∙ ap (λ l. filter_map arrival h ++ l) q ∙ append-nil (filter_map arrival h)
 
 -- a line with which nothing arrives
-pub carries_quiet : (old new : Engine) (line : Line) (limit : ℕ) (events : List (Event ℤ)) → accepted events ≡ [] → events ≡ events_of (sighted (stage_of old) line) line → new.queue ≡ old.queue ++ events → new.senders ≡ seen_in old.senders line → length new.senders ≤ length old.senders + 1 → new.arrivals ≡ old.arrivals → string_bytes new.answers ≡ string_bytes old.answers ++ answer (sighted (stage_of old) line) line → IsWithin old limit → Carries old new line
+pub carries_quiet : (old new : Engine) (line : Line) (limit : ℕ) (events : List (Event ℤ)) → accepted events ≡ []
+    → events ≡ events_of (sighted (stage_of old) line) line → new.queue ≡ old.queue ++ events
+    → new.senders ≡ seen_in old.senders line → length new.senders ≤ length old.senders + 1 → new.arrivals ≡ old.arrivals
+    → string_bytes new.answers ≡ string_bytes old.answers ++ answer (sighted (stage_of old) line) line
+    → IsWithin old limit → Carries old new line
 carries_quiet old new line limit events quiet are queue senders few same answers within =
     record {
       stage = same_stage _ _ _ _ senders (queue ∙ ap (λ es. old.queue ++ es) are);
@@ -60,35 +65,85 @@ quiet_triggered value from None = quiet_took None
 quiet_triggered value from (Some e) = quiet_either (meets value from e) e
 
 -- the number of the wanted sender is its number among the senders that are seen then
-wanted_is : (old new : Engine) (wish : Wish) (from : Option ℕ) → new.senders ≡ seen_if old.senders wish.from → from ≡ option_map (number_of new.senders) wish.from → from ≡ option_map (number_of (seen_if old.senders wish.from)) wish.from
+wanted_is : (old new : Engine) (wish : Wish) (from : Option ℕ) → new.senders ≡ seen_if old.senders wish.from
+    → from ≡ option_map (number_of new.senders) wish.from
+    → from ≡ option_map (number_of (seen_if old.senders wish.from)) wish.from
 wanted_is old new wish from seen number = number ∙ ap (λ s. option_map (number_of s) wish.from) seen
 
-pub carries_receive : (old new : Engine) (wish : Wish) (limit : ℕ) (from : Option ℕ) → new.senders ≡ seen_if old.senders wish.from → from ≡ option_map (number_of new.senders) wish.from → new.queue ≡ old.queue ++ map event.Took (option_to_list (found wish.value from old.queue)) → string_bytes new.answers ≡ string_bytes old.answers ++ entry_or_no new.senders (codes "took ") (found wish.value from old.queue) → length new.senders ≤ length old.senders + 1 → new.arrivals ≡ old.arrivals → IsWithin old limit → Carries old new (receive wish)
+pub carries_receive : (old new : Engine) (wish : Wish) (limit : ℕ) (from : Option ℕ)
+    → new.senders ≡ seen_if old.senders wish.from → from ≡ option_map (number_of new.senders) wish.from
+    → new.queue ≡ old.queue ++ map event.Took (option_to_list (found wish.value from old.queue))
+    → string_bytes new.answers ≡ string_bytes old.answers ++ entry_or_no new.senders (codes "took ") (found wish.value from old.queue)
+    → length new.senders ≤ length old.senders + 1 → new.arrivals ≡ old.arrivals → IsWithin old limit
+    → Carries old new (receive wish)
 carries_receive old new wish limit from seen number queue text few same within =
     let is = wanted_is old new wish from seen number in
-    carries_quiet old new (receive wish) limit (map event.Took (option_to_list (found wish.value from old.queue))) (quiet_took (found wish.value from old.queue)) (ap (λ f. map event.Took (option_to_list (found wish.value f old.queue))) is) queue seen few same (text ∙ ap (λ s. string_bytes old.answers ++ entry_or_no s (codes "took ") (found wish.value from old.queue)) seen ∙ ap (λ f. string_bytes old.answers ++ entry_or_no (seen_if old.senders wish.from) (codes "took ") (found wish.value f old.queue)) is) within
+    carries_quiet old new (receive wish) limit (map event.Took (option_to_list (found wish.value from old.queue)))
+    (quiet_took (found wish.value from old.queue))
+    (ap (λ f. map event.Took (option_to_list (found wish.value f old.queue))) is) queue seen few same
+    (text
+    ∙ ap (λ s. string_bytes old.answers ++ entry_or_no s (codes "took ") (found wish.value from old.queue)) seen
+    ∙ ap (λ f. string_bytes old.answers ++ entry_or_no (seen_if old.senders wish.from) (codes "took ") (found wish.value f old.queue)) is)
+    within
 
-pub carries_check : (old new : Engine) (wish : Wish) (limit : ℕ) (from : Option ℕ) → new.senders ≡ seen_if old.senders wish.from → from ≡ option_map (number_of new.senders) wish.from → new.queue ≡ old.queue ++ map event.Found (option_to_list (found wish.value from old.queue)) → string_bytes new.answers ≡ string_bytes old.answers ++ entry_or_no new.senders (codes "found ") (found wish.value from old.queue) → length new.senders ≤ length old.senders + 1 → new.arrivals ≡ old.arrivals → IsWithin old limit → Carries old new (check wish)
+pub carries_check : (old new : Engine) (wish : Wish) (limit : ℕ) (from : Option ℕ)
+    → new.senders ≡ seen_if old.senders wish.from → from ≡ option_map (number_of new.senders) wish.from
+    → new.queue ≡ old.queue ++ map event.Found (option_to_list (found wish.value from old.queue))
+    → string_bytes new.answers ≡ string_bytes old.answers ++ entry_or_no new.senders (codes "found ") (found wish.value from old.queue)
+    → length new.senders ≤ length old.senders + 1 → new.arrivals ≡ old.arrivals → IsWithin old limit
+    → Carries old new (check wish)
 carries_check old new wish limit from seen number queue text few same within =
     let is = wanted_is old new wish from seen number in
-    carries_quiet old new (check wish) limit (map event.Found (option_to_list (found wish.value from old.queue))) (quiet_found (found wish.value from old.queue)) (ap (λ f. map event.Found (option_to_list (found wish.value f old.queue))) is) queue seen few same (text ∙ ap (λ s. string_bytes old.answers ++ entry_or_no s (codes "found ") (found wish.value from old.queue)) seen ∙ ap (λ f. string_bytes old.answers ++ entry_or_no (seen_if old.senders wish.from) (codes "found ") (found wish.value f old.queue)) is) within
+    carries_quiet old new (check wish) limit (map event.Found (option_to_list (found wish.value from old.queue)))
+    (quiet_found (found wish.value from old.queue))
+    (ap (λ f. map event.Found (option_to_list (found wish.value f old.queue))) is) queue seen few same
+    (text
+    ∙ ap (λ s. string_bytes old.answers ++ entry_or_no s (codes "found ") (found wish.value from old.queue)) seen
+    ∙ ap (λ f. string_bytes old.answers ++ entry_or_no (seen_if old.senders wish.from) (codes "found ") (found wish.value f old.queue)) is)
+    within
 
-pub carries_trigger : (old new : Engine) (wish : Wish) (limit : ℕ) (from : Option ℕ) → new.senders ≡ seen_if old.senders wish.from → from ≡ option_map (number_of new.senders) wish.from → new.queue ≡ old.queue ++ map (λ e. triggered (meets wish.value from e) e) (option_to_list (top old.queue)) → string_bytes new.answers ≡ string_bytes old.answers ++ triggered_text new.senders wish.value from (top old.queue) → length new.senders ≤ length old.senders + 1 → new.arrivals ≡ old.arrivals → IsWithin old limit → Carries old new (trigger wish)
+pub carries_trigger : (old new : Engine) (wish : Wish) (limit : ℕ) (from : Option ℕ)
+    → new.senders ≡ seen_if old.senders wish.from → from ≡ option_map (number_of new.senders) wish.from
+    → new.queue ≡ old.queue ++ map (λ e. triggered (meets wish.value from e) e) (option_to_list (top old.queue))
+    → string_bytes new.answers ≡ string_bytes old.answers ++ triggered_text new.senders wish.value from (top old.queue)
+    → length new.senders ≤ length old.senders + 1 → new.arrivals ≡ old.arrivals → IsWithin old limit
+    → Carries old new (trigger wish)
 carries_trigger old new wish limit from seen number queue text few same within =
     let is = wanted_is old new wish from seen number in
-    carries_quiet old new (trigger wish) limit (map (λ e. triggered (meets wish.value from e) e) (option_to_list (top old.queue))) (quiet_triggered wish.value from (top old.queue)) (ap (λ f. map (λ e. triggered (meets wish.value f e) e) (option_to_list (top old.queue))) is) queue seen few same (text ∙ ap (λ s. string_bytes old.answers ++ triggered_text s wish.value from (top old.queue)) seen ∙ ap (λ f. string_bytes old.answers ++ triggered_text (seen_if old.senders wish.from) wish.value f (top old.queue)) is) within
+    carries_quiet old new (trigger wish) limit
+    (map (λ e. triggered (meets wish.value from e) e) (option_to_list (top old.queue)))
+    (quiet_triggered wish.value from (top old.queue))
+    (ap (λ f. map (λ e. triggered (meets wish.value f e) e) (option_to_list (top old.queue))) is) queue seen few same
+    (text
+    ∙ ap (λ s. string_bytes old.answers ++ triggered_text s wish.value from (top old.queue)) seen
+    ∙ ap (λ f. string_bytes old.answers ++ triggered_text (seen_if old.senders wish.from) wish.value f (top old.queue)) is)
+    within
 
 -- an arrival
-pub carries_arrive : (old new : Engine) (name : List ℕ) (value : ℤ) (limit sender : ℕ) → new.senders ≡ seen old.senders name → sender ≡ number_of new.senders name → new.queue ≡ old.queue ++ event.Arrive (record { sender = sender; number = old.arrivals; msg = value }) ∷ [] → string_bytes new.answers ≡ string_bytes old.answers ++ codes "queued\n" → length new.senders ≤ length old.senders + 1 → new.arrivals ≡ old.arrivals + 1 → IsWithin old limit → Carries old new (arrive name value)
+pub carries_arrive : (old new : Engine) (name : List ℕ) (value : ℤ) (limit sender : ℕ)
+    → new.senders ≡ seen old.senders name → sender ≡ number_of new.senders name
+    → new.queue ≡ old.queue ++ event.Arrive (record { sender = sender; number = old.arrivals; msg = value }) ∷ []
+    → string_bytes new.answers ≡ string_bytes old.answers ++ codes "queued\n"
+    → length new.senders ≤ length old.senders + 1 → new.arrivals ≡ old.arrivals + 1 → IsWithin old limit
+    → Carries old new (arrive name value)
 carries_arrive old new name value limit sender sighting number queue text few more within =
     let sent : sender ≡ number_of (seen old.senders name) name = number ∙ ap (λ s. number_of s name) sighting in
     let line : Line = arrive name value in
     let env : Env ℤ = record { sender = sender; number = old.arrivals; msg = value } in
-    let is : env ≡ envelope (sighted (stage_of old) line) name value = ap (λ n. record { sender = n; number = old.arrivals; msg = value }) sent ∙ ap (λ n. record { sender = number_of (seen old.senders name) name; number = n; msg = value }) within.counted in
+    let is : env ≡ envelope (sighted (stage_of old) line) name value =
+    ap (λ n. record { sender = n; number = old.arrivals; msg = value }) sent
+    ∙ ap (λ n. record { sender = number_of (seen old.senders name) name; number = n; msg = value }) within.counted in
     record {
       stage = same_stage _ _ _ _ sighting (queue ∙ ap (λ e. old.queue ++ event.Arrive e ∷ []) is);
       answers = text;
-      counted = omega (arith, more, within.counted, ap length (ap accepted queue ∙ accepted_more old.queue (event.Arrive env) env refl), length-append (accepted old.queue) (env ∷ []));
+      counted =
+          omega (
+            arith,
+            more,
+            within.counted,
+            ap length (ap accepted queue ∙ accepted_more old.queue (event.Arrive env) env refl),
+            length-append (accepted old.queue) (env ∷ []),
+          );
       arrivals = omega arith;
       senders = few;
     }

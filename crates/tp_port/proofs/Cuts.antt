@@ -47,7 +47,8 @@ drop-cons_cond x xs false n = let e : 1 + n + 1 ≡ suc (n + 1) = omega arith in
 pub after_first-cons : {X : Type 0} (p : X → Bool) (x : X) (xs : List X) → after_first p (x ∷ xs) ≡ cond (p x) xs (after_first p xs)
 after_first-cons {X} p x xs = let np : X → Bool = λ z. not (p z) in drop-cons_cond x xs (p x) (prefix_len np xs)
 
-keeps_either : {X : Type 0} (b c : Bool) (xs u v : List X) (y : X) → (b || c) ≡ true → (c ≡ true → u ≡ v ++ y ∷ []) → cond b (xs ++ y ∷ []) u ≡ cond b xs v ++ y ∷ []
+keeps_either : {X : Type 0} (b c : Bool) (xs u v : List X) (y : X) → (b || c) ≡ true → (c ≡ true → u ≡ v ++ y ∷ [])
+    → cond b (xs ++ y ∷ []) u ≡ cond b xs v ++ y ∷ []
 keeps_either true c xs u v y h k = refl
 keeps_either false c xs u v y h k = k h
 
@@ -58,7 +59,9 @@ cuts_either false c xs u h k = k h
 pub after_first_keeps : {X : Type 0} (p : X → Bool) (xs : List X) (y : X) → list_any p xs ≡ true → after_first p (xs ++ y ∷ []) ≡ after_first p xs ++ y ∷ []
 after_first_keeps p [] y h = absurd (cc)
 after_first_keeps p (x ∷ xs) y h =
-    after_first-cons p x (xs ++ y ∷ []) ∙ keeps_either (p x) (list_any p xs) xs (after_first p (xs ++ y ∷ [])) (after_first p xs) y h (after_first_keeps p xs y) ∙ ap (λ l. l ++ y ∷ []) (sym (after_first-cons p x xs))
+    after_first-cons p x (xs ++ y ∷ [])
+    ∙ keeps_either (p x) (list_any p xs) xs (after_first p (xs ++ y ∷ [])) (after_first p xs) y h (after_first_keeps p xs y)
+    ∙ ap (λ l. l ++ y ∷ []) (sym (after_first-cons p x xs))
 
 nil_either : {X : Type 0} (b : Bool) → cond {A = List X} b [] [] ≡ []
 nil_either true = refl

@@ -18,7 +18,8 @@ get_after : {X : Type 0} (xs ys : List X) (y : X) → slice_get (xs ++ y ∷ ys)
 get_after [] ys y = refl
 get_after (x ∷ xs) ys y = get_after xs ys y
 
-pub first_bad_here : (lines done more : List (List ℕ)) (line : List ℕ) (n : ℕ) → lines ≡ done ++ line ∷ more → length done ≡ n → All IsGood done → ¬ IsGood line → IsFirstBad lines (n + 1)
+pub first_bad_here : (lines done more : List (List ℕ)) (line : List ℕ) (n : ℕ) → lines ≡ done ++ line ∷ more
+    → length done ≡ n → All IsGood done → ¬ IsGood line → IsFirstBad lines (n + 1)
 first_bad_here lines done more line n is len good bad =
     let place : n + 1 - 1 ≡ length done = omega (arith, len) in
     let front : done ≡ take (n + 1 - 1) lines = sym (ap (λ k. take k lines) place ∙ ap (take (length done)) is ∙ take-append_seam done (line ∷ more)) in
@@ -30,9 +31,15 @@ all_one : (P : List ℕ → Type 0) (line : List ℕ) → P line → All P (line
 all_one P line h zero d k = h
 all_one P line h (suc n) d k = absurd (omega arith)
 
-pub good_more : (lines done more : List (List ℕ)) (line : List ℕ) (n : ℕ) → lines ≡ done ++ line ∷ more → length done ≡ n → All IsGood done → IsGood line → (front : List (List ℕ)) × (lines ≡ front ++ more) × All IsGood front × (length front ≡ n + 1)
-good_more lines done more line n is len good here =
-    (done ++ line ∷ [], is ∙ sym (append_assoc done (line ∷ []) more), All-append IsGood done (line ∷ []) good (all_one IsGood line here), omega (arith, len, length-append done (line ∷ [])))
+pub good_more : (lines done more : List (List ℕ)) (line : List ℕ) (n : ℕ) → lines ≡ done ++ line ∷ more
+    → length done ≡ n → All IsGood done → IsGood line
+    → (front : List (List ℕ)) × (lines ≡ front ++ more) × All IsGood front × (length front ≡ n + 1)
+good_more lines done more line n is len good here = (
+  done ++ line ∷ [],
+  is ∙ sym (append_assoc done (line ∷ []) more),
+  All-append IsGood done (line ∷ []) good (all_one IsGood line here),
+  omega (arith, len, length-append done (line ∷ [])),
+)
 
 pub empty_is : (l : List ℕ) → length l ≡ 0 → l ≡ []
 empty_is [] e = refl
@@ -51,16 +58,25 @@ pub Goes-first : (text : List ℕ) (s : Stage) (out : List ℕ) → s ≡ record
 Goes-first text s out e f =
     record { on = λ lines says. (lines, says, ap (λ o. o ++ text_from s lines) f ∙ ap (λ t. text_from t lines) e) }
 
-pub Goes-more : (text rest next line : List ℕ) (said : Line) (s t : Stage) (out more : List ℕ) → lines_of rest ≡ line ∷ lines_of next → Spells line said → t ≡ after s said → more ≡ out ++ answer (sighted s said) said → Goes text rest s out → Goes text next t more
+pub Goes-more : (text rest next line : List ℕ) (said : Line) (s t : Stage) (out more : List ℕ)
+    → lines_of rest ≡ line ∷ lines_of next → Spells line said → t ≡ after s said
+    → more ≡ out ++ answer (sighted s said) said → Goes text rest s out → Goes text next t more
 Goes-more text rest next line said s t out more cut spells stage answers goes =
     record {
       on = λ lines says.
           let P : List (List ℕ) → Type 0 = λ ls. AllZip Spells ls (said ∷ lines) in
-          let whole = goes.on (said ∷ lines) (subst P (sym cut) (spells, says)) in
-          (whole.0, whole.1, ap (λ m. m ++ text_from t lines) answers ∙ ap (λ u. (out ++ answer (sighted s said) said) ++ text_from u lines) stage ∙ append_assoc out (answer (sighted s said) said) (text_from (after s said) lines) ∙ whole.2);
+          let whole = goes.on (said ∷ lines) (subst P (sym cut) (spells, says)) in (
+            whole.0,
+            whole.1,
+            ap (λ m. m ++ text_from t lines) answers
+                ∙ ap (λ u. (out ++ answer (sighted s said) said) ++ text_from u lines) stage
+                ∙ append_assoc out (answer (sighted s said) said) (text_from (after s said) lines)
+                ∙ whole.2,
+          );
     }
 
-pub Goes-end : (text rest : List ℕ) (s : Stage) (out : List ℕ) → length rest ≡ 0 → Goes text rest s out → (all : List Line) × Says text all × (out ++ left_text s.senders s.history ≡ queue_text all)
+pub Goes-end : (text rest : List ℕ) (s : Stage) (out : List ℕ) → length rest ≡ 0 → Goes text rest s out
+    → (all : List Line) × Says text all × (out ++ left_text s.senders s.history ≡ queue_text all)
 Goes-end text rest s out none goes =
     let P : List ℕ → Type 0 = λ r. Says r [] in goes.on [] (subst P (sym (empty_is rest none)) tt)
 

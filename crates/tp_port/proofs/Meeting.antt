@@ -53,7 +53,9 @@ found_some : (value : Pattern) (from : Option ℕ) (h : List (Event ℤ)) (e : E
 found_some value from h e f =
     sym (ap (option_and_then (λ d. if meets value from d then Some d else None)) f.0 ∙ ap (λ b. cond b (Some e) None) (meets_true value from e f.1))
 
-found_none_at : (value : Pattern) (from : Option ℕ) (t : Option (Env ℤ)) → ((e : Env ℤ) → t ≡ Some e → Satisfies (Admits value) from e → ⊥) → None ≡ option_and_then (λ d. if meets value from d then Some d else None) t
+found_none_at : (value : Pattern) (from : Option ℕ) (t : Option (Env ℤ))
+    → ((e : Env ℤ) → t ≡ Some e → Satisfies (Admits value) from e → ⊥)
+    → None ≡ option_and_then (λ d. if meets value from d then Some d else None) t
 found_none_at value from None n = refl
 found_none_at value from (Some e) n =
     sym (ap (λ b. cond b (Some e) None) (not_true (meets value from e) (λ m. n e refl (meets_only value from e m))))
@@ -69,19 +71,25 @@ checked_is h after None e = e ∙ sym (append-nil h)
 checked_is h after (Some x) e = e
 
 -- what a `receive` answers is what the tests find
-pub receives_found : (value : Pattern) (from : Option ℕ) (h after : List (Event ℤ)) (r : Option (Env ℤ)) → Receives (Admits value) from h r after → r ≡ found value from h
+pub receives_found : (value : Pattern) (from : Option ℕ) (h after : List (Event ℤ)) (r : Option (Env ℤ))
+    → Receives (Admits value) from h r after → r ≡ found value from h
 receives_found value from h after None c = found_none_at value from (top h) c.0
 receives_found value from h after (Some e) c = found_some value from h e c.0
 
 -- and the history after it
-pub received_is : (value : Pattern) (from : Option ℕ) (h after : List (Event ℤ)) (r : Option (Env ℤ)) → Receives (Admits value) from h r after → after ≡ h ++ map event.Took (option_to_list r)
+pub received_is : (value : Pattern) (from : Option ℕ) (h after : List (Event ℤ)) (r : Option (Env ℤ))
+    → Receives (Admits value) from h r after → after ≡ h ++ map event.Took (option_to_list r)
 received_is value from h after None c = c.1 ∙ sym (append-nil h)
 received_is value from h after (Some e) c = c.1
 
 -- what a `trigger` makes of the top
-pub triggered_took : (value : Pattern) (from : Option ℕ) (h after : List (Event ℤ)) (e : Env ℤ) → Triggers (Admits value) from h (answer.Took e) after → (top h ≡ Some e) × (meets value from e ≡ true) × (after ≡ h ++ event.Took e ∷ [])
+pub triggered_took : (value : Pattern) (from : Option ℕ) (h after : List (Event ℤ)) (e : Env ℤ)
+    → Triggers (Admits value) from h (answer.Took e) after
+    → (top h ≡ Some e) × (meets value from e ≡ true) × (after ≡ h ++ event.Took e ∷ [])
 triggered_took value from h after e t = (t.0.0, meets_true value from e t.0.1, t.1)
 
-pub triggered_dropped : (value : Pattern) (from : Option ℕ) (h after : List (Event ℤ)) (e : Env ℤ) → Triggers (Admits value) from h (answer.Dropped e) after → (top h ≡ Some e) × (meets value from e ≡ false) × (after ≡ h ++ event.Dropped e ∷ [])
+pub triggered_dropped : (value : Pattern) (from : Option ℕ) (h after : List (Event ℤ)) (e : Env ℤ)
+    → Triggers (Admits value) from h (answer.Dropped e) after
+    → (top h ≡ Some e) × (meets value from e ≡ false) × (after ≡ h ++ event.Dropped e ∷ [])
 triggered_dropped value from h after e t =
     (t.0, not_true (meets value from e) (λ m. t.1 (meets_only value from e m)), t.2)

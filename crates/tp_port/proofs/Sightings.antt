@@ -23,16 +23,19 @@ map_either v true xs x = refl
 map_either v false xs x = map_push v xs x
 
 -- the names, once a key of this name is inserted
-pub seen_keys : {X : Type 0} (v : X → List ℕ) (keys : List X) (key : X) → map v (if list_any (λ k. pointwise nat_eq (v key) (v k)) keys then keys else keys ++ key ∷ []) ≡ seen (map v keys) (v key)
+pub seen_keys : {X : Type 0} (v : X → List ℕ) (keys : List X) (key : X)
+    → map v (if list_any (λ k. pointwise nat_eq (v key) (v k)) keys then keys else keys ++ key ∷ []) ≡ seen (map v keys) (v key)
 seen_keys v keys key =
-    map_either v (list_any (λ k. pointwise nat_eq (v key) (v k)) keys) keys key ∙ ap (λ b. cond b (map v keys) (map v keys ++ v key ∷ [])) (any_map v (pointwise nat_eq (v key)) keys)
+    map_either v (list_any (λ k. pointwise nat_eq (v key) (v k)) keys) keys key
+    ∙ ap (λ b. cond b (map v keys) (map v keys ++ v key ∷ [])) (any_map v (pointwise nat_eq (v key)) keys)
 
 -- where the last passes, the place of the first that passes is the same without it
 place_push : {X : Type 0} (p : X → Bool) (xs : List X) (x : X) → p x ≡ true → position_or_len p (xs ++ x ∷ []) ≡ position_or_len p xs
 place_push p [] x e = ap (λ b. cond (not b) (1 + 0) 0) e
 place_push p (y ∷ xs) x e = ap (λ n. cond (not (p y)) (1 + n) 0) (place_push p xs x e)
 
-place_either : (b : Bool) (p : List ℕ → Bool) (names : List (List ℕ)) (name : List ℕ) → p name ≡ true → position_or_len p (cond b names (names ++ name ∷ [])) ≡ position_or_len p names
+place_either : (b : Bool) (p : List ℕ → Bool) (names : List (List ℕ)) (name : List ℕ) → p name ≡ true
+    → position_or_len p (cond b names (names ++ name ∷ [])) ≡ position_or_len p names
 place_either true p names name e = refl
 place_either false p names name e = place_push p names name e
 
@@ -41,5 +44,6 @@ pub number_seen : (senders : List (List ℕ)) (name : List ℕ) → number_of (s
 number_seen senders name =
     place_either (list_any (pointwise nat_eq name) senders) (pointwise nat_eq name) senders name (nat_list_eq_equiv.refl name)
 
-pub number_key : {X : Type 0} (v : X → List ℕ) (keys : List X) (key : X) → position_or_len (λ k. pointwise nat_eq (v key) (v k)) keys ≡ number_of (seen (map v keys) (v key)) (v key)
+pub number_key : {X : Type 0} (v : X → List ℕ) (keys : List X) (key : X)
+    → position_or_len (λ k. pointwise nat_eq (v key) (v k)) keys ≡ number_of (seen (map v keys) (v key)) (v key)
 number_key v keys key = place_map v (pointwise nat_eq (v key)) keys ∙ sym (number_seen (map v keys) (v key))

@@ -21,17 +21,25 @@ take_cond x xs false n = let e : 1 + n ≡ suc n = omega arith in ap (λ k. take
 before_first-cons : {X : Type 0} (p : X → Bool) (x : X) (xs : List X) → before_first p (x ∷ xs) ≡ cond (p x) [] (x ∷ before_first p xs)
 before_first-cons {X} p x xs = let np : X → Bool = λ z. not (p z) in take_cond x xs (p x) (prefix_len np xs)
 
-first_either : (b : Bool) (x : ℕ) (xs front back : List ℕ) (rest : List (List ℕ)) → onto_first x rest ≡ (x ∷ front) ∷ lines_of back → cond b ([] ∷ lines_of xs) (onto_first x rest) ≡ cond b [] (x ∷ front) ∷ lines_of (cond b xs back)
+first_either : (b : Bool) (x : ℕ) (xs front back : List ℕ) (rest : List (List ℕ))
+    → onto_first x rest ≡ (x ∷ front) ∷ lines_of back
+    → cond b ([] ∷ lines_of xs) (onto_first x rest) ≡ cond b [] (x ∷ front) ∷ lines_of (cond b xs back)
 first_either true x xs front back rest h = refl
 first_either false x xs front back rest h = h
 
-first_cons : (x : ℕ) (xs : List ℕ) → cond (is_end x) [] (x ∷ before_first is_end xs) ∷ lines_of (cond (is_end x) xs (after_first is_end xs)) ≡ before_first is_end (x ∷ xs) ∷ lines_of (after_first is_end (x ∷ xs))
-first_cons x xs = ap (λ l. l ∷ lines_of (cond (is_end x) xs (after_first is_end xs))) (sym (before_first-cons is_end x xs)) ∙ ap (λ l. before_first is_end (x ∷ xs) ∷ lines_of l) (sym (after_first-cons is_end x xs))
+first_cons : (x : ℕ) (xs : List ℕ)
+    → cond (is_end x) [] (x ∷ before_first is_end xs) ∷ lines_of (cond (is_end x) xs (after_first is_end xs))
+    ≡ before_first is_end (x ∷ xs) ∷ lines_of (after_first is_end (x ∷ xs))
+first_cons x xs =
+    ap (λ l. l ∷ lines_of (cond (is_end x) xs (after_first is_end xs))) (sym (before_first-cons is_end x xs))
+    ∙ ap (λ l. before_first is_end (x ∷ xs) ∷ lines_of l) (sym (after_first-cons is_end x xs))
 
 lines_first : (x : ℕ) (xs : List ℕ) → lines_of (x ∷ xs) ≡ before_first is_end (x ∷ xs) ∷ lines_of (after_first is_end (x ∷ xs))
 lines_first x [] = first_either (is_end x) x [] [] [] [] refl ∙ first_cons x []
 lines_first x (y ∷ xs) =
-    first_either (is_end x) x (y ∷ xs) (before_first is_end (y ∷ xs)) (after_first is_end (y ∷ xs)) (lines_of (y ∷ xs)) (ap (onto_first x) (lines_first y xs)) ∙ first_cons x (y ∷ xs)
+    first_either (is_end x) x (y ∷ xs) (before_first is_end (y ∷ xs)) (after_first is_end (y ∷ xs)) (lines_of (y ∷ xs))
+    (ap (onto_first x) (lines_first y xs))
+    ∙ first_cons x (y ∷ xs)
 
 lines_of_some : (s : List ℕ) → 0 < length s → lines_of s ≡ take (position_or_len is_end s) s ∷ lines_of (drop (position_or_len is_end s + 1) s)
 lines_of_some [] h = absurd (omega arith)
@@ -58,7 +66,8 @@ no_place p s e =
     let ge : length s ≤ position_or_len p s = grind (arith, nat_tests) in
     omega arith
 
-pub line_at : (s : List ℕ) (place : ℕ) → 0 < length s → position (λ b. b == 10) s ≡ Some place → lines_of s ≡ take place s ∷ lines_of (take (length s - (place + 1)) (drop (place + 1) s))
+pub line_at : (s : List ℕ) (place : ℕ) → 0 < length s → position (λ b. b == 10) s ≡ Some place
+    → lines_of s ≡ take place s ∷ lines_of (take (length s - (place + 1)) (drop (place + 1) s))
 line_at s place h e =
     let is : position_or_len is_end s ≡ place = (place_is is_end s place e).0 in
     lines_of_some s h ∙ ap (λ n. take n s ∷ lines_of (drop (n + 1) s)) is ∙ ap (λ l. take place s ∷ lines_of l) (sym (range_is s (place + 1)))
@@ -67,12 +76,15 @@ pub line_whole : (s : List ℕ) → 0 < length s → position (λ b. b == 10) s 
 line_whole s h e =
     let is : position_or_len is_end s ≡ length s = no_place is_end s e in
     let after : drop (length s + 1) s ≡ take (length s - length s) (drop (length s) s) = grind (arith, common_steps) in
-    lines_of_some s h ∙ ap (λ n. take n s ∷ lines_of (drop (n + 1) s)) is ∙ ap (λ l. l ∷ lines_of (drop (length s + 1) s)) (take-length s) ∙ ap (λ l. s ∷ lines_of l) after
+    lines_of_some s h ∙ ap (λ n. take n s ∷ lines_of (drop (n + 1) s)) is
+    ∙ ap (λ l. l ∷ lines_of (drop (length s + 1) s)) (take-length s) ∙ ap (λ l. s ∷ lines_of l) after
 
-pub word_at : (s : List ℕ) (place : ℕ) → position is_space s ≡ Some place → slice_split is_space s ≡ take place s ∷ slice_split is_space (take (length s - (place + 1)) (drop (place + 1) s))
+pub word_at : (s : List ℕ) (place : ℕ) → position is_space s ≡ Some place
+    → slice_split is_space s ≡ take place s ∷ slice_split is_space (take (length s - (place + 1)) (drop (place + 1) s))
 word_at s place e =
     let there = place_is is_space s place e in
-    slice_split_first is_space s 0 there.1 ∙ ap (λ n. take n s ∷ slice_split is_space (drop (n + 1) s)) there.0 ∙ ap (λ l. take place s ∷ slice_split is_space l) (sym (range_is s (place + 1)))
+    slice_split_first is_space s 0 there.1 ∙ ap (λ n. take n s ∷ slice_split is_space (drop (n + 1) s)) there.0
+    ∙ ap (λ l. take place s ∷ slice_split is_space l) (sym (range_is s (place + 1)))
 
 no_more : (b : Bool) (n k : ℕ) → cond (not b) (1 + n) 0 ≡ suc k → (b ≡ false) × (n ≡ k)
 no_more true n k e = absurd (omega (arith, e))

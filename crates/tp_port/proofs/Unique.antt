@@ -80,9 +80,11 @@ same_wish : (a b : Wish) → IsWish a → IsWish b → wish_words a ≡ wish_wor
 same_wish a b p q e =
     let v : pattern_text a.value ≡ pattern_text b.value = cc in
     let f : from_words a.from ≡ from_words b.from = cc in
-    ap (λ x. record { value = x; from = a.from }) (same_pattern a.value b.value p.0 q.0 v) ∙ ap (λ x. record { value = b.value; from = x }) (same_from a.from b.from f)
+    ap (λ x. record { value = x; from = a.from }) (same_pattern a.value b.value p.0 q.0 v)
+    ∙ ap (λ x. record { value = b.value; from = x }) (same_from a.from b.from f)
 
-same_arrival : (name word : List ℕ) (n m : ℤ) → IsLine (arrive name n) → IsLine (arrive word m) → name ∷ signed_decimal n ∷ [] ≡ word ∷ signed_decimal m ∷ [] → arrive name n ≡ arrive word m
+same_arrival : (name word : List ℕ) (n m : ℤ) → IsLine (arrive name n) → IsLine (arrive word m)
+    → name ∷ signed_decimal n ∷ [] ≡ word ∷ signed_decimal m ∷ [] → arrive name n ≡ arrive word m
 same_arrival name word n m p q e =
     let w : name ≡ word = cc in
     let d : signed_decimal n ≡ signed_decimal m = cc in

@@ -37,6 +37,7 @@ bare_verb stop e = refl
 bare_verb halt e = refl
 
 -- where words follow, no line of a verb without operands is spelled
-pub alone_words : (rest : List ℕ) (words : List (List ℕ)) (line known : Line) → verb_of line ≡ verb_of known → operands known ≡ [] → words ≡ words_of rest → words ≡ operands line → ⊥
+pub alone_words : (rest : List ℕ) (words : List (List ℕ)) (line known : Line) → verb_of line ≡ verb_of known
+    → operands known ≡ [] → words ≡ words_of rest → words ≡ operands line → ⊥
 alone_words rest words line known same none is spelled =
     some_word rest (sym is ∙ spelled ∙ bare_operands line (ap is_bare same ∙ bare_verb known none))

@@ -57,8 +57,11 @@ or_true : (b : Bool) → (b || true) ≡ true
 or_true true = refl
 or_true false = refl
 
-any_more : {M : Type 0} (p : Event M → Bool) (h : List (Event M)) (x : Event M) → is_start x ≡ false → list_any p (since_start (h ++ x ∷ [])) ≡ (list_any p (since_start h) || p x)
-any_more p h x s = ap (list_any p) (since_start_more h x s) ∙ list_any-append p (since_start h) (x ∷ []) ∙ ap (λ b. list_any p (since_start h) || b) (or_false (p x))
+any_more : {M : Type 0} (p : Event M → Bool) (h : List (Event M)) (x : Event M) → is_start x ≡ false
+    → list_any p (since_start (h ++ x ∷ [])) ≡ (list_any p (since_start h) || p x)
+any_more p h x s =
+    ap (list_any p) (since_start_more h x s) ∙ list_any-append p (since_start h) (x ∷ [])
+    ∙ ap (λ b. list_any p (since_start h) || b) (or_false (p x))
 
 pub status_of_start : {M : Type 0} (h : List (Event M)) → status_of (h ++ event.Started ∷ []) ≡ status.Started
 unfolding status_of
@@ -68,7 +71,8 @@ pub status_of_stop : {M : Type 0} (h : List (Event M)) → status_of (h ++ event
 unfolding status_of
 status_of_stop h = rw (any_more is_stop h event.Stopped refl, or_true (list_any is_stop (since_start h))) refl
 
-pub status_of_same : {M : Type 0} (h : List (Event M)) (x : Event M) → is_start x ≡ false → is_stop x ≡ false → is_halt x ≡ false → status_of (h ++ x ∷ []) ≡ status_of h
+pub status_of_same : {M : Type 0} (h : List (Event M)) (x : Event M) → is_start x ≡ false → is_stop x ≡ false
+    → is_halt x ≡ false → status_of (h ++ x ∷ []) ≡ status_of h
 unfolding status_of
 status_of_same h x s p t =
     rw (any_more is_stop h x s, any_more is_halt h x s, p, t, or_false (list_any is_stop (since_start h)), or_false (list_any is_halt (since_start h))) refl
@@ -79,7 +83,9 @@ halted status.Started = status.Halted
 halted status.Halted = status.Halted
 halted status.Stopped = status.Stopped
 
-status_of_halt_cases : (stopped halt : Bool) → cond (stopped || false) status.Stopped (cond (halt || true) status.Halted status.Started) ≡ halted (cond stopped status.Stopped (cond halt status.Halted status.Started))
+status_of_halt_cases : (stopped halt : Bool)
+    → cond (stopped || false) status.Stopped (cond (halt || true) status.Halted status.Started)
+    ≡ halted (cond stopped status.Stopped (cond halt status.Halted status.Started))
 status_of_halt_cases true halt = refl
 status_of_halt_cases false true = refl
 status_of_halt_cases false false = refl
@@ -87,7 +93,8 @@ status_of_halt_cases false false = refl
 pub status_of_halt : {M : Type 0} (h : List (Event M)) → status_of (h ++ event.Halted ∷ []) ≡ halted (status_of h)
 unfolding status_of
 status_of_halt h =
-    rw (any_more is_stop h event.Halted refl, any_more is_halt h event.Halted refl) (status_of_halt_cases (list_any is_stop (since_start h)) (list_any is_halt (since_start h)))
+    rw (any_more is_stop h event.Halted refl, any_more is_halt h event.Halted refl)
+    (status_of_halt_cases (list_any is_stop (since_start h)) (list_any is_halt (since_start h)))
 
 halt_there : (stopped halt : Bool) → cond stopped status.Stopped (cond halt status.Halted status.Started) ≡ status.Halted → halt ≡ true
 halt_there true halt h = absurd (cc)
@@ -99,15 +106,20 @@ halt_absent true halt h = absurd (cc)
 halt_absent false true h = absurd (cc)
 halt_absent false false h = refl
 
-since_halt_more : {M : Type 0} (h : List (Event M)) (x : Event M) → status_of h ≡ status.Halted → is_start x ≡ false → after_first is_halt (since_start (h ++ x ∷ [])) ≡ after_first is_halt (since_start h) ++ x ∷ []
+since_halt_more : {M : Type 0} (h : List (Event M)) (x : Event M) → status_of h ≡ status.Halted → is_start x ≡ false
+    → after_first is_halt (since_start (h ++ x ∷ [])) ≡ after_first is_halt (since_start h) ++ x ∷ []
 unfolding status_of
 since_halt_more h x s n =
-    ap (after_first is_halt) (since_start_more h x n) ∙ after_first_keeps is_halt (since_start h) x (halt_there (list_any is_stop (since_start h)) (list_any is_halt (since_start h)) s)
+    ap (after_first is_halt) (since_start_more h x n)
+    ∙ after_first_keeps is_halt (since_start h) x
+    (halt_there (list_any is_stop (since_start h)) (list_any is_halt (since_start h)) s)
 
 since_halt_none : {M : Type 0} (h : List (Event M)) → status_of h ≡ status.Started → after_first is_halt (since_start (h ++ event.Halted ∷ [])) ≡ []
 unfolding status_of
 since_halt_none h s =
-    ap (after_first is_halt) (since_start_more h event.Halted refl) ∙ after_first_cuts is_halt (since_start h) event.Halted (halt_absent (list_any is_stop (since_start h)) (list_any is_halt (since_start h)) s)
+    ap (after_first is_halt) (since_start_more h event.Halted refl)
+    ∙ after_first_cuts is_halt (since_start h) event.Halted
+    (halt_absent (list_any is_stop (since_start h)) (list_any is_halt (since_start h)) s)
 
 -- a mark that was just put has all that arrived before it
 mark_of_none : {M : Type 0} (h : List (Event M)) → since_mark h ≡ [] → mark h ≡ length (accepted h)
@@ -118,7 +130,8 @@ mark_of_none h e =
 mark_of_more : {M : Type 0} (h : List (Event M)) (x : Event M) → since_mark (h ++ x ∷ []) ≡ since_mark h ++ x ∷ [] → mark (h ++ x ∷ []) ≡ mark h
 unfolding mark
 mark_of_more h x e =
-    let n : length (h ++ x ∷ []) - length (since_mark (h ++ x ∷ [])) ≡ length h - length (since_mark h) = omega (arith, length-push h x, ap length e, length-push (since_mark h) x) in
+    let n : length (h ++ x ∷ []) - length (since_mark (h ++ x ∷ [])) ≡ length h - length (since_mark h) =
+    omega (arith, length-push h x, ap length e, length-push (since_mark h) x) in
     let m : length h - length (since_mark h) ≤ length h = omega arith in
     rw n (ap (λ l. length (accepted l)) (take-append-le (length h - length (since_mark h)) h (x ∷ []) m))
 
@@ -130,9 +143,13 @@ mark_put h s =
 pub mark_cleared : {M : Type 0} (h : List (Event M)) → status_of h ≡ status.Halted → mark (h ++ event.Cleared ∷ []) ≡ length (accepted h)
 unfolding since_mark
 mark_cleared h s =
-    mark_of_none (h ++ event.Cleared ∷ []) (ap (after_last is_clear) (since_halt_more h event.Cleared s refl) ∙ after_last_cuts is_clear (after_first is_halt (since_start h)) event.Cleared refl) ∙ ap length (accepted_same h event.Cleared refl)
+    mark_of_none (h ++ event.Cleared ∷ [])
+    (ap (after_last is_clear) (since_halt_more h event.Cleared s refl)
+    ∙ after_last_cuts is_clear (after_first is_halt (since_start h)) event.Cleared refl)
+    ∙ ap length (accepted_same h event.Cleared refl)
 
-pub mark_same : {M : Type 0} (h : List (Event M)) (x : Event M) → status_of h ≡ status.Halted → is_start x ≡ false → is_clear x ≡ false → mark (h ++ x ∷ []) ≡ mark h
+pub mark_same : {M : Type 0} (h : List (Event M)) (x : Event M) → status_of h ≡ status.Halted → is_start x ≡ false
+    → is_clear x ≡ false → mark (h ++ x ∷ []) ≡ mark h
 unfolding since_mark
 mark_same h x s n c =
     mark_of_more h x (ap (after_last is_clear) (since_halt_more h x s n) ∙ after_last_keeps is_clear (after_first is_halt (since_start h)) x c)

@@ -43,9 +43,11 @@ TakesOut received h (Some e) after = (top h ≡ Some e) × (after ≡ h ++ remov
 TakesOut received h None after = (top h ≡ None) × (after ≡ h)
 
 -- what `trigger` answers, and the history after it
-abbrev pub Triggers : {M : Type 0} → (M → Type 0) → Option ℕ → List (Event M) → TriggerAnswer M → List (Event M) → Type 0
+abbrev pub Triggers : {M : Type 0} → (M → Type 0) → Option ℕ → List (Event M)
+    → TriggerAnswer M → List (Event M) → Type 0
 Triggers admits from h (answer.Took e) after = Finds admits from h e × (after ≡ h ++ event.Took e ∷ [])
-Triggers admits from h (answer.Dropped e) after = (top h ≡ Some e) × ¬ Satisfies admits from e × (after ≡ h ++ event.Dropped e ∷ [])
+Triggers admits from h (answer.Dropped e) after =
+    (top h ≡ Some e) × ¬ Satisfies admits from e × (after ≡ h ++ event.Dropped e ∷ [])
 Triggers admits from h answer.Nothing after = (top h ≡ None) × (after ≡ h)
 
 -- the top, if there is one, was noted as found

@@ -1,11 +1,16 @@
 -- A command without where its names lie in memory.
 use Rattle.std.specs.Prelude.{◌≡◌, ℕ, Option, Some, None, List}
+use Rattle.std.specs.Borrow.{Bor}
 use Rattle.std.specs.Option.{option_copied}
 use Rattle.tp_port.specs.declared.command.Criteria.{Criteria}
 use Rattle.tp_port.specs.declared.command.Verb.{Verb}
 use Rattle.tp_port.specs.declared.command.Command.{Command}
 use Rattle.tp_port.specs.declared.command.Command.TheVariants as command
-use Rattle.tp_port.specs.Line.{Line, Wish, IsLine, arrive, receive, check, trigger, clear, start, stop, halt, operands, verb_of}
+use Rattle.tp_port.specs.Line.{Line, Wish, IsLine, arrive, receive, check, trigger, clear, start, stop, halt, operands, verb_of, words_after}
+
+-- the words that are left of a line
+abbrev pub words_left : Option (Bor (List ℕ)) → List (List ℕ)
+words_left words = words_after (option_copied words)
 
 abbrev pub wish_of : Criteria → Wish
 wish_of c = record { value = c.value; from = option_copied c.from }

@@ -32,7 +32,8 @@ IsFaultOf text fault.Write = All IsGood (lines_of text)
 IsFaultOf text fault.Limit = 1048576 < length text
 IsFaultOf text fault.Memory = All IsGood (lines_of text)
 
--- of a text that is read first, where reading took so many bytes of it: the reader may fail anywhere within the limit, and memory may be wanting where the room for the text is full, whatever the text
+-- of a text that is read first, where reading took so many bytes of it: the reader may fail anywhere within the limit,
+-- and memory may be wanting where the room for the text is full, whatever the text
 abbrev pub IsReadFaultOf : List ℕ → ℕ → QueueFault → Type 0
 IsReadFaultOf text taken (fault.BadLine n) = (length text ≤ 1048576) × IsFirstBad (lines_of text) n
 IsReadFaultOf text taken fault.Read = taken ≤ 1048576

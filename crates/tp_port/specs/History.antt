@@ -1,5 +1,6 @@
 -- The history of a port, and what it says: what is queued, whether the port is started, and what can be received.
--- A history is the whole list of the port's events, the oldest first, which only grows; a definition filters, cuts and counts that list.
+-- A history is the whole list of the port's events, the oldest first, which only grows; a definition filters, cuts and
+-- counts that list.
 -- The clauses are those of ES 201 873-1; ES 201 873-4 has the same as the states of ports and their queues.
 use Rattle.std.specs.Prelude.{◌≡◌, ℕ, ◌+◌, ◌-◌, Bool, true, false, nat_lt, cond, Option, Some, None, List, length, take, drop, slice_get, count_by}
 use Rattle.std.specs.List.{filter_map, list_any, after_first, after_last, before_last}
@@ -46,7 +47,8 @@ is_halt _ = false
 unfoldable pub accepted : {M : Type 0} → List (Event M) → List (Env M)
 accepted h = filter_map arrival h
 
--- how many of these are no longer queued: all that arrived before the queue was last emptied, and as many as were taken out since
+-- how many of these are no longer queued: all that arrived before the queue was last emptied, and as many as were
+-- taken out since
 unfoldable pub gone : {M : Type 0} → List (Event M) → ℕ
 gone h = length (accepted (before_last is_emptying h)) + count_by is_removal (after_last is_emptying h)
 
@@ -58,21 +60,24 @@ queued h = drop (gone h) (accepted h)
 unfoldable pub since_start : {M : Type 0} → List (Event M) → List (Event M)
 since_start h = after_last is_start h
 
--- 22.5.2 to 22.5.4: stopped if there was a stop since the last start, else halted if there was a halt; a port is started when its component is created (21.2.1)
+-- 22.5.2 to 22.5.4: stopped if there was a stop since the last start, else halted if there was a halt; a port is
+-- started when its component is created (21.2.1)
 unfoldable pub status_of : {M : Type 0} → List (Event M) → Status
-status_of h = cond (list_any is_stop (since_start h)) status.Stopped (cond (list_any is_halt (since_start h)) status.Halted status.Started)
+status_of h = cond (list_any is_stop (since_start h)) status.Stopped
+    (cond (list_any is_halt (since_start h)) status.Halted status.Started)
 
--- the events since the mark was put where it stands: since the first halt since the last start, and since the last clear after that halt
+-- the events since the mark was put where it stands: since the first halt since the last start, and since the last
+-- clear after that halt
 unfoldable pub since_mark : {M : Type 0} → List (Event M) → List (Event M)
 since_mark h = after_last is_clear (after_first is_halt (since_start h))
 
--- how many envelopes arrived before the mark of a halted port: 22.5.4, a halt puts the mark behind all that is queued. The event that puts
--- the mark stands in the part that is counted, and is no arrival
+-- how many envelopes arrived before the mark of a halted port: 22.5.4, a halt puts the mark behind all that is queued.
+-- The event that puts the mark stands in the part that is counted, and is no arrival
 unfoldable pub mark : {M : Type 0} → List (Event M) → ℕ
 mark h = length (accepted (take (length h - length (since_mark h)) h))
 
--- how many of the envelopes that arrived may have been received, at a port of that status: 22.5.4, those ahead of the mark of a halted port;
--- 22.5.3, none more at a stopped one
+-- how many of the envelopes that arrived may have been received, at a port of that status: 22.5.4, those ahead of the
+-- mark of a halted port; 22.5.3, none more at a stopped one
 abbrev pub limit_at : {M : Type 0} → Status → List (Event M) → ℕ
 limit_at status.Started h = length (accepted h)
 limit_at status.Halted h = mark h

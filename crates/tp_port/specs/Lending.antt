@@ -10,5 +10,8 @@ use Rattle.tp_port.specs.Answers.{checked}
 use Rattle.tp_port.specs.contracts.queue.PortQueue.{the_row}
 
 -- the queue ends with the history after a `check` that answered r, which is lawful
-abbrev pub ends_checked : (M : RattleType) {E : Type 0} → MutBor (List (Event M.Denot)) → Result (Option (Bor (Env M.Denot))) E → Fml
-ends_checked M q r = follows_so (the_row M) (the_row M) q.ghost_name none (λ _ _. ⊤) (λ n. MatchResult r (λ answer. (n ≡ checked q.now (option_copied answer)) × Lawful n) (λ _. (n ≡ q.now) × Lawful n))
+abbrev pub ends_checked : (M : RattleType) {E : Type 0} → MutBor (List (Event M.Denot))
+    → Result (Option (Bor (Env M.Denot))) E → Fml
+ends_checked M q r = follows_so (the_row M) (the_row M) q.ghost_name none (λ _ _. ⊤) (λ n. MatchResult r
+    (λ answer. (n ≡ checked q.now (option_copied answer)) × Lawful n)
+    (λ _. (n ≡ q.now) × Lawful n))

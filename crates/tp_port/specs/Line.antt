@@ -84,9 +84,13 @@ from_words (Some name) = codes "from" ∷ name ∷ []
 abbrev pub wish_words : Wish → List (List ℕ)
 wish_words wish = pattern_text wish.value ∷ from_words wish.from
 
+-- the words of an arrival: its sender's name, and its value
+abbrev pub arrival_words : List ℕ → ℤ → List (List ℕ)
+arrival_words name n = name ∷ signed_decimal n ∷ []
+
 -- the words after the first
 abbrev pub operands : Line → List (List ℕ)
-operands (arrive name n) = name ∷ signed_decimal n ∷ []
+operands (arrive name n) = arrival_words name n
 operands (receive wish) = wish_words wish
 operands (check wish) = wish_words wish
 operands (trigger wish) = wish_words wish
@@ -103,9 +107,13 @@ PatternFits (pattern.Number n) = FitsSigned w64 n
 abbrev pub IsWish : Wish → Type 0
 IsWish wish = PatternFits wish.value × IfSome wish.from IsName
 
+-- an arrival's sender is a name, and its value has 64 signed bits
+abbrev pub IsArrival : List ℕ → ℤ → Type 0
+IsArrival name n = IsName name × FitsSigned w64 n
+
 -- names are names, and integers have 64 signed bits
 abbrev pub IsLine : Line → Type 0
-IsLine (arrive name n) = IsName name × FitsSigned w64 n
+IsLine (arrive name n) = IsArrival name n
 IsLine (receive wish) = IsWish wish
 IsLine (check wish) = IsWish wish
 IsLine (trigger wish) = IsWish wish
@@ -132,4 +140,6 @@ SaysOneAtMost = (text : List ℕ) (these those : List Line) → Says text these 
 
 -- the line of this number, from 1, is the first that is not of a queue file
 abbrev pub IsFirstBad : List (List ℕ) → ℕ → Type 0
-IsFirstBad texts n = (0 < n) × All IsGood (take (n - 1) texts) × ((text : List ℕ) × (slice_get texts (n - 1) ≡ Some text) × ¬ IsGood text)
+IsFirstBad texts n = (0 < n)
+    × All IsGood (take (n - 1) texts)
+    × ((text : List ℕ) × (slice_get texts (n - 1) ≡ Some text) × ¬ IsGood text)

@@ -12,7 +12,8 @@ IsFull n = (n ≡ 0) ⊎ ((k : ℕ) × (n ≡ 8192 * 2 ^ k))
 abbrev pub IsRoom : ℕ → Type 0
 IsRoom n = IsFull n ⊎ (n ≡ 1048577)
 
--- so many bytes are taken where reading ends with this fault, or with none: one more than the limit exactly where there are too many, and want of memory comes only where the room is full
+-- so many bytes are taken where reading ends with this fault, or with none: one more than the limit exactly where there
+-- are too many, and want of memory comes only where the room is full
 abbrev pub EndsAt : Option ReadFault → ℕ → Type 0
 EndsAt None n = n ≤ 1048576
 EndsAt (Some read.Read) n = n ≤ 1048576

@@ -80,7 +80,8 @@ abbrev pub events_of : Stage → Line → List (Event ℤ)
 events_of s (arrive name n) = event.Arrive (envelope s name n) ∷ []
 events_of s (receive wish) = map event.Took (option_to_list (found_in s wish))
 events_of s (check wish) = map event.Found (option_to_list (found_in s wish))
-events_of s (trigger wish) = map (λ e. triggered (meets wish.value (from_of s wish) e) e) (option_to_list (top s.history))
+events_of s (trigger wish) =
+    map (λ e. triggered (meets wish.value (from_of s wish) e) e) (option_to_list (top s.history))
 events_of s clear = event.Cleared ∷ []
 events_of s start = event.Started ∷ []
 events_of s stop = event.Stopped ∷ []

@@ -14,7 +14,8 @@ use itoa::Buffer;
 
 /// Adds a word, a number and the end of the line.
 pub fn write_count(out: &mut String, word: &str, count: u64) -> Result<(), Memory>
-    ensures { OnOk result (string_bytes out.new ≡ string_bytes out.old ++ counted_text word.now count) }
+    ensures { OnOk result (string_bytes out.new ≡ string_bytes out.old
+        ++ counted_text word.now count) }
 {
     let mut buffer = Buffer::new();
     out.push_str(word)?;
@@ -25,7 +26,8 @@ pub fn write_count(out: &mut String, word: &str, count: u64) -> Result<(), Memor
 
 /// Adds the envelope's sender and value, and the end of the line.
 pub fn write_entry(out: &mut String, senders: &Senders<'_>, env: &Env<i64>) -> Result<(), Memory>
-    ensures { OnOk result (string_bytes out.new ≡ string_bytes out.old ++ entry_text senders.now env.now) }
+    ensures { OnOk result (string_bytes out.new ≡ string_bytes out.old
+        ++ entry_text senders.now env.now) }
 {
     let mut buffer = Buffer::new();
     out.push_str(senders.name(env.sender))?;
@@ -42,7 +44,8 @@ pub fn write_entry_or_no(
     word: &str,
     env: Option<&Env<i64>>,
 ) -> Result<(), Memory>
-    ensures { OnOk result (string_bytes out.new ≡ string_bytes out.old ++ entry_or_no senders.now word.now (option_copied env.entry)) }
+    ensures { OnOk result (string_bytes out.new ≡ string_bytes out.old
+        ++ entry_or_no senders.now word.now (option_copied env.entry)) }
 {
     match env {
         None => out.push_str("no\n")?,
@@ -61,7 +64,9 @@ fn write_queued(
     queue: &PortQueue<i64>,
     place: u64,
 ) -> Result<(), Memory>
-    ensures { OnOk result (string_bytes out.new ≡ string_bytes out.old ++ flat_map (entry_text senders.now) (option_to_list (slice_get (queued queue.now) place))) }
+    ensures { OnOk result (string_bytes out.new ≡ string_bytes out.old ++ flat_map
+        (entry_text senders.now)
+        (option_to_list (slice_get (queued queue.now) place))) }
 {
     match queue.queued_at(place) {
         None => Ok(()),
@@ -75,7 +80,8 @@ pub fn write_left(
     senders: &Senders<'_>,
     queue: &PortQueue<i64>,
 ) -> Result<(), Memory>
-    ensures { OnOk result (string_bytes out.new ≡ string_bytes out.old ++ left_text senders.now queue.now) }
+    ensures { OnOk result (string_bytes out.new ≡ string_bytes out.old
+        ++ left_text senders.now queue.now) }
 {
     let count = queue.queued_len();
     write_count(out, "left ", count)?;

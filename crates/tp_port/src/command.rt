@@ -5,9 +5,8 @@ ghost use Rattle.std.specs.List.{list_all};
 ghost use Rattle.std.specs.Str.{IsAscii};
 ghost use Rattle.std.specs.Char.{is_ascii_alphanumeric};
 ghost use Rattle.std.specs.Fmt.{signed_decimal};
-ghost use Rattle.std.specs.Option.{option_copied};
-ghost use Rattle.tp_port.specs.Line.{IsGood, SaysOneAtMost, IsName, IsWish, PatternFits, Spells, Wish, operands, pattern_text, verb_of, verb_text, wish_words, words_after, words_of};
-ghost use Rattle.tp_port.specs.Command.{IsRead, line_of, wish_of};
+ghost use Rattle.tp_port.specs.Line.{IsArrival, IsGood, SaysOneAtMost, IsName, IsWish, PatternFits, Spells, Wish, arrival_words, operands, pattern_text, verb_of, verb_text, wish_words, words_of};
+ghost use Rattle.tp_port.specs.Command.{IsRead, line_of, wish_of, words_left};
 
 use crate::cut::first_word;
 use crate::pattern::Pattern;
@@ -70,7 +69,9 @@ pub enum Command<'t> {
 
 /// The verb that a word is.
 fn verb_in(word: &[u8]) -> Option<Verb>
-    ensures { MatchOption result ((verb : _) → word.now ≡ verb_text verb → ⊥) (λ verb. word.now ≡ verb_text verb) }
+    ensures { MatchOption result
+        ((verb : _) → word.now ≡ verb_text verb → ⊥)
+        (λ verb. word.now ≡ verb_text verb) }
 {
     if word == b"arrive".as_slice() {
         Some(Verb::Arrive)
@@ -125,7 +126,9 @@ fn text_of(bytes: &[u8]) -> Option<&str>
 
 /// The name that a word is.
 fn name_of(word: &[u8]) -> Option<&str>
-    ensures { MatchOption result (¬ IsName word.now) (λ name. (name.now ≡ word.now) × IsName word.now) }
+    ensures { MatchOption result
+        (¬ IsName word.now)
+        (λ name. (name.now ≡ word.now) × IsName word.now) }
 {
     if is_name(word) { text_of(word) } else { None }
 }
@@ -140,7 +143,9 @@ fn value_of(word: &[u8]) -> Option<i64>
 
 /// The integer that a word is: in decimal, of 64 signed bits, without a leading zero or a `+`.
 fn integer_of(word: &[u8]) -> Option<i64>
-    ensures { MatchOption result ((n : ℤ) → FitsSigned w64 n → word.now ≡ signed_decimal n → ⊥) (λ n. word.now ≡ signed_decimal n) }
+    ensures { MatchOption result
+        ((n : ℤ) → FitsSigned w64 n → word.now ≡ signed_decimal n → ⊥)
+        (λ n. word.now ≡ signed_decimal n) }
 {
     let value = value_of(word)?;
     let mut buffer = Buffer::new();
@@ -153,7 +158,9 @@ fn integer_of(word: &[u8]) -> Option<i64>
 
 /// The pattern that a word is.
 fn pattern_of(word: &[u8]) -> Option<Pattern>
-    ensures { MatchOption result ((p : _) → PatternFits p → word.now ≡ pattern_text p → ⊥) (λ p. (word.now ≡ pattern_text p) × PatternFits p) }
+    ensures { MatchOption result
+        ((p : _) → PatternFits p → word.now ≡ pattern_text p → ⊥)
+        (λ p. (word.now ≡ pattern_text p) × PatternFits p) }
 {
     if word == b"?".as_slice() {
         return Some(Pattern::Any);
@@ -164,7 +171,9 @@ fn pattern_of(word: &[u8]) -> Option<Pattern>
 
 /// The one word that there is.
 fn only_word(words: Option<&[u8]>) -> Option<&[u8]>
-    ensures { MatchOption result ((word : _) → words_after (option_copied words.entry) ≡ word ∷ [] → ⊥) (λ word. words_after (option_copied words.entry) ≡ word.now ∷ []) }
+    ensures { MatchOption result
+        ((word : _) → words_left words.entry ≡ word ∷ [] → ⊥)
+        (λ word. words_left words.entry ≡ word.now ∷ []) }
 {
     let (word, rest) = first_word(words?);
     match rest {
@@ -175,7 +184,9 @@ fn only_word(words: Option<&[u8]>) -> Option<&[u8]>
 
 /// The name after `from`.
 fn sender_of(words: &[u8]) -> Option<&str>
-    ensures { MatchOption result ((name : _) → IsName name → words_of words.now ≡ codes "from" ∷ name ∷ [] → ⊥) (λ name. IsName name.now × (words_of words.now ≡ codes "from" ∷ name.now ∷ [])) }
+    ensures { MatchOption result
+        ((name : _) → IsName name → words_of words.now ≡ codes "from" ∷ name ∷ [] → ⊥)
+        (λ name. IsName name.now × (words_of words.now ≡ codes "from" ∷ name.now ∷ [])) }
 {
     let (word, rest) = first_word(words);
     if word != b"from".as_slice() {
@@ -187,7 +198,9 @@ fn sender_of(words: &[u8]) -> Option<&str>
 
 /// The criteria of a receiving operation.
 fn criteria_of(words: Option<&[u8]>) -> Option<Criteria<'_>>
-    ensures { MatchOption result ((wish : _) → IsWish wish → words_after (option_copied words.entry) ≡ wish_words wish → ⊥) (λ c. IsWish (wish_of c) × (words_after (option_copied words.entry) ≡ wish_words (wish_of c))) }
+    ensures { MatchOption result
+        ((wish : _) → IsWish wish → words_left words.entry ≡ wish_words wish → ⊥)
+        (λ c. IsWish (wish_of c) × (words_left words.entry ≡ wish_words (wish_of c))) }
 {
     let (word, rest) = first_word(words?);
     let value = pattern_of(word)?;
@@ -205,7 +218,9 @@ fn criteria_of(words: Option<&[u8]>) -> Option<Criteria<'_>>
 
 /// The sender and the value of an arrival.
 fn arrival_of(words: Option<&[u8]>) -> Option<(&str, i64)>
-    ensures { MatchOption result ((name : _) (n : ℤ) → IsName name → FitsSigned w64 n → words_after (option_copied words.entry) ≡ name ∷ signed_decimal n ∷ [] → ⊥) (λ a. IsName a.0.now × FitsSigned w64 a.1 × (words_after (option_copied words.entry) ≡ a.0.now ∷ signed_decimal a.1 ∷ [])) }
+    ensures { MatchOption result
+        ((name : _) (n : ℤ) → IsArrival name n → words_left words.entry ≡ arrival_words name n → ⊥)
+        (λ a. IsArrival a.0.now a.1 × (words_left words.entry ≡ arrival_words a.0.now a.1)) }
 {
     let (word, rest) = first_word(words?);
     let sender = name_of(word)?;
@@ -217,7 +232,7 @@ fn arrival_of(words: Option<&[u8]>) -> Option<(&str, i64)>
 /// The command that has no operands, where no word follows.
 fn alone<'t>(command: Command<'t>, words: Option<&[u8]>) -> Option<Command<'t>>
     requires { operands (line_of command) ≡ [] }
-    ensures { IsRead (verb_of (line_of command.entry)) (words_after (option_copied words.entry)) result }
+    ensures { IsRead (verb_of (line_of command.entry)) (words_left words.entry) result }
 {
     match words {
         None => Some(command),
@@ -227,7 +242,7 @@ fn alone<'t>(command: Command<'t>, words: Option<&[u8]>) -> Option<Command<'t>>
 
 /// The command that this verb and the words after it are.
 fn command_with(verb: Verb, words: Option<&[u8]>) -> Option<Command<'_>>
-    ensures { IsRead verb (words_after (option_copied words.entry)) result }
+    ensures { IsRead verb (words_left words.entry) result }
 {
     match verb {
         Verb::Arrive => {
@@ -248,7 +263,9 @@ fn command_with(verb: Verb, words: Option<&[u8]>) -> Option<Command<'_>>
 /// of 1 to 20 letters and digits with a letter first, integers of 64 signed bits in decimal without
 /// a leading zero or a `+`. `None` for any other line, an empty one too. Takes no memory.
 pub fn command_of(line: &[u8]) -> Option<Command<'_>>
-    ensures { MatchOption result (¬ IsGood line.now) (λ command. Spells line.now (line_of command)) }
+    ensures { MatchOption result
+        (¬ IsGood line.now)
+        (λ command. Spells line.now (line_of command)) }
 {
     let (word, rest) = first_word(line);
     let verb = verb_in(word)?;

@@ -38,8 +38,10 @@ fn answer_receive(
     from: Option<u32>,
     out: &mut String,
 ) -> Result<(), Memory>
-    ensures history { OnOk result (queue.new ≡ queue.old ++ map event.Took (option_to_list (found value from queue.old))) }
-    ensures text { OnOk result (string_bytes out.new ≡ string_bytes out.old ++ entry_or_no senders.now (codes "took ") (found value from queue.old)) }
+    ensures history { OnOk result (queue.new ≡ queue.old
+        ++ map event.Took (option_to_list (found value from queue.old))) }
+    ensures text { OnOk result (string_bytes out.new ≡ string_bytes out.old
+        ++ entry_or_no senders.now (codes "took ") (found value from queue.old)) }
 {
     let env = queue.receive(&value, from)?;
     write_entry_or_no(out, senders, "took ", env.as_ref())?;
@@ -54,8 +56,10 @@ fn answer_check(
     from: Option<u32>,
     out: &mut String,
 ) -> Result<(), Memory>
-    ensures history { OnOk result (queue.new ≡ queue.old ++ map event.Found (option_to_list (found value from queue.old))) }
-    ensures text { OnOk result (string_bytes out.new ≡ string_bytes out.old ++ entry_or_no senders.now (codes "found ") (found value from queue.old)) }
+    ensures history { OnOk result (queue.new ≡ queue.old
+        ++ map event.Found (option_to_list (found value from queue.old))) }
+    ensures text { OnOk result (string_bytes out.new ≡ string_bytes out.old
+        ++ entry_or_no senders.now (codes "found ") (found value from queue.old)) }
 {
     let env = queue.check(&value, from)?;
     write_entry_or_no(out, senders, "found ", env)?;
@@ -70,8 +74,10 @@ fn answer_trigger(
     from: Option<u32>,
     out: &mut String,
 ) -> Result<(), Memory>
-    ensures history { OnOk result (queue.new ≡ queue.old ++ map (λ e. triggered (meets value from e) e) (option_to_list (top queue.old))) }
-    ensures text { OnOk result (string_bytes out.new ≡ string_bytes out.old ++ triggered_text senders.now value from (top queue.old)) }
+    ensures history { OnOk result (queue.new ≡ queue.old
+        ++ map (λ e. triggered (meets value from e) e) (option_to_list (top queue.old))) }
+    ensures text { OnOk result (string_bytes out.new ≡ string_bytes out.old
+        ++ triggered_text senders.now value from (top queue.old)) }
 {
     match queue.trigger(&value, from)? {
         TriggerAnswer::Took(env) => write_entry_or_no(out, senders, "took ", Some(&env)),
@@ -220,7 +226,8 @@ impl<'t> Engine<'t> {
 
     /// The answers, what is left in the queue behind them.
     pub fn finish(self) -> Result<String, Memory>
-        ensures { IfOk result (λ out. string_bytes out ≡ string_bytes self.entry.answers ++ left_text self.entry.senders self.entry.queue) }
+        ensures { IfOk result (λ out. string_bytes out ≡ string_bytes self.entry.answers
+            ++ left_text self.entry.senders self.entry.queue) }
     {
         let Engine {
             senders,

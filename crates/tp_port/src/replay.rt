@@ -78,7 +78,8 @@ fn refusal_of(text: &[u8]) -> QueueFault
 /// The answers to the lines of a text.
 fn answers_to(alloc: Global, text: &[u8]) -> Result<String, QueueFault>
     requires { length text.now ≤ 1048576 }
-    ensures ok { IfOk result (λ out. (lines : List Line) × Says text.now lines × (string_bytes out ≡ queue_text lines)) }
+    ensures ok { IfOk result (λ out. (lines : List Line)
+        × Says text.now lines × (string_bytes out ≡ queue_text lines)) }
     ensures err { IfErr result (IsRefusedFor text.now) }
 {
     let mut engine = Engine::new(alloc);
@@ -102,15 +103,17 @@ fn answers_to(alloc: Global, text: &[u8]) -> Result<String, QueueFault>
 /// Carries out the lines of a text as a queue file, and writes their answers, what is left in the
 /// queue behind them.
 ///
-/// Refused are, in this order, 15 `Limit` a text of more than 1,048,576 bytes, 1 `BadLine` its first
-/// line that no queue file has, and 50 `Memory` where an allocation was refused: each before
+/// Refused are, in this order, 15 `Limit` a text of more than 1,048,576 bytes, 1 `BadLine` its
+/// first line that no queue file has, and 50 `Memory` where an allocation was refused: each before
 /// anything is written. 3 `Write` where the writer answered an error; how much is written then is
 /// open.
 pub fn replay_text<W: Write>(alloc: Global, text: &[u8], writer: &mut W) -> Result<(), QueueFault>
-    ensures written { OnOk result (Answers text.now (W.contents writer.old) (W.contents writer.new)) }
+    ensures written { OnOk result
+        (Answers text.now (W.contents writer.old) (W.contents writer.new)) }
     ensures fault { IfErr result (IsFaultOf text.now) }
     ensures limit { IsErrOf result QueueFault.Limit ↔ (1048576 < length text.now) }
-    ensures unwritten { IfErr result (λ fault. (fault ≡ QueueFault.Write → ⊥) → writer.new ≡ writer.old) }
+    ensures unwritten { IfErr result (λ fault.
+        (fault ≡ QueueFault.Write → ⊥) → writer.new ≡ writer.old) }
 {
     if text.len() > TEXT_LIMIT {
         return Err(QueueFault::Limit);
@@ -134,10 +137,12 @@ pub fn replay<R: Read, W: Write>(
     reader: &mut R,
     writer: &mut W,
 ) -> Result<(), QueueFault>
-    ensures written { OnOk result (IfSome (R.remaining reader.old) (λ text. Answers text (W.contents writer.old) (W.contents writer.new))) }
+    ensures written { OnOk result (IfSome (R.remaining reader.old) (λ text.
+        Answers text (W.contents writer.old) (W.contents writer.new))) }
     ensures short { OnOk result (IfSome (R.remaining reader.old) (λ text. length text ≤ 1048576)) }
     ensures fault { IfErr result (HasFault (R.remaining reader.old) (R.remaining reader.new)) }
-    ensures unwritten { IfErr result (λ fault. (fault ≡ QueueFault.Write → ⊥) → writer.new ≡ writer.old) }
+    ensures unwritten { IfErr result (λ fault.
+        (fault ≡ QueueFault.Write → ⊥) → writer.new ≡ writer.old) }
 {
     match read_text(alloc, reader) {
         Err(fault) => Err(QueueFault::from(fault)),

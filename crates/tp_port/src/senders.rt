@@ -47,7 +47,8 @@ impl<'t> Senders<'t> {
     pub fn wanted(&mut self, from: Option<&'t str>) -> Result<Option<u32>, Memory>
         requires { length self.old < 2 ^ 32 }
         ensures seen { OnOk result (self.new ≡ seen_if self.old (option_copied from.entry)) }
-        ensures number { IfOk result (λ number. number ≡ option_map (number_of self.new) (option_copied from.entry)) }
+        ensures number { IfOk result (λ number.
+            number ≡ option_map (number_of self.new) (option_copied from.entry)) }
         ensures few { OnOk result (length self.new ≤ length self.old + 1) }
     {
         match from {

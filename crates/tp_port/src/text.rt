@@ -29,14 +29,17 @@ pub enum ReadFault {
 
 /// Reads all that the reader has, and at most 1,048,577 bytes of it.
 ///
-/// 2 `Read` where the reader answers an error, whatever its kind; an interrupted read is tried again.
-/// 15 `Limit` where there are more than 1,048,576 bytes, as soon as one more is read. 50 `Memory` where
-/// an allocation was refused. Whichever comes first is answered; what was read isn't put back.
+/// 2 `Read` where the reader answers an error, whatever its kind; an interrupted read is tried
+/// again. 15 `Limit` where there are more than 1,048,576 bytes, as soon as one more is read. 50
+/// `Memory` where an allocation was refused. Whichever comes first is answered; what was read isn't
+/// put back.
 pub fn read_text<R: Read>(alloc: Global, reader: &mut R) -> Result<Vec<u8>, ReadFault>
-    ensures whole { IfOk result (λ text. IfSome (R.remaining reader.old) (λ all. text.items ≡ all)) }
+    ensures whole { IfOk result (λ text.
+        IfSome (R.remaining reader.old) (λ all. text.items ≡ all)) }
     ensures end { OnOk result (IsAtEnd (R.remaining reader.new)) }
     ensures short { IfOk result (λ text. length text.items ≤ 1048576) }
-    ensures long { result ≡ Err fault.Limit → IfSome (R.remaining reader.old) (λ all. 1048576 < length all) }
+    ensures long { result ≡ Err fault.Limit
+        → IfSome (R.remaining reader.old) (λ all. 1048576 < length all) }
     ensures taken { Takes (R.remaining reader.old) (R.remaining reader.new) (result_err result) }
 {
     let mut text = Vec::new(alloc);
@@ -54,8 +57,8 @@ pub fn read_text<R: Read>(alloc: Global, reader: &mut R) -> Result<Vec<u8>, Read
     Err(ReadFault::Limit)
 }
 
-/// One read, behind the first bytes of a text, `size` of them. It answers how many more there are then,
-/// and 0 only at the end.
+/// One read, behind the first bytes of a text, `size` of them. It answers how many more there are
+/// then, and 0 only at the end.
 fn read_more<R: Read>(reader: &mut R, text: &mut Vec<u8>, size: usize) -> Result<usize, ReadFault>
     requires size { size ≤ 1048576 }
     requires within { size ≤ vec_len text.old }
@@ -65,7 +68,10 @@ fn read_more<R: Read>(reader: &mut R, text: &mut Vec<u8>, size: usize) -> Result
     ensures within { IfOk result (λ count. size + count ≤ vec_len text.new) }
     ensures most { vec_len text.new ≤ 1048577 }
     ensures doubled { IsRoom (vec_len text.new) }
-    ensures more { IfOk result (λ count. Consumes (R.remaining reader.old) (R.remaining reader.new) (take count (drop size text.new.items))) }
+    ensures more { IfOk result (λ count. Consumes
+        (R.remaining reader.old)
+        (R.remaining reader.new)
+        (take count (drop size text.new.items))) }
     ensures end { IfOk result (λ count. count ≡ 0 → IsAtEnd (R.remaining reader.new)) }
     ensures kept { OnErr result (Keeps (R.remaining reader.old) (R.remaining reader.new)) }
     ensures fault { IfErr result (λ fault. fault ≢ ReadFault.Limit) }
@@ -82,7 +88,10 @@ fn read_behind<R: Read>(reader: &mut R, text: &mut [u8], size: usize) -> Result<
     requires { size < length text.old }
     ensures front { take size text.new ≡ take size text.old }
     ensures within { IfOk result (λ count. size + count ≤ length text.new) }
-    ensures more { IfOk result (λ count. Consumes (R.remaining reader.old) (R.remaining reader.new) (take count (drop size text.new))) }
+    ensures more { IfOk result (λ count. Consumes
+        (R.remaining reader.old)
+        (R.remaining reader.new)
+        (take count (drop size text.new))) }
     ensures end { IfOk result (λ count. count ≡ 0 → IsAtEnd (R.remaining reader.new)) }
     ensures kept { OnErr result (Keeps (R.remaining reader.old) (R.remaining reader.new)) }
     ensures fault { IfErr result (λ fault. fault ≡ ReadFault.Read) }
@@ -94,7 +103,8 @@ fn read_behind<R: Read>(reader: &mut R, text: &mut [u8], size: usize) -> Result<
 fn read_again<R: Read>(reader: &mut R, part: &mut [u8]) -> Result<usize, ReadFault>
     requires { 0 < length part.old }
     ensures within { IfOk result (λ count. count ≤ length part.new) }
-    ensures more { IfOk result (λ count. Consumes (R.remaining reader.old) (R.remaining reader.new) (take count part.new)) }
+    ensures more { IfOk result (λ count.
+        Consumes (R.remaining reader.old) (R.remaining reader.new) (take count part.new)) }
     ensures end { IfOk result (λ count. count ≡ 0 → IsAtEnd (R.remaining reader.new)) }
     ensures kept { OnErr result (Keeps (R.remaining reader.old) (R.remaining reader.new)) }
     ensures fault { IfErr result (λ fault. fault ≡ ReadFault.Read) }
@@ -109,8 +119,8 @@ fn read_again<R: Read>(reader: &mut R, part: &mut [u8]) -> Result<usize, ReadFau
     Err(ReadFault::Read)
 }
 
-/// Makes room for a byte behind those of this number: where there is none, twice as much as there was,
-/// and never more than one byte beyond the limit.
+/// Makes room for a byte behind those of this number: where there is none, twice as much as there
+/// was, and never more than one byte beyond the limit.
 fn make_room(text: &mut Vec<u8>, size: usize) -> Result<(), AllocError>
     requires size { size ≤ 1048576 }
     requires within { size ≤ vec_len text.old }
@@ -129,7 +139,8 @@ fn make_room(text: &mut Vec<u8>, size: usize) -> Result<(), AllocError>
     text.resize(next_room(size), 0)
 }
 
-/// The room behind a room that is full: twice as much, and never more than one byte beyond the limit.
+/// The room behind a room that is full: twice as much, and never more than one byte beyond the
+/// limit.
 fn next_room(size: usize) -> usize
     requires size { size ≤ 1048576 }
     requires doubled { IsRoom size }

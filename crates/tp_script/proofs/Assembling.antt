@@ -9,7 +9,7 @@ use Rattle.std.proofs.lemmas.Slice.Zip.{AllZip-long}
 use Rattle.tp_syntax.specs.declared.tree.Module.{Module}
 use Rattle.tp_syntax.specs.declared.tree.TestCase.{TestCase}
 use Rattle.tp_syntax.specs.declared.tree.Function.{Function}
-use Rattle.tp_syntax.specs.declared.tree.Setup.{Setup as Statement}
+use Rattle.tp_syntax.specs.declared.tree.SetupStatement.{SetupStatement}
 use Rattle.tp_syntax.specs.declared.tree.SetupAction.{SetupAction}
 use Rattle.tp_syntax.specs.declared.tree.SetupAction.TheVariants as a
 use Rattle.tp_config.specs.Setup.{Setup}
@@ -33,12 +33,14 @@ use Rattle.tp_script.specs.Parts.{known_in, body_in, duty_in, duty_of, IsPart, A
 use Rattle.tp_script.specs.TestCases.{known_of, AreKinds, IsTestCaseOf}
 
 -- a setup statement leaves the component types and the components
-step_keeps : (s t : Setup) (names : List (List ℕ)) (system : Option ℕ) (x : SetupAction) → IsStep s names system x t → (t.types ≡ s.types) × (length t.components ≡ length s.components)
+step_keeps : (s t : Setup) (names : List (List ℕ)) (system : Option ℕ) (x : SetupAction) → IsStep s names system x t
+    → (t.types ≡ s.types) × (length t.components ≡ length s.components)
 step_keeps s t names system (a.Create c) e = (ap (λ (u : Setup). u.types) e, ap (λ (u : Setup). length u.components) e)
 step_keeps s t names system (a.Connect p q) e = (ap (λ (u : Setup). u.types) e.connected, ap (λ (u : Setup). length u.components) e.connected)
 step_keeps s t names system (a.Map p q) e = (ap (λ (u : Setup). u.types) e.mapped, ap (λ (u : Setup). length u.components) e.mapped)
 
-makes_keeps : (system : Option ℕ) (start : Setup) (xs : List Statement) (s : Setup) → Makes system start xs s → (s.types ≡ start.types) × (length s.components ≡ length start.components)
+makes_keeps : (system : Option ℕ) (start : Setup) (xs : List SetupStatement) (s : Setup) → Makes system start xs s
+    → (s.types ≡ start.types) × (length s.components ≡ length start.components)
 makes_keeps system start xs s nothing = (refl, refl)
 makes_keeps system start xs s (one_more ys r x t before step) =
     let earlier = makes_keeps system start ys r before in
@@ -46,7 +48,8 @@ makes_keeps system start xs s (one_more ys r x t before step) =
     (here.0 ∙ earlier.0, here.1 ∙ earlier.1)
 
 -- what stands in the other list at the place of an item
-pub zip_from : {A B : Type 0} (R : A → B → Type 0) (xs : List A) (ys : List B) (k : ℕ) (x : A) → AllZip R xs ys → slice_get xs k ≡ Some x → (y : B) × (slice_get ys k ≡ Some y) × R x y
+pub zip_from : {A B : Type 0} (R : A → B → Type 0) (xs : List A) (ys : List B) (k : ℕ) (x : A) → AllZip R xs ys → slice_get xs k ≡ Some x
+    → (y : B) × (slice_get ys k ≡ Some y) × R x y
 zip_from R [] ys k x each e = absurd (cc)
 zip_from R (a ∷ xs) [] k x each e = absurd each
 zip_from R (a ∷ xs) (b ∷ ys) zero x each e = (b, refl, subst (λ z. R z b) (same_Some a x e) each.0)
@@ -74,14 +77,18 @@ module _ (m : Module) (p : Prepared) (of : IsPreparedOf m p) where
   -- the names are those of the module
   pub known_is : known_in p ≡ known_of m p.case.case.now p.config p.types
   known_is =
-      ap (λ (n : List (List ℕ)). record { types = p.types; component_types = n; ports = p.config.types; components = p.variables }) of.sorted.components.names_are
-      ∙ ap (λ (v : List (List ℕ)). record { types = p.types; component_types = component_type_names m; ports = p.config.types; components = v }) of.variables_are
+      ap (λ (n : List (List ℕ)). record { types = p.types; component_types = n; ports = p.config.types; components = p.variables })
+      of.sorted.components.names_are
+      ∙ ap (λ (v : List (List ℕ)). record { types = p.types; component_types = component_type_names m; ports = p.config.types; components = v })
+      of.variables_are
 
   pub kinds : AreKinds m p.config.types
   kinds = record {
     types = of.config.types;
     of_module = of.config.types_are;
-    kinds_are = (makes_keeps (interface_number p.case.case.now) of.config.set_up.start p.case.case.now.setups.items p.config of.config.set_up.makes).0 ∙ of.config.set_up.types_are;
+    kinds_are =
+        (makes_keeps (interface_number p.case.case.now) of.config.set_up.start p.case.case.now.setups.items p.config of.config.set_up.makes).0
+        ∙ of.config.set_up.types_are;
   }
 
   places_count : length p.starts.places.items ≡ length (creations p.case.case.now.setups.items)
@@ -92,7 +99,8 @@ module _ (m : Module) (p : Prepared) (of : IsPreparedOf m p) where
   pub everyone : length p.config.components ≡ part_count p
   everyone =
       let kept = (makes_keeps (interface_number p.case.case.now) of.config.set_up.start p.case.case.now.setups.items p.config of.config.set_up.makes).1 in
-      let listed = AllZip-long (IsMember (component_type_names m)) (component_list p.case.case.now) of.config.set_up.start.components of.config.set_up.components_are in
+      let listed =
+      AllZip-long (IsMember (component_type_names m)) (component_list p.case.case.now) of.config.set_up.start.components of.config.set_up.components_are in
       let first = length-map (creations p.case.case.now.setups.items) created in
       let both = length-append (main_component p.case.case.now ∷ map created (creations p.case.case.now.setups.items)) (interface p.case.case.now) in
       omega (arith, kept, listed, first, both, interface_length p.case.case.now, places_count)
@@ -103,9 +111,11 @@ module _ (m : Module) (p : Prepared) (of : IsPreparedOf m p) where
     by None h = absurd (cc)
     by (Some s) h = ap (λ k. Some (k + 1)) (sym places_count) ∙ ap Some (sym is)
 
-  module _ (bodies : Bodies) (own : IsMainBody (known_in p) p.case.case.now bodies.main) (others : AllZip (IsFunctionBody (known_in p)) (functions m) bodies.functions.items) where
+  module _ (bodies : Bodies) (own : IsMainBody (known_in p) p.case.case.now bodies.main)
+      (others : AllZip (IsFunctionBody (known_in p)) (functions m) bodies.functions.items) where
     -- a part whose body is known makes this duty
-    made_of : (x : Part) (b : Body) → body_in bodies x.source ≡ Some b → duty_of bodies (Some x) ≡ Some (record { body = b; references = map (λ c. c.0) x.references.items })
+    made_of : (x : Part) (b : Body) → body_in bodies x.source ≡ Some b
+        → duty_of bodies (Some x) ≡ Some (record { body = b; references = map (λ c. c.0) x.references.items })
     made_of x b e = ap (option_map (λ (b : Body). record { body = b; references = map (λ c. c.0) x.references.items })) e
 
     part_does : (k : ℕ) (x : Option Part) → IsPart p k x → Does (known_in p) (functions m) p.case.case.now p.starts k (duty_of bodies x)
@@ -113,17 +123,24 @@ module _ (m : Module) (p : Prepared) (of : IsPreparedOf m p) where
         subst (Does (known_in p) (functions m) p.case.case.now p.starts 0) (sym (made_of part bodies.main (ap (body_in bodies) src)))
         (d.main (record { body = bodies.main; references = map (λ c. c.0) part.references.items }) own refs)
     part_does k x (parts.started j place s part there start src refs) =
-        let begun = zip_at (IsStarted (functions m) (variables p.case.case.now.setups.items) (type_names_of p.case.case.now)) p.case.case.now.starts.items p.starts.starts.items place s of.starts.starts start in
+        let begun =
+        zip_at (IsStarted (functions m) (variables p.case.case.now.setups.items) (type_names_of p.case.case.now)) p.case.case.now.starts.items
+        p.starts.starts.items place s of.starts.starts start in
         let found = zip_from (IsFunctionBody (known_in p)) (functions m) bodies.functions.items s.function begun.2.function others begun.2.function_known in
         subst (Does (known_in p) (functions m) p.case.case.now p.starts (j + 1)) (sym (made_of part found.0 (ap (body_in bodies) src ∙ found.1)))
-        (d.started j place s begun.2.function (record { body = found.0; references = map (λ c. c.0) part.references.items }) there start begun.2.function_known found.2 refs)
+        (d.started j place s begun.2.function (record { body = found.0; references = map (λ c. c.0) part.references.items }) there start begun.2.function_known
+        found.2 refs)
     part_does k x (parts.system n place part there is placed src refs) =
-        let named = mapped_from (λ (f : Function). string_bytes f.name) (functions m) place sut (ap (λ l. slice_get l place) (sym of.sorted.functions.names_are) ∙ place_there p.sorted.function_names sut place (sym placed)) in
+        let named =
+        mapped_from (λ (f : Function). string_bytes f.name) (functions m) place sut
+        (ap (λ l. slice_get l place) (sym of.sorted.functions.names_are) ∙ place_there p.sorted.function_names sut place (sym placed)) in
         let found = zip_from (IsFunctionBody (known_in p)) (functions m) bodies.functions.items place named.0 others named.1 in
         subst (Does (known_in p) (functions m) p.case.case.now p.starts n) (sym (made_of part found.0 (ap (body_in bodies) src ∙ found.1)))
-        (d.system n named.0 (record { body = found.0; references = map (λ c. c.0) part.references.items }) (numbered n there is) (contains_at (functions m) place named.0 named.1) named.2 found.2 refs)
+        (d.system n named.0 (record { body = found.0; references = map (λ c. c.0) part.references.items }) (numbered n there is)
+        (contains_at (functions m) place named.0 named.1) named.2 found.2 refs)
     part_does k x (parts.nobody n there is absent) =
-        d.nobody n (numbered n there is) (λ h. place_unknown p.sorted.function_names sut (sym absent) (subst (λ l. Contains l sut) (sym of.sorted.functions.names_are) h))
+        d.nobody n (numbered n there is)
+        (λ h. place_unknown p.sorted.function_names sut (sym absent) (subst (λ l. Contains l sut) (sym of.sorted.functions.names_are) h))
 
     pub does : (list : List (Option Part)) → AreParts p list → (k : ℕ) (duty : Option Duty) → slice_get (map (duty_of bodies) list) k ≡ Some duty
         → Does (known_of m p.case.case.now p.config p.types) (functions m) p.case.case.now p.starts k duty

@@ -27,7 +27,8 @@ numbers_more count before after next h e =
     by : (k : ℕ) → k < count + 1 → (k < count) ⊎ (count ≤ k) → slice_get (h.variables ++ (count + 1) ∷ []) k ≡ Some (k + 1)
     by k lt (inl early) =
         slice_get-get_or (h.variables ++ (count + 1) ∷ []) k 0 (omega (arith, longer, lt))
-        ∙ ap Some (get_or_append_left h.variables ((count + 1) ∷ []) 0 k (omega (arith, h.as_many, early)) ∙ get_or_from_slice_get h.variables k (k + 1) 0 (h.numbered k early))
+        ∙ ap Some (get_or_append_left h.variables ((count + 1) ∷ []) 0 k (omega (arith, h.as_many, early))
+        ∙ get_or_from_slice_get h.variables k (k + 1) 0 (h.numbered k early))
     by k lt (inr late) =
         let last : count ≡ k = omega (arith, lt, late) in
         slice_get-get_or (h.variables ++ (count + 1) ∷ []) k 0 (omega (arith, longer, lt))
@@ -36,7 +37,8 @@ numbers_more count before after next h e =
 pub parts_none : (p : Prepared) → AreParts p []
 parts_none p k x e = absurd (cc)
 
-pub parts_more : (p : Prepared) (list next : List (Option Part)) (x : Option Part) → AreParts p list → IsPart p (length list) x → next ≡ list ++ x ∷ [] → AreParts p next
+pub parts_more : (p : Prepared) (list next : List (Option Part)) (x : Option Part) → AreParts p list → IsPart p (length list) x → next ≡ list ++ x ∷ []
+    → AreParts p next
 parts_more p list next x each here e k y at = by (push_cases list x k y (ap (λ l. slice_get l k) (sym e) ∙ at)) where
   by : (slice_get list k ≡ Some y) ⊎ ((k ≡ length list) × (y ≡ x)) → IsPart p k y
   by (inl before) = each k y before

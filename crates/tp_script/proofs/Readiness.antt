@@ -19,9 +19,9 @@ use Rattle.tp_syntax.specs.declared.tree.Defined.TheVariants as definition
 use Rattle.tp_syntax.specs.declared.tree.ComponentStart.{ComponentStart}
 use Rattle.tp_syntax.specs.declared.tree.Creation.{Creation}
 use Rattle.tp_syntax.specs.declared.tree.Variable.{Variable}
-use Rattle.tp_syntax.specs.declared.tree.Statement.{Statement as StatementText}
+use Rattle.tp_syntax.specs.declared.tree.Statement.{Statement}
 use Rattle.tp_syntax.specs.declared.tree.Parameter.{Parameter}
-use Rattle.tp_syntax.specs.declared.tree.Setup.{Setup as Statement}
+use Rattle.tp_syntax.specs.declared.tree.SetupStatement.{SetupStatement}
 use Rattle.tp_syntax.specs.declared.tree.SetupAction.{SetupAction}
 use Rattle.tp_syntax.specs.declared.tree.SetupAction.TheVariants as a
 use Rattle.tp_config.specs.declared.port_type.CompId.{CompId}
@@ -53,12 +53,14 @@ use Rattle.tp_script.specs.Ready.{CanDo, IsReady, port_count}
 use Rattle.tp_script.proofs.Assembling.{mapped_from, zip_from}
 
 -- a setup statement leaves the component types and the components
-step_leaves : (s t : Setup) (names : List (List ℕ)) (system : Option ℕ) (x : SetupAction) → IsStep s names system x t → (t.types ≡ s.types) × (t.components ≡ s.components)
+step_leaves : (s t : Setup) (names : List (List ℕ)) (system : Option ℕ) (x : SetupAction) → IsStep s names system x t
+    → (t.types ≡ s.types) × (t.components ≡ s.components)
 step_leaves s t names system (a.Create c) e = (ap (λ (u : Setup). u.types) e, ap (λ (u : Setup). u.components) e)
 step_leaves s t names system (a.Connect p q) e = (ap (λ (u : Setup). u.types) e.connected, ap (λ (u : Setup). u.components) e.connected)
 step_leaves s t names system (a.Map p q) e = (ap (λ (u : Setup). u.types) e.mapped, ap (λ (u : Setup). u.components) e.mapped)
 
-makes_leaves : (system : Option ℕ) (start : Setup) (xs : List Statement) (s : Setup) → Makes system start xs s → (s.types ≡ start.types) × (s.components ≡ start.components)
+makes_leaves : (system : Option ℕ) (start : Setup) (xs : List SetupStatement) (s : Setup) → Makes system start xs s
+    → (s.types ≡ start.types) × (s.components ≡ start.components)
 makes_leaves system start xs s nothing = (refl, refl)
 makes_leaves system start xs s (one_more ys r x t before step) =
     let earlier = makes_leaves system start ys r before in
@@ -66,7 +68,8 @@ makes_leaves system start xs s (one_more ys r x t before step) =
     (here.0 ∙ earlier.0, here.1 ∙ earlier.1)
 
 -- the ports that a component has by its type
-ports_by_kind : (config : Setup) (k : ℕ) (m : Member) (ports : List PortDecl) → slice_get config.components k ≡ Some m → slice_get config.types m.kind ≡ Some ports
+ports_by_kind : (config : Setup) (k : ℕ) (m : Member) (ports : List PortDecl) → slice_get config.components k ≡ Some m
+    → slice_get config.types m.kind ≡ Some ports
     → ports_at config.types config.components (record { 0 = k }) ≡ ports
 unfolding ports_at
 ports_by_kind config k m ports here there =
@@ -110,18 +113,21 @@ function_defined (definition.Function g) f e = ap definition.Function (same_Some
 function_defined (definition.TestCase c) f e = absurd (cc)
 
 -- the function that stands among the definitions obeys their rules
-function_sound : (P : Defined → Type 0) (xs : List Definition) (f : Function) → All (λ (x : Definition). P x.defined) xs → Contains (among function_of xs) f → P (definition.Function f)
+function_sound : (P : Defined → Type 0) (xs : List Definition) (f : Function) → All (λ (x : Definition). P x.defined) xs → Contains (among function_of xs) f
+    → P (definition.Function f)
 function_sound P [] f each (k, below, is) = absurd (omega (arith, below))
-function_sound P (x ∷ xs) f each there = by (function_of x.defined) refl there (λ h. function_sound P xs f (All-tail (λ (x : Definition). P x.defined) x xs each) h) where
-  found : (g : Function) → function_of x.defined ≡ Some g → (k : ℕ) → k < length (g ∷ among function_of xs) → get_or (g ∷ among function_of xs) k f ≡ f
-      → (Contains (among function_of xs) f → P (definition.Function f)) → P (definition.Function f)
-  found g is zero below e later = subst P (function_defined x.defined g is ∙ ap definition.Function e) (All-head (λ (x : Definition). P x.defined) x xs each)
-  found g is (suc k) below e later = later (k, omega (arith, below), e)
+function_sound P (x ∷ xs) f each there =
+    by (function_of x.defined) refl there (λ h. function_sound P xs f (All-tail (λ (x : Definition). P x.defined) x xs each) h) where
+      found : (g : Function) → function_of x.defined ≡ Some g → (k : ℕ) → k < length (g ∷ among function_of xs) → get_or (g ∷ among function_of xs) k f ≡ f
+          → (Contains (among function_of xs) f → P (definition.Function f)) → P (definition.Function f)
+      found g is zero below e later =
+          subst P (function_defined x.defined g is ∙ ap definition.Function e) (All-head (λ (x : Definition). P x.defined) x xs each)
+      found g is (suc k) below e later = later (k, omega (arith, below), e)
 
-  by : (o : Option Function) → function_of x.defined ≡ o → Contains (cons_option o (among function_of xs)) f
-      → (Contains (among function_of xs) f → P (definition.Function f)) → P (definition.Function f)
-  by None is h later = later h
-  by (Some g) is (k, below, e) later = found g is k below e later
+      by : (o : Option Function) → function_of x.defined ≡ o → Contains (cons_option o (among function_of xs)) f
+          → (Contains (among function_of xs) f → P (definition.Function f)) → P (definition.Function f)
+      by None is h later = later h
+      by (Some g) is (k, below, e) later = found g is k below e later
 
 -- what stands at a place of two lists, one behind the other
 left_at : {A : Type 0} (xs ys : List A) (k : ℕ) (x : A) → slice_get xs k ≡ Some x → slice_get (xs ++ ys) k ≡ Some x
@@ -181,7 +187,8 @@ module _ (m : Module) (made : Made) (rules : IsWellDeclared m) (of : IsTestCaseO
   variable_count = length-map (creations case.setups.items) variable
 
   -- a component can play what stands for a body that runs on its type, where there are as many references as the body's scope has
-  can_play : (k : ℕ) (x : Declared) (plays : Behaviour) (runs_on : List ℕ) (parameters : List (List ℕ)) (vs : List Variable) (statements : List StatementText) (body : Body) (references : List ℕ)
+  can_play : (k : ℕ) (x : Declared) (plays : Behaviour) (runs_on : List ℕ) (parameters : List (List ℕ)) (vs : List Variable)
+      (statements : List Statement) (body : Body) (references : List ℕ)
       → slice_get (component_list case) k ≡ Some x → x.type_name ≡ runs_on → StandsFor known plays runs_on parameters vs statements body
       → length references ≡ length parameters + count + 2 → IsPlayable made.types (port_count config k) (length references) body
   can_play k x plays runs_on parameters vs statements body references here same s long =
@@ -197,19 +204,24 @@ module _ (m : Module) (made : Made) (rules : IsWellDeclared m) (of : IsTestCaseO
       same_kind = same_Some member.0.kind s.is_scope.kind (sym member.2.kind ∙ ap (place_of (component_type_names m)) same ∙ s.is_scope.kind_known)
 
       ports_are : length s.scope.ports.now.ports.entries ≡ port_count config k
-      ports_are = sym (ap length (ports_by_kind config k member.0 (ports_of s.scope.ports.now) member.1 (ap (slice_get config.types) same_kind ∙ s.is_scope.ports)) ∙ port_declarations s.scope.ports.now)
+      ports_are =
+          sym (ap length (ports_by_kind config k member.0 (ports_of s.scope.ports.now) member.1 (ap (slice_get config.types) same_kind ∙ s.is_scope.ports))
+          ∙ port_declarations s.scope.ports.now)
 
       references_are : reference_count s.scope ≡ length references
       references_are = omega (arith, ap length s.is_scope.parameters, ap length s.is_scope.components, variable_count, long)
 
-  reference_length : (itself : ℕ) (arguments references : List ℕ) → AreReferences itself arguments (length known.components) references → length references ≡ length arguments + count + 2
+  reference_length : (itself : ℕ) (arguments references : List ℕ) → AreReferences itself arguments (length known.components) references
+      → length references ≡ length arguments + count + 2
   reference_length itself arguments references h = omega (arith, ap length h.all, length-append (0 ∷ itself ∷ arguments) h.variables, h.as_many, variable_count)
 
   -- the references of a body name components of the configuration, where its arguments do
-  are_known : (itself : ℕ) (arguments references : List ℕ) → AreReferences itself arguments (length known.components) references → IsKnown itself → All IsKnown arguments → All IsKnown references
+  are_known : (itself : ℕ) (arguments references : List ℕ) → AreReferences itself arguments (length known.components) references → IsKnown itself
+      → All IsKnown arguments → All IsKnown references
   are_known itself arguments references h here each =
       subst (All IsKnown) (sym h.all)
-      (All-append IsKnown (0 ∷ itself ∷ arguments) h.variables (All-cons IsKnown 0 (itself ∷ arguments) (omega (arith, all_of_them)) (All-cons IsKnown itself arguments here each)) made_known)
+      (All-append IsKnown (0 ∷ itself ∷ arguments) h.variables
+      (All-cons IsKnown 0 (itself ∷ arguments) (omega (arith, all_of_them)) (All-cons IsKnown itself arguments here each)) made_known)
     where
       made_known : All IsKnown h.variables
       made_known k d below =
@@ -223,14 +235,22 @@ module _ (m : Module) (made : Made) (rules : IsWellDeclared m) (of : IsTestCaseO
   arguments_known (p ∷ ps) [] h = absurd h
   arguments_known (p ∷ ps) (c ∷ cs) h =
       All-cons IsKnown c.0 (map (λ c. c.0) cs)
-      (omega (arith, all_of_them, slice_get_within (type_names_of case) c.0 (string_bytes p.type_name) h.0, length-map (creations case.setups.items) (λ (c : Creation). string_bytes c.type_name)))
+      (omega (
+        arith,
+        all_of_them,
+        slice_get_within (type_names_of case) c.0 (string_bytes p.type_name) h.0,
+        length-map (creations case.setups.items) (λ (c : Creation). string_bytes c.type_name),
+      ))
       (arguments_known ps cs h.1)
 
   -- a component that is made, by the place of its variable
   made_at : (k : ℕ) (c : Creation) → slice_get (creations case.setups.items) k ≡ Some c → slice_get (component_list case) (k + 1) ≡ Some (created c)
-  made_at k c e = rw add-one (left_at (map created (creations case.setups.items)) (interface case) k (created c) (slice_get-map created (creations case.setups.items) k ∙ ap (option_map created) e))
+  made_at k c e =
+      rw add-one (left_at (map created (creations case.setups.items)) (interface case) k (created c)
+      (slice_get-map created (creations case.setups.items) k ∙ ap (option_map created) e))
 
-  type_name_at : (k : ℕ) (name : List ℕ) → slice_get (type_names_of case) (k + 1) ≡ Some name → (c : Creation) × (slice_get (creations case.setups.items) k ≡ Some c) × (string_bytes c.type_name ≡ name)
+  type_name_at : (k : ℕ) (name : List ℕ) → slice_get (type_names_of case) (k + 1) ≡ Some name
+      → (c : Creation) × (slice_get (creations case.setups.items) k ≡ Some c) × (string_bytes c.type_name ≡ name)
   type_name_at k name e = mapped_from (λ (c : Creation). string_bytes c.type_name) (creations case.setups.items) k name (rw add-one at e)
 
   -- the test system interface, and its number
@@ -238,7 +258,10 @@ module _ (m : Module) (made : Made) (rules : IsWellDeclared m) (of : IsTestCaseO
       → (x : Declared) × (slice_get (component_list case) n ≡ Some x) × (x.type_name ≡ runs_on)
   interface_at n runs_on number same = by case.system number same where
     by : (o : Option (String Global)) → option_map (λ _. count + 1) o ≡ Some n → option_map string_bytes o ≡ Some runs_on
-        → (x : Declared) × (slice_get (tested ++ option_to_list (option_map (λ s. record { name = codes "system"; type_name = string_bytes s; role = role.System }) o)) n ≡ Some x) × (x.type_name ≡ runs_on)
+        → (x : Declared)
+        × (slice_get
+        (tested ++ option_to_list (option_map (λ s. record { name = codes "system"; type_name = string_bytes s; role = role.System }) o)) n ≡ Some x)
+        × (x.type_name ≡ runs_on)
     by None e f = by_none e
     by (Some s) e f =
         let x : Declared = record { name = codes "system"; type_name = string_bytes s; role = role.System } in
@@ -246,7 +269,8 @@ module _ (m : Module) (made : Made) (rules : IsWellDeclared m) (of : IsTestCaseO
         (x, ap (slice_get (tested ++ x ∷ [])) (sym long) ∙ last_at tested x, same_Some (string_bytes s) runs_on f)
 
   -- a function named `sut` has no parameters, and runs on the type behind `system`
-  plays_system : (f : Function) → Contains (functions m) f → string_bytes f.name ≡ sut → (f.parameters.items ≡ []) × (option_map string_bytes case.system ≡ Some (string_bytes f.runs_on))
+  plays_system : (f : Function) → Contains (functions m) f → string_bytes f.name ≡ sut
+      → (f.parameters.items ≡ []) × (option_map string_bytes case.system ≡ Some (string_bytes f.runs_on))
   plays_system f there named =
       (function_sound (IsSound (type_names m) (port_type_names m) (component_type_names m) (option_map string_bytes case.system)) m.definitions.items f
       (subst (HasSoundDefinitions m) same_case rules.definitions) there).plays_system named
@@ -256,19 +280,28 @@ module _ (m : Module) (made : Made) (rules : IsWellDeclared m) (of : IsTestCaseO
   does_can k o w e here (d.main x is refs) =
       subst (CanDo config made.types 0) (same_Some x w e)
       (record {
-        playable = can_play 0 (main_component case) _ (string_bytes case.runs_on) [] case.variables.items case.statements.items x.body x.references refl refl is (reference_length 0 [] x.references refs);
+        playable =
+            can_play 0 (main_component case) _ (string_bytes case.runs_on) [] case.variables.items case.statements.items x.body x.references refl refl is
+            (reference_length 0 [] x.references refs);
         known = are_known 0 [] x.references refs here (All-nil IsKnown);
       })
   does_can k o w e here (d.started j place x f y there start function is refs) =
       subst (CanDo config made.types (j + 1)) (same_Some y w e)
       (record {
-        playable = can_play (j + 1) (created creation.0) _ (string_bytes f.runs_on) (map (λ p. declared p.name) f.parameters.items) f.variables.items f.statements.items y.body y.references
+        playable =
+            can_play (j + 1) (created creation.0) _ (string_bytes f.runs_on) (map (λ p. declared p.name) f.parameters.items) f.variables.items
+            f.statements.items y.body y.references
             (made_at j creation.0 creation.1) creation.2 is long;
-        known = are_known (j + 1) (map (λ c. c.0) x.arguments.items) y.references refs here (arguments_known begun.2.function.parameters.items x.arguments.items begun.2.arguments_fit);
+        known =
+            are_known (j + 1) (map (λ c. c.0) x.arguments.items) y.references refs here
+            (arguments_known begun.2.function.parameters.items x.arguments.items begun.2.arguments_fit);
       })
     where
-      begun : (s : ComponentStart) × (slice_get case.starts.items place ≡ Some s) × IsStarted (functions m) (variables case.setups.items) (type_names_of case) s x
-      begun = zip_at (IsStarted (functions m) (variables case.setups.items) (type_names_of case)) case.starts.items of.starts.starts.items place x of.starts_are.starts start
+      begun :
+          (s : ComponentStart) × (slice_get case.starts.items place ≡ Some s) × IsStarted (functions m) (variables case.setups.items) (type_names_of case) s x
+      begun =
+          zip_at (IsStarted (functions m) (variables case.setups.items) (type_names_of case)) case.starts.items of.starts.starts.items place x
+          of.starts_are.starts start
 
       placed : (v : List ℕ) × (slice_get (variables case.setups.items) j ≡ Some v) × IsStartPlace (started_names case.starts.items) v place
       placed = zip_at (IsStartPlace (started_names case.starts.items)) (variables case.setups.items) of.starts.places.items j place of.starts_are.all there
@@ -277,7 +310,8 @@ module _ (m : Module) (made : Made) (rules : IsWellDeclared m) (of : IsTestCaseO
       same_variable : string_bytes begun.0.component ≡ placed.0
       same_variable =
           same_Some (string_bytes begun.0.component) placed.0
-          (sym (slice_get-map (λ (s : ComponentStart). string_bytes s.component) case.starts.items place ∙ ap (option_map (λ (s : ComponentStart). string_bytes s.component)) begun.1)
+          (sym (slice_get-map (λ (s : ComponentStart). string_bytes s.component) case.starts.items place
+          ∙ ap (option_map (λ (s : ComponentStart). string_bytes s.component)) begun.1)
           ∙ place_there (started_names case.starts.items) placed.0 place (sym placed.2))
 
       own : begun.2.variable ≡ j
@@ -304,10 +338,12 @@ module _ (m : Module) (made : Made) (rules : IsWellDeclared m) (of : IsTestCaseO
   does_can k o w e here (d.system n f x number there named is refs) =
       let plays = plays_system f there named in
       let at = interface_at n (string_bytes f.runs_on) number plays.1 in
-      let none : length (map (λ (p : Parameter). declared p.name) f.parameters.items) ≡ 0 = length-map f.parameters.items (λ (p : Parameter). declared p.name) ∙ ap length plays.0 in
+      let none : length (map (λ (p : Parameter). declared p.name) f.parameters.items) ≡ 0 =
+      length-map f.parameters.items (λ (p : Parameter). declared p.name) ∙ ap length plays.0 in
       subst (CanDo config made.types n) (same_Some x w e)
       (record {
-        playable = can_play n at.0 _ (string_bytes f.runs_on) (map (λ p. declared p.name) f.parameters.items) f.variables.items f.statements.items x.body x.references
+        playable =
+            can_play n at.0 _ (string_bytes f.runs_on) (map (λ p. declared p.name) f.parameters.items) f.variables.items f.statements.items x.body x.references
             at.1 at.2 is (omega (arith, none, reference_length n [] x.references refs));
         known = are_known n [] x.references refs here (All-nil IsKnown);
       })
@@ -327,7 +363,8 @@ module _ (m : Module) (made : Made) (rules : IsWellDeclared m) (of : IsTestCaseO
     by (inl early) =
         let role = x.2.role ∙ tested_roles k x.0 (from_left tested (interface case) k x.0 x.1 early) in
         absurd (true≢false (sym system ∙ ap is_system_role role))
-    by (inr late) = omega (arith, late, slice_get_within config.components k y here, all_of_them, few_interfaces case, length-map (creations case.setups.items) created)
+    by (inr late) =
+        omega (arith, late, slice_get_within config.components k y here, all_of_them, few_interfaces case, length-map (creations case.setups.items) created)
 
   pub ready : IsReady made
   ready = record {
@@ -340,6 +377,7 @@ module _ (m : Module) (made : Made) (rules : IsWellDeclared m) (of : IsTestCaseO
   }
 
 -- what a component is given to do, it can do
-pub can_at : (made : Made) (k : ℕ) (o : Option Conduct) → IsReady made → option_map seen o ≡ duty_at made k → IfSome o (λ c. CanDo made.config made.types k (seen c))
+pub can_at : (made : Made) (k : ℕ) (o : Option Conduct) → IsReady made → option_map seen o ≡ duty_at made k
+    → IfSome o (λ c. CanDo made.config made.types k (seen c))
 can_at made k None is e = tt
 can_at made k (Some c) is e = is.can_do k (seen c) (sym e)

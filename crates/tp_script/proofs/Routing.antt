@@ -18,7 +18,8 @@ port_component s p h = by (cases_lt p.comp.0 (length s.components)) where
   by : (p.comp.0 < length s.components) ⊎ (length s.components ≤ p.comp.0) → IsComponent s p.comp
   by (inl below) = below
   by (inr past) =
-      absurd (true≢false (sym (subst (λ (o : Option Member). IsSome (slice_get (option_map_or (λ (m : Member). slice_index_or s.types m.kind []) o []) p.port)) (slice_get_past s.components p.comp.0 past) h)))
+      absurd (true≢false (sym (subst (λ (o : Option Member). IsSome (slice_get (option_map_or (λ (m : Member). slice_index_or s.types m.kind []) o []) p.port))
+      (slice_get_past s.components p.comp.0 past) h)))
 
 -- a route leads to a port of the configuration, and so to one of its components
 pub route_leads : (s : Setup) → IsSetup s → (p : PortRef) (r : RouteId) → Contains (routes_from s p) r → IsPort s r.to

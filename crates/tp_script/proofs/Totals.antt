@@ -21,12 +21,15 @@ sum_cons f x xs = sum-map f (x ∷ xs) ∙ sum_by-cons f x xs ∙ ap (λ n. f x 
 cap_twice : (n : ℕ) → capped (capped n) ≡ capped n
 cap_twice n = grind arith
 
-capped_size : (o : Option Body) (refs : List ℕ) → capped (option_map_or (λ b. capped (size_of_body b)) o 0) ≡ capped (size_of_duty (option_map (λ b. record { body = b; references = refs }) o))
+capped_size : (o : Option Body) (refs : List ℕ)
+    → capped (option_map_or (λ b. capped (size_of_body b)) o 0) ≡ capped (size_of_duty (option_map (λ b. record { body = b; references = refs }) o))
 capped_size None refs = refl
 capped_size (Some b) refs = cap_twice (size_of_body b)
 
-module _ (bodies : Bodies) (own : ℕ) (sizes : List ℕ) (own_is : own ≡ capped (size_of_body bodies.main)) (sizes_are : sizes ≡ map (λ b. capped (size_of_body b)) bodies.functions.items) where
-  from : (s : Source) (refs : List ℕ) → capped (size_from own sizes s) ≡ capped (size_of_duty (option_map (λ b. record { body = b; references = refs }) (body_in bodies s)))
+module _ (bodies : Bodies) (own : ℕ) (sizes : List ℕ) (own_is : own ≡ capped (size_of_body bodies.main))
+    (sizes_are : sizes ≡ map (λ b. capped (size_of_body b)) bodies.functions.items) where
+  from : (s : Source) (refs : List ℕ)
+      → capped (size_from own sizes s) ≡ capped (size_of_duty (option_map (λ b. record { body = b; references = refs }) (body_in bodies s)))
   from source.TestCase refs = ap capped own_is ∙ cap_twice (size_of_body bodies.main)
   from (source.Function k) refs =
       ap (λ (l : List ℕ). capped (slice_index_or l k 0)) sizes_are

@@ -29,18 +29,25 @@ abbrev pub AreReferences : ℕ → List ℕ → ℕ → List ℕ → Type 0
 AreReferences itself arguments count references = Numbers count (0 ∷ itself ∷ arguments) references
 
 -- what the component of this number does, where these are the functions and the starts
-pub data Does (known : Known) (functions : List Function) (case : TestCase) (starts : Starts) : ℕ → Option Duty → Type 0 where
+pub data Does (known : Known) (functions : List Function) (case : TestCase) (starts : Starts)
+    : ℕ → Option Duty → Type 0 where
   -- `mtc`: the test case's own body
-  main : (d : Duty) → IsMainBody known case d.body → AreReferences 0 [] (length known.components) d.references → Does known functions case starts 0 (Some d)
+  main : (d : Duty) → IsMainBody known case d.body → AreReferences 0 [] (length known.components) d.references
+      → Does known functions case starts 0 (Some d)
   -- a component that is made: the body of the function that its start names, with the arguments of this start
-  started : (k place : ℕ) (x : Started) (f : Function) (d : Duty) → slice_get starts.places.items k ≡ Some place → slice_get starts.starts.items place ≡ Some x
-      → slice_get functions x.function ≡ Some f → IsFunctionBody known f d.body
-      → AreReferences (k + 1) (map (λ c. c.0) x.arguments.items) (length known.components) d.references → Does known functions case starts (k + 1) (Some d)
+  started : (k place : ℕ) (x : Started) (f : Function) (d : Duty) → slice_get starts.places.items k ≡ Some place
+      → slice_get starts.starts.items place ≡ Some x → slice_get functions x.function ≡ Some f
+      → IsFunctionBody known f d.body
+      → AreReferences (k + 1) (map (λ c. c.0) x.arguments.items) (length known.components) d.references
+      → Does known functions case starts (k + 1) (Some d)
   -- the test system interface: the body of `sut`
-  system : (n : ℕ) (f : Function) (d : Duty) → interface_number case ≡ Some n → Contains functions f → string_bytes f.name ≡ sut
-      → IsFunctionBody known f d.body → AreReferences n [] (length known.components) d.references → Does known functions case starts n (Some d)
+  system : (n : ℕ) (f : Function) (d : Duty) → interface_number case ≡ Some n → Contains functions f
+      → string_bytes f.name ≡ sut → IsFunctionBody known f d.body
+      → AreReferences n [] (length known.components) d.references
+      → Does known functions case starts n (Some d)
   -- or nothing, where no function has that name
-  nobody : (n : ℕ) → interface_number case ≡ Some n → (Contains (map (λ (f : Function). string_bytes f.name) functions) sut → ⊥)
+  nobody : (n : ℕ) → interface_number case ≡ Some n
+      → (Contains (map (λ (f : Function). string_bytes f.name) functions) sut → ⊥)
       → Does known functions case starts n None
 
 -- how many statements a component has to carry out at most, once each `for` stands for its copies

@@ -16,7 +16,13 @@ use Rattle.tp_script.specs.Duties.{Duty, AreReferences}
 
 -- what the bodies may speak of, once the first three passes are done
 abbrev pub known_in : Prepared → Known
-known_in p = record { types = p.types; component_types = p.sorted.component_names; ports = p.config.types; components = p.variables }
+known_in p =
+    record {
+      types = p.types;
+      component_types = p.sorted.component_names;
+      ports = p.config.types;
+      components = p.variables;
+    }
 
 -- the body that is meant
 abbrev pub body_in : Bodies → Source → Option Body
@@ -24,7 +30,9 @@ body_in bodies source.TestCase = Some bodies.main
 body_in bodies (source.Function place) = slice_get bodies.functions.items place
 
 abbrev pub duty_in : Bodies → Part → Option Duty
-duty_in bodies part = option_map (λ b. record { body = b; references = map (λ c. c.0) part.references.items }) (body_in bodies part.source)
+duty_in bodies part =
+    option_map (λ b. record { body = b; references = map (λ c. c.0) part.references.items })
+    (body_in bodies part.source)
 
 -- what a component does that has this part, if it has one
 abbrev pub duty_of : Bodies → Option Part → Option Duty
@@ -33,13 +41,21 @@ duty_of bodies (Some part) = duty_in bodies part
 
 -- the part of the component of this number
 pub data IsPart (p : Prepared) : ℕ → Option Part → Type 0 where
-  main : (x : Part) → x.source ≡ source.TestCase → AreReferences 0 [] (length p.variables) (map (λ c. c.0) x.references.items) → IsPart p 0 (Some x)
-  started : (k place : ℕ) (s : Started) (x : Part) → slice_get p.starts.places.items k ≡ Some place → slice_get p.starts.starts.items place ≡ Some s
-      → x.source ≡ source.Function s.function
-      → AreReferences (k + 1) (map (λ c. c.0) s.arguments.items) (length p.variables) (map (λ c. c.0) x.references.items) → IsPart p (k + 1) (Some x)
-  system : (n place : ℕ) (x : Part) → IsSome p.case.case.now.system → n ≡ length p.starts.places.items + 1 → place_of p.sorted.function_names sut ≡ Some place
-      → x.source ≡ source.Function place → AreReferences n [] (length p.variables) (map (λ c. c.0) x.references.items) → IsPart p n (Some x)
-  nobody : (n : ℕ) → IsSome p.case.case.now.system → n ≡ length p.starts.places.items + 1 → place_of p.sorted.function_names sut ≡ None → IsPart p n None
+  main : (x : Part) → x.source ≡ source.TestCase
+      → AreReferences 0 [] (length p.variables) (map (λ c. c.0) x.references.items)
+      → IsPart p 0 (Some x)
+  started : (k place : ℕ) (s : Started) (x : Part) → slice_get p.starts.places.items k ≡ Some place
+      → slice_get p.starts.starts.items place ≡ Some s → x.source ≡ source.Function s.function
+      → AreReferences (k + 1) (map (λ c. c.0) s.arguments.items) (length p.variables)
+      (map (λ c. c.0) x.references.items)
+      → IsPart p (k + 1) (Some x)
+  system : (n place : ℕ) (x : Part) → IsSome p.case.case.now.system → n ≡ length p.starts.places.items + 1
+      → place_of p.sorted.function_names sut ≡ Some place → x.source ≡ source.Function place
+      → AreReferences n [] (length p.variables) (map (λ c. c.0) x.references.items)
+      → IsPart p n (Some x)
+  nobody : (n : ℕ) → IsSome p.case.case.now.system → n ≡ length p.starts.places.items + 1
+      → place_of p.sorted.function_names sut ≡ None
+      → IsPart p n None
 
 -- these are the parts of the components, by their numbers
 abbrev pub AreParts : Prepared → List (Option Part) → Type 0

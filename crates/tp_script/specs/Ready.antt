@@ -41,7 +41,8 @@ HasNoSystem config = (k : ℕ) (m : Member) → slice_get config.components k �
 pub record IsReady (made : Made) : Type 0 where
   pub main : HasMain made.config
   -- the test system interface, if there is one, is the last component
-  pub system_last : (k : ℕ) (m : Member) → slice_get made.config.components k ≡ Some m → is_system_member m ≡ true → k + 1 ≡ length made.config.components
+  pub system_last : (k : ℕ) (m : Member) → slice_get made.config.components k ≡ Some m → is_system_member m ≡ true
+      → k + 1 ≡ length made.config.components
   -- there is a duty, or none, for each component
   pub everyone : length made.duties ≡ length made.config.components
   pub can_do : (k : ℕ) (d : Duty) → duty_at made k ≡ Some d → CanDo made.config made.types k d

@@ -26,7 +26,8 @@ pub record Known : Type 0 where
   pub components : List (List ℕ)
 
 -- what a behaviour may speak of that runs on the component type of this name and has parameters of these names
-pub record IsScope (known : Known) (plays : Behaviour) (runs_on : List ℕ) (names : List (List ℕ)) (scope : Scope) : Type 0 where
+pub record IsScope (known : Known) (plays : Behaviour) (runs_on : List ℕ) (names : List (List ℕ)) (scope : Scope)
+    : Type 0 where
   pub types : scope.types.now ≡ known.types
   pub component_types : scope.component_types.now ≡ known.component_types
   -- the ports are those of the component type behind `runs on`
@@ -38,14 +39,16 @@ pub record IsScope (known : Known) (plays : Behaviour) (runs_on : List ℕ) (nam
   pub components : scope.components.now ≡ known.components
 
 -- these variables and statements obey the rules on bodies in such a scope, and stand for this body
-pub record StandsFor (known : Known) (plays : Behaviour) (runs_on : List ℕ) (parameters : List (List ℕ)) (variables : List Variable) (statements : List Statement) (body : Body) : Type 0 where
+pub record StandsFor (known : Known) (plays : Behaviour) (runs_on : List ℕ) (parameters : List (List ℕ))
+    (variables : List Variable) (statements : List Statement) (body : Body) : Type 0 where
   pub scope : Scope
   pub is_scope : IsScope known plays runs_on parameters scope
   pub is_body : IsBody scope variables statements body
 
 -- the test case's own body
 abbrev pub IsMainBody : Known → TestCase → Body → Type 0
-IsMainBody known case body = StandsFor known behaviour.TestCase (string_bytes case.runs_on) [] case.variables.items case.statements.items body
+IsMainBody known case body =
+    StandsFor known behaviour.TestCase (string_bytes case.runs_on) [] case.variables.items case.statements.items body
 
 -- a function named `sut` plays the system under test
 abbrev pub plays_of : Function → Behaviour
@@ -53,4 +56,6 @@ plays_of f = if bytes_eq (string_bytes f.name) sut then behaviour.SystemUnderTes
 
 -- the body of a function
 abbrev pub IsFunctionBody : Known → Function → Body → Type 0
-IsFunctionBody known f body = StandsFor known (plays_of f) (string_bytes f.runs_on) (map (λ p. declared p.name) f.parameters.items) f.variables.items f.statements.items body
+IsFunctionBody known f body =
+    StandsFor known (plays_of f) (string_bytes f.runs_on) (map (λ p. declared p.name) f.parameters.items)
+    f.variables.items f.statements.items body

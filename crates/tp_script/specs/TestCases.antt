@@ -17,8 +17,8 @@ use Rattle.tp_body.specs.declared.body.Body.{Body}
 use Rattle.tp_script.specs.Scopes.{Known, IsMainBody, IsFunctionBody}
 use Rattle.tp_script.specs.Duties.{Duty, Does, size_of_duty}
 
--- what contracts see of a test case: its configuration, the record and record-of types, and what each component does, in
--- the order of the components
+-- what contracts see of a test case: its configuration, the record and record-of types, and what each component does,
+-- in the order of the components
 pub record Made : Type 0 where
   pub config : Setup
   pub types : Types
@@ -26,7 +26,13 @@ pub record Made : Type 0 where
 
 -- what the bodies of a module may speak of, whose test case is this
 abbrev pub known_of : Module → TestCase → Setup → Types → Known
-known_of m case config types = record { types = types; component_types = component_type_names m; ports = config.types; components = variables case.setups.items }
+known_of m case config types =
+    record {
+      types = types;
+      component_types = component_type_names m;
+      ports = config.types;
+      components = variables case.setups.items;
+    }
 
 -- the ports of the component types of the module
 pub record AreKinds (m : Module) (kinds : List (List PortDecl)) : Type 0 where
@@ -41,14 +47,16 @@ pub record IsTestCaseOf (m : Module) (made : Made) : Type 0 where
   pub one_test_case : test_cases m ≡ case ∷ []
   -- the record and record-of types under their own names, and nothing else
   pub types : AreTypes m made.types
-  -- the components in their order, with their declared ports, and the connections and mappings of the setup statements alone
+  -- the components in their order, with their declared ports, and the connections and mappings of the setup statements
+  -- alone
   pub kinds : AreKinds m made.config.types
   pub config : IsConfigOf m case made.config
   -- each component does what it is there for, with the arguments of its start
   pub starts : Starts
   pub starts_are : AreStarts (functions m) case starts
   pub everyone : length made.duties ≡ length made.config.components
-  pub does : (k : ℕ) (duty : Option Duty) → slice_get made.duties k ≡ Some duty → Does (known_of m case made.config made.types) (functions m) case starts k duty
+  pub does : (k : ℕ) (duty : Option Duty) → slice_get made.duties k ≡ Some duty
+      → Does (known_of m case made.config made.types) (functions m) case starts k duty
 
 -- the module obeys the rules on bodies: the test case's own and each function's, started or not, stands for something
 pub record HasSoundBodies (m : Module) : Type 0 where

@@ -78,7 +78,8 @@ fn resolve_functions<'m>(
     definitions: &'m [Definition],
     prepared: &Prepared<'m>,
 ) -> Result<Vec<Body>, ScriptFault>
-    ensures { IfOk result (λ bodies. AllZip (IsFunctionBody (known_in prepared.now)) (among function_of definitions.now) bodies.items) }
+    ensures { IfOk result (λ bodies. AllZip (IsFunctionBody (known_in prepared.now))
+        (among function_of definitions.now) bodies.items) }
 {
     let mut bodies = Vec::new(alloc);
     for definition in definitions {
@@ -93,15 +94,17 @@ fn resolve_functions<'m>(
 
 /// The bodies of a module: the test case's own, and those of its functions, started or not.
 ///
-/// The first fault is the answer, the test case's own body first and then the functions in the order of
-/// the text: see `resolve_body`. 50 `Memory` only where an allocation was refused.
+/// The first fault is the answer, the test case's own body first and then the functions in the
+/// order of the text: see `resolve_body`. 50 `Memory` only where an allocation was refused.
 pub fn resolve_bodies<'m>(
     alloc: Global,
     parsed: &'m Module,
     prepared: &Prepared<'m>,
 ) -> Result<Bodies, ScriptFault>
-    ensures main { IfOk result (λ b. IsMainBody (known_in prepared.now) prepared.now.case.case.now b.main) }
-    ensures functions { IfOk result (λ b. AllZip (IsFunctionBody (known_in prepared.now)) (functions parsed.now) b.functions.items) }
+    ensures main { IfOk result (λ b.
+        IsMainBody (known_in prepared.now) prepared.now.case.case.now b.main) }
+    ensures functions { IfOk result (λ b. AllZip (IsFunctionBody (known_in prepared.now))
+        (functions parsed.now) b.functions.items) }
 {
     let main = resolve_main(alloc, prepared)?;
     let functions = resolve_functions(alloc, &parsed.definitions, prepared)?;

@@ -17,18 +17,21 @@ use tp_setup::prepared::Prepared;
 use tp_setup::preparing::prepare;
 use tp_syntax::tree::Module;
 
-/// The fourth pass and the fifth: the bodies, and what each component does with them. The first fault is
-/// the answer. 50 `Memory` only where an allocation was refused.
+/// The fourth pass and the fifth: the bodies, and what each component does with them. The first
+/// fault is the answer. 50 `Memory` only where an allocation was refused.
 fn resolve_behaviours<'m>(
     alloc: Global,
     parsed: &'m Module,
     prepared: &Prepared<'m>,
 ) -> Result<Behaviours, ScriptFault>
-    ensures main { IfOk result (λ b. IsMainBody (known_in prepared.now) prepared.now.case.case.now b.bodies.main) }
-    ensures functions { IfOk result (λ b. AllZip (IsFunctionBody (known_in prepared.now)) (functions parsed.now) b.bodies.functions.items) }
+    ensures main { IfOk result (λ b.
+        IsMainBody (known_in prepared.now) prepared.now.case.case.now b.bodies.main) }
+    ensures functions { IfOk result (λ b. AllZip (IsFunctionBody (known_in prepared.now))
+        (functions parsed.now) b.bodies.functions.items) }
     ensures parts { IfOk result (λ b. AreParts prepared.now b.parts.items) }
     ensures count { IfOk result (λ b. length b.parts.items ≡ part_count prepared.now) }
-    ensures few { IfOk result (λ b. sum (map size_of_duty (map (duty_of b.bodies) b.parts.items)) ≤ 100000) }
+    ensures few { IfOk result (λ b.
+        sum (map size_of_duty (map (duty_of b.bodies) b.parts.items)) ≤ 100000) }
 {
     let bodies = resolve_bodies(alloc, parsed, prepared)?;
     let parts = make_parts(alloc, prepared)?;
@@ -38,12 +41,12 @@ fn resolve_behaviours<'m>(
 
 /// Checks a module, and makes its test case.
 ///
-/// The first fault of the first pass that finds one is the answer, at its line. The passes are: the names,
-/// 11 `Unknown` and 12 `Duplicate`; the definitions, 11, 15 `Limit` and 16 `NotInSut`; the setup and the
-/// starts, 11, 12, 13 `WrongType`, 15, 16, 17 `NoDone`, 18 `NotStarted` and the refusals of
-/// [`Config::connect`](tp_config::config::Config::connect) and
-/// [`Config::map`](tp_config::config::Config::map), 20 to 28; the bodies, 11, 12, 13, 14 `Direction` and 16;
-/// and the size, 15. 50 `Memory` only where an allocation was refused.
+/// The first fault of the first pass that finds one is the answer, at its line. The passes are: the
+/// names, 11 `Unknown` and 12 `Duplicate`; the definitions, 11, 15 `Limit` and 16 `NotInSut`; the
+/// setup and the starts, 11, 12, 13 `WrongType`, 15, 16, 17 `NoDone`, 18 `NotStarted` and the
+/// refusals of [`Config::connect`](tp_config::config::Config::connect) and
+/// [`Config::map`](tp_config::config::Config::map), 20 to 28; the bodies, 11, 12, 13,
+/// 14 `Direction` and 16; and the size, 15. 50 `Memory` only where an allocation was refused.
 pub fn check(alloc: Global, parsed: &Module) -> Result<TestCase, ScriptFault>
     ensures well_formed { OnOk result (WellFormed parsed.now) }
     ensures made { IfOk result (IsTestCaseOf parsed.now) }

@@ -1,5 +1,5 @@
-//! The reader of scripts: the tokens and the tree of a text, the checks of its module, and the test case
-//! that they make of it.
+//! The reader of scripts: the tokens and the tree of a text, the checks of its module, and the test
+//! case that they make of it.
 #![tactic(auto)]
 
 mod bodies;

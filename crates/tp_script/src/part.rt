@@ -15,7 +15,7 @@ pub enum Source {
 pub struct Part {
     /// The body.
     pub source: Source,
-    /// The components: `mtc`, the component itself, the arguments of its start, and those of the component
-    /// variables of the test case.
+    /// The components: `mtc`, the component itself, the arguments of its start, and those of the
+    /// component variables of the test case.
     pub references: Vec<CompId>,
 }

@@ -14,7 +14,8 @@ use tp_setup::starts::{Started, Starts};
 
 /// Adds the components of so many component variables, which are numbered from 1.
 fn add_variables(references: &mut Vec<CompId>, count: u32) -> Result<(), ScriptFault>
-    ensures { OnOk result (Numbers count (map (λ c. c.0) references.old.items) (map (λ c. c.0) references.new.items)) }
+    ensures { OnOk result (Numbers count
+        (map (λ c. c.0) references.old.items) (map (λ c. c.0) references.new.items)) }
 {
     for place in 0..count {
         references.push(CompId(place + 1))?;
@@ -29,7 +30,8 @@ fn references(
     arguments: &[CompId],
     count: u32,
 ) -> Result<Vec<CompId>, ScriptFault>
-    ensures { IfOk result (λ made. AreReferences itself.0 (map (λ c. c.0) arguments.now) count (map (λ c. c.0) made.items)) }
+    ensures { IfOk result (λ made. AreReferences
+        itself.0 (map (λ c. c.0) arguments.now) count (map (λ c. c.0) made.items)) }
 {
     let mut made = Vec::new(alloc);
     made.push(CompId(0))?;
@@ -77,7 +79,8 @@ fn start_at(starts: &Starts, place: u32) -> Option<&Started>
 /// What `mtc` does.
 fn main_part(alloc: Global, count: u32) -> Result<Part, ScriptFault>
     ensures source { IfOk result (λ part. part.source ≡ source.TestCase) }
-    ensures references { IfOk result (λ part. AreReferences 0 [] count (map (λ c. c.0) part.references.items)) }
+    ensures references { IfOk result (λ part.
+        AreReferences 0 [] count (map (λ c. c.0) part.references.items)) }
 {
     let references = references(alloc, CompId(0), &[], count)?;
     Ok(Part {
@@ -111,8 +114,8 @@ fn started_part(
     })
 }
 
-/// What the test system interface does, which stands behind all other components: nothing where no function
-/// is named `sut`.
+/// What the test system interface does, which stands behind all other components: nothing where no
+/// function is named `sut`.
 fn system_part(alloc: Global, prepared: &Prepared, count: u32) -> Result<Option<Part>, ScriptFault>
     requires count { count ≡ length prepared.now.variables }
     requires system { IsSome prepared.now.case.case.now.system }
@@ -139,7 +142,8 @@ fn test_parts(
 ) -> Result<Vec<Option<Part>>, ScriptFault>
     requires { count ≡ length prepared.now.variables }
     ensures parts { IfOk result (λ parts. AreParts prepared.now parts.items) }
-    ensures count { IfOk result (λ parts. length parts.items ≡ length prepared.now.starts.places.items + 1) }
+    ensures count { IfOk result (λ parts.
+        length parts.items ≡ length prepared.now.starts.places.items + 1) }
 {
     let mut parts = Vec::new(alloc);
     let main = main_part(alloc, count)?;
@@ -151,8 +155,8 @@ fn test_parts(
     Ok(parts)
 }
 
-/// What each component of a test case does, by its number: `mtc`, the components of the component variables,
-/// and the test system interface where there is a `system` clause.
+/// What each component of a test case does, by its number: `mtc`, the components of the component
+/// variables, and the test system interface where there is a `system` clause.
 ///
 /// 50 `Memory` only where an allocation was refused.
 pub fn make_parts(alloc: Global, prepared: &Prepared) -> Result<Vec<Option<Part>>, ScriptFault>

@@ -22,8 +22,8 @@ fn kind_at(kinds: &[CompType], place: u32) -> Option<&CompType>
     kinds.get(place as usize)
 }
 
-/// The names of the parameters, in their order. 12 `Duplicate` at the line of the second of two that are
-/// equal; 50.
+/// The names of the parameters, in their order. 12 `Duplicate` at the line of the second of two
+/// that are equal; 50.
 pub fn parameter_names(alloc: Global, parameters: &[Parameter]) -> Result<NameSet<'_>, ScriptFault>
     ensures { IfOk result (λ names. names ≡ map (λ p. declared p.name) parameters.now) }
 {
@@ -32,8 +32,8 @@ pub fn parameter_names(alloc: Global, parameters: &[Parameter]) -> Result<NameSe
     Ok(names)
 }
 
-/// What a behaviour may speak of that runs on the component type of this name and has these parameters.
-/// 11 `Unknown` at the line where there is no such type. Takes no memory.
+/// What a behaviour may speak of that runs on the component type of this name and has these
+/// parameters. 11 `Unknown` at the line where there is no such type. Takes no memory.
 pub fn scope_of<'m>(
     prepared: &'m Prepared<'m>,
     runs_on: &str,

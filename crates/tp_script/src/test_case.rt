@@ -18,11 +18,11 @@ use tp_config::port_type::CompId;
 use tp_setup::prepared::Prepared;
 use tp_value::types::Types;
 
-/// A test case whose module obeys the rules: its components and what each of them does. Contracts see the
-/// configuration, the types and each component's duty.
+/// A test case whose module obeys the rules: its components and what each of them does. Contracts
+/// see the configuration, the types and each component's duty.
 ///
-/// At every moment it can be executed: each component can do what it is there for, so that each port,
-/// reference, variable and loop variable of which its body speaks is there.
+/// At every moment it can be executed: each component can do what it is there for, so that each
+/// port, reference, variable and loop variable of which its body speaks is there.
 #[derive(Drop)]
 pub struct TestCase {
     config: Config,
@@ -45,8 +45,9 @@ pub(crate) struct Behaviours {
 pub struct Conduct<'t> {
     /// Its body. Components that start the same function have the same.
     pub body: &'t Body,
-    /// The components that the references of the body name, by their places: `mtc` at 0, the component itself
-    /// at 1, then the arguments of its start, then those of the component variables of the test case.
+    /// The components that the references of the body name, by their places: `mtc` at 0, the
+    /// component itself at 1, then the arguments of its start, then those of the component
+    /// variables of the test case.
     pub references: &'t [CompId],
 }
 
@@ -104,9 +105,17 @@ impl Model for TestCase {
 
     ghost use Rattle.tp_script.specs.Ready.{IsReady};
 
-    ghost view = { λ t. record { config = t.config; types = t.types; duties = map (duty_of t.bodies) t.parts.items } };
+    ghost view = { λ t. record {
+      config = t.config;
+      types = t.types;
+      duties = map (duty_of t.bodies) t.parts.items;
+    } };
 
-    ghost invariant = { λ t. IsReady (record { config = t.config; types = t.types; duties = map (duty_of t.bodies) t.parts.items }) };
+    ghost invariant = { λ t. IsReady (record {
+      config = t.config;
+      types = t.types;
+      duties = map (duty_of t.bodies) t.parts.items;
+    }) };
 }
 
 impl TestCase {
@@ -114,7 +123,11 @@ impl TestCase {
     pub(crate) fn new(prepared: Prepared<'_>, behaviours: Behaviours) -> TestCase
         requires { let duties = map (duty_of behaviours.bodies) behaviours.parts.items in
             IsReady (record { config = prepared.config; types = prepared.types; duties = duties }) }
-        ensures { result ≡ record { config = prepared.entry.config; types = prepared.entry.types; duties = map (duty_of behaviours.bodies) behaviours.parts.items } }
+        ensures { result ≡ record {
+          config = prepared.entry.config;
+          types = prepared.entry.types;
+          duties = map (duty_of behaviours.bodies) behaviours.parts.items;
+        } }
     {
         let Prepared { types, config, .. } = prepared;
         let Behaviours { bodies, parts } = behaviours;
@@ -126,9 +139,9 @@ impl TestCase {
         }
     }
 
-    /// How many components there are, at most 64. They are numbered from 0: `mtc`, those that are created in
-    /// their order, and the test system interface where the test case has a `system` clause
-    /// (ES 201 873-1, 9.1, 21.2.1). Takes no memory.
+    /// How many components there are, at most 64. They are numbered from 0: `mtc`, those that are
+    /// created in their order, and the test system interface where the test case has a `system`
+    /// clause (ES 201 873-1, 9.1, 21.2.1). Takes no memory.
     pub fn components(&self) -> usize
         ensures count { result ≡ length self.now.config.components }
         ensures few { result ≤ 64 }
@@ -157,8 +170,8 @@ impl TestCase {
         CompId(0)
     }
 
-    /// The component that is the test system interface, or `None` where none is (ES 201 873-1, 9.2). It is
-    /// the last one. Takes no memory.
+    /// The component that is the test system interface, or `None` where none is
+    /// (ES 201 873-1, 9.2). It is the last one. Takes no memory.
     pub fn system(&self) -> Option<CompId>
         ensures { MatchOption result (HasNoSystem self.now.config) (IsSystem self.now.config) }
     {
@@ -185,9 +198,10 @@ impl TestCase {
         &self.types
     }
 
-    /// What the component does: the test case's own body for `mtc`, that of its function for a component that
-    /// is started, and that of `sut` for the test system interface. `None` for a test system interface
-    /// without `sut`, and where there is no such component. The component can do it. Takes no memory.
+    /// What the component does: the test case's own body for `mtc`, that of its function for a
+    /// component that is started, and that of `sut` for the test system interface. `None` for a
+    /// test system interface without `sut`, and where there is no such component. The component can
+    /// do it. Takes no memory.
     pub fn body(&self, comp: CompId) -> Option<Conduct<'_>>
         ensures duty { option_map seen result ≡ duty_at self.now comp.0 }
         ensures can { IfSome result (λ c. CanDo self.now.config self.now.types comp.0 (seen c)) }

@@ -3,7 +3,7 @@ use Rattle.std.proofs.Common.{◌≡◌, ℕ, ◌+◌, ◌<◌, List, ◌++◌, 
 use Rattle.std.proofs.lemmas.List.{map-append}
 use Rattle.std.specs.Option.{option_map, option_to_list}
 use Rattle.tp_syntax.specs.declared.tree.Creation.{Creation}
-use Rattle.tp_syntax.specs.declared.tree.Setup.{Setup as Statement}
+use Rattle.tp_syntax.specs.declared.tree.SetupStatement.{SetupStatement}
 use Rattle.tp_config.specs.Setup.{Setup}
 use Rattle.tp_setup.specs.Components.{creation_of, creations, variable, variables}
 use Rattle.tp_setup.specs.Configuring.{IsStep, Makes, one_more}
@@ -13,8 +13,9 @@ variable_in : (o : Option Creation) → option_to_list (option_map variable o) �
 variable_in None = refl
 variable_in (Some c) = refl
 
-module _ (xs : List Statement) (i : ℕ) (x : Statement) (lt : i < length xs) (is : x ≡ get_or xs i x) where
-  pub variables_more : (names more : List (List ℕ)) → names ≡ variables (take i xs) → more ≡ names ++ option_to_list (option_map variable (creation_of x)) → more ≡ variables (take (i + 1) xs)
+module _ (xs : List SetupStatement) (i : ℕ) (x : SetupStatement) (lt : i < length xs) (is : x ≡ get_or xs i x) where
+  pub variables_more : (names more : List (List ℕ)) → names ≡ variables (take i xs) → more ≡ names ++ option_to_list (option_map variable (creation_of x))
+      → more ≡ variables (take (i + 1) xs)
   variables_more names more before next =
       next ∙ ap (λ l. l ++ option_to_list (option_map variable (creation_of x))) before ∙ ap (λ l. variables (take i xs) ++ l) (variable_in (creation_of x))
       ∙ sym (map-append variable (creations (take i xs)) (option_to_list (creation_of x))) ∙ ap (map variable) (sym (kept_more creation_of xs i x lt is))

@@ -4,13 +4,13 @@ use Rattle.std.specs.Option.{option_to_list}
 use Rattle.std.specs.List.{AllZip}
 use Rattle.std.proofs.lemmas.List.{map_push, length-map}
 use Rattle.tp_syntax.specs.declared.tree.Creation.{Creation}
-use Rattle.tp_syntax.specs.declared.tree.Setup.{Setup as Statement}
+use Rattle.tp_syntax.specs.declared.tree.SetupStatement.{SetupStatement}
 use Rattle.tp_config.specs.Setup.{Setup}
 use Rattle.tp_name.specs.Tables.{AreDistinct}
 use Rattle.tp_setup.specs.Components.{Adds, AddsAll, Declared, HasSoundVariables, IsMember, creation_of, creations, variable}
 use Rattle.tp_setup.proofs.Steps.{all_push, kept_more, zip_push}
 
-module _ (xs : List Statement) (i : ℕ) (x : Statement) (lt : i < length xs) (is : x ≡ get_or xs i x) where
+module _ (xs : List SetupStatement) (i : ℕ) (x : SetupStatement) (lt : i < length xs) (is : x ≡ get_or xs i x) where
   -- a statement that makes no component, and one that makes one
   pub no_creation : None ≡ creation_of x → creations (take (i + 1) xs) ≡ creations (take i xs)
   no_creation other = kept_more creation_of xs i x lt is ∙ ap (λ o. creations (take i xs) ++ option_to_list o) (sym other) ∙ append-nil (creations (take i xs))
@@ -18,8 +18,10 @@ module _ (xs : List Statement) (i : ℕ) (x : Statement) (lt : i < length xs) (i
   pub one_creation : (c : Creation) → Some c ≡ creation_of x → creations (take (i + 1) xs) ≡ creations (take i xs) ++ c ∷ []
   one_creation c this = kept_more creation_of xs i x lt is ∙ ap (λ o. creations (take i xs) ++ option_to_list o) (sym this)
 
-pub sound_more : (types ports names more : List (List ℕ)) (most : ℕ) (xs : List Creation) (c : Creation) → HasSoundVariables types ports most xs → names ≡ map variable xs
-    → more ≡ names ++ variable c ∷ [] → AreDistinct more → (Contains ports (variable c) → ⊥) → Contains types (string_bytes c.type_name) → string_bytes c.type_name ≡ string_bytes c.created
+pub sound_more : (types ports names more : List (List ℕ)) (most : ℕ) (xs : List Creation) (c : Creation) → HasSoundVariables types ports most xs
+    → names ≡ map variable xs
+    → more ≡ names ++ variable c ∷ [] → AreDistinct more → (Contains ports (variable c) → ⊥) → Contains types (string_bytes c.type_name)
+    → string_bytes c.type_name ≡ string_bytes c.created
     → length more ≤ most → HasSoundVariables types ports most (xs ++ c ∷ [])
 sound_more types ports names more most xs c before named next distinct apart known same few =
     let all : more ≡ map variable (xs ++ c ∷ []) = next ∙ ap (λ l. l ++ variable c ∷ []) named ∙ sym (map_push variable xs c) in
@@ -31,7 +33,8 @@ sound_more types ports names more most xs c before named next distinct apart kno
       few = subst (λ n. n ≤ most) (ap length all ∙ length-map (xs ++ c ∷ []) variable) few;
     }
 
-pub adds_more : (types : List (List ℕ)) (xs : List Declared) (d : Declared) (old mid new : Setup) → AddsAll types xs old mid → Adds types d mid new → AddsAll types (xs ++ d ∷ []) old new
+pub adds_more : (types : List (List ℕ)) (xs : List Declared) (d : Declared) (old mid new : Setup) → AddsAll types xs old mid → Adds types d mid new
+    → AddsAll types (xs ++ d ∷ []) old new
 adds_more types xs d old mid new before one = rw one.added (record {
   components = λ first h. subst (λ l. AllZip (IsMember types) l (mid.components ++ one.member ∷ [])) (append_assoc first xs (d ∷ []))
       (zip_push (IsMember types) (first ++ xs) mid.components d one.member (before.components first h) one.is_member);
@@ -41,4 +44,9 @@ adds_more types xs d old mid new before one = rw one.added (record {
 })
 
 pub adds_none : (types : List (List ℕ)) (s : Setup) → AddsAll types [] s s
-adds_none types s = record { components = λ first h. subst (λ l. AllZip (IsMember types) l s.components) (sym (append-nil first)) h; types_stay = refl; connected_stay = refl; mapped_stay = refl }
+adds_none types s = record {
+  components = λ first h. subst (λ l. AllZip (IsMember types) l s.components) (sym (append-nil first)) h;
+  types_stay = refl;
+  connected_stay = refl;
+  mapped_stay = refl;
+}

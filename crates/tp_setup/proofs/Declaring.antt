@@ -23,17 +23,20 @@ keys_in (e ∷ es) = ap (λ l. string_bytes e.0 ∷ l) (keys_in es)
 -- a look-up that finds nothing
 pub not_there : (es : Entries) (name : List ℕ) → None ≡ position (λ k. bytes_eq name (string_bytes k)) (map (λ e. e.0) es) → Contains (names_in es) name → ⊥
 not_there es name e h =
-    place_unknown (map string_bytes (map (λ e. e.0) es)) name (e ∙ position_map string_bytes (bytes_eq name) (map (λ e. e.0) es)) (subst (λ l. Contains l name) (sym (keys_in es)) h)
+    place_unknown (map string_bytes (map (λ e. e.0) es)) name (e ∙ position_map string_bytes (bytes_eq name) (map (λ e. e.0) es))
+    (subst (λ l. Contains l name) (sym (keys_in es)) h)
 
 -- a new port goes last
 pub port_added : (es : Entries) (k : String Global) (p : PortType) → (Contains (names_in es) (string_bytes k) → ⊥)
     → map decl_of (insert_entry (λ x y. bytes_eq (string_bytes x) (string_bytes y)) es k p) ≡ map decl_of es ++ decl_of (k, p) ∷ []
 port_added [] k p new = refl
-port_added (e ∷ es) k p new = by (bytes_eq (string_bytes k) (string_bytes e.0)) refl (port_added es k p (λ (n, below, is). new (n + 1, omega arith, rw add-one is)))
+port_added (e ∷ es) k p new =
+    by (bytes_eq (string_bytes k) (string_bytes e.0)) refl (port_added es k p (λ (n, below, is). new (n + 1, omega arith, rw add-one is)))
   where
     by : (b : Bool) → bytes_eq (string_bytes k) (string_bytes e.0) ≡ b
         → map decl_of (insert_entry (λ x y. bytes_eq (string_bytes x) (string_bytes y)) es k p) ≡ map decl_of es ++ decl_of (k, p) ∷ []
-        → map decl_of (cond b ((e.0, p) ∷ es) (e ∷ insert_entry (λ x y. bytes_eq (string_bytes x) (string_bytes y)) es k p)) ≡ map decl_of (e ∷ es) ++ decl_of (k, p) ∷ []
+        → map decl_of (cond b ((e.0, p) ∷ es) (e ∷ insert_entry (λ x y. bytes_eq (string_bytes x) (string_bytes y)) es k p))
+        ≡ map decl_of (e ∷ es) ++ decl_of (k, p) ∷ []
     by true f later = absurd (new (0, omega arith, sym ((bytes_eq-Decides (string_bytes k) (string_bytes e.0)).0 f)))
     by false f later = ap (λ r. decl_of e ∷ r) later
 

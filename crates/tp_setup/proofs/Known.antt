@@ -12,5 +12,6 @@ known names name e = by (place_of names name) refl e where
   by (Some n) f e = place_known names name n f
 
 -- each name is known, where a look-up finds each
-pub each_known : {A : Type 0} (names : List (List ℕ)) (f : A → List ℕ) (xs : List A) → list_all (λ x. is_some (place_of names (f x))) xs ≡ true → All (λ x. Contains names (f x)) xs
+pub each_known : {A : Type 0} (names : List (List ℕ)) (f : A → List ℕ) (xs : List A) → list_all (λ x. is_some (place_of names (f x))) xs ≡ true
+    → All (λ x. Contains names (f x)) xs
 each_known names f xs e k d below = known names (f (get_or xs k d)) (AllPass-from_list_all (λ x. is_some (place_of names (f x))) xs e k d below)

@@ -4,16 +4,18 @@ use Rattle.std.specs.Option.{option_map}
 use Rattle.std.specs.List.{AllZip}
 use Rattle.std.proofs.lemmas.List.{length-map}
 use Rattle.std.proofs.lemmas.Slice.Zip.{AllZip-long}
-use Rattle.tp_syntax.specs.declared.tree.Setup.{Setup as Statement}
+use Rattle.tp_syntax.specs.declared.tree.SetupStatement.{SetupStatement}
 use Rattle.tp_syntax.specs.declared.tree.TestCase.{TestCase}
 use Rattle.tp_config.specs.Setup.{Setup, PortDecl, empty_setup}
 use Rattle.tp_setup.specs.Components.{Adds, AddsAll, Declared, IsMember, created, creations, interface, main_component}
 use Rattle.tp_setup.specs.Configuring.{IsSetUp, Makes}
 use Rattle.tp_setup.proofs.Creating.{adds_more, adds_none}
 
-pub adds_append : (types : List (List ℕ)) (xs ys : List Declared) (old mid new : Setup) → AddsAll types xs old mid → AddsAll types ys mid new → AddsAll types (xs ++ ys) old new
+pub adds_append : (types : List (List ℕ)) (xs ys : List Declared) (old mid new : Setup) → AddsAll types xs old mid → AddsAll types ys mid new
+    → AddsAll types (xs ++ ys) old new
 adds_append types xs ys old mid new first second = record {
-  components = λ before h. subst (λ l. AllZip (IsMember types) l new.components) (append_assoc before xs ys) (second.components (before ++ xs) (first.components before h));
+  components = λ before h. subst (λ l. AllZip (IsMember types) l new.components) (append_assoc before xs ys)
+      (second.components (before ++ xs) (first.components before h));
   types_stay = second.types_stay ∙ first.types_stay;
   connected_stay = second.connected_stay ∙ first.connected_stay;
   mapped_stay = second.mapped_stay ∙ first.mapped_stay;
@@ -21,13 +23,17 @@ adds_append types xs ys old mid new first second = record {
 
 -- `mtc` was added, and then the components of the setup statements
 pub adds_main : (names : List (List ℕ)) (case : TestCase) (old main new : Setup) → Adds names (main_component case) old main
-    → AddsAll names (map created (creations case.setups.items)) main new → AddsAll names (main_component case ∷ map created (creations case.setups.items)) old new
+    → AddsAll names (map created (creations case.setups.items)) main new
+    → AddsAll names (main_component case ∷ map created (creations case.setups.items)) old new
 adds_main names case old main new one more =
-    adds_append names (main_component case ∷ []) (map created (creations case.setups.items)) old main new (adds_more names [] (main_component case) old old main (adds_none names old) one) more
+    adds_append names (main_component case ∷ []) (map created (creations case.setups.items)) old main new
+    (adds_more names [] (main_component case) old old main (adds_none names old) one) more
 
-pub set_up_is : (names : List (List ℕ)) (types : List (List PortDecl)) (case : TestCase) (empty made start config : Setup) (system : Option ℕ) (setups : List Statement)
+pub set_up_is : (names : List (List ℕ)) (types : List (List PortDecl)) (case : TestCase) (empty made start config : Setup) (system : Option ℕ)
+    (setups : List SetupStatement)
     → empty ≡ empty_setup types → AddsAll names (main_component case ∷ map created (creations case.setups.items)) empty made
-    → AddsAll names (interface case) made start → system ≡ option_map (λ _. length made.components) case.system → setups ≡ case.setups.items → Makes system start setups config
+    → AddsAll names (interface case) made start → system ≡ option_map (λ _. length made.components) case.system → setups ≡ case.setups.items
+    → Makes system start setups config
     → IsSetUp names types case config
 set_up_is names types case empty made start config system setups is_empty first last number statements makes =
     let inner : List Declared = main_component case ∷ map created (creations case.setups.items) in

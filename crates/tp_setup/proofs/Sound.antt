@@ -29,7 +29,13 @@ module _ (types ports components : List (List ℕ)) (system : Option (List ℕ))
   pub sound_component : (c : ComponentType) → x ≡ d.Component c → list_all (λ p. is_some (place_of ports (string_bytes p.type_name))) c.ports.items ≡ true
       → length (declared_ports c.ports.items) ≤ 64 → IsSound types ports components system x
   sound_component c e known few =
-      rw e (record { types_known = tt; port_types_known = each_known ports (λ p. string_bytes p.type_name) c.ports.items known; component_types_known = tt; few_ports = few; plays_system = tt })
+      rw e (record {
+        types_known = tt;
+        port_types_known = each_known ports (λ p. string_bytes p.type_name) c.ports.items known;
+        component_types_known = tt;
+        few_ports = few;
+        plays_system = tt;
+      })
 
   pub sound_function : (f : Function) → x ≡ d.Function f → Contains components (string_bytes f.runs_on)
       → list_all (λ p. is_some (place_of components (string_bytes p.type_name))) f.parameters.items ≡ true
@@ -43,8 +49,10 @@ module _ (types ports components : List (List ℕ)) (system : Option (List ℕ))
         plays_system = plays;
       })
 
-  pub sound_case : (c : TestCase) → x ≡ d.TestCase c → Contains components (string_bytes c.runs_on) → IfSome c.system (λ s. Contains components (string_bytes s)) → IsSound types ports components system x
-  sound_case c e runs known = rw e (record { types_known = tt; port_types_known = tt; component_types_known = (runs, known); few_ports = tt; plays_system = tt })
+  pub sound_case : (c : TestCase) → x ≡ d.TestCase c → Contains components (string_bytes c.runs_on)
+      → IfSome c.system (λ s. Contains components (string_bytes s)) → IsSound types ports components system x
+  sound_case c e runs known =
+      rw e (record { types_known = tt; port_types_known = tt; component_types_known = (runs, known); few_ports = tt; plays_system = tt })
 
 pub ruleset soundness = (sound_record, sound_list, sound_port, sound_component, sound_function, sound_case)
 

@@ -22,7 +22,8 @@ all_push P xs x each here k d below = by (cases_lt k (length xs)) where
 pub all_none : {A : Type 0} (P : A → Type 0) → All P []
 all_none P k d below = absurd (omega (arith, below))
 
-pub all_more : {A : Type 0} (P : A → Type 0) (xs : List A) (i : ℕ) (x : A) → i < length xs → x ≡ get_or xs i x → All P (take i xs) → P x → All P (take (i + 1) xs)
+pub all_more : {A : Type 0} (P : A → Type 0) (xs : List A) (i : ℕ) (x : A) → i < length xs → x ≡ get_or xs i x → All P (take i xs) → P x
+    → All P (take (i + 1) xs)
 all_more P xs i x lt is each here = subst (All P) (pushed xs i x lt is) (all_push P (take i xs) x each here)
 
 pub all_whole : {A : Type 0} (P : A → Type 0) (xs : List A) (i : ℕ) → length xs ≤ i → All P (take i xs) → All P xs
@@ -57,18 +58,22 @@ kept_more h xs i x lt is =
 pub zip_map_more : {A B C : Type 0} (R : B → C → Type 0) (f : A → B) (xs : List A) (ys : List C) (i : ℕ) (x : A) (y : C) → i < length xs → x ≡ get_or xs i x
     → AllZip R (map f (take i xs)) ys → R (f x) y → AllZip R (map f (take (i + 1) xs)) (ys ++ y ∷ [])
 zip_map_more R f xs ys i x y lt is each here =
-    subst (λ l. AllZip R l (ys ++ y ∷ [])) (sym (map_push f (take i xs) x) ∙ ap (map f) (pushed xs i x lt is)) (zip_push R (map f (take i xs)) ys (f x) y each here)
+    subst (λ l. AllZip R l (ys ++ y ∷ [])) (sym (map_push f (take i xs) x) ∙ ap (map f) (pushed xs i x lt is))
+    (zip_push R (map f (take i xs)) ys (f x) y each here)
 
 -- what f gives of the items up to the next one, in a row
-pub flat_more : {A B : Type 0} (f : A → List B) (xs : List A) (i : ℕ) (x : A) → i < length xs → x ≡ get_or xs i x → flat_map f (take (i + 1) xs) ≡ flat_map f (take i xs) ++ f x
+pub flat_more : {A B : Type 0} (f : A → List B) (xs : List A) (i : ℕ) (x : A) → i < length xs → x ≡ get_or xs i x
+    → flat_map f (take (i + 1) xs) ≡ flat_map f (take i xs) ++ f x
 flat_more f xs i x lt is = ap (flat_map f) (sym (pushed xs i x lt is)) ∙ sym (flat_map_more f [] (take i xs) x)
 
 -- another list, and the items up to the next one behind it
-pub behind_more : {A : Type 0} (before xs : List A) (i : ℕ) (x : A) → i < length xs → x ≡ get_or xs i x → (before ++ take i xs) ++ x ∷ [] ≡ before ++ take (i + 1) xs
+pub behind_more : {A : Type 0} (before xs : List A) (i : ℕ) (x : A) → i < length xs → x ≡ get_or xs i x
+    → (before ++ take i xs) ++ x ∷ [] ≡ before ++ take (i + 1) xs
 behind_more before xs i x lt is = append_assoc before (take i xs) (x ∷ []) ∙ ap (λ l. before ++ l) (pushed xs i x lt is)
 
 -- what stands at the place of an item in the other list
-pub zip_at : {A B : Type 0} (R : A → B → Type 0) (xs : List A) (ys : List B) (k : ℕ) (y : B) → AllZip R xs ys → slice_get ys k ≡ Some y → (x : A) × (slice_get xs k ≡ Some x) × R x y
+pub zip_at : {A B : Type 0} (R : A → B → Type 0) (xs : List A) (ys : List B) (k : ℕ) (y : B) → AllZip R xs ys → slice_get ys k ≡ Some y
+    → (x : A) × (slice_get xs k ≡ Some x) × R x y
 zip_at R [] [] k y each e = absurd (cc)
 zip_at R [] (b ∷ ys) k y each e = absurd each
 zip_at R (a ∷ xs) [] k y each e = absurd each
@@ -80,7 +85,8 @@ contains_at [] k x e = absurd (cc)
 contains_at (a ∷ xs) zero x e = (0, omega arith, same_Some a x e)
 contains_at (a ∷ xs) (suc k) x e = let r = contains_at xs k x e in (r.0 + 1, omega (arith, r.1), rw add-one r.2)
 
-pub zip_append : {A B : Type 0} (R : A → B → Type 0) (xs more : List A) (ys others : List B) → AllZip R xs ys → AllZip R more others → AllZip R (xs ++ more) (ys ++ others)
+pub zip_append : {A B : Type 0} (R : A → B → Type 0) (xs more : List A) (ys others : List B) → AllZip R xs ys → AllZip R more others
+    → AllZip R (xs ++ more) (ys ++ others)
 zip_append R [] more [] others each rest = rest
 zip_append R [] more (b ∷ ys) others each rest = absurd each
 zip_append R (a ∷ xs) more [] others each rest = absurd each

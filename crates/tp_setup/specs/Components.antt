@@ -1,13 +1,15 @@
 -- The components of a test case.
-use Rattle.std.specs.Prelude.{◌≡◌, ◌≤◌, ℕ, Option, Some, None, List, ◌∷◌, ◌++◌, All, Contains, length, map, option_to_list, codes, string_bytes}
+use Rattle.std.specs.Prelude.{◌≡◌, ◌≤◌, ℕ, Option, Some, None, List, ◌∷◌, ◌++◌, All, Contains}
+use Rattle.std.specs.Prelude.{codes, length, map, option_to_list, string_bytes}
 use Rattle.std.specs.Option.{option_map}
 use Rattle.std.specs.List.{AllZip, filter_map}
 use Rattle.tp_syntax.specs.declared.tree.ComponentType.{ComponentType}
 use Rattle.tp_syntax.specs.declared.tree.Creation.{Creation}
-use Rattle.tp_syntax.specs.declared.tree.Setup.{Setup as Statement}
+use Rattle.tp_syntax.specs.declared.tree.SetupStatement.{SetupStatement}
 use Rattle.tp_syntax.specs.declared.tree.SetupAction.{SetupAction}
 use Rattle.tp_syntax.specs.declared.tree.SetupAction.TheVariants as a
 use Rattle.tp_syntax.specs.declared.tree.TestCase.{TestCase}
+use Rattle.tp_config.specs.declared.port_type.CompId.{CompId}
 use Rattle.tp_config.specs.declared.port_type.Role.{Role}
 use Rattle.tp_config.specs.declared.port_type.Role.TheVariants as role
 use Rattle.tp_config.specs.Setup.{Setup, Member, creating}
@@ -20,18 +22,18 @@ creation_in (a.Connect p q) = None
 creation_in (a.Map p q) = None
 
 -- the component that a setup statement makes, if it does
-abbrev pub creation_of : Statement → Option Creation
+abbrev pub creation_of : SetupStatement → Option Creation
 creation_of x = creation_in x.action
 
 -- the components that the setup statements make, in the order of the text
-abbrev pub creations : List Statement → List Creation
+abbrev pub creations : List SetupStatement → List Creation
 creations xs = filter_map creation_of xs
 
 abbrev pub variable : Creation → List ℕ
 variable c = string_bytes c.name
 
 -- the component variables
-abbrev pub variables : List Statement → List (List ℕ)
+abbrev pub variables : List SetupStatement → List (List ℕ)
 variables xs = map variable (creations xs)
 
 -- a component as the text declares it: its name, the name of its type, and what it is
@@ -49,7 +51,13 @@ main_component case = record { name = codes "mtc"; type_name = string_bytes case
 
 -- the test system interface, of the type behind `system`, if there is such a clause
 abbrev pub interface : TestCase → List Declared
-interface case = option_to_list (option_map (λ s. record { name = codes "system"; type_name = string_bytes s; role = role.System }) case.system)
+interface case =
+    option_to_list (option_map
+    (λ s. record { name = codes "system"; type_name = string_bytes s; role = role.System }) case.system)
+
+-- the number of a component, if there is one
+abbrev pub number_of : Option CompId → Option ℕ
+number_of found = option_map (λ (c : CompId). c.0) found
 
 -- the components in their order: `mtc`, those that are made, and the test system interface
 abbrev pub component_list : TestCase → List Declared
@@ -74,7 +82,8 @@ pub record HasPorts (types : List ComponentType) (name : List ℕ) (ports : List
   pub named : string_bytes component.name ≡ name
   pub ports_are : ports ≡ declared_ports component.ports.items
 
--- the rules on component variables, where the main component has ports of these names, and at most this many variables may be
+-- the rules on component variables, where the main component has ports of these names, and at most this many variables
+-- may be
 pub record HasSoundVariables (types ports : List (List ℕ)) (most : ℕ) (xs : List Creation) : Type 0 where
   -- no two variables have one name
   pub distinct : AreDistinct (map variable xs)
@@ -89,7 +98,8 @@ pub record HasSoundVariables (types ports : List (List ℕ)) (most : ℕ) (xs : 
 
 -- components were added to the configuration as they are declared, one after the other, and nothing else was changed
 pub record AddsAll (types : List (List ℕ)) (xs : List Declared) (old new : Setup) : Type 0 where
-  pub components : (before : List Declared) → AllZip (IsMember types) before old.components → AllZip (IsMember types) (before ++ xs) new.components
+  pub components : (before : List Declared) → AllZip (IsMember types) before old.components
+      → AllZip (IsMember types) (before ++ xs) new.components
   pub types_stay : new.types ≡ old.types
   pub connected_stay : new.connected ≡ old.connected
   pub mapped_stay : new.mapped ≡ old.mapped

@@ -1,11 +1,12 @@
 -- What the setup statements of a test case make (ES 201 873-1, 21.1).
-use Rattle.std.specs.Prelude.{◌≡◌, ℕ, ◌+◌, Option, Some, List, [], ◌∷◌, ◌++◌, length, slice_get, string_bytes, if◌then◌else◌, is_some}
+use Rattle.std.specs.Prelude.{◌≡◌, ℕ, ◌+◌, Option, Some, List, [], ◌∷◌, ◌++◌, if◌then◌else◌}
+use Rattle.std.specs.Prelude.{is_some, length, slice_get, string_bytes}
 use Rattle.std.specs.Option.{option_map}
 use Rattle.std.specs.List.{AllZip}
-use Rattle.tp_syntax.specs.declared.tree.End.{End}
+use Rattle.tp_syntax.specs.declared.tree.PairEnd.{PairEnd}
 use Rattle.tp_syntax.specs.declared.tree.EndComponent.{EndComponent}
 use Rattle.tp_syntax.specs.declared.tree.EndComponent.TheVariants as e
-use Rattle.tp_syntax.specs.declared.tree.Setup.{Setup as Statement}
+use Rattle.tp_syntax.specs.declared.tree.SetupStatement.{SetupStatement}
 use Rattle.tp_syntax.specs.declared.tree.SetupAction.{SetupAction}
 use Rattle.tp_syntax.specs.declared.tree.SetupAction.TheVariants as a
 use Rattle.tp_syntax.specs.declared.tree.TestCase.{TestCase}
@@ -16,8 +17,8 @@ use Rattle.tp_config.specs.Allowed.{CanConnect, CanMap}
 use Rattle.tp_name.specs.Tables.{place_of}
 use Rattle.tp_setup.specs.Components.{HasPorts, HasSoundVariables, IsMember, component_list, creations, variables}
 
--- the number of the component that a setup statement names, where the component variables before it have these names and the
--- test system interface has this number, if there is a `system` clause
+-- the number of the component that a setup statement names, where the component variables before it have these names
+-- and the test system interface has this number, if there is a `system` clause
 abbrev pub component_at : List (List ℕ) → Option ℕ → EndComponent → Option ℕ
 component_at names system (e.Named n) = option_map (λ k. k + 1) (place_of names (string_bytes n))
 component_at names system e.Mtc = Some 0
@@ -25,12 +26,12 @@ component_at names system e.SelfComponent = Some 0
 component_at names system e.System = system
 
 -- the port that a setup statement names
-pub record IsEnd (s : Setup) (names : List (List ℕ)) (system : Option ℕ) (x : End) (p : PortRef) : Type 0 where
+pub record IsEnd (s : Setup) (names : List (List ℕ)) (system : Option ℕ) (x : PairEnd) (p : PortRef) : Type 0 where
   pub component_known : component_at names system x.component ≡ Some p.comp.0
   pub port_known : slice_get (port_names s p.comp) p.port ≡ Some (string_bytes x.port)
   pub is_port : IsPort s p
 
-pub record Connects (s : Setup) (names : List (List ℕ)) (system : Option ℕ) (x y : End) (t : Setup) : Type 0 where
+pub record Connects (s : Setup) (names : List (List ℕ)) (system : Option ℕ) (x y : PairEnd) (t : Setup) : Type 0 where
   pub p : PortRef
   pub q : PortRef
   pub first : IsEnd s names system x p
@@ -38,7 +39,7 @@ pub record Connects (s : Setup) (names : List (List ℕ)) (system : Option ℕ) 
   pub can : CanConnect s p q
   pub connected : t ≡ connecting s p q
 
-pub record Maps (s : Setup) (names : List (List ℕ)) (system : Option ℕ) (x y : End) (t : Setup) : Type 0 where
+pub record Maps (s : Setup) (names : List (List ℕ)) (system : Option ℕ) (x y : PairEnd) (t : Setup) : Type 0 where
   pub p : PortRef
   pub q : PortRef
   pub first : IsEnd s names system x p
@@ -53,9 +54,10 @@ IsStep s names system (a.Connect x y) t = Connects s names system x y t
 IsStep s names system (a.Map x y) t = Maps s names system x y t
 
 -- what the setup statements make of a configuration, one after the other
-pub data Makes (system : Option ℕ) (start : Setup) : List Statement → Setup → Type 0 where
+pub data Makes (system : Option ℕ) (start : Setup) : List SetupStatement → Setup → Type 0 where
   nothing : Makes system start [] start
-  one_more : (xs : List Statement) (s : Setup) (x : Statement) (t : Setup) → Makes system start xs s → IsStep s (variables xs) system x.action t → Makes system start (xs ++ x ∷ []) t
+  one_more : (xs : List SetupStatement) (s : Setup) (x : SetupStatement) (t : Setup) → Makes system start xs s
+      → IsStep s (variables xs) system x.action t → Makes system start (xs ++ x ∷ []) t
 
 -- the number of the test system interface: it stands behind `mtc` and the components that are made
 abbrev pub interface_number : TestCase → Option ℕ
@@ -65,9 +67,10 @@ interface_number case = option_map (λ _. length (creations case.setups.items) +
 abbrev pub most_variables : TestCase → ℕ
 most_variables case = if is_some case.system then 62 else 63
 
--- the configuration of a test case, where the component types have these names and ports: it has the components that are
--- declared, and the connections and mappings of the setup statements alone
-pub record IsSetUp (names : List (List ℕ)) (types : List (List PortDecl)) (case : TestCase) (config : Setup) : Type 0 where
+-- the configuration of a test case, where the component types have these names and ports: it has the components that
+-- are declared, and the connections and mappings of the setup statements alone
+pub record IsSetUp (names : List (List ℕ)) (types : List (List PortDecl)) (case : TestCase) (config : Setup)
+    : Type 0 where
   pub start : Setup
   pub types_are : start.types ≡ types
   pub components_are : AllZip (IsMember names) (component_list case) start.components

@@ -48,6 +48,7 @@ pub record IsWellDeclared (m : Module) : Type 0 where
   -- the ports of each `connect` and `map` are known, and each is allowed where it stands
   pub config : Setup
   pub connections : IsConfigOf m case config
-  -- each component is started once, by a function of its type, with arguments of the parameters' types, and `all component.done` is there
+  -- each component is started once, by a function of its type, with arguments of the parameters' types, and
+  -- `all component.done` is there
   pub started : Starts
   pub starts : AreStarts (functions m) case started

@@ -1,5 +1,6 @@
 -- The types and component types that definitions stand for (ES 201 873-1, 6.2).
-use Rattle.std.specs.Prelude.{◌≡◌, ℕ, Bool, true, false, if◌then◌else◌, Option, Some, List, [], ◌++◌, map, option_map, string_bytes, Contains}
+use Rattle.std.specs.Prelude.{◌≡◌, ℕ, Bool, true, false, if◌then◌else◌, Option, Some, List, [], ◌++◌, Contains}
+use Rattle.std.specs.Prelude.{map, option_map, string_bytes}
 use Rattle.std.specs.List.{AllZip, flat_map}
 use Rattle.tp_syntax.specs.declared.tree.Module.{Module}
 use Rattle.tp_syntax.specs.declared.tree.Defined.{Defined}
@@ -40,7 +41,8 @@ Names types name ty = ty_of types name ≡ Some ty
 
 -- the types that the names name were added behind those of other names
 abbrev pub Appends : List (List ℕ) → List TypeName → List Ty → List Ty → Type 0
-Appends types names old new = (before : List TypeName) → AllZip (Names types) before old → AllZip (Names types) (before ++ names) new
+Appends types names old new =
+    (before : List TypeName) → AllZip (Names types) before old → AllZip (Names types) (before ++ names) new
 
 -- a field of a record type, with its own name
 abbrev pub IsField : List (List ℕ) → FieldType → Field → Type 0
@@ -81,7 +83,9 @@ sent x = if goes_out x.way then x.types.items else []
 
 -- what a port of the type receives, and what it sends
 abbrev pub IsPortType : List (List ℕ) → PortType → List Ty → List Ty → Type 0
-IsPortType types p ins outs = AllZip (Names types) (flat_map received p.directions.items) ins × AllZip (Names types) (flat_map sent p.directions.items) outs
+IsPortType types p ins outs =
+    AllZip (Names types) (flat_map received p.directions.items) ins
+    × AllZip (Names types) (flat_map sent p.directions.items) outs
 
 abbrev pub IsMade : List (List ℕ) → PortType → PortLists → Type 0
 IsMade types p made = IsPortType types p made.ins made.outs
@@ -92,7 +96,8 @@ port_decl made n = record { name = declared n; ins = made.ins; outs = made.outs 
 
 -- the ports that the declarations declare: their names and the names of their types, in declared order
 abbrev pub port_list : List PortDeclaration → List (List ℕ × List ℕ)
-port_list ports = flat_map (λ (p : PortDeclaration). map (λ n. (declared n, string_bytes p.type_name)) p.names.items) ports
+port_list ports =
+    flat_map (λ (p : PortDeclaration). map (λ n. (declared n, string_bytes p.type_name)) p.names.items) ports
 
 -- what a port type of this name receives and sends
 pub record IsMadeOf (types : List (List ℕ)) (ports : List PortType) (name : List ℕ) (made : PortLists) : Type 0 where
@@ -102,7 +107,8 @@ pub record IsMadeOf (types : List (List ℕ)) (ports : List PortType) (name : Li
   pub lists : IsMade types port_type made
 
 -- a port has its own name, and receives and sends what the port type of the name does
-pub record IsPortDecl (types : List (List ℕ)) (ports : List PortType) (x : List ℕ × List ℕ) (port : PortDecl) : Type 0 where
+pub record IsPortDecl (types : List (List ℕ)) (ports : List PortType) (x : List ℕ × List ℕ) (port : PortDecl)
+    : Type 0 where
   pub name : port.name ≡ x.0
   pub lists : IsMadeOf types ports x.1 (record { ins = port.ins; outs = port.outs })
 

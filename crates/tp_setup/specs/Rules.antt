@@ -1,11 +1,13 @@
 -- The rules on names and definitions.
-use Rattle.std.specs.Prelude.{◌≡◌, ◌<◌, ◌≤◌, ◌⊎◌, IsTrue, is_some, ℕ, Bool, Option, Some, List, [], All, Contains, IfSome, IsSome, length, string_bytes, codes}
+use Rattle.std.specs.Prelude.{◌≡◌, ◌<◌, ◌≤◌, ◌⊎◌, ℕ, Bool, Option, Some, List, [], All, Contains}
+use Rattle.std.specs.Prelude.{IfSome, IsSome, IsTrue, codes, is_some, length, string_bytes}
 use Rattle.tp_syntax.specs.declared.tree.Module.{Module}
 use Rattle.tp_syntax.specs.declared.tree.Definition.{Definition}
 use Rattle.tp_syntax.specs.declared.tree.Defined.{Defined}
 use Rattle.tp_syntax.specs.declared.tree.Defined.TheVariants as d
 use Rattle.tp_syntax.specs.declared.tree.TypeName.{TypeName}
 use Rattle.tp_syntax.specs.declared.tree.ComponentType.{ComponentType}
+use Rattle.tp_syntax.specs.declared.tree.Function.{Function}
 use Rattle.tp_refusal.specs.declared.refusal.Refusal.TheVariants.{Unknown, Limit}
 use Rattle.tp_token.specs.declared.fault.ScriptFault.{ScriptFault}
 use Rattle.tp_token.specs.declared.fault.ScriptFault.TheVariants.{Refused}
@@ -49,8 +51,11 @@ AreComponentTypesKnown components (d.Record r) = Unit {0}
 AreComponentTypesKnown components (d.List l) = Unit {0}
 AreComponentTypesKnown components (d.Port p) = Unit {0}
 AreComponentTypesKnown components (d.Component c) = Unit {0}
-AreComponentTypesKnown components (d.Function f) = Contains components (string_bytes f.runs_on) × All (λ p. Contains components (string_bytes p.type_name)) f.parameters.items
-AreComponentTypesKnown components (d.TestCase c) = Contains components (string_bytes c.runs_on) × IfSome c.system (λ s. Contains components (string_bytes s))
+AreComponentTypesKnown components (d.Function f) =
+    Contains components (string_bytes f.runs_on)
+    × All (λ p. Contains components (string_bytes p.type_name)) f.parameters.items
+AreComponentTypesKnown components (d.TestCase c) =
+    Contains components (string_bytes c.runs_on) × IfSome c.system (λ s. Contains components (string_bytes s))
 
 -- a component type has at most 64 ports
 abbrev pub HasFewPorts : Defined → Type 0
@@ -65,6 +70,11 @@ HasFewPorts (d.TestCase c) = Unit {0}
 abbrev pub has_known_ports : List (List ℕ) → ComponentType → Bool
 has_known_ports ports c = list_all (λ p. is_some (place_of ports (string_bytes p.type_name))) c.ports.items
 
+-- whether the type of each parameter of a function is among these names
+abbrev pub has_known_parameters : List (List ℕ) → Function → Bool
+has_known_parameters components f =
+    list_all (λ p. is_some (place_of components (string_bytes p.type_name))) f.parameters.items
+
 -- a component type is refused so, at its line: the type of a port is unknown; or each is known, and there are more
 -- than 64 ports
 abbrev pub IsComponentFault : List (List ℕ) → ComponentType → ℕ → ScriptFault → Type 0
@@ -76,16 +86,21 @@ IsComponentFault ports c line fault =
 abbrev pub sut : List ℕ
 sut = codes "sut"
 
--- a function named `sut` has no parameters, and runs on the component type behind `system`
+-- a function has no parameters, and runs on the component type behind `system`
+abbrev pub CanPlaySystem : Option (List ℕ) → Function → Type 0
+CanPlaySystem system f = (f.parameters.items ≡ []) × (system ≡ Some (string_bytes f.runs_on))
+
+-- a function named `sut` can play the system under test
 abbrev pub PlaysSystem : Option (List ℕ) → Defined → Type 0
 PlaysSystem system (d.Record r) = Unit {0}
 PlaysSystem system (d.List l) = Unit {0}
 PlaysSystem system (d.Port p) = Unit {0}
 PlaysSystem system (d.Component c) = Unit {0}
-PlaysSystem system (d.Function f) = string_bytes f.name ≡ sut → (f.parameters.items ≡ []) × (system ≡ Some (string_bytes f.runs_on))
+PlaysSystem system (d.Function f) = string_bytes f.name ≡ sut → CanPlaySystem system f
 PlaysSystem system (d.TestCase c) = Unit {0}
 
--- the rules on one definition, where the types, port types and component types have these names, and this name stands behind `system`
+-- the rules on one definition, where the types, port types and component types have these names, and this name stands
+-- behind `system`
 pub record IsSound (types ports components : List (List ℕ)) (system : Option (List ℕ)) (x : Defined) : Type 0 where
   pub types_known : AreTypesKnown types x
   pub port_types_known : ArePortTypesKnown ports x

@@ -7,15 +7,18 @@ use Rattle.tp_syntax.specs.declared.tree.PortType.{PortType}
 use Rattle.tp_syntax.specs.declared.tree.ComponentType.{ComponentType}
 use Rattle.tp_syntax.specs.declared.tree.Function.{Function}
 use Rattle.tp_setup.specs.declared.sorted.Sorted.{Sorted}
+use Rattle.tp_config.specs.declared.port_type.CompType.{CompType}
 use Rattle.tp_config.specs.declared.port_type.PortType.{PortType as PortLists}
 use Rattle.tp_setup.specs.Rules.{IsSound}
-use Rattle.tp_setup.specs.Resolved.{IsMade}
+use Rattle.tp_setup.specs.Resolved.{IsComponentType, IsMade}
 use Rattle.std.specs.List.{AllZip}
 use Rattle.tp_syntax.specs.declared.tree.TestCase.{TestCase}
-use Rattle.tp_setup.specs.Definitions.{type_names, port_type_names, component_type_names, among, name_of, type_of, port_of, component_of, function_of}
+use Rattle.tp_setup.specs.Definitions.{among, component_of, component_type_names, function_of, name_of, port_of}
+use Rattle.tp_setup.specs.Definitions.{port_type_names, type_names, type_of}
 
 -- these are the definitions of one kind, and their names, no two of them equal
-pub record AreOfKind {T : Type 0} (kind : Defined → Option T) (name : T → List ℕ) (definitions : List Definition) (names : List (List ℕ)) (items : List T) : Type 0 where
+pub record AreOfKind {T : Type 0} (kind : Defined → Option T) (name : T → List ℕ) (definitions : List Definition)
+    (names : List (List ℕ)) (items : List T) : Type 0 where
   pub items_are : items ≡ among kind definitions
   pub names_are : names ≡ map name (among kind definitions)
 
@@ -38,28 +41,51 @@ pub record AreSorted (m : Module) (s : Sorted) : Type 0 where
   pub components : ComponentTypes m.definitions.items s.component_names (map (λ x. x.now) s.components.items)
   pub functions : Functions m.definitions.items s.function_names (map (λ x. x.now) s.functions.items)
 
--- each definition obeys the rules, where the kinds have the names that were sorted out
+-- the definitions of each kind that were sorted out
+abbrev pub types_in : Sorted → List Defined
+types_in s = map (λ x. x.now) s.types.items
+
+abbrev pub port_types_in : Sorted → List PortType
+port_types_in s = map (λ p. p.now) s.ports.items
+
+abbrev pub component_types_in : Sorted → List ComponentType
+component_types_in s = map (λ c. c.now) s.components.items
+
+abbrev pub functions_in : Sorted → List Function
+functions_in s = map (λ f. f.now) s.functions.items
+
+-- these are the component types that were sorted out, with their ports
+abbrev pub AreComponentTypesIn : Sorted → List CompType → Type 0
+AreComponentTypesIn s made = AllZip (IsComponentType s.type_names (port_types_in s)) (component_types_in s) made
+
+-- a definition obeys the rules, where the kinds have the names that were sorted out
+abbrev pub IsSoundIn : Sorted → Option (List ℕ) → Definition → Type 0
+IsSoundIn s system x = IsSound s.type_names s.port_names s.component_names system x.defined
+
+-- each definition obeys these rules
 abbrev pub AreSound : Sorted → Option (List ℕ) → List Definition → Type 0
-AreSound s system definitions = All (λ (x : Definition). IsSound s.type_names s.port_names s.component_names system x.defined) definitions
+AreSound s system definitions = All (IsSoundIn s system) definitions
 
 -- these are what the port types receive and send
 pub record HasMade (s : Sorted) (made : List PortLists) : Type 0 where
-  pub names : s.port_names ≡ map (λ (p : PortType). string_bytes p.name) (map (λ p. p.now) s.ports.items)
-  pub lists : AllZip (IsMade s.type_names) (map (λ p. p.now) s.ports.items) made
+  pub names : s.port_names ≡ map (λ (p : PortType). string_bytes p.name) (port_types_in s)
+  pub lists : AllZip (IsMade s.type_names) (port_types_in s) made
 
 -- each definition of the module obeys the rules on definitions, where this is its test case
 abbrev pub HasSoundDefinitions : Module → TestCase → Type 0
 HasSoundDefinitions m case =
-    All (λ (x : Definition). IsSound (type_names m) (port_type_names m) (component_type_names m) (option_map string_bytes case.system) x.defined) m.definitions.items
+    All (λ (x : Definition).
+    IsSound (type_names m) (port_type_names m) (component_type_names m) (option_map string_bytes case.system) x.defined)
+    m.definitions.items
 
 -- the port types have their own names
 abbrev pub ArePortsNamed : Sorted → Type 0
-ArePortsNamed s = s.port_names ≡ map (λ (p : PortType). string_bytes p.name) (map (λ p. p.now) s.ports.items)
+ArePortsNamed s = s.port_names ≡ map (λ (p : PortType). string_bytes p.name) (port_types_in s)
 
 -- the component types have their own names
 abbrev pub AreComponentsNamed : Sorted → Type 0
-AreComponentsNamed s = s.component_names ≡ map (λ (c : ComponentType). string_bytes c.name) (map (λ c. c.now) s.components.items)
+AreComponentsNamed s = s.component_names ≡ map (λ (c : ComponentType). string_bytes c.name) (component_types_in s)
 
 -- the functions have their own names
 abbrev pub AreFunctionsNamed : Sorted → Type 0
-AreFunctionsNamed s = s.function_names ≡ map (λ (f : Function). string_bytes f.name) (map (λ f. f.now) s.functions.items)
+AreFunctionsNamed s = s.function_names ≡ map (λ (f : Function). string_bytes f.name) (functions_in s)

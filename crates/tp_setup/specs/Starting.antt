@@ -1,5 +1,6 @@
 -- The starts of the components (ES 201 873-1, 21.3.2).
-use Rattle.std.specs.Prelude.{◌≡◌, ◌≢◌, ◌<◌, ◌+◌, ℕ, Option, Some, List, ◌∷◌, IsSome, length, map, slice_get, string_bytes}
+use Rattle.std.specs.Prelude.{◌≡◌, ◌≢◌, ◌<◌, ◌+◌, ℕ, Option, Some, List, ◌∷◌, IsSome}
+use Rattle.std.specs.Prelude.{length, map, slice_get, string_bytes}
 use Rattle.std.specs.Option.{option_map}
 use Rattle.std.specs.List.{AllZip}
 use Rattle.tp_syntax.specs.declared.tree.ComponentName.{ComponentName}
@@ -32,11 +33,13 @@ HasParameterType types p comp = slice_get types comp.0 ≡ Some (string_bytes p.
 
 -- the names of the types of `mtc` and of the components that are made, in their order
 abbrev pub type_names_of : TestCase → List (List ℕ)
-type_names_of case = string_bytes case.runs_on ∷ map (λ (c : Creation). string_bytes c.type_name) (creations case.setups.items)
+type_names_of case =
+    string_bytes case.runs_on ∷ map (λ (c : Creation). string_bytes c.type_name) (creations case.setups.items)
 
--- a start obeys its rules and starts this, where the functions are these, the component variables have these names and the
--- components types of these names
-pub record IsStarted (functions : List Function) (names types : List (List ℕ)) (x : ComponentStart) (made : Started) : Type 0 where
+-- a start obeys its rules and starts this, where the functions are these, the component variables have these names and
+-- the components types of these names
+pub record IsStarted (functions : List Function) (names types : List (List ℕ)) (x : ComponentStart) (made : Started)
+    : Type 0 where
   pub variable : ℕ
   pub variable_known : place_of names (string_bytes x.component) ≡ Some variable
   pub function : Function
@@ -59,7 +62,8 @@ IsStartPlace started name k = place_of started name ≡ Some k
 
 -- the starts of a test case obey their rules and start this
 pub record AreStarts (functions : List Function) (case : TestCase) (made : Starts) : Type 0 where
-  pub starts : AllZip (IsStarted functions (variables case.setups.items) (type_names_of case)) case.starts.items made.starts.items
+  pub starts : AllZip (IsStarted functions (variables case.setups.items) (type_names_of case))
+      case.starts.items made.starts.items
   -- no component is started twice
   pub once : AreDistinct (started_names case.starts.items)
   -- each component is started

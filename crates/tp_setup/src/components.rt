@@ -3,8 +3,8 @@ ghost use Rattle.std.specs.Prelude.{◌≡◌, ◌≤◌, ◌++◌, ◌∷◌, [
 ghost use Rattle.std.specs.Option.{option_copied};
 ghost use Rattle.tp_name.specs.Tables.{AreDistinct};
 ghost use Rattle.tp_setup.specs.Definitions.{declared_ports};
-ghost use Rattle.tp_setup.specs.Components.{Adds, AddsAll, HasPorts, HasSoundVariables, created, creation_of, creations, interface, variable};
-ghost use Rattle.tp_setup.specs.Sorted.{AreComponentsNamed};
+ghost use Rattle.tp_setup.specs.Components.{Adds, AddsAll, HasPorts, HasSoundVariables, created, creation_of, creations, interface, number_of, variable};
+ghost use Rattle.tp_setup.specs.Sorted.{AreComponentsNamed, component_types_in};
 
 use crate::sorted::Sorted;
 use crate::unique_names::declare_ports;
@@ -14,7 +14,7 @@ use tp_config::creating::CreateFault;
 use tp_config::port_type::{CompId, Role};
 use tp_name::fault::{Memory, Refusal, ScriptFault, refused};
 use tp_name::name_set::NameSet;
-use tp_syntax::tree::{ComponentType, Creation, Setup, SetupAction, TestCase};
+use tp_syntax::tree::{ComponentType, Creation, SetupAction, SetupStatement, TestCase};
 
 /// The refusal of a component, at a line.
 fn create_fault(fault: CreateFault, line: u32) -> ScriptFault {
@@ -24,7 +24,8 @@ fn create_fault(fault: CreateFault, line: u32) -> ScriptFault {
     }
 }
 
-/// Adds a component of this name and type, and answers its number. 11 `Unknown` at the line where the type is unknown.
+/// Adds a component of this name and type, and answers its number. 11 `Unknown` at the line where
+/// the type is unknown.
 pub(crate) fn add_component(
     alloc: Global,
     config: &mut Config,
@@ -34,7 +35,9 @@ pub(crate) fn add_component(
     role: Role,
     line: u32,
 ) -> Result<CompId, ScriptFault>
-    ensures added { OnOk result (Adds types.now (record { name = name.now; type_name = type_name.now; role = role }) config.old config.new) }
+    ensures added { OnOk result (Adds types.now
+        (record { name = name.now; type_name = type_name.now; role = role })
+        config.old config.new) }
     ensures number { IfOk result (λ comp. comp.0 ≡ length config.old.components) }
 {
     let Some(kind) = types.find(type_name) else {
@@ -50,9 +53,9 @@ pub(crate) fn add_component(
     }
 }
 
-/// Looks at a component variable and adds its name: 12 `Duplicate` where another variable or a port of
-/// the main component has it, 11 `Unknown` where its type is unknown, 13 `WrongType` where the two types
-/// differ, 15 `Limit` where there are too many components.
+/// Looks at a component variable and adds its name: 12 `Duplicate` where another variable or a port
+/// of the main component has it, 11 `Unknown` where its type is unknown, 13 `WrongType` where the
+/// two types differ, 15 `Limit` where there are too many components.
 fn check_variable<'m>(
     variables: &mut NameSet<'m>,
     types: &NameSet,
@@ -65,7 +68,8 @@ fn check_variable<'m>(
     ensures distinct { AreDistinct variables.new }
     ensures no_port { OnOk result (Contains ports.now (variable creation.now) → ⊥) }
     ensures known { OnOk result (Contains types.now (string_bytes creation.now.type_name)) }
-    ensures same { OnOk result (string_bytes creation.now.type_name ≡ string_bytes creation.now.created) }
+    ensures same { OnOk result (
+        string_bytes creation.now.type_name ≡ string_bytes creation.now.created) }
     ensures few { OnOk result (length variables.new ≤ most) }
 {
     if let Err(fault) = variables.add(creation.name.as_str()) {
@@ -86,18 +90,18 @@ fn check_variable<'m>(
     Ok(())
 }
 
-/// Where the components could not all be made: the setup statements before the one that is refused, and
-/// its fault.
+/// Where the components could not all be made: the setup statements before the one that is refused,
+/// and its fault.
 #[derive(Drop)]
 pub struct Stopped<'m> {
     /// The statements before it.
-    pub before: &'m [Setup],
+    pub before: &'m [SetupStatement],
     /// The fault.
     pub fault: ScriptFault,
 }
 
 /// The component that the statement makes.
-pub(crate) fn as_creation(setup: &Setup) -> Option<&Creation>
+pub(crate) fn as_creation(setup: &SetupStatement) -> Option<&Creation>
     ensures { option_copied result ≡ creation_of setup.now }
 {
     match &setup.action {
@@ -121,7 +125,8 @@ fn create<'m>(
     ensures distinct { AreDistinct variables.new }
     ensures no_port { OnOk result (Contains ports.now (variable creation.now) → ⊥) }
     ensures known { OnOk result (Contains types.now (string_bytes creation.now.type_name)) }
-    ensures same { OnOk result (string_bytes creation.now.type_name ≡ string_bytes creation.now.created) }
+    ensures same { OnOk result (
+        string_bytes creation.now.type_name ≡ string_bytes creation.now.created) }
     ensures few { OnOk result (length variables.new ≤ most) }
     ensures component { OnOk result (Adds types.now (created creation.now) config.old config.new) }
 {
@@ -132,21 +137,24 @@ fn create<'m>(
     Ok(())
 }
 
-/// Makes the components of the setup statements, in the order of the text, where the component types and
-/// the ports of the main component have these names, and at most so many component variables may be.
+/// Makes the components of the setup statements, in the order of the text, where the component
+/// types and the ports of the main component have these names, and at most so many component
+/// variables may be.
 ///
-/// The first statement that makes a component and breaks a rule stops it: 12 `Duplicate`, 11 `Unknown`,
-/// 13 `WrongType` or 15 `Limit`, at its line, or 50 `Memory`.
+/// The first statement that makes a component and breaks a rule stops it: 12 `Duplicate`, 11
+/// `Unknown`, 13 `WrongType` or 15 `Limit`, at its line, or 50 `Memory`.
 pub fn create_components<'m>(
     alloc: Global,
     config: &mut Config,
     types: &NameSet,
     ports: &NameSet,
     most: usize,
-    setups: &'m [Setup],
+    setups: &'m [SetupStatement],
 ) -> Result<(), Stopped<'m>>
-    ensures sound { OnOk result (HasSoundVariables types.now ports.now most (creations setups.now)) }
-    ensures added { OnOk result (AddsAll types.now (map created (creations setups.now)) config.old config.new) }
+    ensures sound { OnOk result (
+        HasSoundVariables types.now ports.now most (creations setups.now)) }
+    ensures added { OnOk result (
+        AddsAll types.now (map created (creations setups.now)) config.old config.new) }
 {
     let mut variables = NameSet::new(alloc);
     for (i, setup) in setups.iter().enumerate() {
@@ -173,8 +181,8 @@ pub fn create_components<'m>(
     Ok(())
 }
 
-/// The names of the ports of the component type of this name. 11 `Unknown` at the line where there is no
-/// such type.
+/// The names of the ports of the component type of this name. 11 `Unknown` at the line where there
+/// is no such type.
 pub(crate) fn ports_of_type<'m>(
     alloc: Global,
     sorted: &Sorted<'m>,
@@ -182,7 +190,7 @@ pub(crate) fn ports_of_type<'m>(
     line: u32,
 ) -> Result<NameSet<'m>, ScriptFault>
     requires { AreComponentsNamed sorted.now }
-    ensures { IfOk result (HasPorts (map (λ c. c.now) sorted.now.components.items) name.now) }
+    ensures { IfOk result (HasPorts (component_types_in sorted.now) name.now) }
 {
     let Some(place) = sorted.component_names.find(name) else {
         return Err(refused(Refusal::Unknown, line));
@@ -213,7 +221,8 @@ pub(crate) fn add_interface(
     line: u32,
 ) -> Result<Option<CompId>, ScriptFault>
     ensures added { OnOk result (AddsAll types.now (interface case.now) config.old config.new) }
-    ensures number { IfOk result (λ number. option_map (λ c. c.0) number ≡ option_map (λ _. length config.old.components) case.now.system) }
+    ensures number { IfOk result (λ found. number_of found
+        ≡ option_map (λ _. length config.old.components) case.now.system) }
 {
     let Some(system) = &case.system else {
         return Ok(None);

@@ -1,11 +1,11 @@
 //! The second pass of the checks: what definitions name is defined.
-ghost use Rattle.std.specs.Prelude.{◌≡◌, ◌≤◌, ◌↔◌, All, Contains, IfErr, IfOk, IfSome, IsTrue, OnOk, [], Some, is_some, length, map, option_map, string_bytes};
+ghost use Rattle.std.specs.Prelude.{◌≡◌, ◌≤◌, ◌↔◌, All, Contains, IfErr, IfOk, IfSome, IsTrue, OnOk, is_some, length, option_map, string_bytes};
 ghost use Rattle.std.specs.List.{AllZip, list_all};
 ghost use Rattle.tp_setup.specs.Definitions.{declared_ports};
-ghost use Rattle.tp_setup.specs.Rules.{IsComponentFault, IsSound, IsType, sut};
+ghost use Rattle.tp_setup.specs.Rules.{CanPlaySystem, IsComponentFault, IsType, has_known_parameters, has_known_ports, sut};
 ghost use Rattle.tp_name.specs.Tables.{place_of};
-ghost use Rattle.tp_setup.specs.Sorted.{AreSorted, AreSound, ArePortsNamed, HasSoundDefinitions};
-ghost use Rattle.tp_setup.specs.Resolved.{IsComponentType, IsNamedType};
+ghost use Rattle.tp_setup.specs.Sorted.{AreComponentTypesIn, AreSorted, AreSound, ArePortsNamed, HasSoundDefinitions, IsSoundIn, types_in};
+ghost use Rattle.tp_setup.specs.Resolved.{IsNamedType};
 ghost use Rattle.tp_setup.specs.Defining.{IsDefined};
 
 use crate::ports::{has_room, make_components, make_port_types};
@@ -53,7 +53,8 @@ fn are_messages_known(types: &NameSet, directions: &[Direction]) -> bool
 
 /// Whether the type of each port is known.
 fn are_ports_known(port_types: &NameSet, ports: &[PortDeclaration]) -> bool
-    ensures { result ≡ list_all (λ p. is_some (place_of port_types.now (string_bytes p.type_name))) ports.now }
+    ensures { result ≡ list_all (λ p. is_some (place_of port_types.now (string_bytes p.type_name)))
+        ports.now }
 {
     ports
         .iter()
@@ -62,7 +63,8 @@ fn are_ports_known(port_types: &NameSet, ports: &[PortDeclaration]) -> bool
 
 /// Whether the type of each parameter is known.
 fn are_parameters_known(components: &NameSet, parameters: &[Parameter]) -> bool
-    ensures { result ≡ list_all (λ p. is_some (place_of components.now (string_bytes p.type_name))) parameters.now }
+    ensures { result ≡ list_all (λ p. is_some (place_of components.now (string_bytes p.type_name)))
+        parameters.now }
 {
     parameters
         .iter()
@@ -94,14 +96,14 @@ fn known(is_known: bool, line: u32) -> Result<(), ScriptFault>
     }
 }
 
-/// Looks at a component type. 11 `Unknown` at the line exactly where the type of a port is unknown; else
-/// 15 `Limit` at the line exactly where there are more than 64 ports.
+/// Looks at a component type. 11 `Unknown` at the line exactly where the type of a port is unknown;
+/// else 15 `Limit` at the line exactly where there are more than 64 ports.
 fn check_component(
     port_types: &NameSet,
     component: &ComponentType,
     line: u32,
 ) -> Result<(), ScriptFault>
-    ensures known { OnOk result (IsTrue (list_all (λ p. is_some (place_of port_types.now (string_bytes p.type_name))) component.now.ports.items)) }
+    ensures known { OnOk result (IsTrue (has_known_ports port_types.now component.now)) }
     ensures few { OnOk result (length (declared_ports component.now.ports.items) ≤ 64) }
     ensures refused { IfErr result (IsComponentFault port_types.now component.now line) }
 {
@@ -117,7 +119,7 @@ fn check_component(
 /// Whether a function can play the system under test, for which this component type stands behind
 /// `system`.
 fn plays_system(system: &Option<String>, function: &Function) -> bool
-    ensures { IsTrue result → (function.now.parameters.items ≡ []) × (option_map string_bytes system.now ≡ Some (string_bytes function.now.runs_on)) }
+    ensures { IsTrue result → CanPlaySystem (option_map string_bytes system.now) function.now }
 {
     let Some(system) = system else {
         return false;
@@ -133,8 +135,9 @@ fn check_function(
     line: u32,
 ) -> Result<(), ScriptFault>
     ensures runs_on { OnOk result (Contains components.now (string_bytes function.now.runs_on)) }
-    ensures parameters { OnOk result (IsTrue (list_all (λ p. is_some (place_of components.now (string_bytes p.type_name))) function.now.parameters.items)) }
-    ensures sut { OnOk result (string_bytes function.now.name ≡ sut → (function.now.parameters.items ≡ []) × (option_map string_bytes system.now ≡ Some (string_bytes function.now.runs_on))) }
+    ensures parameters { OnOk result (IsTrue (has_known_parameters components.now function.now)) }
+    ensures sut { OnOk result (string_bytes function.now.name ≡ sut
+        → CanPlaySystem (option_map string_bytes system.now) function.now) }
 {
     known(components.has(function.runs_on.as_str()), line)?;
     known(are_parameters_known(components, &function.parameters), line)?;
@@ -154,7 +157,8 @@ pub fn is_sut(name: &str) -> bool
 /// Looks at the test case.
 fn check_case(components: &NameSet, case: &TestCase, line: u32) -> Result<(), ScriptFault>
     ensures runs_on { OnOk result (Contains components.now (string_bytes case.now.runs_on)) }
-    ensures system { OnOk result (IfSome case.now.system (λ s. Contains components.now (string_bytes s))) }
+    ensures system { OnOk result (
+        IfSome case.now.system (λ s. Contains components.now (string_bytes s))) }
 {
     known(components.has(case.runs_on.as_str()), line)?;
     match &case.system {
@@ -170,7 +174,8 @@ fn check_definition(
     system: &Option<String>,
     definition: &Definition,
 ) -> Result<(), ScriptFault>
-    ensures { OnOk result (IsSound sorted.now.type_names sorted.now.port_names sorted.now.component_names (option_map string_bytes system.now) definition.now.defined) }
+    ensures { OnOk result (
+        IsSoundIn sorted.now (option_map string_bytes system.now) definition.now) }
 {
     let line = definition.line;
     let types = &sorted.type_names;
@@ -197,7 +202,8 @@ fn check_definitions(
     system: &Option<String>,
     definitions: &[Definition],
 ) -> Result<(), ScriptFault>
-    ensures { OnOk result (AreSound sorted.now (option_map string_bytes system.now) definitions.now) }
+    ensures { OnOk result (
+        AreSound sorted.now (option_map string_bytes system.now) definitions.now) }
 {
     for definition in definitions {
         check_definition(sorted, system, definition)?;
@@ -205,8 +211,8 @@ fn check_definitions(
     Ok(())
 }
 
-/// The definitions of a module, sorted by their kinds, where each obeys the rules and this is the test
-/// case.
+/// The definitions of a module, sorted by their kinds, where each obeys the rules and this is the
+/// test case.
 fn sort_sound<'m>(
     alloc: Global,
     parsed: &'m Module,
@@ -222,7 +228,7 @@ fn sort_sound<'m>(
 
 /// What is made of the definitions that are sorted.
 #[derive(Drop)]
-struct Made {
+struct MadeTypes {
     /// The record and record-of types, under their own names.
     types: Types,
     /// The component types, in the order of the text.
@@ -232,7 +238,7 @@ struct Made {
 /// The component types, in the order of the text, where the port types have their own names.
 fn make_component_types(alloc: Global, sorted: &Sorted) -> Result<Vec<CompType>, ScriptFault>
     requires { ArePortsNamed sorted.now }
-    ensures components { IfOk result (λ r. AllZip (IsComponentType sorted.now.type_names (map (λ p. p.now) sorted.now.ports.items)) (map (λ c. c.now) sorted.now.components.items) r.items) }
+    ensures components { IfOk result (λ r. AreComponentTypesIn sorted.now r.items) }
     ensures few { IfOk result (λ r. All (λ t. length t.ports.entries ≤ 64) r.items) }
 {
     let made = make_port_types(alloc, &sorted.type_names, &sorted.ports)?;
@@ -240,26 +246,29 @@ fn make_component_types(alloc: Global, sorted: &Sorted) -> Result<Vec<CompType>,
 }
 
 /// The types and the component types, where the port types have their own names.
-fn make(alloc: Global, sorted: &Sorted) -> Result<Made, ScriptFault>
+fn make(alloc: Global, sorted: &Sorted) -> Result<MadeTypes, ScriptFault>
     requires { ArePortsNamed sorted.now }
-    ensures types { IfOk result (λ made. AllZip (IsNamedType sorted.now.type_names) (map (λ x. x.now) sorted.now.types.items) made.types) }
-    ensures components { IfOk result (λ made. AllZip (IsComponentType sorted.now.type_names (map (λ p. p.now) sorted.now.ports.items)) (map (λ c. c.now) sorted.now.components.items) made.components.items) }
-    ensures few { IfOk result (λ made. All (λ t. length t.ports.entries ≤ 64) made.components.items) }
+    ensures types { IfOk result (λ made.
+        AllZip (IsNamedType sorted.now.type_names) (types_in sorted.now) made.types) }
+    ensures components { IfOk result (λ made.
+        AreComponentTypesIn sorted.now made.components.items) }
+    ensures few { IfOk result (λ made.
+        All (λ t. length t.ports.entries ≤ 64) made.components.items) }
 {
     let types = make_types(alloc, &sorted.type_names, &sorted.types)?;
     let components = make_component_types(alloc, sorted)?;
-    Ok(Made { types, components })
+    Ok(MadeTypes { types, components })
 }
 
-/// The second pass: what the definitions of a module define, where it has this test case, and no name
-/// is given twice.
+/// The second pass: what the definitions of a module define, where it has this test case, and no
+/// name is given twice.
 ///
 /// The first fault in the order of the text is the answer, at the line of the first token of its
-/// definition, and within a definition in this order: 11 `Unknown` where a name that stands for a type
-/// of messages, a port type or a component type names none; 15 `Limit` where a component type has more
-/// than 64 ports; 16 `NotInSut` where the function `sut` has parameters, where the test case has no
-/// `system` clause, or one with another type than that behind the function's `runs on`. 50 `Memory`
-/// only where an allocation was refused.
+/// definition, and within a definition in this order: 11 `Unknown` where a name that stands for a
+/// type of messages, a port type or a component type names none; 15 `Limit` where a component type
+/// has more than 64 ports; 16 `NotInSut` where the function `sut` has parameters, where the test
+/// case has no `system` clause, or one with another type than that behind the function's `runs on`.
+/// 50 `Memory` only where an allocation was refused.
 pub fn define<'m>(
     alloc: Global,
     parsed: &'m Module,
@@ -270,7 +279,7 @@ pub fn define<'m>(
     ensures case { IfOk result (λ d. d.case.case.now ≡ case.entry.case.now) }
 {
     let sorted = sort_sound(alloc, parsed, case.case)?;
-    let Made { types, components } = make(alloc, &sorted)?;
+    let MadeTypes { types, components } = make(alloc, &sorted)?;
     Ok(Definitions {
         case,
         sorted,

@@ -5,7 +5,7 @@ ghost use Rattle.tp_value.specs.declared.types.Ty.{Ty};
 ghost use Rattle.std.specs.List.{AllZip, flat_map};
 ghost use Rattle.tp_config.specs.Shape.{ports_of};
 ghost use Rattle.tp_setup.specs.Resolved.{Appends, IsComponentType, IsMade, IsMadeOf, port_decl, IsPortType, Names, goes_in, goes_out, received, sent};
-ghost use Rattle.tp_setup.specs.Sorted.{HasMade};
+ghost use Rattle.tp_setup.specs.Sorted.{AreComponentTypesIn, HasMade, port_types_in};
 
 use crate::resolving::resolve;
 use crate::sorted::Sorted;
@@ -108,7 +108,8 @@ pub fn make_port_types(
     types: &NameSet,
     port_types: &[&tree::PortType],
 ) -> Result<Vec<PortType>, ScriptFault>
-    ensures { IfOk result (λ made. AllZip (IsMade types.now) (map (λ p. p.now) port_types.now) made.items) }
+    ensures { IfOk result (λ made.
+        AllZip (IsMade types.now) (map (λ p. p.now) port_types.now) made.items) }
 {
     let mut made = Vec::new(alloc);
     for port_type in port_types {
@@ -120,7 +121,8 @@ pub fn make_port_types(
 
 /// The same lists for one more port, which stand in memory once however many ports share them.
 fn share(port_type: &PortType) -> Result<PortType, ScriptFault>
-    ensures { IfOk result (λ shared. (shared.ins ≡ port_type.now.ins) × (shared.outs ≡ port_type.now.outs)) }
+    ensures { IfOk result (λ shared.
+        (shared.ins ≡ port_type.now.ins) × (shared.outs ≡ port_type.now.outs)) }
 {
     let ins = port_type.ins.share()?;
     let outs = port_type.outs.share()?;
@@ -134,7 +136,8 @@ fn add_port(
     name: &DeclaredName,
     port_type: &PortType,
 ) -> Result<(), ScriptFault>
-    ensures { OnOk result (ports_of component.new ≡ ports_of component.old ++ port_decl port_type.now name.now ∷ []) }
+    ensures { OnOk result (ports_of component.new
+        ≡ ports_of component.old ++ port_decl port_type.now name.now ∷ []) }
 {
     let None = component.ports.get_index_of(name.name.as_str()) else {
         return Err(refused(Refusal::Duplicate, name.line));
@@ -152,7 +155,8 @@ fn add_ports(
     names: &[DeclaredName],
     port_type: &PortType,
 ) -> Result<(), ScriptFault>
-    ensures { OnOk result (ports_of component.new ≡ ports_of component.old ++ map (port_decl port_type.now) names.now) }
+    ensures { OnOk result (ports_of component.new
+        ≡ ports_of component.old ++ map (port_decl port_type.now) names.now) }
 {
     for name in names {
         add_port(alloc, component, name, port_type)?;
@@ -169,7 +173,8 @@ fn made_at(made: &[PortType], place: u32) -> Option<&PortType>
 /// What the port type of this name receives and sends, or `None` where no port type has it.
 fn find_made<'p>(sorted: &Sorted, made: &'p [PortType], name: &str) -> Option<&'p PortType>
     requires { HasMade sorted.now made.now }
-    ensures { IfSome result (λ found. IsMadeOf sorted.now.type_names (map (λ p. p.now) sorted.now.ports.items) name.now found.now) }
+    ensures { IfSome result (λ found.
+        IsMadeOf sorted.now.type_names (port_types_in sorted.now) name.now found.now) }
 {
     let Some(place) = sorted.port_names.find(name) else {
         return None;
@@ -197,7 +202,8 @@ fn make_component(
     component: &ComponentType,
 ) -> Result<CompType, ScriptFault>
     requires { HasMade sorted.now made.now }
-    ensures ports { IfOk result (IsComponentType sorted.now.type_names (map (λ p. p.now) sorted.now.ports.items) component.now) }
+    ensures ports { IfOk result (
+        IsComponentType sorted.now.type_names (port_types_in sorted.now) component.now) }
     ensures few { IfOk result (λ t. length t.ports.entries ≤ 64) }
 {
     let mut ports = CompType {
@@ -222,7 +228,7 @@ pub fn make_components(
     made: &[PortType],
 ) -> Result<Vec<CompType>, ScriptFault>
     requires { HasMade sorted.now made.now }
-    ensures components { IfOk result (λ r. AllZip (IsComponentType sorted.now.type_names (map (λ p. p.now) sorted.now.ports.items)) (map (λ c. c.now) sorted.now.components.items) r.items) }
+    ensures components { IfOk result (λ r. AreComponentTypesIn sorted.now r.items) }
     ensures few { IfOk result (λ r. All (λ t. length t.ports.entries ≤ 64) r.items) }
 {
     let mut components = Vec::new(alloc);

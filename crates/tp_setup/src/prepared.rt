@@ -15,11 +15,11 @@ pub struct Prepared<'m> {
     pub sorted: Sorted<'m>,
     /// The record and record-of types, under their own names.
     pub types: Types,
-    /// The configuration: `mtc`, the components that are made, and the test system interface, in this
-    /// order, with the connections and mappings of the setup statements.
+    /// The configuration: `mtc`, the components that are made, and the test system interface, in
+    /// this order, with the connections and mappings of the setup statements.
     pub config: Config,
-    /// The component variables, in the order of the text. The number of a variable's component is one more
-    /// than the number of its name.
+    /// The component variables, in the order of the text. The number of a variable's component is
+    /// one more than the number of its name.
     pub variables: NameSet<'m>,
     /// What starts each component.
     pub starts: Starts,

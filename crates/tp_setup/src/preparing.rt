@@ -7,7 +7,7 @@ ghost use Rattle.tp_setup.specs.Defining.{IsDefined};
 ghost use Rattle.tp_setup.specs.Definitions.{test_cases};
 ghost use Rattle.tp_setup.specs.Prepared.{IsPreparedOf, IsWellDeclared};
 ghost use Rattle.tp_setup.specs.Rules.{HasUniqueNames};
-ghost use Rattle.tp_setup.specs.Sorted.{AreComponentsNamed, AreFunctionsNamed, HasSoundDefinitions};
+ghost use Rattle.tp_setup.specs.Sorted.{AreComponentsNamed, AreFunctionsNamed, HasSoundDefinitions, component_types_in, functions_in};
 ghost use Rattle.tp_setup.specs.Starting.{AreStarts};
 
 use crate::definitions::{Definitions, define};
@@ -42,8 +42,8 @@ struct Configured<'m> {
     starts: Starts,
 }
 
-/// The third pass: setup and starts, where the module's definitions are sorted so and its component types
-/// are these, each with at most 64 ports.
+/// The third pass: setup and starts, where the module's definitions are sorted so and its component
+/// types are these, each with at most 64 ports.
 fn configure<'m>(
     alloc: Global,
     sorted: &Sorted<'m>,
@@ -53,10 +53,14 @@ fn configure<'m>(
     requires components { AreComponentsNamed sorted.now }
     requires functions { AreFunctionsNamed sorted.now }
     requires few { All (λ t. length t.ports.entries ≤ 64) components.items }
-    ensures config { IfOk result (λ c. IsSetUp sorted.now.component_names (map ports_of components.items) case.entry.case.now c.made.config) }
-    ensures variables { IfOk result (λ c. c.made.variables ≡ variables case.entry.case.now.setups.items) }
-    ensures sound { OnOk result (AreSoundVariables sorted.now.component_names (map (λ c. c.now) sorted.now.components.items) case.entry.case.now) }
-    ensures starts { IfOk result (λ c. AreStarts (map (λ f. f.now) sorted.now.functions.items) case.entry.case.now c.starts) }
+    ensures config { IfOk result (λ c. IsSetUp sorted.now.component_names
+        (map ports_of components.items) case.entry.case.now c.made.config) }
+    ensures variables { IfOk result (λ c. c.made.variables
+        ≡ variables case.entry.case.now.setups.items) }
+    ensures sound { OnOk result (AreSoundVariables sorted.now.component_names
+        (component_types_in sorted.now) case.entry.case.now) }
+    ensures starts { IfOk result (λ c.
+        AreStarts (functions_in sorted.now) case.entry.case.now c.starts) }
 {
     let made = set_up(alloc, sorted, case, components)?;
     let starts = check_starts(alloc, sorted, case, &made.variables)?;
@@ -66,8 +70,8 @@ fn configure<'m>(
 /// The first three passes: names, definitions, setup and starts.
 ///
 /// The first fault of the first pass that finds one is the answer, each with its line: see
-/// [`check_names`], [`define`], [`set_up`] and [`check_starts`]. 50 `Memory` only where an allocation was
-/// refused.
+/// [`check_names`], [`define`], [`set_up`] and [`check_starts`]. 50 `Memory` only where an
+/// allocation was refused.
 pub fn prepare(alloc: Global, parsed: &Module) -> Result<Prepared<'_>, ScriptFault>
     ensures rules { OnOk result (IsWellDeclared parsed.now) }
     ensures made { IfOk result (IsPreparedOf parsed.now) }

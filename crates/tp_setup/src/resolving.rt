@@ -99,11 +99,11 @@ fn make_type(
     }
 }
 
-/// The types that are defined, under their own names, in the order of the text, where the record and
-/// record-of types have these names.
+/// The types that are defined, under their own names, in the order of the text, where the record
+/// and record-of types have these names.
 ///
-/// 15 `Limit` at line 0 where there are 4,294,967,295 types. 50 `Memory` only where an allocation was
-/// refused.
+/// 15 `Limit` at line 0 where there are 4,294,967,295 types. 50 `Memory` only where an allocation
+/// was refused.
 pub fn make_types(
     alloc: Global,
     names: &NameSet,
@@ -125,7 +125,8 @@ fn add_type(
     defined: &Defined,
     types: &mut Types,
 ) -> Result<(), ScriptFault>
-    ensures { OnOk result ((t : List ℕ × TypeDef) × IsNamedType names.now defined.now t × (types.new ≡ types.old ++ t ∷ [])) }
+    ensures { OnOk result ((t : List ℕ × TypeDef) × IsNamedType names.now defined.now t
+        × (types.new ≡ types.old ++ t ∷ [])) }
 {
     let definition = make_type(alloc, names, defined, 0)?;
     let name = String::from_str(alloc, defined_name(defined))?;

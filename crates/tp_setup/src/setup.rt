@@ -2,9 +2,9 @@
 ghost use Rattle.std.specs.Prelude.{◌≡◌, ◌≤◌, ◌++◌, ◌∷◌, All, IfOk, IfSome, OnOk, length, map};
 ghost use Rattle.tp_config.specs.Setup.{empty_setup};
 ghost use Rattle.tp_config.specs.Shape.{ports_of};
-ghost use Rattle.tp_setup.specs.Sorted.{AreComponentsNamed};
+ghost use Rattle.tp_setup.specs.Sorted.{AreComponentsNamed, component_types_in};
 ghost use Rattle.std.specs.Option.{option_map, option_to_list};
-ghost use Rattle.tp_setup.specs.Components.{AddsAll, HasSoundVariables, created, creation_of, creations, main_component, variable, variables};
+ghost use Rattle.tp_setup.specs.Components.{AddsAll, HasSoundVariables, created, creation_of, creations, main_component, number_of, variable, variables};
 ghost use Rattle.tp_setup.specs.Configuring.{AreSoundVariables, Connects, IsEnd, IsSetUp, IsStep, Makes, Maps, component_at, most_variables};
 
 use crate::components::{Stopped, add_component, add_interface, create_components, ports_of_type};
@@ -17,16 +17,17 @@ use tp_config::mapping::MapFault;
 use tp_config::port_type::{COMPONENT_LIMIT, CompId, CompType, PortRef, Role};
 use tp_name::fault::{Memory, Refusal, ScriptFault, refused};
 use tp_name::name_set::NameSet;
-use tp_syntax::tree::{End, EndComponent, Setup, SetupAction, TestCase};
+use tp_syntax::tree::{EndComponent, PairEnd, SetupAction, SetupStatement, TestCase};
 
-/// The component that is named, where the component variables so far have these names, or `None` where
-/// there is none. Takes no memory.
+/// The component that is named, where the component variables so far have these names, or `None`
+/// where there is none. Takes no memory.
 fn find_component(
     known: &NameSet,
     system: Option<CompId>,
     component: &EndComponent,
 ) -> Option<CompId>
-    ensures { IfSome result (λ comp. component_at known.now (option_map (λ c. c.0) system) component.now ≡ Some comp.0) }
+    ensures { IfSome result (λ comp.
+        component_at known.now (number_of system) component.now ≡ Some comp.0) }
 {
     match component {
         EndComponent::Mtc | EndComponent::SelfComponent => Some(CompId(0)),
@@ -48,10 +49,10 @@ fn find_end(
     config: &Config,
     known: &NameSet,
     system: Option<CompId>,
-    end: &End,
+    end: &PairEnd,
     line: u32,
 ) -> Result<PortRef, ScriptFault>
-    ensures { IfOk result (IsEnd config.now known.now (option_map (λ c. c.0) system) end.now) }
+    ensures { IfOk result (IsEnd config.now known.now (number_of system) end.now) }
 {
     let Some(comp) = find_component(known, system, &end.component) else {
         return Err(refused(Refusal::Unknown, line));
@@ -78,17 +79,18 @@ fn map_fault(fault: MapFault, line: u32) -> ScriptFault {
     }
 }
 
-/// Connects two ports: 11 `Unknown` where one is unknown, and the refusals of [`Config::connect`], at the
-/// line.
+/// Connects two ports: 11 `Unknown` where one is unknown, and the refusals of [`Config::connect`],
+/// at the line.
 fn connect(
     config: &mut Config,
     known: &NameSet,
     system: Option<CompId>,
-    first: &End,
-    second: &End,
+    first: &PairEnd,
+    second: &PairEnd,
     line: u32,
 ) -> Result<(), ScriptFault>
-    ensures { OnOk result (Connects config.old known.now (option_map (λ c. c.0) system) first.now second.now config.new) }
+    ensures { OnOk result (
+        Connects config.old known.now (number_of system) first.now second.now config.new) }
 {
     let p = find_end(config, known, system, first, line)?;
     let q = find_end(config, known, system, second, line)?;
@@ -98,16 +100,18 @@ fn connect(
     }
 }
 
-/// Maps two ports: 11 `Unknown` where one is unknown, and the refusals of [`Config::map`], at the line.
+/// Maps two ports: 11 `Unknown` where one is unknown, and the refusals of [`Config::map`], at the
+/// line.
 fn map(
     config: &mut Config,
     known: &NameSet,
     system: Option<CompId>,
-    first: &End,
-    second: &End,
+    first: &PairEnd,
+    second: &PairEnd,
     line: u32,
 ) -> Result<(), ScriptFault>
-    ensures { OnOk result (Maps config.old known.now (option_map (λ c. c.0) system) first.now second.now config.new) }
+    ensures { OnOk result (
+        Maps config.old known.now (number_of system) first.now second.now config.new) }
 {
     let p = find_end(config, known, system, first, line)?;
     let q = find_end(config, known, system, second, line)?;
@@ -122,10 +126,12 @@ fn step<'m>(
     config: &mut Config,
     known: &mut NameSet<'m>,
     system: Option<CompId>,
-    setup: &'m Setup,
+    setup: &'m SetupStatement,
 ) -> Result<(), ScriptFault>
-    ensures step { OnOk result (IsStep config.old known.old (option_map (λ c. c.0) system) setup.now.action config.new) }
-    ensures known { OnOk result (known.new ≡ known.old ++ option_to_list (option_map variable (creation_of setup.now))) }
+    ensures step { OnOk result (
+        IsStep config.old known.old (number_of system) setup.now.action config.new) }
+    ensures known { OnOk result (known.new
+        ≡ known.old ++ option_to_list (option_map variable (creation_of setup.now))) }
 {
     let line = setup.line;
     match &setup.action {
@@ -138,20 +144,20 @@ fn step<'m>(
     }
 }
 
-/// Makes the connections and mappings of the setup statements, one after the other, in a configuration
-/// whose components are all there, and answers the component variables.
+/// Makes the connections and mappings of the setup statements, one after the other, in a
+/// configuration whose components are all there, and answers the component variables.
 ///
-/// The first statement that breaks a rule stops it: 11 `Unknown` where a component or a port is unknown,
-/// then the refusals of [`Config::connect`] and [`Config::map`] in their order, at its line, or 50
-/// `Memory`.
+/// The first statement that breaks a rule stops it: 11 `Unknown` where a component or a port is
+/// unknown, then the refusals of [`Config::connect`] and [`Config::map`] in their order, at its
+/// line, or 50 `Memory`.
 pub fn connect_all<'m>(
     alloc: Global,
     config: &mut Config,
     system: Option<CompId>,
-    setups: &'m [Setup],
+    setups: &'m [SetupStatement],
 ) -> Result<NameSet<'m>, ScriptFault>
     ensures known { IfOk result (λ known. known ≡ variables setups.now) }
-    ensures makes { OnOk result (Makes (option_map (λ c. c.0) system) config.old setups.now config.new) }
+    ensures makes { OnOk result (Makes (number_of system) config.old setups.now config.new) }
 {
     let mut known = NameSet::new(alloc);
     for setup in setups {
@@ -163,11 +169,11 @@ pub fn connect_all<'m>(
 /// The configuration of a test case, and its component variables.
 #[derive(Drop)]
 pub struct SetUp<'m> {
-    /// The configuration: `mtc`, the components that are made, and the test system interface, in this
-    /// order.
+    /// The configuration: `mtc`, the components that are made, and the test system interface, in
+    /// this order.
     pub config: Config,
-    /// The component variables, in the order of the text. The number of a variable's component is one
-    /// more than the number of its name.
+    /// The component variables, in the order of the text. The number of a variable's component is
+    /// one more than the number of its name.
     pub variables: NameSet<'m>,
 }
 
@@ -182,8 +188,8 @@ fn most_variables(case: &TestCase) -> usize
     }
 }
 
-/// The fault of the setup statements, where making the components stopped: that of a connection or mapping
-/// before it, or its own.
+/// The fault of the setup statements, where making the components stopped: that of a connection or
+/// mapping before it, or its own.
 fn first_fault(
     alloc: Global,
     config: &mut Config,
@@ -201,8 +207,8 @@ fn first_fault(
     }
 }
 
-/// Makes the components of the setup statements, where the component types and the ports of the main
-/// component have these names.
+/// Makes the components of the setup statements, where the component types and the ports of the
+/// main component have these names.
 fn create_beside(
     alloc: Global,
     config: &mut Config,
@@ -210,8 +216,10 @@ fn create_beside(
     ports: &NameSet,
     case: CaseAt<'_>,
 ) -> Result<(), ScriptFault>
-    ensures sound { OnOk result (HasSoundVariables types.now ports.now (most_variables case.entry.case.now) (creations case.entry.case.now.setups.items)) }
-    ensures added { OnOk result (AddsAll types.now (map created (creations case.entry.case.now.setups.items)) config.old config.new) }
+    ensures sound { OnOk result (HasSoundVariables types.now ports.now
+        (most_variables case.entry.case.now) (creations case.entry.case.now.setups.items)) }
+    ensures added { OnOk result (AddsAll types.now
+        (map created (creations case.entry.case.now.setups.items)) config.old config.new) }
 {
     let most = most_variables(case.case);
     let setups = case.case.setups.as_slice();
@@ -229,8 +237,10 @@ fn create_all(
     case: CaseAt<'_>,
 ) -> Result<(), ScriptFault>
     requires { AreComponentsNamed sorted.now }
-    ensures sound { OnOk result (AreSoundVariables sorted.now.component_names (map (λ c. c.now) sorted.now.components.items) case.entry.case.now) }
-    ensures added { OnOk result (AddsAll sorted.now.component_names (map created (creations case.entry.case.now.setups.items)) config.old config.new) }
+    ensures sound { OnOk result (AreSoundVariables sorted.now.component_names
+        (component_types_in sorted.now) case.entry.case.now) }
+    ensures added { OnOk result (AddsAll sorted.now.component_names
+        (map created (creations case.entry.case.now.setups.items)) config.old config.new) }
 {
     let runs_on = case.case.runs_on.as_str();
     let ports = ports_of_type(alloc, sorted, runs_on, case.line)?;
@@ -245,8 +255,12 @@ fn add_components(
     case: CaseAt<'_>,
 ) -> Result<(), ScriptFault>
     requires { AreComponentsNamed sorted.now }
-    ensures added { OnOk result (AddsAll sorted.now.component_names (main_component case.entry.case.now ∷ map created (creations case.entry.case.now.setups.items)) config.old config.new) }
-    ensures sound { OnOk result (AreSoundVariables sorted.now.component_names (map (λ c. c.now) sorted.now.components.items) case.entry.case.now) }
+    ensures added { OnOk result (AddsAll sorted.now.component_names
+        (main_component case.entry.case.now
+        ∷ map created (creations case.entry.case.now.setups.items))
+        config.old config.new) }
+    ensures sound { OnOk result (AreSoundVariables sorted.now.component_names
+        (component_types_in sorted.now) case.entry.case.now) }
 {
     let types = &sorted.component_names;
     let runs_on = case.case.runs_on.as_str();
@@ -266,9 +280,11 @@ fn configure<'m>(
 ) -> Result<NameSet<'m>, ScriptFault>
     requires named { AreComponentsNamed sorted.now }
     requires empty { config.old ≡ empty_setup config.old.types }
-    ensures config { OnOk result (IsSetUp sorted.now.component_names config.old.types case.entry.case.now config.new) }
+    ensures config { OnOk result (IsSetUp sorted.now.component_names config.old.types
+        case.entry.case.now config.new) }
     ensures variables { IfOk result (λ known. known ≡ variables case.entry.case.now.setups.items) }
-    ensures sound { OnOk result (AreSoundVariables sorted.now.component_names (map (λ c. c.now) sorted.now.components.items) case.entry.case.now) }
+    ensures sound { OnOk result (AreSoundVariables sorted.now.component_names
+        (component_types_in sorted.now) case.entry.case.now) }
 {
     add_components(alloc, &mut *config, sorted, case)?;
     let types = &sorted.component_names;
@@ -280,12 +296,13 @@ fn configure<'m>(
 /// The setup statements of the third pass: the configuration of a test case, where the module's
 /// definitions are sorted so and its component types are these, each with at most 64 ports.
 ///
-/// The first statement in the order of the text that breaks a rule is refused at its line. Of a `var`: 12
-/// `Duplicate` where another component variable or a port of the test case's component type has its name,
-/// 11 `Unknown` where its type is unknown, 13 `WrongType` where its two types differ, 15 `Limit` where
-/// there are more than 64 components, `mtc` and `system` counted. Of a `connect` and a `map`: 11 `Unknown`
-/// where a component or a port is unknown, and then the refusals of [`Config::connect`] and
-/// [`Config::map`] in their order. 50 `Memory` only where an allocation was refused.
+/// The first statement in the order of the text that breaks a rule is refused at its line. Of a
+/// `var`: 12 `Duplicate` where another component variable or a port of the test case's component
+/// type has its name, 11 `Unknown` where its type is unknown, 13 `WrongType` where its two types
+/// differ, 15 `Limit` where there are more than 64 components, `mtc` and `system` counted. Of a
+/// `connect` and a `map`: 11 `Unknown` where a component or a port is unknown, and then the
+/// refusals of [`Config::connect`] and [`Config::map`] in their order. 50 `Memory` only where an
+/// allocation was refused.
 pub fn set_up<'m>(
     alloc: Global,
     sorted: &Sorted<'m>,
@@ -294,9 +311,12 @@ pub fn set_up<'m>(
 ) -> Result<SetUp<'m>, ScriptFault>
     requires named { AreComponentsNamed sorted.now }
     requires few { All (λ t. length t.ports.entries ≤ 64) components.items }
-    ensures config { IfOk result (λ s. IsSetUp sorted.now.component_names (map ports_of components.items) case.entry.case.now s.config) }
-    ensures variables { IfOk result (λ s. s.variables ≡ variables case.entry.case.now.setups.items) }
-    ensures sound { OnOk result (AreSoundVariables sorted.now.component_names (map (λ c. c.now) sorted.now.components.items) case.entry.case.now) }
+    ensures config { IfOk result (λ s. IsSetUp sorted.now.component_names
+        (map ports_of components.items) case.entry.case.now s.config) }
+    ensures variables { IfOk result (λ s. s.variables
+        ≡ variables case.entry.case.now.setups.items) }
+    ensures sound { OnOk result (AreSoundVariables sorted.now.component_names
+        (component_types_in sorted.now) case.entry.case.now) }
 {
     let mut config = Config::new(alloc, components);
     let variables = configure(alloc, &mut config, sorted, case)?;

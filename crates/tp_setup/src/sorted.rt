@@ -10,8 +10,8 @@ use tp_name::fault::ScriptFault;
 use tp_name::name_set::NameSet;
 use tp_syntax::tree::{ComponentType, Defined, Definition, Function, Module, PortType};
 
-/// The definitions of a module, each kind in the order of the text with its names. A name's number is
-/// the place of its definition.
+/// The definitions of a module, each kind in the order of the text with its names. A name's number
+/// is the place of its definition.
 #[derive(Drop)]
 pub struct Sorted<'m> {
     /// The names of the record and record-of types.

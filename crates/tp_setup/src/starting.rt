@@ -2,7 +2,7 @@
 ghost use Rattle.std.specs.Prelude.{◌≡◌, ◌∷◌, ◌++◌, [], ◌<◌, IfOk, IfSome, IsSome, IsTrue, OnOk, Some, length, map, slice_get, string_bytes};
 ghost use Rattle.std.specs.Option.{option_copied};
 ghost use Rattle.std.specs.List.{AllZip};
-ghost use Rattle.tp_setup.specs.Sorted.{AreFunctionsNamed};
+ghost use Rattle.tp_setup.specs.Sorted.{AreFunctionsNamed, functions_in};
 ghost use Rattle.tp_name.specs.Tables.{AreDistinct};
 ghost use Rattle.tp_setup.specs.Components.{creations, variables};
 ghost use Rattle.tp_setup.specs.Starting.{AreStarts, HasParameterType, IsReference, IsStartPlace, IsStarted, started_names, type_names_of};
@@ -16,7 +16,9 @@ use std::alloc::Global;
 use tp_config::port_type::CompId;
 use tp_name::fault::{Refusal, ScriptFault, refused};
 use tp_name::name_set::{NameFault, NameSet};
-use tp_syntax::tree::{ComponentName, ComponentStart, Function, Parameter, Setup, TestCase};
+use tp_syntax::tree::{
+    ComponentName, ComponentStart, Function, Parameter, SetupStatement, TestCase,
+};
 
 /// The component that the argument names, or `None` where there is none. Takes no memory.
 fn find_reference(variables: &NameSet, argument: &ComponentName) -> Option<CompId>
@@ -55,8 +57,8 @@ fn has_type(types: &[&str], comp: CompId, name: &str) -> bool
     }
 }
 
-/// The component of an argument: 11 `Unknown` where it is unknown, 13 `WrongType` where it has another
-/// type than the parameter.
+/// The component of an argument: 11 `Unknown` where it is unknown, 13 `WrongType` where it has
+/// another type than the parameter.
 fn check_argument(
     variables: &NameSet,
     types: &[&str],
@@ -84,8 +86,10 @@ fn check_arguments(
     parameters: &[Parameter],
     start: &ComponentStart,
 ) -> Result<Vec<CompId>, ScriptFault>
-    ensures known { IfOk result (λ made. AllZip (IsReference variables.now) start.now.arguments.items made.items) }
-    ensures fits { IfOk result (λ made. AllZip (HasParameterType (map (λ t. t.now) types.now)) parameters.now made.items) }
+    ensures known { IfOk result (λ made.
+        AllZip (IsReference variables.now) start.now.arguments.items made.items) }
+    ensures fits { IfOk result (λ made.
+        AllZip (HasParameterType (map (λ t. t.now) types.now)) parameters.now made.items) }
 {
     let arguments = start.arguments.as_slice();
     if arguments.len() != parameters.len() {
@@ -117,7 +121,8 @@ fn check_start(
     start: &ComponentStart,
 ) -> Result<Started, ScriptFault>
     requires { AreFunctionsNamed sorted.now }
-    ensures { IfOk result (IsStarted (map (λ f. f.now) sorted.now.functions.items) variables.now (map (λ t. t.now) types.now) start.now) }
+    ensures { IfOk result (IsStarted (functions_in sorted.now) variables.now
+        (map (λ t. t.now) types.now) start.now) }
 {
     let line = start.line;
     let Some(comp) = variables.find(start.component.as_str()) else {
@@ -164,7 +169,8 @@ fn add_started<'m>(
     started: &mut NameSet<'m>,
     start: &'m ComponentStart,
 ) -> Result<(), ScriptFault>
-    ensures added { OnOk result (started.new ≡ started.old ++ string_bytes start.now.component ∷ []) }
+    ensures added { OnOk result (started.new
+        ≡ started.old ++ string_bytes start.now.component ∷ []) }
     ensures distinct { OnOk result (AreDistinct started.new) }
 {
     if !variables.has(start.component.as_str()) {
@@ -179,8 +185,13 @@ fn add_started<'m>(
 
 /// The places of the starts of the component variables among the components that are started. 18
 /// `NotStarted` at the line of the first variable whose component is not started.
-fn find_starts(alloc: Global, started: &NameSet, setups: &[Setup]) -> Result<Vec<u32>, ScriptFault>
-    ensures { IfOk result (λ places. AllZip (IsStartPlace started.now) (variables setups.now) places.items) }
+fn find_starts(
+    alloc: Global,
+    started: &NameSet,
+    setups: &[SetupStatement],
+) -> Result<Vec<u32>, ScriptFault>
+    ensures { IfOk result (λ places.
+        AllZip (IsStartPlace started.now) (variables setups.now) places.items) }
 {
     let mut places = Vec::new(alloc);
     for setup in setups {
@@ -216,7 +227,8 @@ fn check_next<'m>(
     start: &'m ComponentStart,
 ) -> Result<Started, ScriptFault>
     requires { AreFunctionsNamed sorted.now }
-    ensures started { IfOk result (IsStarted (map (λ f. f.now) sorted.now.functions.items) variables.now (map (λ t. t.now) types.now) start.now) }
+    ensures started { IfOk result (IsStarted (functions_in sorted.now) variables.now
+        (map (λ t. t.now) types.now) start.now) }
     ensures added { OnOk result (names.new ≡ names.old ++ string_bytes start.now.component ∷ []) }
     ensures distinct { OnOk result (AreDistinct names.new) }
 {
@@ -234,7 +246,9 @@ fn check_each<'m>(
     starts: &'m [ComponentStart],
 ) -> Result<(NameSet<'m>, Vec<Started>), ScriptFault>
     requires { AreFunctionsNamed sorted.now }
-    ensures started { IfOk result (λ r. AllZip (IsStarted (map (λ f. f.now) sorted.now.functions.items) variables.now (map (λ t. t.now) types.now)) starts.now r.1.items) }
+    ensures started { IfOk result (λ r. AllZip
+        (IsStarted (functions_in sorted.now) variables.now (map (λ t. t.now) types.now))
+        starts.now r.1.items) }
     ensures names { IfOk result (λ r. r.0 ≡ started_names starts.now) }
     ensures distinct { IfOk result (λ r. AreDistinct r.0) }
 {
@@ -255,7 +269,9 @@ fn start_all<'m>(
     names: &NameSet,
 ) -> Result<(NameSet<'m>, Vec<Started>), ScriptFault>
     requires { AreFunctionsNamed sorted.now }
-    ensures started { IfOk result (λ r. AllZip (IsStarted (map (λ f. f.now) sorted.now.functions.items) names.now (type_names_of case.now)) case.now.starts.items r.1.items) }
+    ensures started { IfOk result (λ r. AllZip
+        (IsStarted (functions_in sorted.now) names.now (type_names_of case.now))
+        case.now.starts.items r.1.items) }
     ensures names { IfOk result (λ r. r.0 ≡ started_names case.now.starts.items) }
     ensures distinct { IfOk result (λ r. AreDistinct r.0) }
 {
@@ -266,24 +282,27 @@ fn start_all<'m>(
 
 /// The places of the starts of the component variables, where the test case ends as it has to.
 fn place_starts(alloc: Global, started: &NameSet, case: CaseAt<'_>) -> Result<Vec<u32>, ScriptFault>
-    ensures places { IfOk result (λ places. AllZip (IsStartPlace started.now) (variables case.entry.case.now.setups.items) places.items) }
-    ensures done { OnOk result (0 < length (creations case.entry.case.now.setups.items) → IsSome case.entry.case.now.all_done) }
+    ensures places { IfOk result (λ places. AllZip (IsStartPlace started.now)
+        (variables case.entry.case.now.setups.items) places.items) }
+    ensures done { OnOk result (0 < length (creations case.entry.case.now.setups.items)
+        → IsSome case.entry.case.now.all_done) }
 {
     let places = find_starts(alloc, started, &case.case.setups)?;
     check_done(case.case, &places, case.line)?;
     Ok(places)
 }
 
-/// The starts of the third pass: what they start, where the module's definitions are sorted so and the
-/// component variables have these names.
+/// The starts of the third pass: what they start, where the module's definitions are sorted so and
+/// the component variables have these names.
 ///
-/// The first start in the order of the text that breaks a rule is refused at its line: 11 `Unknown` where
-/// there is no such component variable, 18 `NotStarted` where it was started before, 11 where there is no
-/// such function, 16 `NotInSut` where it is `sut`, 13 `WrongType` where it runs on another type than the
-/// component's or has another number of parameters, and for each argument 11 where it is unknown and 13
-/// where it has another type than its parameter. Then 18 at the line of the first `var` whose component is
-/// not started, and 17 `NoDone` at the line of the test case where it makes components and does not end
-/// with `all component.done`. 50 `Memory` only where an allocation was refused.
+/// The first start in the order of the text that breaks a rule is refused at its line: 11 `Unknown`
+/// where there is no such component variable, 18 `NotStarted` where it was started before, 11 where
+/// there is no such function, 16 `NotInSut` where it is `sut`, 13 `WrongType` where it runs on
+/// another type than the component's or has another number of parameters, and for each argument 11
+/// where it is unknown and 13 where it has another type than its parameter. Then 18 at the line of
+/// the first `var` whose component is not started, and 17 `NoDone` at the line of the test case
+/// where it makes components and does not end with `all component.done`. 50 `Memory` only where an
+/// allocation was refused.
 pub fn check_starts(
     alloc: Global,
     sorted: &Sorted,
@@ -292,7 +311,7 @@ pub fn check_starts(
 ) -> Result<Starts, ScriptFault>
     requires named { AreFunctionsNamed sorted.now }
     requires variables { names.now ≡ variables case.case.now.setups.items }
-    ensures { IfOk result (AreStarts (map (λ f. f.now) sorted.now.functions.items) case.entry.case.now) }
+    ensures { IfOk result (AreStarts (functions_in sorted.now) case.entry.case.now) }
 {
     let (started, starts) = start_all(alloc, sorted, case.case, names)?;
     let places = place_starts(alloc, &started, case)?;

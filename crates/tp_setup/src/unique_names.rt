@@ -79,7 +79,8 @@ pub fn declare_parameters<'m>(
     parameters: &'m [Parameter],
 ) -> Result<(), ScriptFault>
     requires { AreDistinct names.old }
-    ensures names { OnOk result (names.new ≡ names.old ++ map (λ p. declared p.name) parameters.now) }
+    ensures names { OnOk result (names.new
+        ≡ names.old ++ map (λ p. declared p.name) parameters.now) }
     ensures distinct { AreDistinct names.new }
 {
     for parameter in parameters {
@@ -88,8 +89,8 @@ pub fn declare_parameters<'m>(
     Ok(())
 }
 
-/// Adds the names of the fields, ports or parameters of a definition, behind no others. 12 `Duplicate` at
-/// the line of the second of two that are equal.
+/// Adds the names of the fields, ports or parameters of a definition, behind no others. 12
+/// `Duplicate` at the line of the second of two that are equal.
 fn declare_inner<'m>(names: &mut NameSet<'m>, defined: &'m Defined) -> Result<(), ScriptFault>
     requires { names.old ≡ [] }
     ensures { OnOk result (AreDistinct (inner_names defined.now)) }
@@ -102,8 +103,8 @@ fn declare_inner<'m>(names: &mut NameSet<'m>, defined: &'m Defined) -> Result<()
     }
 }
 
-/// Looks at the names of the fields, ports or parameters of a definition. 12 `Duplicate` at the line
-/// of the second of two that are equal.
+/// Looks at the names of the fields, ports or parameters of a definition. 12 `Duplicate` at the
+/// line of the second of two that are equal.
 fn check_inner(alloc: Global, definition: &Definition) -> Result<(), ScriptFault>
     ensures { OnOk result (AreDistinct (inner_names definition.now.defined)) }
 {
@@ -125,13 +126,14 @@ pub(crate) fn defined_name(defined: &Defined) -> &str
     }
 }
 
-/// The test case so far, where one more definition is looked at. 12 `Duplicate` at its line where it
-/// is a second test case.
+/// The test case so far, where one more definition is looked at. 12 `Duplicate` at its line where
+/// it is a second test case.
 fn next_case<'m>(
     before: Option<CaseAt<'m>>,
     definition: &'m Definition,
 ) -> Result<Option<CaseAt<'m>>, ScriptFault>
-    ensures { IfOk result (λ after. cases_of after ≡ cases_of before.entry ++ option_to_list (case_of definition.now.defined)) }
+    ensures { IfOk result (λ after. cases_of after
+        ≡ cases_of before.entry ++ option_to_list (case_of definition.now.defined)) }
 {
     let Defined::TestCase(case) = &definition.defined else {
         return Ok(before);
@@ -150,8 +152,8 @@ fn is_case(definition: &Definition) -> bool {
     matches!(&definition.defined, Defined::TestCase(_))
 }
 
-/// Adds the name of a definition, and looks at the names in it. 12 `Duplicate` at its line where the name
-/// is there.
+/// Adds the name of a definition, and looks at the names in it. 12 `Duplicate` at its line where
+/// the name is there.
 fn check_name<'m>(
     alloc: Global,
     names: &mut NameSet<'m>,
@@ -174,8 +176,10 @@ fn find_case<'m>(
     definitions: &'m [Definition],
 ) -> Result<Option<CaseAt<'m>>, ScriptFault>
     ensures case { IfOk result (λ case. cases_of case ≡ among case_of definitions.now) }
-    ensures names { OnOk result (AreDistinct (map (λ (x : Definition). name_of x.defined) definitions.now)) }
-    ensures inner { OnOk result (All (λ (x : Definition). AreDistinct (inner_names x.defined)) definitions.now) }
+    ensures names { OnOk result (
+        AreDistinct (map (λ (x : Definition). name_of x.defined) definitions.now)) }
+    ensures inner { OnOk result (
+        All (λ (x : Definition). AreDistinct (inner_names x.defined)) definitions.now) }
 {
     let mut names = NameSet::new(alloc);
     let mut case = None;
@@ -189,9 +193,9 @@ fn find_case<'m>(
 /// The first pass: the test case of the module.
 ///
 /// 11 `Unknown` at the line of the module where it has none. Then, in the order of the text: 12
-/// `Duplicate` at the line of the second of two definitions with one name, of a second test case, and
-/// of the second of two equal names of fields, ports or parameters in one definition. 50 `Memory` only
-/// where an allocation was refused.
+/// `Duplicate` at the line of the second of two definitions with one name, of a second test case,
+/// and of the second of two equal names of fields, ports or parameters in one definition. 50
+/// `Memory` only where an allocation was refused.
 pub fn check_names(alloc: Global, parsed: &Module) -> Result<CaseAt<'_>, ScriptFault>
     ensures case { IfOk result (λ found. test_cases parsed.now ≡ found.case.now ∷ []) }
     ensures names { OnOk result (HasUniqueNames parsed.now) }

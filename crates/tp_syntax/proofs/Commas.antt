@@ -7,7 +7,9 @@ use Rattle.tp_syntax.specs.Sequences.{more_by_commas, by_commas, all_of, braced}
 
 pub more_by_commas_push : (xs : List (List Lexeme)) (x : List Lexeme) → more_by_commas (xs ++ x ∷ []) ≡ more_by_commas xs ++ symbol Comma ∷ x
 more_by_commas_push [] x = ap (λ (t : List Lexeme). symbol Comma ∷ t) (simp append-nil)
-more_by_commas_push (y ∷ ys) x = ap (λ (t : List Lexeme). symbol Comma ∷ (y ++ t)) (more_by_commas_push ys x) ∙ ap (λ (t : List Lexeme). symbol Comma ∷ t) (sym (append_assoc y (more_by_commas ys) (symbol Comma ∷ x)))
+more_by_commas_push (y ∷ ys) x =
+    ap (λ (t : List Lexeme). symbol Comma ∷ (y ++ t)) (more_by_commas_push ys x)
+    ∙ ap (λ (t : List Lexeme). symbol Comma ∷ t) (sym (append_assoc y (more_by_commas ys) (symbol Comma ∷ x)))
 
 pub by_commas_push : (xs : List (List Lexeme)) (x : List Lexeme) → 0 < length xs → by_commas (xs ++ x ∷ []) ≡ by_commas xs ++ symbol Comma ∷ x
 by_commas_push [] x h = absurd (omega arith)
@@ -18,8 +20,10 @@ pub push_read : {A : Type 0} (f : A → List Lexeme) (xs : List A) (x : A) (a b 
     a ≡ by_commas (map f xs) ++ b → b ≡ symbol Comma ∷ c → c ≡ f x ++ d → a ≡ by_commas (map f (xs ++ x ∷ [])) ++ d
 push_read f xs x a b c d h e1 e2 e3 =
     let some : 0 < length (map f xs) = simp length-map h in
-    let parts : by_commas (map f (xs ++ x ∷ [])) ≡ by_commas (map f xs) ++ symbol Comma ∷ f x = ap by_commas (map_push f xs x) ∙ by_commas_push (map f xs) (f x) some in
-    e1 ∙ ap (λ (t : List Lexeme). by_commas (map f xs) ++ t) (e2 ∙ ap (λ (t : List Lexeme). symbol Comma ∷ t) e3) ∙ sym (append_assoc (by_commas (map f xs)) (symbol Comma ∷ f x) d) ∙ ap (λ (t : List Lexeme). t ++ d) (sym parts)
+    let parts : by_commas (map f (xs ++ x ∷ [])) ≡ by_commas (map f xs) ++ symbol Comma ∷ f x =
+    ap by_commas (map_push f xs x) ∙ by_commas_push (map f xs) (f x) some in
+    e1 ∙ ap (λ (t : List Lexeme). by_commas (map f xs) ++ t) (e2 ∙ ap (λ (t : List Lexeme). symbol Comma ∷ t) e3)
+    ∙ sym (append_assoc (by_commas (map f xs)) (symbol Comma ∷ f x) d) ∙ ap (λ (t : List Lexeme). t ++ d) (sym parts)
 
 pub all_of_push : (xs : List (List Lexeme)) (x : List Lexeme) → all_of (xs ++ x ∷ []) ≡ all_of xs ++ x
 all_of_push [] x = simp append-nil

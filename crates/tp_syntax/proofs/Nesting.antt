@@ -184,7 +184,8 @@ pub action_depth_alt_some : (bs : Vec Branch Global) (e : ElseBranch)
 unfolding action_depth branch_depth else_branch_depth
 action_depth_alt_some bs e =
     ap action_depth (sym (a.rolls-Alt bs (Some e))) ∙
-    fold-roll-Action ℕ ℕ ℕ ℕ ℕ ℕ action_depth_step body_depth_step branch_depth_step counted_depth_step else_depth_step statement_depth_step (oa.Alt bs (Some e))
+    fold-roll-Action ℕ ℕ ℕ ℕ ℕ ℕ action_depth_step body_depth_step branch_depth_step counted_depth_step else_depth_step statement_depth_step
+    (oa.Alt bs (Some e))
 
 pub action_depth_alt_none : (bs : Vec Branch Global) → action_depth (a.Alt bs None) ≡ max (branches_depth bs.items) (otherwise_depth None) + 1
 unfolding action_depth branch_depth
@@ -230,13 +231,15 @@ pub counted_depth_made : (x : Turns) (ss : Vec Statement Global)
     → counted_depth (roll-Counted (record { turns = x; block = ss })) ≡ statements_depth ss.items + 1
 unfolding counted_depth statement_depth
 counted_depth_made x ss =
-    fold-roll-Counted ℕ ℕ ℕ ℕ ℕ ℕ action_depth_step body_depth_step branch_depth_step counted_depth_step else_depth_step statement_depth_step (record { turns = x; block = ss })
+    fold-roll-Counted ℕ ℕ ℕ ℕ ℕ ℕ action_depth_step body_depth_step branch_depth_step counted_depth_step else_depth_step statement_depth_step
+    (record { turns = x; block = ss })
 
 pub else_branch_depth_made : (n : ℕ) (ss : Vec Statement Global) (e : Bool)
     → else_branch_depth (roll-ElseBranch (record { line = n; block = ss; has_semicolon = e })) ≡ statements_depth ss.items + 1
 unfolding else_branch_depth statement_depth
 else_branch_depth_made n ss e =
-    fold-roll-ElseBranch ℕ ℕ ℕ ℕ ℕ ℕ action_depth_step body_depth_step branch_depth_step counted_depth_step else_depth_step statement_depth_step (record { line = n; block = ss; has_semicolon = e })
+    fold-roll-ElseBranch ℕ ℕ ℕ ℕ ℕ ℕ action_depth_step body_depth_step branch_depth_step counted_depth_step else_depth_step statement_depth_step
+    (record { line = n; block = ss; has_semicolon = e })
 
 -- how deep statements nest, variant by variant
 pub ruleset statement_nesting = (

@@ -37,23 +37,29 @@ template_any = ap template_lexemes (sym v.rolls-Any) ∙ fold-roll-Template (Lis
 
 pub template_any_or_none : template_lexemes v.AnyOrNone ≡ symbol Star ∷ []
 unfolding template_lexemes
-template_any_or_none = ap template_lexemes (sym v.rolls-AnyOrNone) ∙ fold-roll-Template (List Lexeme) (List Lexeme) template_step template_field_step o.AnyOrNone
+template_any_or_none = ap template_lexemes (sym v.rolls-AnyOrNone)
+    ∙ fold-roll-Template (List Lexeme) (List Lexeme) template_step template_field_step o.AnyOrNone
 
 pub template_one_of : (ts : Vec Template Global) → template_lexemes (v.OneOf ts) ≡ parenthesised (by_commas (map template_lexemes ts.items))
 unfolding template_lexemes
-template_one_of ts = ap template_lexemes (sym (v.rolls-OneOf ts)) ∙ fold-roll-Template (List Lexeme) (List Lexeme) template_step template_field_step (o.OneOf ts)
+template_one_of ts = ap template_lexemes (sym (v.rolls-OneOf ts))
+    ∙ fold-roll-Template (List Lexeme) (List Lexeme) template_step template_field_step (o.OneOf ts)
 
-pub template_complement : (ts : Vec Template Global) → template_lexemes (v.Complement ts) ≡ word w.Complement ∷ parenthesised (by_commas (map template_lexemes ts.items))
+pub template_complement : (ts : Vec Template Global)
+    → template_lexemes (v.Complement ts) ≡ word w.Complement ∷ parenthesised (by_commas (map template_lexemes ts.items))
 unfolding template_lexemes
-template_complement ts = ap template_lexemes (sym (v.rolls-Complement ts)) ∙ fold-roll-Template (List Lexeme) (List Lexeme) template_step template_field_step (o.Complement ts)
+template_complement ts =
+    ap template_lexemes (sym (v.rolls-Complement ts)) ∙ fold-roll-Template (List Lexeme) (List Lexeme) template_step template_field_step (o.Complement ts)
 
 pub template_range : (low high : Option ℤ) → template_lexemes (v.Range low high) ≡ parenthesised (low_lexemes low ++ symbol DotDot ∷ high_lexemes high)
 unfolding template_lexemes
-template_range low high = ap template_lexemes (sym (v.rolls-Range low high)) ∙ fold-roll-Template (List Lexeme) (List Lexeme) template_step template_field_step (o.Range low high)
+template_range low high =
+    ap template_lexemes (sym (v.rolls-Range low high)) ∙ fold-roll-Template (List Lexeme) (List Lexeme) template_step template_field_step (o.Range low high)
 
 pub template_pattern : (t : Vec ℕ Global) → template_lexemes (v.Pattern t) ≡ word w.Pattern ∷ text t.items ∷ []
 unfolding template_lexemes
-template_pattern t = ap template_lexemes (sym (v.rolls-Pattern t)) ∙ fold-roll-Template (List Lexeme) (List Lexeme) template_step template_field_step (o.Pattern t)
+template_pattern t = ap template_lexemes (sym (v.rolls-Pattern t))
+    ∙ fold-roll-Template (List Lexeme) (List Lexeme) template_step template_field_step (o.Pattern t)
 
 pub template_list : (ts : Vec Template Global) → template_lexemes (v.List ts) ≡ braced (by_commas (map template_lexemes ts.items))
 unfolding template_lexemes
@@ -61,11 +67,28 @@ template_list ts = ap template_lexemes (sym (v.rolls-List ts)) ∙ fold-roll-Tem
 
 pub template_record : (fs : Vec TemplateField Global) → template_lexemes (v.Record fs) ≡ braced (by_commas (map template_field_lexemes fs.items))
 unfolding template_lexemes template_field_lexemes
-template_record fs = ap template_lexemes (sym (v.rolls-Record fs)) ∙ fold-roll-Template (List Lexeme) (List Lexeme) template_step template_field_step (o.Record fs)
+template_record fs = ap template_lexemes (sym (v.rolls-Record fs))
+    ∙ fold-roll-Template (List Lexeme) (List Lexeme) template_step template_field_step (o.Record fs)
 
-pub template_field_out : (f : TemplateField) → template_field_lexemes f ≡ name (string_bytes (out-TemplateField f).name) ∷ symbol Assign ∷ template_lexemes (out-TemplateField f).template
+pub template_field_out : (f : TemplateField)
+    → template_field_lexemes f ≡ name (string_bytes (out-TemplateField f).name) ∷ symbol Assign ∷ template_lexemes (out-TemplateField f).template
 unfolding template_lexemes template_field_lexemes
 template_field_out f = fold_out-TemplateField (List Lexeme) (List Lexeme) template_step template_field_step f
 
 -- the equations, and that appending is associative
-pub ruleset template_rules = (template_int, template_bool, template_text, template_name, template_any, template_any_or_none, template_one_of, template_complement, template_range, template_pattern, template_list, template_record, template_field_out, append_assoc)
+pub ruleset template_rules = (
+  template_int,
+  template_bool,
+  template_text,
+  template_name,
+  template_any,
+  template_any_or_none,
+  template_one_of,
+  template_complement,
+  template_range,
+  template_pattern,
+  template_list,
+  template_record,
+  template_field_out,
+  append_assoc,
+)

@@ -37,7 +37,8 @@ pub value_record : (fs : Vec ValueField Global) → value_lexemes (v.Record fs) 
 unfolding value_lexemes value_field_lexemes
 value_record fs = ap value_lexemes (sym (v.rolls-Record fs)) ∙ fold-roll-Value (List Lexeme) (List Lexeme) value_step value_field_step (o.Record fs)
 
-pub value_field_out : (f : ValueField) → value_field_lexemes f ≡ name (string_bytes (out-ValueField f).name) ∷ symbol Assign ∷ value_lexemes (out-ValueField f).value
+pub value_field_out : (f : ValueField)
+    → value_field_lexemes f ≡ name (string_bytes (out-ValueField f).name) ∷ symbol Assign ∷ value_lexemes (out-ValueField f).value
 unfolding value_lexemes value_field_lexemes
 value_field_out f = fold_out-ValueField (List Lexeme) (List Lexeme) value_step value_field_step f
 

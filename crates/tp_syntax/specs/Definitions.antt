@@ -4,7 +4,7 @@ use Rattle.std.specs.declared.string.String.{String}
 use Rattle.std.specs.declared.alloc.Global.{Global}
 use Rattle.tp_token.specs.declared.word.Word.TheVariants as w
 use Rattle.tp_token.specs.declared.token.Symbol.TheVariants.{LeftParen, RightParen, Comma, Colon, Dot, Assign}
-use Rattle.tp_token.specs.Lexeme.{Lexeme, Line, name, word, symbol}
+use Rattle.tp_token.specs.Lexeme.{Lexeme, PlacedLexeme, name, word, symbol}
 use Rattle.tp_token.specs.Cut.{AreTokens}
 use Rattle.tp_syntax.specs.declared.tree.DeclaredName.{DeclaredName}
 use Rattle.tp_syntax.specs.declared.tree.TypeName.{TypeName}
@@ -22,10 +22,10 @@ use Rattle.tp_syntax.specs.declared.tree.Parameter.{Parameter}
 use Rattle.tp_syntax.specs.declared.tree.Function.{Function}
 use Rattle.tp_syntax.specs.declared.tree.EndComponent.{EndComponent}
 use Rattle.tp_syntax.specs.declared.tree.EndComponent.TheVariants as e
-use Rattle.tp_syntax.specs.declared.tree.End.{End}
+use Rattle.tp_syntax.specs.declared.tree.PairEnd.{PairEnd}
 use Rattle.tp_syntax.specs.declared.tree.SetupAction.{SetupAction}
 use Rattle.tp_syntax.specs.declared.tree.SetupAction.TheVariants as s
-use Rattle.tp_syntax.specs.declared.tree.Setup.{Setup}
+use Rattle.tp_syntax.specs.declared.tree.SetupStatement.{SetupStatement}
 use Rattle.tp_syntax.specs.declared.tree.ComponentStart.{ComponentStart}
 use Rattle.tp_syntax.specs.declared.tree.AllDone.{AllDone}
 use Rattle.tp_syntax.specs.declared.tree.TestCase.{TestCase}
@@ -48,11 +48,13 @@ field_types_lexemes fs = by_commas (map field_type_lexemes fs)
 
 -- "type" "record" Name "{" [ TypeName Name { "," TypeName Name } ] "}"
 unfoldable pub record_type_lexemes : RecordType → List Lexeme
-record_type_lexemes r = word w.Type ∷ word w.Record ∷ name (string_bytes r.name) ∷ braced (field_types_lexemes r.fields.items)
+record_type_lexemes r =
+    word w.Type ∷ word w.Record ∷ name (string_bytes r.name) ∷ braced (field_types_lexemes r.fields.items)
 
 -- "type" "record" "of" TypeName Name
 unfoldable pub list_type_lexemes : ListType → List Lexeme
-list_type_lexemes t = word w.Type ∷ word w.Record ∷ word w.Of ∷ (type_lexemes t.element ++ name (string_bytes t.name) ∷ [])
+list_type_lexemes t =
+    word w.Type ∷ word w.Record ∷ word w.Of ∷ (type_lexemes t.element ++ name (string_bytes t.name) ∷ [])
 
 -- "in" | "out" | "inout"
 abbrev pub way_lexeme : Way → Lexeme
@@ -74,7 +76,9 @@ directions_lexemes ds = all_of (map direction_lexemes ds)
 
 -- "type" "port" Name "message" "{" Dir S { Dir S } "}"
 unfoldable pub port_type_lexemes : PortType → List Lexeme
-port_type_lexemes t = word w.Type ∷ word w.Port ∷ name (string_bytes t.name) ∷ word w.Message ∷ braced (directions_lexemes t.directions.items)
+port_type_lexemes t =
+    word w.Type ∷ word w.Port ∷ name (string_bytes t.name) ∷ word w.Message ∷
+    braced (directions_lexemes t.directions.items)
 
 -- the tokens of a name where it is declared
 abbrev pub declared_name_lexemes : DeclaredName → List Lexeme
@@ -86,7 +90,9 @@ declared_names_lexemes ns = by_commas (map declared_name_lexemes ns)
 
 -- "port" Name Name { "," Name } S
 unfoldable pub port_declaration_lexemes : PortDeclaration → List Lexeme
-port_declaration_lexemes p = word w.Port ∷ name (string_bytes p.type_name) ∷ (declared_names_lexemes p.names.items ++ end_lexemes p.has_semicolon)
+port_declaration_lexemes p =
+    word w.Port ∷ name (string_bytes p.type_name) ∷
+    (declared_names_lexemes p.names.items ++ end_lexemes p.has_semicolon)
 
 -- the declarations, one after the other
 abbrev pub port_declarations_lexemes : List PortDeclaration → List Lexeme
@@ -94,7 +100,9 @@ port_declarations_lexemes ps = all_of (map port_declaration_lexemes ps)
 
 -- "type" "component" Name "{" { "port" Name Name { "," Name } S } "}"
 unfoldable pub component_type_lexemes : ComponentType → List Lexeme
-component_type_lexemes t = word w.Type ∷ word w.Component ∷ name (string_bytes t.name) ∷ braced (port_declarations_lexemes t.ports.items)
+component_type_lexemes t =
+    word w.Type ∷ word w.Component ∷ name (string_bytes t.name) ∷
+    braced (port_declarations_lexemes t.ports.items)
 
 -- Name Name, of a parameter
 abbrev pub parameter_lexemes : Parameter → List Lexeme
@@ -106,8 +114,10 @@ parameters_lexemes ps = by_commas (map parameter_lexemes ps)
 
 -- "function" Name "(" [ Name Name { "," Name Name } ] ")" "runs" "on" Name Block
 unfoldable pub function_lexemes : Function → List Lexeme
-function_lexemes f = word w.Function ∷ name (string_bytes f.name) ∷ (parenthesised (parameters_lexemes f.parameters.items) ++
-    word w.Runs ∷ word w.On ∷ name (string_bytes f.runs_on) ∷ braced (variables_lexemes f.variables.items ++ statements_lexemes f.statements.items))
+function_lexemes f =
+    word w.Function ∷ name (string_bytes f.name) ∷ (parenthesised (parameters_lexemes f.parameters.items) ++
+    word w.Runs ∷ word w.On ∷ name (string_bytes f.runs_on) ∷
+    braced (variables_lexemes f.variables.items ++ statements_lexemes f.statements.items))
 
 -- Name | "mtc" | "self" | "system"
 abbrev pub end_component_lexeme : EndComponent → Lexeme
@@ -117,25 +127,27 @@ end_component_lexeme e.SelfComponent = word w.SelfWord
 end_component_lexeme e.System = word w.System
 
 -- (Name | "mtc" | "self" | "system") ":" Name
-abbrev pub end_point_lexemes : End → List Lexeme
+abbrev pub end_point_lexemes : PairEnd → List Lexeme
 end_point_lexemes e = end_component_lexeme e.component ∷ symbol Colon ∷ name (string_bytes e.port) ∷ []
 
 -- "(" End "," End ")"
-abbrev pub ends_lexemes : End → End → List Lexeme
+abbrev pub ends_lexemes : PairEnd → PairEnd → List Lexeme
 ends_lexemes a b = parenthesised (end_point_lexemes a ++ symbol Comma ∷ end_point_lexemes b)
 
 -- "var" Name Name ":=" Name "." "create" | ("connect" | "map") "(" End "," End ")"
 unfoldable pub setup_action_lexemes : SetupAction → List Lexeme
-setup_action_lexemes (s.Create c) = word w.Var ∷ name (string_bytes c.type_name) ∷ name (string_bytes c.name) ∷ symbol Assign ∷ name (string_bytes c.created) ∷ symbol Dot ∷ word w.Create ∷ []
+setup_action_lexemes (s.Create c) =
+    word w.Var ∷ name (string_bytes c.type_name) ∷ name (string_bytes c.name) ∷ symbol Assign ∷
+    name (string_bytes c.created) ∷ symbol Dot ∷ word w.Create ∷ []
 setup_action_lexemes (s.Connect a b) = word w.Connect ∷ ends_lexemes a b
 setup_action_lexemes (s.Map a b) = word w.Map ∷ ends_lexemes a b
 
 -- a setup statement and its `;`
-abbrev pub setup_lexemes : Setup → List Lexeme
+abbrev pub setup_lexemes : SetupStatement → List Lexeme
 setup_lexemes s = setup_action_lexemes s.action ++ end_lexemes s.has_semicolon
 
 -- the setup statements, one after the other
-abbrev pub setups_lexemes : List Setup → List Lexeme
+abbrev pub setups_lexemes : List SetupStatement → List Lexeme
 setups_lexemes ss = all_of (map setup_lexemes ss)
 
 -- the arguments of a start, a comma between two
@@ -144,7 +156,8 @@ arguments_lexemes cs = by_commas (map component_lexemes cs)
 
 -- Name "." "start" "(" Name "(" [ Comp { "," Comp } ] ")" ")" S
 unfoldable pub start_lexemes : ComponentStart → List Lexeme
-start_lexemes s = name (string_bytes s.component) ∷ symbol Dot ∷ word w.Start ∷ symbol LeftParen ∷ name (string_bytes s.function) ∷
+start_lexemes s =
+    name (string_bytes s.component) ∷ symbol Dot ∷ word w.Start ∷ symbol LeftParen ∷ name (string_bytes s.function) ∷
     (parenthesised (arguments_lexemes s.arguments.items) ++ symbol RightParen ∷ end_lexemes s.has_semicolon)
 
 -- the starts, one after the other
@@ -154,7 +167,8 @@ starts_lexemes ss = all_of (map start_lexemes ss)
 -- [ "all" "component" "." "done" S ]
 abbrev pub all_done_lexemes : Option AllDone → List Lexeme
 all_done_lexemes None = []
-all_done_lexemes (Some d) = word w.All ∷ word w.Component ∷ symbol Dot ∷ word w.Done ∷ end_lexemes d.has_semicolon
+all_done_lexemes (Some d) =
+    word w.All ∷ word w.Component ∷ symbol Dot ∷ word w.Done ∷ end_lexemes d.has_semicolon
 
 -- [ "system" Name ]
 abbrev pub system_lexemes : Option (String Global) → List Lexeme
@@ -163,11 +177,15 @@ system_lexemes (Some n) = word w.System ∷ name (string_bytes n) ∷ []
 
 -- { Setup S } { Start S } { "var" TypeName Name S } { Stat } [ "all" "component" "." "done" S ]
 unfoldable pub behaviour_lexemes : TestCase → List Lexeme
-behaviour_lexemes t = setups_lexemes t.setups.items ++ (starts_lexemes t.starts.items ++ (variables_lexemes t.variables.items ++ (statements_lexemes t.statements.items ++ all_done_lexemes t.all_done)))
+behaviour_lexemes t =
+    setups_lexemes t.setups.items ++ (starts_lexemes t.starts.items ++ (variables_lexemes t.variables.items ++
+    (statements_lexemes t.statements.items ++ all_done_lexemes t.all_done)))
 
 -- "testcase" Name "(" ")" "runs" "on" Name [ "system" Name ] "{" .. "}"
 unfoldable pub test_case_lexemes : TestCase → List Lexeme
-test_case_lexemes t = word w.Testcase ∷ name (string_bytes t.name) ∷ symbol LeftParen ∷ symbol RightParen ∷ word w.Runs ∷ word w.On ∷ name (string_bytes t.runs_on) ∷
+test_case_lexemes t =
+    word w.Testcase ∷ name (string_bytes t.name) ∷ symbol LeftParen ∷ symbol RightParen ∷ word w.Runs ∷ word w.On ∷
+    name (string_bytes t.runs_on) ∷
     (system_lexemes t.system ++ braced (behaviour_lexemes t))
 
 -- what a definition defines
@@ -189,8 +207,11 @@ definitions_lexemes ds = all_of (map definition_lexemes ds)
 
 -- "module" Name "{" { Def } "}" [";"]
 abbrev pub module_lexemes : Module → List Lexeme
-module_lexemes m = word w.Module ∷ name (string_bytes m.name) ∷ (braced (definitions_lexemes m.definitions.items) ++ end_lexemes m.has_semicolon)
+module_lexemes m =
+    word w.Module ∷ name (string_bytes m.name) ∷
+    (braced (definitions_lexemes m.definitions.items) ++ end_lexemes m.has_semicolon)
 
 -- the tokens of the text, each `-` directly before the number 0 left out, are those of the module
 abbrev pub IsReadAs : List ℕ → Module → Type 0
-IsReadAs bytes m = (tokens : List Line) × AreTokens bytes tokens × (plain (map (λ t. t.token) tokens) ≡ module_lexemes m)
+IsReadAs bytes m =
+    (tokens : List PlacedLexeme) × AreTokens bytes tokens × (plain (map (λ t. t.token) tokens) ≡ module_lexemes m)

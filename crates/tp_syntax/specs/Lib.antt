@@ -1,6 +1,7 @@
 pub mod Ahead
 pub mod Definitions
 pub mod Nesting
+pub mod Passing
 pub mod Refusals
 pub mod Sequences
 pub mod Statements

@@ -198,7 +198,7 @@ defined_depth (d.TestCase c) = statements_depth c.statements.items + 1
 abbrev pub definitions_depth : List Definition → ℕ
 definitions_depth xs = deepest (map (λ (x : Definition). defined_depth x.defined) xs)
 
--- how deep the brackets of a module nest, its own braces counted. Those of types, parameters, connections and starts are
--- not counted: by the grammar they are never more than four deep
+-- how deep the brackets of a module nest, its own braces counted. Those of types, parameters, connections and starts
+-- are not counted: by the grammar they are never more than four deep
 abbrev pub module_depth : Module → ℕ
 module_depth m = definitions_depth m.definitions.items + 1

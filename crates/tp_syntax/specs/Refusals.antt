@@ -3,7 +3,7 @@ use Rattle.std.specs.Prelude.{◌≡◌, ℕ, ◌≤◌, ◌⊎◌, List, length
 use Rattle.tp_refusal.specs.declared.refusal.Refusal.TheVariants.{Syntax, Limit}
 use Rattle.tp_token.specs.declared.fault.ScriptFault.{ScriptFault}
 use Rattle.tp_token.specs.declared.fault.ScriptFault.TheVariants.{Refused, Memory}
-use Rattle.tp_token.specs.Lexeme.{Line}
+use Rattle.tp_token.specs.Lexeme.{PlacedLexeme}
 use Rattle.tp_token.specs.Cut.{AreTokens}
 use Rattle.tp_token.specs.Fault.{AreWithinLimits, IsRefused}
 
@@ -14,8 +14,9 @@ IsOfGrammar (Memory m) = Unit {0}
 
 -- the text has tokens within the limits, and isn't too long
 abbrev pub HasTokens : List ℕ → Type 0
-HasTokens bytes = (tokens : List Line) × AreTokens bytes tokens × AreWithinLimits tokens × (length bytes ≤ 1048576)
+HasTokens bytes = (tokens : List PlacedLexeme) × AreTokens bytes tokens × AreWithinLimits tokens × (length bytes ≤ 1048576)
 
--- the text has no such tokens, and this is its first fault; or it has, and the grammar refuses them so; or memory was refused
+-- the text has no such tokens, and this is its first fault; or it has, and the grammar refuses them so; or memory was
+-- refused
 abbrev pub IsUnread : List ℕ → ScriptFault → Type 0
 IsUnread bytes fault = IsRefused bytes fault ⊎ (HasTokens bytes × IsOfGrammar fault)

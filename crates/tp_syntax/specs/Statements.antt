@@ -56,7 +56,8 @@ to_lexemes (Some d.AllComponents) = word w.To ∷ word w.All ∷ word w.Componen
 
 -- Name "." "send" "(" Message ")" [ "to" .. ]
 unfoldable pub send_lexemes : Send → List Lexeme
-send_lexemes s = name (string_bytes s.port) ∷ symbol Dot ∷ word w.Send ∷ (parenthesised (sent_lexemes s.sent) ++ to_lexemes s.to)
+send_lexemes s =
+    name (string_bytes s.port) ∷ symbol Dot ∷ word w.Send ∷ (parenthesised (sent_lexemes s.sent) ++ to_lexemes s.to)
 
 -- [ "(" MsgT ")" ]
 abbrev pub template_part : Option MessageTemplate → List Lexeme
@@ -126,7 +127,8 @@ set_verdict_lexemes v = word w.Setverdict ∷ parenthesised (verdict_lexeme v �
 
 -- "var" TypeName Name S
 abbrev pub variable_lexemes : Variable → List Lexeme
-variable_lexemes v = word w.Var ∷ (type_lexemes v.type_name ++ name (string_bytes v.name) ∷ end_lexemes v.has_semicolon)
+variable_lexemes v =
+    word w.Var ∷ (type_lexemes v.type_name ++ name (string_bytes v.name) ∷ end_lexemes v.has_semicolon)
 
 -- the tokens of variables, one after the other
 abbrev pub variables_lexemes : List Variable → List Lexeme
@@ -138,7 +140,8 @@ else_lexemes None = []
 else_lexemes (Some ts) = ts
 
 -- a statement without its `;`
-abbrev pub action_step : s.Action-F (List Lexeme) (List Lexeme) (List Lexeme) (List Lexeme) (List Lexeme) (List Lexeme) → List Lexeme
+abbrev pub action_step :
+    s.Action-F (List Lexeme) (List Lexeme) (List Lexeme) (List Lexeme) (List Lexeme) (List Lexeme) → List Lexeme
 action_step (s.Send x) = send_lexemes x
 action_step (s.Receive x) = receive_lexemes x
 action_step (s.Control x) = control_lexemes x
@@ -148,58 +151,85 @@ action_step (s.Alt bs e) = word w.Alt ∷ braced (all_of bs.items ++ else_lexeme
 action_step (s.For x) = x
 
 -- "[" "]", a receiving operation, and what follows
-abbrev pub branch_step : s.Branch-F (List Lexeme) (List Lexeme) (List Lexeme) (List Lexeme) (List Lexeme) (List Lexeme) → List Lexeme
-branch_step b = symbol LeftBracket ∷ symbol RightBracket ∷ (receive_lexemes b.receive ++ (b.body ++ end_lexemes b.has_semicolon))
+abbrev pub branch_step :
+    s.Branch-F (List Lexeme) (List Lexeme) (List Lexeme) (List Lexeme) (List Lexeme) (List Lexeme) → List Lexeme
+branch_step b =
+    symbol LeftBracket ∷ symbol RightBracket ∷ (receive_lexemes b.receive ++ (b.body ++ end_lexemes b.has_semicolon))
 
 -- nothing, or a block
-abbrev pub body_step : s.BranchBody-F (List Lexeme) (List Lexeme) (List Lexeme) (List Lexeme) (List Lexeme) (List Lexeme) → List Lexeme
+abbrev pub body_step :
+    s.BranchBody-F (List Lexeme) (List Lexeme) (List Lexeme) (List Lexeme) (List Lexeme) (List Lexeme) → List Lexeme
 body_step s.Nothing = []
 body_step (s.Block ss) = braced (all_of ss.items)
 
--- "for" "(" "var" "integer" Name ":=" Int ";" Name "<" Int ";" Name ":=" Name "+" "1" ")" and what follows: the name i four times, the first value, the bound
+-- ";" Name "<" Int ";" Name ":=" Name "+" "1" ")" and what follows: the name i three times, the bound
+abbrev pub step_lexemes : List ℕ → List Lexeme → List Lexeme → List Lexeme
+step_lexemes i bound rest = symbol Semicolon ∷ name i ∷ symbol Less ∷ (bound
+    ++ symbol Semicolon ∷ name i ∷ symbol Assign ∷ name i ∷ symbol Plus ∷ number 1 ∷ symbol RightParen ∷ rest)
+
+-- "for" "(" "var" "integer" Name ":=" Int ";" Name "<" Int ";" Name ":=" Name "+" "1" ")" and what follows:
+-- the name i four times, the first value, the bound
 unfoldable pub for_lexemes : List ℕ → List Lexeme → List Lexeme → List Lexeme → List Lexeme
-for_lexemes i first bound rest = word w.For ∷ symbol LeftParen ∷ word w.Var ∷ word w.Integer ∷ name i ∷ symbol Assign ∷
-    (first ++ symbol Semicolon ∷ name i ∷ symbol Less ∷ (bound ++ symbol Semicolon ∷ name i ∷ symbol Assign ∷ name i ∷ symbol Plus ∷ number 1 ∷ symbol RightParen ∷ rest))
+for_lexemes i first bound rest =
+    word w.For ∷ symbol LeftParen ∷ word w.Var ∷ word w.Integer ∷ name i ∷ symbol Assign ∷
+    (first ++ step_lexemes i bound rest)
 
 -- the turns of a counted `for`, and what follows
 abbrev pub turns_lexemes : Turns → List Lexeme → List Lexeme
 turns_lexemes t rest = for_lexemes (string_bytes t.name) (int_lexemes t.first) (int_lexemes t.bound) rest
 
 -- a counted `for` and its block
-abbrev pub counted_step : s.Counted-F (List Lexeme) (List Lexeme) (List Lexeme) (List Lexeme) (List Lexeme) (List Lexeme) → List Lexeme
+abbrev pub counted_step :
+    s.Counted-F (List Lexeme) (List Lexeme) (List Lexeme) (List Lexeme) (List Lexeme) (List Lexeme) → List Lexeme
 counted_step f = turns_lexemes f.turns (braced (all_of f.block.items))
 
 -- "[" "else" "]" Block
-abbrev pub else_step : s.ElseBranch-F (List Lexeme) (List Lexeme) (List Lexeme) (List Lexeme) (List Lexeme) (List Lexeme) → List Lexeme
-else_step e = symbol LeftBracket ∷ word w.Else ∷ symbol RightBracket ∷ (braced (all_of e.block.items) ++ end_lexemes e.has_semicolon)
+abbrev pub else_step :
+    s.ElseBranch-F (List Lexeme) (List Lexeme) (List Lexeme) (List Lexeme) (List Lexeme) (List Lexeme) → List Lexeme
+else_step e =
+    symbol LeftBracket ∷ word w.Else ∷ symbol RightBracket ∷
+    (braced (all_of e.block.items) ++ end_lexemes e.has_semicolon)
 
 -- a statement and its `;`
-abbrev pub statement_step : s.Statement-F (List Lexeme) (List Lexeme) (List Lexeme) (List Lexeme) (List Lexeme) (List Lexeme) → List Lexeme
+abbrev pub statement_step :
+    s.Statement-F (List Lexeme) (List Lexeme) (List Lexeme) (List Lexeme) (List Lexeme) (List Lexeme) → List Lexeme
 statement_step s = s.action ++ end_lexemes s.has_semicolon
 
 -- the tokens of what a statement does
 unfoldable pub action_lexemes : Action → List Lexeme
-action_lexemes = fold-Action (List Lexeme) (List Lexeme) (List Lexeme) (List Lexeme) (List Lexeme) (List Lexeme) action_step body_step branch_step counted_step else_step statement_step
+action_lexemes =
+    fold-Action (List Lexeme) (List Lexeme) (List Lexeme) (List Lexeme) (List Lexeme) (List Lexeme)
+    action_step body_step branch_step counted_step else_step statement_step
 
 -- the tokens of a branch
 unfoldable pub branch_lexemes : Branch → List Lexeme
-branch_lexemes = fold-Branch (List Lexeme) (List Lexeme) (List Lexeme) (List Lexeme) (List Lexeme) (List Lexeme) action_step body_step branch_step counted_step else_step statement_step
+branch_lexemes =
+    fold-Branch (List Lexeme) (List Lexeme) (List Lexeme) (List Lexeme) (List Lexeme) (List Lexeme)
+    action_step body_step branch_step counted_step else_step statement_step
 
 -- the tokens of what stands behind the operation of a branch
 unfoldable pub body_lexemes : BranchBody → List Lexeme
-body_lexemes = fold-BranchBody (List Lexeme) (List Lexeme) (List Lexeme) (List Lexeme) (List Lexeme) (List Lexeme) action_step body_step branch_step counted_step else_step statement_step
+body_lexemes =
+    fold-BranchBody (List Lexeme) (List Lexeme) (List Lexeme) (List Lexeme) (List Lexeme) (List Lexeme)
+    action_step body_step branch_step counted_step else_step statement_step
 
 -- the tokens of a counted `for`
 unfoldable pub counted_lexemes : Counted → List Lexeme
-counted_lexemes = fold-Counted (List Lexeme) (List Lexeme) (List Lexeme) (List Lexeme) (List Lexeme) (List Lexeme) action_step body_step branch_step counted_step else_step statement_step
+counted_lexemes =
+    fold-Counted (List Lexeme) (List Lexeme) (List Lexeme) (List Lexeme) (List Lexeme) (List Lexeme)
+    action_step body_step branch_step counted_step else_step statement_step
 
 -- the tokens of an `[else]` branch
 unfoldable pub else_branch_lexemes : ElseBranch → List Lexeme
-else_branch_lexemes = fold-ElseBranch (List Lexeme) (List Lexeme) (List Lexeme) (List Lexeme) (List Lexeme) (List Lexeme) action_step body_step branch_step counted_step else_step statement_step
+else_branch_lexemes =
+    fold-ElseBranch (List Lexeme) (List Lexeme) (List Lexeme) (List Lexeme) (List Lexeme) (List Lexeme)
+    action_step body_step branch_step counted_step else_step statement_step
 
 -- the tokens of a statement
 unfoldable pub statement_lexemes : Statement → List Lexeme
-statement_lexemes = fold-Statement (List Lexeme) (List Lexeme) (List Lexeme) (List Lexeme) (List Lexeme) (List Lexeme) action_step body_step branch_step counted_step else_step statement_step
+statement_lexemes =
+    fold-Statement (List Lexeme) (List Lexeme) (List Lexeme) (List Lexeme) (List Lexeme) (List Lexeme)
+    action_step body_step branch_step counted_step else_step statement_step
 
 -- the tokens of statements, one after the other
 abbrev pub statements_lexemes : List Statement → List Lexeme

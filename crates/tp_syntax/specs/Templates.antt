@@ -21,7 +21,8 @@ abbrev pub high_lexemes : Option ℤ → List Lexeme
 high_lexemes (Some z) = int_lexemes z
 high_lexemes None = word w.Infinity ∷ []
 
--- an integer, a truth value, a text, a name, `?`, `*`, templates or a range in parentheses, `complement`, `pattern`, or templates or fields in braces
+-- an integer, a truth value, a text, a name, `?`, `*`, templates or a range in parentheses, `complement`, `pattern`, or
+-- templates or fields in braces
 abbrev pub template_step : t.Template-F (List Lexeme) (List Lexeme) → List Lexeme
 template_step (t.Int z) = int_lexemes z
 template_step (t.Bool b) = bool_lexeme b ∷ []

@@ -1,9 +1,10 @@
 //! What is left to read, and its first tokens.
-ghost use Rattle.std.specs.Prelude.{◌≡◌, ◌+◌, ◌≤◌, ◌∷◌, ◌++◌, length, IfErr, IfOk, OnErr, OnOk, string_bytes};
+ghost use Rattle.std.specs.Prelude.{◌≡◌, ◌+◌, ◌≤◌, ◌∷◌, length, IfErr, IfOk, OnErr, OnOk, string_bytes};
 ghost use Rattle.std.specs.Bool.{OnTrue, OnFalse};
 ghost use Rattle.tp_refusal.specs.declared.refusal.Refusal.TheVariants.{Limit};
 ghost use Rattle.tp_token.specs.Lexeme.{name, word, lexeme_of};
 ghost use Rattle.tp_syntax.specs.Ahead.{ahead, symbol_before, before};
+ghost use Rattle.tp_syntax.specs.Passing.{Passes};
 ghost use Rattle.tp_syntax.specs.Sequences.{end_lexemes};
 ghost use Rattle.tp_syntax.specs.Refusals.{IsOfGrammar};
 
@@ -19,8 +20,8 @@ pub(crate) struct Parser<'a, 't> {
     pub last_line: u32,
 }
 
-/// How many brackets may still be opened behind one more, of so many before it. 15 `Limit` at the line
-/// exactly where it is none.
+/// How many brackets may still be opened behind one more, of so many before it. 15 `Limit` at the
+/// line exactly where it is none.
 pub(crate) fn below(left: u32, line: u32) -> Result<u32, ScriptFault>
     ensures value { IfOk result (λ inner. inner + 1 ≡ left) }
     ensures full { OnErr result (left ≡ 0) }
@@ -35,7 +36,8 @@ pub(crate) fn below(left: u32, line: u32) -> Result<u32, ScriptFault>
 impl<'a, 't> Parser<'a, 't> {
     /// The next token, which is passed. 10 `Syntax` at the end of the text: there is none.
     pub fn take(&mut self) -> Result<&'a Placed<'t>, ScriptFault>
-        ensures tokens { IfOk result (λ p. ahead self.old.rest.now ≡ before (lexeme_of p.now.token) (ahead self.new.rest.now)) }
+        ensures tokens { IfOk result (λ p.
+            ahead self.old.rest.now ≡ before (lexeme_of p.now.token) (ahead self.new.rest.now)) }
         ensures shorter { OnOk result (length self.new.rest.now + 1 ≡ length self.old.rest.now) }
         ensures fault { IfErr result IsOfGrammar }
     {
@@ -49,7 +51,8 @@ impl<'a, 't> Parser<'a, 't> {
 
     /// Passes this symbol. 10 `Syntax`: another token comes next, or none.
     pub fn symbol(&mut self, want: Symbol) -> Result<(), ScriptFault>
-        ensures tokens { OnOk result (ahead self.old.rest.now ≡ symbol_before want (ahead self.new.rest.now)) }
+        ensures tokens { OnOk result
+            (ahead self.old.rest.now ≡ symbol_before want (ahead self.new.rest.now)) }
         ensures shorter { OnOk result (length self.new.rest.now + 1 ≡ length self.old.rest.now) }
         ensures fault { IfErr result IsOfGrammar }
     {
@@ -63,7 +66,8 @@ impl<'a, 't> Parser<'a, 't> {
     /// Passes this bracket, and says how many may be opened behind it, of so many before it. 10
     /// `Syntax`: another token comes next, or none. 15 `Limit`: it is one bracket too many.
     pub fn open(&mut self, want: Symbol, left: u32) -> Result<u32, ScriptFault>
-        ensures tokens { OnOk result (ahead self.old.rest.now ≡ symbol_before want (ahead self.new.rest.now)) }
+        ensures tokens { OnOk result
+            (ahead self.old.rest.now ≡ symbol_before want (ahead self.new.rest.now)) }
         ensures shorter { OnOk result (length self.new.rest.now + 1 ≡ length self.old.rest.now) }
         ensures inner { IfOk result (λ inner. inner + 1 ≡ left) }
         ensures fault { IfErr result IsOfGrammar }
@@ -75,7 +79,8 @@ impl<'a, 't> Parser<'a, 't> {
 
     /// Passes this word. 10 `Syntax`: another token comes next, or none.
     pub fn word(&mut self, want: Word) -> Result<(), ScriptFault>
-        ensures tokens { OnOk result (ahead self.old.rest.now ≡ word want ∷ ahead self.new.rest.now) }
+        ensures tokens { OnOk result
+            (ahead self.old.rest.now ≡ word want ∷ ahead self.new.rest.now) }
         ensures shorter { OnOk result (length self.new.rest.now + 1 ≡ length self.old.rest.now) }
         ensures fault { IfErr result IsOfGrammar }
     {
@@ -88,7 +93,8 @@ impl<'a, 't> Parser<'a, 't> {
 
     /// Passes a name. 10 `Syntax`: another token comes next, or none.
     pub fn name(&mut self, alloc: Global) -> Result<String, ScriptFault>
-        ensures tokens { IfOk result (λ n. ahead self.old.rest.now ≡ name (string_bytes n) ∷ ahead self.new.rest.now) }
+        ensures tokens { IfOk result (λ n.
+            ahead self.old.rest.now ≡ name (string_bytes n) ∷ ahead self.new.rest.now) }
         ensures shorter { OnOk result (length self.new.rest.now + 1 ≡ length self.old.rest.now) }
         ensures fault { IfErr result IsOfGrammar }
     {
@@ -101,7 +107,8 @@ impl<'a, 't> Parser<'a, 't> {
 
     /// Passes this name. 10 `Syntax`: another token comes next, or none.
     pub fn same_name(&mut self, want: &String) -> Result<(), ScriptFault>
-        ensures tokens { OnOk result (ahead self.old.rest.now ≡ name (string_bytes want.now) ∷ ahead self.new.rest.now) }
+        ensures tokens { OnOk result
+            (ahead self.old.rest.now ≡ name (string_bytes want.now) ∷ ahead self.new.rest.now) }
         ensures shorter { OnOk result (length self.new.rest.now + 1 ≡ length self.old.rest.now) }
         ensures fault { IfErr result IsOfGrammar }
     {
@@ -114,7 +121,8 @@ impl<'a, 't> Parser<'a, 't> {
 
     /// Passes this symbol, if it comes next, and says whether it did.
     pub fn has_symbol(&mut self, want: Symbol) -> bool
-        ensures yes { OnTrue result (ahead self.old.rest.now ≡ symbol_before want (ahead self.new.rest.now)) }
+        ensures yes { OnTrue result
+            (ahead self.old.rest.now ≡ symbol_before want (ahead self.new.rest.now)) }
         ensures shorter { OnTrue result (length self.new.rest.now + 1 ≡ length self.old.rest.now) }
         ensures no { OnFalse result (self.new ≡ self.old) }
     {
@@ -133,7 +141,8 @@ impl<'a, 't> Parser<'a, 't> {
 
     /// Passes this word, if it comes next, and says whether it did.
     pub fn has_word(&mut self, want: Word) -> bool
-        ensures yes { OnTrue result (ahead self.old.rest.now ≡ word want ∷ ahead self.new.rest.now) }
+        ensures yes { OnTrue result
+            (ahead self.old.rest.now ≡ word want ∷ ahead self.new.rest.now) }
         ensures shorter { OnTrue result (length self.new.rest.now + 1 ≡ length self.old.rest.now) }
         ensures no { OnFalse result (self.new ≡ self.old) }
     {
@@ -217,7 +226,7 @@ impl<'a, 't> Parser<'a, 't> {
     /// Passes a `;`, which may be missing directly before a `}`, and behind what itself ends in one
     /// before any token. 10 `Syntax`: it is missing elsewhere.
     pub fn end(&mut self, is_closed: bool) -> Result<bool, ScriptFault>
-        ensures tokens { IfOk result (λ e. ahead self.old.rest.now ≡ end_lexemes e ++ ahead self.new.rest.now) }
+        ensures tokens { IfOk result (λ e. Passes self.old (end_lexemes e) self.new) }
         ensures shorter { OnOk result (length self.new.rest.now ≤ length self.old.rest.now) }
         ensures fault { IfErr result IsOfGrammar }
     {

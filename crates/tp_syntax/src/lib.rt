@@ -3,8 +3,11 @@
 
 mod cursor;
 mod definitions;
+mod operations;
 pub mod parser;
 mod statements;
 mod templates;
+mod test_cases;
 pub mod tree;
+mod types;
 mod values;

@@ -13,18 +13,18 @@ use tp_token::lexer::lex;
 /// How many brackets `{`, `(` and `[` may be open at once.
 const BRACKETS: u32 = 32;
 
-/// The module that the text spells, all of the text: its tokens are those of the text, none left out,
-/// added or moved, but for a `-` directly before the number 0, which is left out. Its brackets nest at
-/// most 32 deep.
+/// The module that the text spells, all of the text: its tokens are those of the text, none left
+/// out, added or moved, but for a `-` directly before the number 0, which is left out. Its brackets
+/// nest at most 32 deep.
 ///
-/// It makes the whole text into tokens first, by `lex` of `tp_token`, whose refusals come before those
-/// of the grammar. Of these the first in the text is answered:
-/// - 10 `Syntax` at the line of the first token that can't stand at its place, or of the end of the text
-///   where more is needed. So are refused an `[else]` branch that isn't the last one (at the `[` behind
-///   it), a `for` whose four names aren't one name (at the first that differs), and a text behind
-///   `pattern` that holds one of `\ [ ] { } ( ) | # +` or a quote;
-/// - 15 `Limit` at the line of the number 9223372036854775808 without a `-` before it, or of a bracket
-///   that would be the 33rd open one;
+/// It makes the whole text into tokens first, by `lex` of `tp_token`, whose refusals come before
+/// those of the grammar. Of these the first in the text is answered:
+/// - 10 `Syntax` at the line of the first token that can't stand at its place, or of the end of the
+///   text where more is needed. So are refused an `[else]` branch that isn't the last one (at the
+///   `[` behind it), a `for` whose four names aren't one name (at the first that differs), and a
+///   text behind `pattern` that holds one of `\ [ ] { } ( ) | # +` or a quote;
+/// - 15 `Limit` at the line of the number 9223372036854775808 without a `-` before it, or of a
+///   bracket that would be the 33rd open one;
 /// - 50 where memory was refused.
 pub fn parse(alloc: Global, text: &[u8]) -> Result<Module, ScriptFault>
     ensures read { IfOk result (IsReadAs text.now) }
@@ -45,7 +45,8 @@ pub fn parse(alloc: Global, text: &[u8]) -> Result<Module, ScriptFault>
     Ok(module)
 }
 
-/// How many brackets may be open at once.
+/// How many brackets may be open at once. It is a function, where the constant alone would do, so
+/// that a clause holds the number 32: an edit of the number is then refused, to a lower one too.
 fn most_brackets() -> u32
     ensures { result ≡ 32 }
 {

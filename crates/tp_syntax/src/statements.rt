@@ -1,18 +1,17 @@
-//! Statements.
-ghost use Rattle.std.specs.Prelude.{◌≡◌, ◌+◌, ◌<◌, ◌≤◌, ◌∷◌, ◌++◌, length, IfErr, IfOk, OnOk, string_bytes};
-ghost use Rattle.tp_token.specs.Lexeme.{name, number, symbol, word};
+//! Statements: variables, verdicts, `alt`, `for` and blocks.
+ghost use Rattle.std.specs.Prelude.{◌≡◌, ◌+◌, ◌<◌, ◌≤◌, ◌∷◌, length, IfErr, IfOk, OnOk, string_bytes};
+ghost use Rattle.tp_token.specs.Lexeme.{number, symbol, word};
 ghost use Rattle.tp_syntax.specs.Ahead.{ahead};
+ghost use Rattle.tp_syntax.specs.Passing.{Passes};
 ghost use Rattle.tp_syntax.specs.Sequences.{braced};
 ghost use Rattle.tp_syntax.specs.Values.{int_lexemes};
-ghost use Rattle.tp_syntax.specs.Statements.{component_lexemes, sent_lexemes, to_lexemes, send_lexemes, template_part, from_lexemes, named_part, redirect_lexemes, receive_lexemes, turns_lexemes, port_operation_lexeme, control_lexemes, all_ports_lexemes, verdict_lexeme, set_verdict_lexemes, variable_lexemes, variables_lexemes, action_lexemes, branch_lexemes, body_lexemes, counted_lexemes, else_branch_lexemes, otherwise_lexemes, statement_lexemes, statements_lexemes, branches_lexemes};
-ghost use Rattle.tp_syntax.specs.Nesting.{action_depth, body_depth, branch_depth, branches_depth, counted_depth, otherwise_depth, part_depth, receive_depth, sent_depth, statement_depth, statements_depth};
+ghost use Rattle.tp_syntax.specs.Statements.{step_lexemes, turns_lexemes, verdict_lexeme, set_verdict_lexemes, variable_lexemes, variables_lexemes, action_lexemes, branch_lexemes, body_lexemes, counted_lexemes, otherwise_lexemes, statement_lexemes, statements_lexemes, branches_lexemes};
+ghost use Rattle.tp_syntax.specs.Nesting.{action_depth, body_depth, branch_depth, branches_depth, counted_depth, otherwise_depth, statement_depth, statements_depth};
 ghost use Rattle.tp_syntax.specs.Refusals.{IsOfGrammar};
 
 use crate::cursor::Parser;
 use crate::tree::{
-    Action, Branch, BranchBody, ComponentName, Control, Counted, Destination, ElseBranch,
-    MessageTemplate, PortOperation, Receive, ReceiveKind, Redirect, Send, Sent, Statement, Turns,
-    Variable, VerdictName,
+    Action, Branch, BranchBody, Counted, ElseBranch, Statement, Turns, Variable, VerdictName,
 };
 use std::alloc::Global;
 use tp_token::fault::ScriptFault;
@@ -30,266 +29,11 @@ enum Beginning {
     For,
 }
 
-/// What stands behind the word of a receiving operation.
-#[derive(Drop)]
-struct Received {
-    template: Option<MessageTemplate>,
-    sender: Option<ComponentName>,
-    redirect: Redirect,
-}
-
 impl<'a, 't> Parser<'a, 't> {
-    /// A component.
-    pub fn component(&mut self, alloc: Global) -> Result<ComponentName, ScriptFault>
-        ensures tokens { IfOk result (λ c. ahead self.old.rest.now ≡ component_lexemes c ++ ahead self.new.rest.now) }
-        ensures shorter { OnOk result (length self.new.rest.now < length self.old.rest.now) }
-        ensures fault { IfErr result IsOfGrammar }
-    {
-        let placed = self.take()?;
-        match &placed.token {
-            Token::Word(Word::Mtc) => Ok(ComponentName::Mtc),
-            Token::Word(Word::SelfWord) => Ok(ComponentName::SelfComponent),
-            Token::Name(spelling) => {
-                let name = String::from_str(alloc, spelling)?;
-                Ok(ComponentName::Named(name))
-            }
-            _ => Err(ScriptFault::syntax(placed.line)),
-        }
-    }
-
-    /// What is sent.
-    fn sent(&mut self, alloc: Global, left: u32) -> Result<Sent, ScriptFault>
-        ensures tokens { IfOk result (λ s. ahead self.old.rest.now ≡ sent_lexemes s ++ ahead self.new.rest.now) }
-        ensures shorter { OnOk result (length self.new.rest.now < length self.old.rest.now) }
-        ensures nested { IfOk result (λ s. sent_depth s ≤ left) }
-        ensures fault { IfErr result IsOfGrammar }
-    {
-        if self.is_name_at(0) && self.is_symbol_at(1, Symbol::RightParen) {
-            let name = self.name(alloc)?;
-            return Ok(Sent::Variable(name));
-        }
-        let message = self.message(alloc, left)?;
-        Ok(Sent::Message(message))
-    }
-
-    /// What stands behind `to`, if it is there.
-    fn to_part(&mut self, alloc: Global) -> Result<Option<Destination>, ScriptFault>
-        ensures tokens { IfOk result (λ d. ahead self.old.rest.now ≡ to_lexemes d ++ ahead self.new.rest.now) }
-        ensures shorter { OnOk result (length self.new.rest.now ≤ length self.old.rest.now) }
-        ensures fault { IfErr result IsOfGrammar }
-    {
-        if !self.has_word(Word::To) {
-            return Ok(None);
-        }
-        if self.has_word(Word::All) {
-            self.word(Word::Component)?;
-            return Ok(Some(Destination::AllComponents));
-        }
-        let component = self.component(alloc)?;
-        Ok(Some(Destination::Component(component)))
-    }
-
-    /// A send.
-    #[tactic(auto, using(std::proofs::lemmas::List::append_assoc), unfolding(crate::specs::Statements::send_lexemes))]
-    fn send(&mut self, alloc: Global, left: u32) -> Result<Send, ScriptFault>
-        ensures tokens { IfOk result (λ s. ahead self.old.rest.now ≡ send_lexemes s ++ ahead self.new.rest.now) }
-        ensures shorter { OnOk result (length self.new.rest.now < length self.old.rest.now) }
-        ensures nested { IfOk result (λ s. sent_depth s.sent + 1 ≤ left) }
-        ensures fault { IfErr result IsOfGrammar }
-    {
-        let port = self.name(alloc)?;
-        self.symbol(Symbol::Dot)?;
-        self.word(Word::Send)?;
-        let inner = self.open(Symbol::LeftParen, left)?;
-        let sent = self.sent(alloc, inner)?;
-        self.symbol(Symbol::RightParen)?;
-        let to = self.to_part(alloc)?;
-        Ok(Send { port, sent, to })
-    }
-
-    /// The template of a receiving operation in its parentheses, if it is there.
-    #[tactic(auto, using(std::proofs::lemmas::List::append_assoc))]
-    fn template_part(
-        &mut self,
-        alloc: Global,
-        left: u32,
-    ) -> Result<Option<MessageTemplate>, ScriptFault>
-        ensures tokens { IfOk result (λ t. ahead self.old.rest.now ≡ template_part t ++ ahead self.new.rest.now) }
-        ensures shorter { OnOk result (length self.new.rest.now ≤ length self.old.rest.now) }
-        ensures nested { IfOk result (λ t. part_depth t ≤ left) }
-        ensures fault { IfErr result IsOfGrammar }
-    {
-        if !self.is_symbol_at(0, Symbol::LeftParen) {
-            return Ok(None);
-        }
-        let inner = self.open(Symbol::LeftParen, left)?;
-        let template = self.message_template(alloc, inner)?;
-        self.symbol(Symbol::RightParen)?;
-        Ok(Some(template))
-    }
-
-    /// The component behind `from`, if it is there.
-    fn from_part(&mut self, alloc: Global) -> Result<Option<ComponentName>, ScriptFault>
-        ensures tokens { IfOk result (λ c. ahead self.old.rest.now ≡ from_lexemes c ++ ahead self.new.rest.now) }
-        ensures shorter { OnOk result (length self.new.rest.now ≤ length self.old.rest.now) }
-        ensures fault { IfErr result IsOfGrammar }
-    {
-        if !self.has_word(Word::From) {
-            return Ok(None);
-        }
-        let component = self.component(alloc)?;
-        Ok(Some(component))
-    }
-
-    /// The name behind this word, if it is there.
-    fn named_part(&mut self, alloc: Global, want: Word) -> Result<Option<String>, ScriptFault>
-        ensures tokens { IfOk result (λ n. ahead self.old.rest.now ≡ named_part want n ++ ahead self.new.rest.now) }
-        ensures shorter { OnOk result (length self.new.rest.now ≤ length self.old.rest.now) }
-        ensures fault { IfErr result IsOfGrammar }
-    {
-        if !self.has_word(want) {
-            return Ok(None);
-        }
-        let name = self.name(alloc)?;
-        Ok(Some(name))
-    }
-
-    /// What stands behind `->`, and the arrow, if it is there.
-    #[tactic(auto, using(std::proofs::lemmas::List::append_assoc))]
-    fn redirect(&mut self, alloc: Global) -> Result<Redirect, ScriptFault>
-        ensures tokens { IfOk result (λ r. ahead self.old.rest.now ≡ redirect_lexemes r ++ ahead self.new.rest.now) }
-        ensures shorter { OnOk result (length self.new.rest.now ≤ length self.old.rest.now) }
-        ensures fault { IfErr result IsOfGrammar }
-    {
-        if !self.has_symbol(Symbol::Arrow) {
-            return Ok(Redirect {
-                value: None,
-                sender: None,
-            });
-        }
-        if self.has_word(Word::Value) {
-            let value = self.name(alloc)?;
-            let sender = self.named_part(alloc, Word::Sender)?;
-            return Ok(Redirect {
-                value: Some(value),
-                sender,
-            });
-        }
-        self.word(Word::Sender)?;
-        let sender = self.name(alloc)?;
-        Ok(Redirect {
-            value: None,
-            sender: Some(sender),
-        })
-    }
-
-    /// What stands behind the word of a receiving operation.
-    #[tactic(auto, using(std::proofs::lemmas::List::append_assoc))]
-    fn received(&mut self, alloc: Global, left: u32) -> Result<Received, ScriptFault>
-        ensures tokens { IfOk result (λ r. ahead self.old.rest.now ≡ template_part r.template ++ (from_lexemes r.sender ++ (redirect_lexemes r.redirect ++ ahead self.new.rest.now))) }
-        ensures shorter { OnOk result (length self.new.rest.now ≤ length self.old.rest.now) }
-        ensures nested { IfOk result (λ r. part_depth r.template ≤ left) }
-        ensures fault { IfErr result IsOfGrammar }
-    {
-        let template = self.template_part(alloc, left)?;
-        let sender = self.from_part(alloc)?;
-        let redirect = self.redirect(alloc)?;
-        Ok(Received {
-            template,
-            sender,
-            redirect,
-        })
-    }
-
-    /// A receiving operation.
-    #[tactic(auto, using(std::proofs::lemmas::List::append_assoc), unfolding(crate::specs::Statements::receive_lexemes, crate::specs::Statements::received_lexemes))]
-    fn receive(&mut self, alloc: Global, left: u32) -> Result<Receive, ScriptFault>
-        ensures tokens { IfOk result (λ r. ahead self.old.rest.now ≡ receive_lexemes r ++ ahead self.new.rest.now) }
-        ensures shorter { OnOk result (length self.new.rest.now < length self.old.rest.now) }
-        ensures nested { IfOk result (λ r. receive_depth r ≤ left) }
-        ensures fault { IfErr result IsOfGrammar }
-    {
-        let port = self.name(alloc)?;
-        self.symbol(Symbol::Dot)?;
-        if self.has_word(Word::Check) {
-            let inner = self.open(Symbol::LeftParen, left)?;
-            self.word(Word::Receive)?;
-            let received = self.received(alloc, inner)?;
-            self.symbol(Symbol::RightParen)?;
-            return Ok(Receive {
-                port,
-                kind: ReceiveKind::Check,
-                template: received.template,
-                sender: received.sender,
-                redirect: received.redirect,
-            });
-        }
-        if self.has_word(Word::Trigger) {
-            let received = self.received(alloc, left)?;
-            return Ok(Receive {
-                port,
-                kind: ReceiveKind::Trigger,
-                template: received.template,
-                sender: received.sender,
-                redirect: received.redirect,
-            });
-        }
-        self.word(Word::Receive)?;
-        let received = self.received(alloc, left)?;
-        Ok(Receive {
-            port,
-            kind: ReceiveKind::Receive,
-            template: received.template,
-            sender: received.sender,
-            redirect: received.redirect,
-        })
-    }
-
-    /// An operation on ports.
-    fn port_operation(&mut self) -> Result<PortOperation, ScriptFault>
-        ensures tokens { IfOk result (λ o. ahead self.old.rest.now ≡ port_operation_lexeme o ∷ ahead self.new.rest.now) }
-        ensures shorter { OnOk result (length self.new.rest.now < length self.old.rest.now) }
-        ensures fault { IfErr result IsOfGrammar }
-    {
-        let placed = self.take()?;
-        match &placed.token {
-            Token::Word(Word::Start) => Ok(PortOperation::Start),
-            Token::Word(Word::Stop) => Ok(PortOperation::Stop),
-            Token::Word(Word::Halt) => Ok(PortOperation::Halt),
-            Token::Word(Word::Clear) => Ok(PortOperation::Clear),
-            _ => Err(ScriptFault::syntax(placed.line)),
-        }
-    }
-
-    /// An operation on one port.
-    #[tactic(auto, unfolding(crate::specs::Statements::control_lexemes))]
-    fn control(&mut self, alloc: Global) -> Result<Control, ScriptFault>
-        ensures tokens { IfOk result (λ c. ahead self.old.rest.now ≡ control_lexemes c ++ ahead self.new.rest.now) }
-        ensures shorter { OnOk result (length self.new.rest.now < length self.old.rest.now) }
-        ensures fault { IfErr result IsOfGrammar }
-    {
-        let port = self.name(alloc)?;
-        self.symbol(Symbol::Dot)?;
-        let operation = self.port_operation()?;
-        Ok(Control { port, operation })
-    }
-
-    /// An operation on all ports.
-    #[tactic(auto, unfolding(crate::specs::Statements::all_ports_lexemes))]
-    fn all_ports(&mut self) -> Result<PortOperation, ScriptFault>
-        ensures tokens { IfOk result (λ o. ahead self.old.rest.now ≡ all_ports_lexemes o ++ ahead self.new.rest.now) }
-        ensures shorter { OnOk result (length self.new.rest.now < length self.old.rest.now) }
-        ensures fault { IfErr result IsOfGrammar }
-    {
-        self.word(Word::All)?;
-        self.word(Word::Port)?;
-        self.symbol(Symbol::Dot)?;
-        self.port_operation()
-    }
-
     /// A verdict.
     fn verdict(&mut self) -> Result<VerdictName, ScriptFault>
-        ensures tokens { IfOk result (λ v. ahead self.old.rest.now ≡ verdict_lexeme v ∷ ahead self.new.rest.now) }
+        ensures tokens { IfOk result (λ v.
+            ahead self.old.rest.now ≡ verdict_lexeme v ∷ ahead self.new.rest.now) }
         ensures shorter { OnOk result (length self.new.rest.now < length self.old.rest.now) }
         ensures fault { IfErr result IsOfGrammar }
     {
@@ -307,7 +51,7 @@ impl<'a, 't> Parser<'a, 't> {
     /// A `setverdict`.
     #[tactic(auto, unfolding(crate::specs::Statements::set_verdict_lexemes))]
     fn set_verdict(&mut self, left: u32) -> Result<VerdictName, ScriptFault>
-        ensures tokens { IfOk result (λ v. ahead self.old.rest.now ≡ set_verdict_lexemes v ++ ahead self.new.rest.now) }
+        ensures tokens { IfOk result (λ v. Passes self.old (set_verdict_lexemes v) self.new) }
         ensures shorter { OnOk result (length self.new.rest.now < length self.old.rest.now) }
         ensures nested { OnOk result (1 ≤ left) }
         ensures fault { IfErr result IsOfGrammar }
@@ -322,7 +66,7 @@ impl<'a, 't> Parser<'a, 't> {
     /// A `var` statement.
     #[tactic(auto, using(std::proofs::lemmas::List::append_assoc))]
     fn variable(&mut self, alloc: Global) -> Result<Variable, ScriptFault>
-        ensures tokens { IfOk result (λ v. ahead self.old.rest.now ≡ variable_lexemes v ++ ahead self.new.rest.now) }
+        ensures tokens { IfOk result (λ v. Passes self.old (variable_lexemes v) self.new) }
         ensures shorter { OnOk result (length self.new.rest.now < length self.old.rest.now) }
         ensures fault { IfErr result IsOfGrammar }
     {
@@ -341,7 +85,7 @@ impl<'a, 't> Parser<'a, 't> {
 
     /// The `var` statements that come next.
     pub fn variables(&mut self, alloc: Global) -> Result<Vec<Variable>, ScriptFault>
-        ensures tokens { IfOk result (λ v. ahead self.old.rest.now ≡ variables_lexemes v.items ++ ahead self.new.rest.now) }
+        ensures tokens { IfOk result (λ v. Passes self.old (variables_lexemes v.items) self.new) }
         ensures shorter { OnOk result (length self.new.rest.now ≤ length self.old.rest.now) }
         ensures fault { IfErr result IsOfGrammar }
     {
@@ -353,11 +97,12 @@ impl<'a, 't> Parser<'a, 't> {
         Ok(variables)
     }
 
-    /// A counted `for` without its block. 10 `Syntax` also: its four names aren't one name (the line of
-    /// the first that differs).
+    /// A counted `for` without its block. 10 `Syntax` also: its four names aren't one name (the
+    /// line of the first that differs).
     #[tactic(auto, using(std::proofs::lemmas::List::append_assoc), unfolding(crate::specs::Statements::for_lexemes))]
     fn turns(&mut self, alloc: Global, left: u32) -> Result<Turns, ScriptFault>
-        ensures tokens { IfOk result (λ x. ahead self.old.rest.now ≡ turns_lexemes x (ahead self.new.rest.now)) }
+        ensures tokens { IfOk result (λ x.
+            ahead self.old.rest.now ≡ turns_lexemes x (ahead self.new.rest.now)) }
         ensures shorter { OnOk result (length self.new.rest.now < length self.old.rest.now) }
         ensures nested { OnOk result (1 ≤ left) }
         ensures fault { IfErr result IsOfGrammar }
@@ -373,11 +118,13 @@ impl<'a, 't> Parser<'a, 't> {
         Ok(Turns { name, first, bound })
     }
 
-    /// What stands behind the first value of a `for`, up to its `)`: what its variable stays below, and
-    /// the step.
+    /// What stands behind the first value of a `for`, up to its `)`: what its variable stays below,
+    /// and the step.
     #[tactic(auto, using(std::proofs::lemmas::List::append_assoc))]
     fn step(&mut self, variable: &String) -> Result<i64, ScriptFault>
-        ensures tokens { IfOk result (λ z. ahead self.old.rest.now ≡ symbol Symbol.Semicolon ∷ name (string_bytes variable.now) ∷ symbol Symbol.Less ∷ (int_lexemes z ++ symbol Symbol.Semicolon ∷ name (string_bytes variable.now) ∷ symbol Symbol.Assign ∷ name (string_bytes variable.now) ∷ symbol Symbol.Plus ∷ number 1 ∷ symbol Symbol.RightParen ∷ ahead self.new.rest.now)) }
+        ensures tokens { IfOk result (λ z.
+            ahead self.old.rest.now
+            ≡ step_lexemes (string_bytes variable.now) (int_lexemes z) (ahead self.new.rest.now)) }
         ensures shorter { OnOk result (length self.new.rest.now < length self.old.rest.now) }
         ensures fault { IfErr result IsOfGrammar }
     {
@@ -397,7 +144,8 @@ impl<'a, 't> Parser<'a, 't> {
 
     /// The number 1.
     fn one(&mut self) -> Result<(), ScriptFault>
-        ensures tokens { OnOk result (ahead self.old.rest.now ≡ number 1 ∷ ahead self.new.rest.now) }
+        ensures tokens { OnOk result
+            (ahead self.old.rest.now ≡ number 1 ∷ ahead self.new.rest.now) }
         ensures shorter { OnOk result (length self.new.rest.now < length self.old.rest.now) }
         ensures fault { IfErr result IsOfGrammar }
     {
@@ -410,7 +158,10 @@ impl<'a, 't> Parser<'a, 't> {
 
     /// `[else]`
     fn else_mark(&mut self, left: u32) -> Result<(), ScriptFault>
-        ensures tokens { OnOk result (ahead self.old.rest.now ≡ symbol Symbol.LeftBracket ∷ word Word.Else ∷ symbol Symbol.RightBracket ∷ ahead self.new.rest.now) }
+        ensures tokens { OnOk result
+            (ahead self.old.rest.now
+            ≡ symbol Symbol.LeftBracket ∷ word Word.Else ∷ symbol Symbol.RightBracket
+            ∷ ahead self.new.rest.now) }
         ensures shorter { OnOk result (length self.new.rest.now < length self.old.rest.now) }
         ensures nested { OnOk result (1 ≤ left) }
         ensures fault { IfErr result IsOfGrammar }
@@ -439,7 +190,8 @@ impl<'a, 't> Parser<'a, 't> {
         }
     }
 
-    /// Whether a statement that comes next may have no `;` wherever it stands, since it ends in a `}`.
+    /// Whether a statement that comes next may have no `;` wherever it stands, since it ends in a
+    /// `}`.
     fn is_closed(&self) -> bool {
         self.is_word_at(0, Word::Alt) || self.is_word_at(0, Word::For)
     }
@@ -455,7 +207,7 @@ impl<'a, 't> Parser<'a, 't> {
     #[cycle(statement)]
     #[tactic(auto, using(crate::proofs::StatementTokens::statement_rules, crate::proofs::Nesting::statement_nesting))]
     fn statement(&mut self, alloc: Global, left: u32) -> Result<Statement, ScriptFault>
-        ensures tokens { IfOk result (λ s. ahead self.old.rest.now ≡ statement_lexemes s ++ ahead self.new.rest.now) }
+        ensures tokens { IfOk result (λ s. Passes self.old (statement_lexemes s) self.new) }
         ensures shorter { OnOk result (length self.new.rest.now < length self.old.rest.now) }
         ensures nested { IfOk result (λ s. statement_depth s ≤ left) }
         ensures fault { IfErr result IsOfGrammar }
@@ -475,7 +227,7 @@ impl<'a, 't> Parser<'a, 't> {
     #[cycle(statement)]
     #[tactic(auto, using(crate::proofs::StatementTokens::statement_rules, crate::proofs::Nesting::statement_nesting))]
     fn action(&mut self, alloc: Global, left: u32) -> Result<Action, ScriptFault>
-        ensures tokens { IfOk result (λ a. ahead self.old.rest.now ≡ action_lexemes a ++ ahead self.new.rest.now) }
+        ensures tokens { IfOk result (λ a. Passes self.old (action_lexemes a) self.new) }
         ensures shorter { OnOk result (length self.new.rest.now < length self.old.rest.now) }
         ensures nested { IfOk result (λ a. action_depth a ≤ left) }
         ensures fault { IfErr result IsOfGrammar }
@@ -513,7 +265,7 @@ impl<'a, 't> Parser<'a, 't> {
     #[cycle(statement)]
     #[tactic(auto, using(crate::proofs::StatementTokens::statement_rules, crate::proofs::Nesting::statement_nesting))]
     fn alt(&mut self, alloc: Global, left: u32) -> Result<Action, ScriptFault>
-        ensures tokens { IfOk result (λ a. ahead self.old.rest.now ≡ action_lexemes a ++ ahead self.new.rest.now) }
+        ensures tokens { IfOk result (λ a. Passes self.old (action_lexemes a) self.new) }
         ensures shorter { OnOk result (length self.new.rest.now < length self.old.rest.now) }
         ensures nested { IfOk result (λ a. action_depth a ≤ left) }
         ensures fault { IfErr result IsOfGrammar }
@@ -532,7 +284,7 @@ impl<'a, 't> Parser<'a, 't> {
     /// The branches that come next, without `[else]`.
     #[cycle(statement)]
     fn branches(&mut self, alloc: Global, left: u32) -> Result<Vec<Branch>, ScriptFault>
-        ensures tokens { IfOk result (λ v. ahead self.old.rest.now ≡ branches_lexemes v.items ++ ahead self.new.rest.now) }
+        ensures tokens { IfOk result (λ v. Passes self.old (branches_lexemes v.items) self.new) }
         ensures shorter { OnOk result (length self.new.rest.now ≤ length self.old.rest.now) }
         ensures nested { IfOk result (λ v. branches_depth v.items ≤ left) }
         ensures fault { IfErr result IsOfGrammar }
@@ -549,7 +301,7 @@ impl<'a, 't> Parser<'a, 't> {
     #[cycle(statement)]
     #[tactic(auto, using(crate::proofs::StatementTokens::statement_rules, crate::proofs::Nesting::statement_nesting))]
     fn branch(&mut self, alloc: Global, left: u32) -> Result<Branch, ScriptFault>
-        ensures tokens { IfOk result (λ b. ahead self.old.rest.now ≡ branch_lexemes b ++ ahead self.new.rest.now) }
+        ensures tokens { IfOk result (λ b. Passes self.old (branch_lexemes b) self.new) }
         ensures shorter { OnOk result (length self.new.rest.now < length self.old.rest.now) }
         ensures nested { IfOk result (λ b. branch_depth b ≤ left) }
         ensures fault { IfErr result IsOfGrammar }
@@ -573,7 +325,7 @@ impl<'a, 't> Parser<'a, 't> {
     #[cycle(statement)]
     #[tactic(auto, using(crate::proofs::StatementTokens::statement_rules, crate::proofs::Nesting::statement_nesting))]
     fn body(&mut self, alloc: Global, left: u32) -> Result<BranchBody, ScriptFault>
-        ensures tokens { IfOk result (λ b. ahead self.old.rest.now ≡ body_lexemes b ++ ahead self.new.rest.now) }
+        ensures tokens { IfOk result (λ b. Passes self.old (body_lexemes b) self.new) }
         ensures shorter { OnOk result (length self.new.rest.now ≤ length self.old.rest.now) }
         ensures nested { IfOk result (λ b. body_depth b ≤ left) }
         ensures fault { IfErr result IsOfGrammar }
@@ -589,7 +341,7 @@ impl<'a, 't> Parser<'a, 't> {
     #[cycle(statement)]
     #[tactic(auto, using(crate::proofs::StatementTokens::statement_rules, crate::proofs::Nesting::statement_nesting))]
     fn otherwise(&mut self, alloc: Global, left: u32) -> Result<Option<ElseBranch>, ScriptFault>
-        ensures tokens { IfOk result (λ e. ahead self.old.rest.now ≡ otherwise_lexemes e ++ ahead self.new.rest.now) }
+        ensures tokens { IfOk result (λ e. Passes self.old (otherwise_lexemes e) self.new) }
         ensures shorter { OnOk result (length self.new.rest.now ≤ length self.old.rest.now) }
         ensures nested { IfOk result (λ e. otherwise_depth e ≤ left) }
         ensures fault { IfErr result IsOfGrammar }
@@ -612,7 +364,7 @@ impl<'a, 't> Parser<'a, 't> {
     #[cycle(statement)]
     #[tactic(auto, using(crate::proofs::StatementTokens::statement_rules, crate::proofs::Nesting::statement_nesting))]
     fn counted(&mut self, alloc: Global, left: u32) -> Result<Counted, ScriptFault>
-        ensures tokens { IfOk result (λ f. ahead self.old.rest.now ≡ counted_lexemes f ++ ahead self.new.rest.now) }
+        ensures tokens { IfOk result (λ f. Passes self.old (counted_lexemes f) self.new) }
         ensures shorter { OnOk result (length self.new.rest.now < length self.old.rest.now) }
         ensures nested { IfOk result (λ f. counted_depth f ≤ left) }
         ensures fault { IfErr result IsOfGrammar }
@@ -626,7 +378,8 @@ impl<'a, 't> Parser<'a, 't> {
     #[cycle(statement)]
     #[tactic(auto, using(crate::proofs::StatementTokens::statement_rules, crate::proofs::Nesting::statement_nesting))]
     fn block(&mut self, alloc: Global, left: u32) -> Result<Vec<Statement>, ScriptFault>
-        ensures tokens { IfOk result (λ v. ahead self.old.rest.now ≡ braced (statements_lexemes v.items) ++ ahead self.new.rest.now) }
+        ensures tokens { IfOk result (λ v.
+            Passes self.old (braced (statements_lexemes v.items)) self.new) }
         ensures shorter { OnOk result (length self.new.rest.now < length self.old.rest.now) }
         ensures nested { IfOk result (λ v. statements_depth v.items + 1 ≤ left) }
         ensures fault { IfErr result IsOfGrammar }
@@ -645,7 +398,7 @@ impl<'a, 't> Parser<'a, 't> {
         left: u32,
         is_case: bool,
     ) -> Result<Vec<Statement>, ScriptFault>
-        ensures tokens { IfOk result (λ v. ahead self.old.rest.now ≡ statements_lexemes v.items ++ ahead self.new.rest.now) }
+        ensures tokens { IfOk result (λ v. Passes self.old (statements_lexemes v.items) self.new) }
         ensures shorter { OnOk result (length self.new.rest.now ≤ length self.old.rest.now) }
         ensures nested { IfOk result (λ v. statements_depth v.items ≤ left) }
         ensures fault { IfErr result IsOfGrammar }

@@ -2,6 +2,7 @@
 ghost use Rattle.std.specs.Prelude.{◌≡◌, ◌+◌, ◌<◌, ◌≤◌, ◌∷◌, ◌++◌, length, map, IfErr, IfOk, OnOk};
 ghost use Rattle.tp_token.specs.Lexeme.{symbol, word};
 ghost use Rattle.tp_syntax.specs.Ahead.{ahead};
+ghost use Rattle.tp_syntax.specs.Passing.{Passes};
 ghost use Rattle.tp_syntax.specs.Sequences.{by_commas, parenthesised};
 ghost use Rattle.tp_syntax.specs.Templates.{low_lexemes, high_lexemes, template_lexemes, template_field_lexemes, message_template_lexemes};
 ghost use Rattle.tp_syntax.specs.Nesting.{deepest, template_depth, template_field_depth};
@@ -15,8 +16,8 @@ use tp_token::fault::ScriptFault;
 use tp_token::token::{Symbol, Token};
 use tp_token::word::Word;
 
-/// Whether the text of a `pattern` may hold this character: the others have a meaning in TTCN-3 that
-/// this profile leaves out.
+/// Whether the text of a `pattern` may hold this character: the others have a meaning in TTCN-3
+/// that this profile leaves out.
 fn is_plain(character: u8) -> bool {
     !matches!(
         character,
@@ -37,7 +38,7 @@ impl<'a, 't> Parser<'a, 't> {
         alloc: Global,
         left: u32,
     ) -> Result<MessageTemplate, ScriptFault>
-        ensures tokens { IfOk result (λ m. ahead self.old.rest.now ≡ message_template_lexemes m ++ ahead self.new.rest.now) }
+        ensures tokens { IfOk result (λ m. Passes self.old (message_template_lexemes m) self.new) }
         ensures shorter { OnOk result (length self.new.rest.now < length self.old.rest.now) }
         ensures nested { IfOk result (λ m. template_depth m.template ≤ left) }
         ensures fault { IfErr result IsOfGrammar }
@@ -53,7 +54,7 @@ impl<'a, 't> Parser<'a, 't> {
 
     /// The lower bound of a range.
     fn low(&mut self) -> Result<Option<i64>, ScriptFault>
-        ensures tokens { IfOk result (λ b. ahead self.old.rest.now ≡ low_lexemes b ++ ahead self.new.rest.now) }
+        ensures tokens { IfOk result (λ b. Passes self.old (low_lexemes b) self.new) }
         ensures shorter { OnOk result (length self.new.rest.now < length self.old.rest.now) }
         ensures fault { IfErr result IsOfGrammar }
     {
@@ -68,7 +69,7 @@ impl<'a, 't> Parser<'a, 't> {
 
     /// The upper bound of a range.
     fn high(&mut self) -> Result<Option<i64>, ScriptFault>
-        ensures tokens { IfOk result (λ b. ahead self.old.rest.now ≡ high_lexemes b ++ ahead self.new.rest.now) }
+        ensures tokens { IfOk result (λ b. Passes self.old (high_lexemes b) self.new) }
         ensures shorter { OnOk result (length self.new.rest.now < length self.old.rest.now) }
         ensures fault { IfErr result IsOfGrammar }
     {
@@ -88,11 +89,13 @@ impl<'a, 't> Parser<'a, 't> {
         self.is_number_at(0) && self.is_symbol_at(1, Symbol::DotDot)
     }
 
-    /// The characters of a text behind `pattern`. 10 `Syntax`: another token comes next, or none, or
-    /// the text holds one of `\ [ ] { } ( ) | # +` or a quote.
+    /// The characters of a text behind `pattern`. 10 `Syntax`: another token comes next, or none,
+    /// or the text holds one of `\ [ ] { } ( ) | # +` or a quote.
     #[tactic(auto, using(crate::proofs::TemplateTokens::template_rules, crate::proofs::Nesting::template_nesting))]
     fn pattern(&mut self, alloc: Global) -> Result<Template, ScriptFault>
-        ensures tokens { IfOk result (λ t. word Word.Pattern ∷ ahead self.old.rest.now ≡ template_lexemes t ++ ahead self.new.rest.now) }
+        ensures tokens { IfOk result (λ t.
+            word Word.Pattern ∷ ahead self.old.rest.now
+            ≡ template_lexemes t ++ ahead self.new.rest.now) }
         ensures shorter { OnOk result (length self.new.rest.now < length self.old.rest.now) }
         ensures nested { IfOk result (λ t. template_depth t ≡ 0) }
         ensures fault { IfErr result IsOfGrammar }
@@ -111,7 +114,7 @@ impl<'a, 't> Parser<'a, 't> {
     #[cycle(template)]
     #[tactic(auto, using(crate::proofs::TemplateTokens::template_rules, crate::proofs::Nesting::template_nesting))]
     pub fn template(&mut self, alloc: Global, left: u32) -> Result<Template, ScriptFault>
-        ensures tokens { IfOk result (λ t. ahead self.old.rest.now ≡ template_lexemes t ++ ahead self.new.rest.now) }
+        ensures tokens { IfOk result (λ t. Passes self.old (template_lexemes t) self.new) }
         ensures shorter { OnOk result (length self.new.rest.now < length self.old.rest.now) }
         ensures nested { IfOk result (λ t. template_depth t ≤ left) }
         ensures fault { IfErr result IsOfGrammar }
@@ -156,7 +159,9 @@ impl<'a, 't> Parser<'a, 't> {
     #[cycle(template)]
     #[tactic(auto, using(crate::proofs::TemplateTokens::template_rules, crate::proofs::Nesting::template_nesting))]
     fn alternatives(&mut self, alloc: Global, left: u32) -> Result<Template, ScriptFault>
-        ensures tokens { IfOk result (λ t. symbol Symbol.LeftParen ∷ ahead self.old.rest.now ≡ template_lexemes t ++ ahead self.new.rest.now) }
+        ensures tokens { IfOk result (λ t.
+            symbol Symbol.LeftParen ∷ ahead self.old.rest.now
+            ≡ template_lexemes t ++ ahead self.new.rest.now) }
         ensures shorter { OnOk result (length self.new.rest.now < length self.old.rest.now) }
         ensures nested { IfOk result (λ t. template_depth t ≤ left + 1) }
         ensures fault { IfErr result IsOfGrammar }
@@ -177,7 +182,9 @@ impl<'a, 't> Parser<'a, 't> {
     #[cycle(template)]
     #[tactic(auto, using(crate::proofs::TemplateTokens::template_rules, crate::proofs::Nesting::template_nesting))]
     fn complement(&mut self, alloc: Global, left: u32) -> Result<Template, ScriptFault>
-        ensures tokens { IfOk result (λ t. word Word.Complement ∷ ahead self.old.rest.now ≡ template_lexemes t ++ ahead self.new.rest.now) }
+        ensures tokens { IfOk result (λ t.
+            word Word.Complement ∷ ahead self.old.rest.now
+            ≡ template_lexemes t ++ ahead self.new.rest.now) }
         ensures shorter { OnOk result (length self.new.rest.now < length self.old.rest.now) }
         ensures nested { IfOk result (λ t. template_depth t ≤ left) }
         ensures fault { IfErr result IsOfGrammar }
@@ -192,7 +199,9 @@ impl<'a, 't> Parser<'a, 't> {
     #[cycle(template)]
     #[tactic(auto, using(crate::proofs::TemplateTokens::template_rules, crate::proofs::Nesting::template_nesting))]
     fn template_entries(&mut self, alloc: Global, left: u32) -> Result<Template, ScriptFault>
-        ensures tokens { IfOk result (λ t. symbol Symbol.LeftBrace ∷ ahead self.old.rest.now ≡ template_lexemes t ++ ahead self.new.rest.now) }
+        ensures tokens { IfOk result (λ t.
+            symbol Symbol.LeftBrace ∷ ahead self.old.rest.now
+            ≡ template_lexemes t ++ ahead self.new.rest.now) }
         ensures shorter { OnOk result (length self.new.rest.now < length self.old.rest.now) }
         ensures nested { IfOk result (λ t. template_depth t ≤ left + 1) }
         ensures fault { IfErr result IsOfGrammar }
@@ -213,7 +222,8 @@ impl<'a, 't> Parser<'a, 't> {
     /// Templates with a `,` between them.
     #[cycle(template)]
     fn templates(&mut self, alloc: Global, left: u32) -> Result<Vec<Template>, ScriptFault>
-        ensures tokens { IfOk result (λ v. ahead self.old.rest.now ≡ by_commas (map template_lexemes v.items) ++ ahead self.new.rest.now) }
+        ensures tokens { IfOk result (λ v.
+            Passes self.old (by_commas (map template_lexemes v.items)) self.new) }
         ensures shorter { OnOk result (length self.new.rest.now < length self.old.rest.now) }
         ensures nested { IfOk result (λ v. deepest (map template_depth v.items) ≤ left) }
         ensures fault { IfErr result IsOfGrammar }
@@ -235,7 +245,8 @@ impl<'a, 't> Parser<'a, 't> {
         alloc: Global,
         left: u32,
     ) -> Result<Vec<TemplateField>, ScriptFault>
-        ensures tokens { IfOk result (λ v. ahead self.old.rest.now ≡ by_commas (map template_field_lexemes v.items) ++ ahead self.new.rest.now) }
+        ensures tokens { IfOk result (λ v.
+            Passes self.old (by_commas (map template_field_lexemes v.items)) self.new) }
         ensures shorter { OnOk result (length self.new.rest.now < length self.old.rest.now) }
         ensures nested { IfOk result (λ v. deepest (map template_field_depth v.items) ≤ left) }
         ensures fault { IfErr result IsOfGrammar }
@@ -254,7 +265,7 @@ impl<'a, 't> Parser<'a, 't> {
     #[cycle(template)]
     #[tactic(auto, using(crate::proofs::TemplateTokens::template_rules, crate::proofs::Nesting::template_nesting))]
     fn template_field(&mut self, alloc: Global, left: u32) -> Result<TemplateField, ScriptFault>
-        ensures tokens { IfOk result (λ f. ahead self.old.rest.now ≡ template_field_lexemes f ++ ahead self.new.rest.now) }
+        ensures tokens { IfOk result (λ f. Passes self.old (template_field_lexemes f) self.new) }
         ensures shorter { OnOk result (length self.new.rest.now < length self.old.rest.now) }
         ensures nested { IfOk result (λ f. template_field_depth f ≤ left) }
         ensures fault { IfErr result IsOfGrammar }

@@ -1,8 +1,8 @@
 //! The tree of a module: what its text says, in the order of the text.
 //!
-//! It keeps whether each `;` that may be missing was there, and which of the two record notations was
-//! used, so that the tokens of the text are those of the tree. Each statement, branch and definition
-//! has the line of its first token.
+//! It keeps whether each `;` that may be missing was there, and which of the two record notations
+//! was used, so that the tokens of the text are those of the tree. Each statement, branch and
+//! definition has the line of its first token.
 
 /// A name where it is declared (ES 201 873-1, 5.4).
 #[derive(Drop)]
@@ -163,7 +163,8 @@ pub enum ReceiveKind {
     Check,
 }
 
-/// Where a receiving operation puts what it got: behind `->`, which stands where one of the two does.
+/// Where a receiving operation puts what it got: behind `->`, which stands where one of the two
+/// does.
 #[derive(Drop)]
 pub struct Redirect {
     /// The variable behind `value`.
@@ -443,7 +444,7 @@ pub enum EndComponent {
 
 /// A port of a component.
 #[derive(Drop)]
-pub struct End {
+pub struct PairEnd {
     /// The component.
     pub component: EndComponent,
     /// The port.
@@ -456,9 +457,9 @@ pub enum SetupAction {
     /// `var`: makes a component.
     Create(Creation),
     /// `connect`
-    Connect(End, End),
+    Connect(PairEnd, PairEnd),
     /// `map`
-    Map(End, End),
+    Map(PairEnd, PairEnd),
 }
 
 /// A component that is made.
@@ -474,7 +475,7 @@ pub struct Creation {
 
 /// A setup statement of a test case.
 #[derive(Drop)]
-pub struct Setup {
+pub struct SetupStatement {
     /// The line of its first token.
     pub line: u32,
     /// What it does.
@@ -515,7 +516,7 @@ pub struct TestCase {
     /// The component type behind `system`.
     pub system: Option<String>,
     /// The setup statements.
-    pub setups: Vec<Setup>,
+    pub setups: Vec<SetupStatement>,
     /// The starts.
     pub starts: Vec<ComponentStart>,
     /// The variables, which stand before the statements.

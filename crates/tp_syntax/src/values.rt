@@ -2,6 +2,7 @@
 ghost use Rattle.std.specs.Prelude.{◌≡◌, ◌+◌, ◌<◌, ◌≤◌, ◌∷◌, ◌++◌, length, map, pos, IfErr, IfOk, OnOk};
 ghost use Rattle.tp_token.specs.Lexeme.{symbol};
 ghost use Rattle.tp_syntax.specs.Ahead.{ahead, before};
+ghost use Rattle.tp_syntax.specs.Passing.{Passes};
 ghost use Rattle.tp_syntax.specs.Sequences.{by_commas};
 ghost use Rattle.tp_syntax.specs.Values.{int_lexemes, type_lexemes, value_lexemes, value_field_lexemes, message_lexemes};
 ghost use Rattle.tp_syntax.specs.Nesting.{deepest, value_depth, value_field_depth};
@@ -32,7 +33,9 @@ pub(crate) fn positive(number: u64, line: u32) -> Result<i64, ScriptFault>
 impl<'a, 't> Parser<'a, 't> {
     /// The number behind a `-`.
     pub fn negative(&mut self) -> Result<i64, ScriptFault>
-        ensures tokens { IfOk result (λ z. before (symbol Symbol.Minus) (ahead self.old.rest.now) ≡ int_lexemes z ++ ahead self.new.rest.now) }
+        ensures tokens { IfOk result (λ z.
+            before (symbol Symbol.Minus) (ahead self.old.rest.now)
+            ≡ int_lexemes z ++ ahead self.new.rest.now) }
         ensures shorter { OnOk result (length self.new.rest.now + 1 ≡ length self.old.rest.now) }
         ensures fault { IfErr result IsOfGrammar }
     {
@@ -47,7 +50,7 @@ impl<'a, 't> Parser<'a, 't> {
 
     /// An integer.
     pub fn integer(&mut self) -> Result<i64, ScriptFault>
-        ensures tokens { IfOk result (λ z. ahead self.old.rest.now ≡ int_lexemes z ++ ahead self.new.rest.now) }
+        ensures tokens { IfOk result (λ z. Passes self.old (int_lexemes z) self.new) }
         ensures shorter { OnOk result (length self.new.rest.now < length self.old.rest.now) }
         ensures fault { IfErr result IsOfGrammar }
     {
@@ -61,7 +64,7 @@ impl<'a, 't> Parser<'a, 't> {
 
     /// The name of a type.
     pub fn type_name(&mut self, alloc: Global) -> Result<TypeName, ScriptFault>
-        ensures tokens { IfOk result (λ t. ahead self.old.rest.now ≡ type_lexemes t ++ ahead self.new.rest.now) }
+        ensures tokens { IfOk result (λ t. Passes self.old (type_lexemes t) self.new) }
         ensures shorter { OnOk result (length self.new.rest.now < length self.old.rest.now) }
         ensures fault { IfErr result IsOfGrammar }
     {
@@ -81,7 +84,7 @@ impl<'a, 't> Parser<'a, 't> {
     /// A message.
     #[tactic(auto, using(std::proofs::lemmas::List::append_assoc))]
     pub fn message(&mut self, alloc: Global, left: u32) -> Result<Message, ScriptFault>
-        ensures tokens { IfOk result (λ m. ahead self.old.rest.now ≡ message_lexemes m ++ ahead self.new.rest.now) }
+        ensures tokens { IfOk result (λ m. Passes self.old (message_lexemes m) self.new) }
         ensures shorter { OnOk result (length self.new.rest.now < length self.old.rest.now) }
         ensures nested { IfOk result (λ m. value_depth m.value ≤ left) }
         ensures fault { IfErr result IsOfGrammar }
@@ -96,7 +99,7 @@ impl<'a, 't> Parser<'a, 't> {
     #[cycle(value)]
     #[tactic(auto, using(crate::proofs::ValueTokens::value_rules, crate::proofs::Nesting::value_nesting))]
     pub fn value(&mut self, alloc: Global, left: u32) -> Result<Value, ScriptFault>
-        ensures tokens { IfOk result (λ v. ahead self.old.rest.now ≡ value_lexemes v ++ ahead self.new.rest.now) }
+        ensures tokens { IfOk result (λ v. Passes self.old (value_lexemes v) self.new) }
         ensures shorter { OnOk result (length self.new.rest.now < length self.old.rest.now) }
         ensures nested { IfOk result (λ v. value_depth v ≤ left) }
         ensures fault { IfErr result IsOfGrammar }
@@ -133,7 +136,9 @@ impl<'a, 't> Parser<'a, 't> {
     #[cycle(value)]
     #[tactic(auto, using(crate::proofs::ValueTokens::value_rules, crate::proofs::Nesting::value_nesting, crate::proofs::Commas::braced_read))]
     pub fn value_entries(&mut self, alloc: Global, left: u32) -> Result<Value, ScriptFault>
-        ensures tokens { IfOk result (λ v. symbol Symbol.LeftBrace ∷ ahead self.old.rest.now ≡ value_lexemes v ++ ahead self.new.rest.now) }
+        ensures tokens { IfOk result (λ v.
+            symbol Symbol.LeftBrace ∷ ahead self.old.rest.now
+            ≡ value_lexemes v ++ ahead self.new.rest.now) }
         ensures shorter { OnOk result (length self.new.rest.now < length self.old.rest.now) }
         ensures nested { IfOk result (λ v. value_depth v ≤ left + 1) }
         ensures fault { IfErr result IsOfGrammar }
@@ -154,7 +159,8 @@ impl<'a, 't> Parser<'a, 't> {
     /// Values with a `,` between them.
     #[cycle(value)]
     pub fn values(&mut self, alloc: Global, left: u32) -> Result<Vec<Value>, ScriptFault>
-        ensures tokens { IfOk result (λ v. ahead self.old.rest.now ≡ by_commas (map value_lexemes v.items) ++ ahead self.new.rest.now) }
+        ensures tokens { IfOk result (λ v.
+            Passes self.old (by_commas (map value_lexemes v.items)) self.new) }
         ensures shorter { OnOk result (length self.new.rest.now < length self.old.rest.now) }
         ensures nested { IfOk result (λ v. deepest (map value_depth v.items) ≤ left) }
         ensures fault { IfErr result IsOfGrammar }
@@ -172,7 +178,8 @@ impl<'a, 't> Parser<'a, 't> {
     /// Fields with a `,` between them.
     #[cycle(value)]
     pub fn value_fields(&mut self, alloc: Global, left: u32) -> Result<Vec<ValueField>, ScriptFault>
-        ensures tokens { IfOk result (λ v. ahead self.old.rest.now ≡ by_commas (map value_field_lexemes v.items) ++ ahead self.new.rest.now) }
+        ensures tokens { IfOk result (λ v.
+            Passes self.old (by_commas (map value_field_lexemes v.items)) self.new) }
         ensures shorter { OnOk result (length self.new.rest.now < length self.old.rest.now) }
         ensures nested { IfOk result (λ v. deepest (map value_field_depth v.items) ≤ left) }
         ensures fault { IfErr result IsOfGrammar }
@@ -191,7 +198,7 @@ impl<'a, 't> Parser<'a, 't> {
     #[cycle(value)]
     #[tactic(auto, using(crate::proofs::ValueTokens::value_rules, crate::proofs::Nesting::value_nesting))]
     pub fn value_field(&mut self, alloc: Global, left: u32) -> Result<ValueField, ScriptFault>
-        ensures tokens { IfOk result (λ f. ahead self.old.rest.now ≡ value_field_lexemes f ++ ahead self.new.rest.now) }
+        ensures tokens { IfOk result (λ f. Passes self.old (value_field_lexemes f) self.new) }
         ensures shorter { OnOk result (length self.new.rest.now < length self.old.rest.now) }
         ensures nested { IfOk result (λ f. value_field_depth f ≤ left) }
         ensures fault { IfErr result IsOfGrammar }

@@ -6,7 +6,7 @@ use Rattle.tp_refusal.specs.declared.refusal.Refusal.{Refusal}
 use Rattle.tp_token.specs.declared.fault.ScriptFault.TheVariants.{Refused, Memory}
 use Rattle.tp_token.specs.declared.byte.Kind.TheVariants.{Letter, Digit, Quote, Blank, Other}
 use Rattle.tp_token.specs.Byte.{is_printable}
-use Rattle.tp_token.specs.Lexeme.{Lexeme, name, word, number, text, symbol, Line}
+use Rattle.tp_token.specs.Lexeme.{Lexeme, name, word, number, text, symbol, PlacedLexeme}
 use Rattle.tp_token.specs.Spelling.{Run, doubled}
 use Rattle.tp_token.specs.Cut.{Piece, blank, line_comment, block_comment, token, piece_bytes, IsPiece, Cuts, tokens_in, newlines}
 use Rattle.tp_token.specs.Fault.{AreWithinLimits, GoodTextsAreAccepted, HasOpenText, IsBroken, IsFaulty, IsWithinLimits}
@@ -48,12 +48,15 @@ open_on (a ∷ t) (b ∷ w) more m r q h e = elim (eqb_tells a 34) [
         | inl (eb, fb) ↦
             let e' : 34 ∷ 34 ∷ (doubled t ++ more) ≡ 34 ∷ 34 ∷ (closed w ++ m) = ap (λ (x : List ℕ). x ++ more) (sym fa) ∙ e ∙ ap (λ (x : List ℕ). x ++ m) fb in
             open_on t w more m r.1 q.1 h (tails 34 34 (doubled t ++ more) (closed w ++ m) (tails 34 34 (34 ∷ (doubled t ++ more)) (34 ∷ (closed w ++ m)) e'))
-        | inr (ne, fb) ↦ absurd (ne (sym (heads 34 b (34 ∷ (doubled t ++ more)) (closed w ++ m) (ap (λ (x : List ℕ). x ++ more) (sym fa) ∙ e ∙ ap (λ (x : List ℕ). x ++ m) fb))))
+        | inr (ne, fb) ↦
+            absurd (ne (sym (heads 34 b (34 ∷ (doubled t ++ more)) (closed w ++ m)
+            (ap (λ (x : List ℕ). x ++ more) (sym fa) ∙ e ∙ ap (λ (x : List ℕ). x ++ m) fb))))
       ]
   | inr (ta, na) ↦
       let fa : doubled (a ∷ t) ≡ a ∷ doubled t = rw ta refl in
       elim (form b w) [
-        | inl (eb, fb) ↦ absurd (na (heads a 34 (doubled t ++ more) (34 ∷ (closed w ++ m)) (ap (λ (x : List ℕ). x ++ more) (sym fa) ∙ e ∙ ap (λ (x : List ℕ). x ++ m) fb)))
+        | inl (eb, fb) ↦
+            absurd (na (heads a 34 (doubled t ++ more) (34 ∷ (closed w ++ m)) (ap (λ (x : List ℕ). x ++ more) (sym fa) ∙ e ∙ ap (λ (x : List ℕ). x ++ m) fb)))
         | inr (ne, fb) ↦
             let e' : a ∷ (doubled t ++ more) ≡ b ∷ (closed w ++ m) = ap (λ (x : List ℕ). x ++ more) (sym fa) ∙ e ∙ ap (λ (x : List ℕ). x ++ m) fb in
             open_on t w more m r.1 q.1 h (tails a b (doubled t ++ more) (closed w ++ m) e')
@@ -68,8 +71,10 @@ open_piece (line_comment cs) m bytes i e o = let clash : Quote ≡ Other = sym q
 open_piece (block_comment cs) m bytes i e o = let clash : Quote ≡ Other = sym quote_is ∙ piece_front (block_comment cs) m 34 o.0 i (sym o.1 ∙ e) in absurd cc
 open_piece (token (name n) cs) m bytes i e o = let clash : Quote ≡ Letter = sym quote_is ∙ piece_front (token (name n) cs) m 34 o.0 i (sym o.1 ∙ e) in absurd cc
 open_piece (token (word w) cs) m bytes i e o = let clash : Quote ≡ Letter = sym quote_is ∙ piece_front (token (word w) cs) m 34 o.0 i (sym o.1 ∙ e) in absurd cc
-open_piece (token (number n) cs) m bytes i e o = let clash : Quote ≡ Digit = sym quote_is ∙ piece_front (token (number n) cs) m 34 o.0 i (sym o.1 ∙ e) in absurd cc
-open_piece (token (symbol x) cs) m bytes i e o = let clash : Quote ≡ Other = sym quote_is ∙ piece_front (token (symbol x) cs) m 34 o.0 i (sym o.1 ∙ e) in absurd cc
+open_piece (token (number n) cs) m bytes i e o =
+    let clash : Quote ≡ Digit = sym quote_is ∙ piece_front (token (number n) cs) m 34 o.0 i (sym o.1 ∙ e) in absurd cc
+open_piece (token (symbol x) cs) m bytes i e o =
+    let clash : Quote ≡ Other = sym quote_is ∙ piece_front (token (symbol x) cs) m 34 o.0 i (sym o.1 ∙ e) in absurd cc
 open_piece (token (text w) cs) m bytes i e o =
     let whole : 34 ∷ o.0 ≡ 34 ∷ (closed w ++ m) = sym o.1 ∙ e ∙ ap (λ (x : List ℕ). x ++ m) i.0.0 in
     let behind : o.0 ≡ closed w ++ m = tails 34 34 o.0 (closed w ++ m) whole in
@@ -118,6 +123,7 @@ good_texts_are_accepted whole ts (Refused r n) h w short f = elim f [
   | inr at ↦
       let first = at.1 in
       let on = cut_rest first.0 h.0 whole first.1 first.2 h.1 in
-      let all : AreWithinLimits (tokens_in 1 (first.0 ++ on.0)) = subst (λ (z : List Piece). AreWithinLimits (tokens_in 1 z)) on.2 (subst (λ (z : List Line). AreWithinLimits z) h.2 w) in
+      let all : AreWithinLimits (tokens_in 1 (first.0 ++ on.0)) =
+      subst (λ (z : List Piece). AreWithinLimits (tokens_in 1 z)) on.2 (subst (λ (z : List PlacedLexeme). AreWithinLimits z) h.2 w) in
       no_fault first.0 on.0 first.1 r on.1 all first.5
 ]

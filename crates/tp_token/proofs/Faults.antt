@@ -14,7 +14,7 @@ use Rattle.tp_token.specs.declared.byte.Kind.TheVariants.{Letter, Digit, Undersc
 use Rattle.tp_token.specs.Byte.{kind_of, is_word_byte, is_printable, between, in_word}
 use Rattle.tp_token.specs.Lexeme.{Lexeme, name, word, number, text, symbol}
 use Rattle.tp_token.specs.Spelling.{Run, doubled, IsSpelled, value_on}
-use Rattle.tp_token.specs.Cut.{Piece, blank, line_comment, block_comment, token, piece_bytes, HasNoEnd, IsPiece, Starts, TokenAt, Cuts, tokens_in, line_after}
+use Rattle.tp_token.specs.Cut.{Piece, blank, line_comment, block_comment, token, piece_bytes, HasNoEnd, IsPiece, BeginsWith, TokenAt, Cuts, tokens_in, line_after}
 use Rattle.tp_token.specs.Fault.{AreWithinLimits, IsRefused, HasNoSymbol, IsBroken, IsFaultAt, IsFaulty, IsOpen, IsUnclosed, IsWithinLimits}
 use Rattle.tp_token.proofs.Longest.{first_kind, spelled_kind}
 use Rattle.tp_token.proofs.Pieces.{ends, quote_byte}
@@ -54,7 +54,7 @@ never (token (number n) bs) e = cc
 never (token (text t) bs) e = cc
 never (token (symbol x) bs) e = cc
 
-pub no_underscore : (bytes : List ℕ) → Starts Underscore bytes → IsFaulty Syntax bytes
+pub no_underscore : (bytes : List ℕ) → BeginsWith Underscore bytes → IsFaulty Syntax bytes
 no_underscore [] h = absurd h
 no_underscore (b ∷ bs) h = (some_bytes b bs, inl (refl, λ p r i e. never p (sym h ∙ piece_front p r b bs i e)))
 
@@ -71,20 +71,22 @@ other_piece (token (number n) cs) r b bs k ne sy i e = let clash : Other ≡ Dig
 other_piece (token (text t) cs) r b bs k ne sy i e = let clash : Other ≡ Quote = sym k ∙ piece_front (token (text t) cs) r b bs i e in cc
 other_piece (token (symbol x) cs) r b bs k ne sy i e = sy x r (e ∙ ap (λ (z : List ℕ). z ++ r) i.0)
 
-pub no_symbol : (bytes : List ℕ) → Starts Other bytes → get_or bytes 0 0 ≢ 47 → HasNoSymbol bytes → IsFaulty Syntax bytes
+pub no_symbol : (bytes : List ℕ) → BeginsWith Other bytes → get_or bytes 0 0 ≢ 47 → HasNoSymbol bytes → IsFaulty Syntax bytes
 no_symbol [] h ne sy = absurd h
 no_symbol (b ∷ bs) h ne sy = (some_bytes b bs, inl (refl, λ p r i e. other_piece p r b bs h ne sy i e))
 
 -- ---- a slash
 
-slash_piece : (p : Piece) (r bs : List ℕ) → ((x : List ℕ) → bs ≡ 47 ∷ x → ⊥) → ((x y : List ℕ) → bs ≡ 42 ∷ ((x ++ 42 ∷ 47 ∷ []) ++ y) → ⊥) → IsPiece p r → 47 ∷ bs ≡ piece_bytes p ++ r → ⊥
+slash_piece : (p : Piece) (r bs : List ℕ) → ((x : List ℕ) → bs ≡ 47 ∷ x → ⊥) → ((x y : List ℕ) → bs ≡ 42 ∷ ((x ++ 42 ∷ 47 ∷ []) ++ y) → ⊥) → IsPiece p r
+    → 47 ∷ bs ≡ piece_bytes p ++ r → ⊥
 unfolding front_kind
 slash_piece (blank a) r bs f g i e = let clash : Other ≡ Blank = sym slash_kind ∙ piece_front (blank a) r 47 bs i e in cc
 slash_piece (line_comment cs) r bs f g i e = f (cs ++ r) (tails 47 47 bs (47 ∷ (cs ++ r)) e)
 slash_piece (block_comment cs) r bs f g i e = g cs r (tails 47 47 bs (42 ∷ ((cs ++ 42 ∷ 47 ∷ []) ++ r)) e)
 slash_piece (token l cs) r bs f g i e = slash_token l cs bs r i.0 e
 
-slash_fault : (b : ℕ) (bs : List ℕ) → b ≡ 47 → ((x : List ℕ) → bs ≡ 47 ∷ x → ⊥) → ((x y : List ℕ) → bs ≡ 42 ∷ ((x ++ 42 ∷ 47 ∷ []) ++ y) → ⊥) → IsFaulty Syntax (b ∷ bs)
+slash_fault : (b : ℕ) (bs : List ℕ) → b ≡ 47 → ((x : List ℕ) → bs ≡ 47 ∷ x → ⊥) → ((x y : List ℕ) → bs ≡ 42 ∷ ((x ++ 42 ∷ 47 ∷ []) ++ y) → ⊥)
+    → IsFaulty Syntax (b ∷ bs)
 slash_fault b bs at f g = (some_bytes b bs, inl (refl, λ p r i e. slash_piece p r bs f g i (ap (λ (z : ℕ). z ∷ bs) (sym at) ∙ e)))
 
 pub slash_alone : (bytes : List ℕ) → 0 < length bytes → length bytes < 2 → get_or bytes 0 0 ≡ 47 → IsFaulty Syntax bytes
@@ -137,13 +139,14 @@ broken_end (b ∷ bs) (suc at) h = let below : length bs ≤ at = omega arith in
 parts : (bytes t : List ℕ) (at : ℕ) → take at bytes ≡ doubled t → bytes ≡ doubled t ++ drop at bytes
 parts bytes t at e = sym (take-append-drop at bytes) ∙ ap (λ (x : List ℕ). x ++ drop at bytes) e
 
-pub open_at : (bytes t : List ℕ) (at : ℕ) → take at bytes ≡ doubled t → Run is_printable t → at < length bytes → is_printable (get_or bytes at 0) ≡ false → IsOpen bytes
+pub open_at : (bytes t : List ℕ) (at : ℕ) → take at bytes ≡ doubled t → Run is_printable t → at < length bytes → is_printable (get_or bytes at 0) ≡ false
+    → IsOpen bytes
 open_at bytes t at e r lt h = (t, drop at bytes, parts bytes t at e, r, broken_at bytes at lt h)
 
 pub open_end : (bytes t : List ℕ) (at : ℕ) → take at bytes ≡ doubled t → Run is_printable t → length bytes ≤ at → IsOpen bytes
 open_end bytes t at e r h = (t, drop at bytes, parts bytes t at e, r, broken_end bytes at h)
 
-pub open_text : (bytes : List ℕ) → Starts Quote bytes → IsOpen (drop 1 bytes) → IsFaulty Syntax bytes
+pub open_text : (bytes : List ℕ) → BeginsWith Quote bytes → IsOpen (drop 1 bytes) → IsFaulty Syntax bytes
 open_text [] h o = absurd h
 open_text (b ∷ bs) h o = (some_bytes b bs, inr (inl (refl, (bs, ap (λ (z : ℕ). z ∷ bs) (quote_byte b h), o))))
 
@@ -171,7 +174,9 @@ beyond_longest bytes n size e within lt le = let all : length n ≡ min size (le
 
 -- ---- names are ASCII
 
-not_word : (q w : Bool) → in_word (if false then Letter else (if false then Digit else (if false then Underscore else (if q then Quote else (if w then Blank else Other))))) ≡ true → ⊥
+not_word : (q w : Bool)
+    → in_word (if false then Letter else (if false then Digit else (if false then Underscore else (if q then Quote else (if w then Blank else Other)))))
+    ≡ true → ⊥
 not_word true w e = cc
 not_word false true e = cc
 not_word false false e = cc
@@ -212,14 +217,15 @@ refused_limit bytes line f e h = subst (λ (z : ScriptFault). IsFaultAt bytes li
 pub refused_open : (bytes : List ℕ) (line : ℕ) (f : ScriptFault) → f ≡ Refused Syntax line → IsOpen bytes → IsUnclosed bytes line f
 refused_open bytes line f e h = subst (λ (z : ScriptFault). IsUnclosed bytes line z) (sym e) (refl, refl, h)
 
-pub refused_text : (bytes : List ℕ) (line : ℕ) (f : ScriptFault) → Starts Quote bytes → IsUnclosed (drop 1 bytes) line f → IsFaultAt bytes line f
+pub refused_text : (bytes : List ℕ) (line : ℕ) (f : ScriptFault) → BeginsWith Quote bytes → IsUnclosed (drop 1 bytes) line f → IsFaultAt bytes line f
 refused_text bytes line (Refused r n) q h = (h.0, subst (λ (z : Refusal). IsFaulty z bytes) (sym h.1) (open_text bytes q h.2))
 refused_text bytes line (Memory m) q h = tt
 
-pub starts_kind : (k : Kind) (bytes : List ℕ) → 0 < length bytes → k ≡ kind_of (get_or bytes 0 0) → Starts k bytes
+pub starts_kind : (k : Kind) (bytes : List ℕ) → 0 < length bytes → k ≡ kind_of (get_or bytes 0 0) → BeginsWith k bytes
 starts_kind k [] lt e = absurd (omega arith)
 starts_kind k (b ∷ bs) lt e = sym e
 
-pub first_fault : (whole rest : List ℕ) (ps : List Piece) (line : ℕ) (f : ScriptFault) → length whole ≤ 1048576 → Cuts ps whole rest → AreWithinLimits (tokens_in 1 ps) → line ≡ line_after 1 ps → IsFaultAt rest line f → IsRefused whole f
+pub first_fault : (whole rest : List ℕ) (ps : List Piece) (line : ℕ) (f : ScriptFault) → length whole ≤ 1048576 → Cuts ps whole rest
+    → AreWithinLimits (tokens_in 1 ps) → line ≡ line_after 1 ps → IsFaultAt rest line f → IsRefused whole f
 first_fault whole rest ps line (Refused r n) short cut limits at h = inr (short, (ps, rest, cut, limits, h.0 ∙ at, h.1))
 first_fault whole rest ps line (Memory m) short cut limits at h = tt

@@ -69,6 +69,7 @@ token_lines (line_comment bs) rest l h e = absurd cc
 token_lines (block_comment bs) rest l h e = absurd cc
 token_lines (token m bs) rest l h e = spelled_lines m bs h.0
 
-pub piece_lines : (bytes : List ℕ) (found : Option Token) (size : ℕ) (h : PieceAt bytes (option_map lexeme_of found) size) → is_some found ≡ true → newlines (piece_bytes h.piece) ≡ 0
+pub piece_lines : (bytes : List ℕ) (found : Option Token) (size : ℕ) (h : PieceAt bytes (option_map lexeme_of found) size) → is_some found ≡ true
+    → newlines (piece_bytes h.piece) ≡ 0
 piece_lines bytes None size h some = absurd cc
 piece_lines bytes (Some t) size h some = token_lines h.piece (drop size bytes) (lexeme_of t) h.fits h.holds

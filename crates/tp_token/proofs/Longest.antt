@@ -8,7 +8,7 @@ use Rattle.tp_token.specs.Lexeme.{Lexeme, name, word, number, text, symbol}
 use Rattle.tp_token.specs.declared.byte.Kind.{Kind}
 use Rattle.tp_token.specs.declared.byte.Kind.TheVariants.{Letter, Digit, Underscore, Quote, Blank, Other}
 use Rattle.tp_token.specs.Byte.{kind_of, is_word_byte, is_digit, is_digit_kind, in_word, is_quote}
-use Rattle.tp_token.specs.Cut.{StopsAt, IsLongest, Starts, TokenAt}
+use Rattle.tp_token.specs.Cut.{StopsAt, IsLongest, BeginsWith, TokenAt}
 use Rattle.tp_token.specs.Spelling.{Run, IsWord, IsNumber, IsSpelled, symbol_spelling, doubled, value_on}
 use Rattle.tp_token.proofs.Runs.{run_longest, run_front, run_stops}
 use Rattle.std.proofs.lemmas.List.Sums.{prefix_len-le-length}
@@ -140,7 +140,8 @@ closed_longest [] (b ∷ bs) rest more st e = elim (form b bs) [
 closed_longest (a ∷ as') (b ∷ bs) rest more st e = elim (form a as') [
   | inl (eqa, fa) ↦ elim (form b bs) [
     | inl (eqb', fb) ↦
-        let e' : 34 ∷ 34 ∷ (closed as' ++ rest) ≡ 34 ∷ 34 ∷ (closed bs ++ more) = ap (λ (x : List ℕ). x ++ rest) (sym fa) ∙ e ∙ ap (λ (x : List ℕ). x ++ more) fb in
+        let e' : 34 ∷ 34 ∷ (closed as' ++ rest) ≡ 34 ∷ 34 ∷ (closed bs ++ more) =
+        ap (λ (x : List ℕ). x ++ rest) (sym fa) ∙ e ∙ ap (λ (x : List ℕ). x ++ more) fb in
         let ih = closed_longest as' bs rest more st (cc) in
         let la : length (closed (a ∷ as')) ≡ suc (suc (length (closed as'))) = ap length fa in
         let lb : length (closed (b ∷ bs)) ≡ suc (suc (length (closed bs))) = ap length fb in
@@ -194,7 +195,8 @@ symbol_form (text t) bs k h = absurd cc
 symbol_form (symbol x) bs k h = (x, h)
 
 -- a symbol of two characters
-two : (x : Symbol) (c : ℕ) (cs : List ℕ) → c ∷ cs ≡ symbol_spelling x → (cs ≡ []) ⊎ (((c ≡ 46) × (cs ≡ 46 ∷ [])) ⊎ (((c ≡ 58) × (cs ≡ 61 ∷ [])) ⊎ ((c ≡ 45) × (cs ≡ 62 ∷ []))))
+two : (x : Symbol) (c : ℕ) (cs : List ℕ) → c ∷ cs ≡ symbol_spelling x → (cs ≡ [])
+    ⊎ (((c ≡ 46) × (cs ≡ 46 ∷ [])) ⊎ (((c ≡ 58) × (cs ≡ 61 ∷ [])) ⊎ ((c ≡ 45) × (cs ≡ 62 ∷ []))))
 two s.DotDot c cs e = inr (inl (cc, cc))
 two s.Assign c cs e = inr (inr (inl (cc, cc)))
 two s.Arrow c cs e = inr (inr (inr (cc, cc)))
@@ -240,7 +242,7 @@ pair_longest b c rest k l (d ∷ ds) more sp e =
 word_front : (b : ℕ) (bs : List ℕ) → kind_of b ≡ Letter → prefix_len is_word_byte (b ∷ bs) ≡ suc (prefix_len is_word_byte bs)
 word_front b bs k = let yes : is_word_byte b ≡ true = ap in_word k in rw (yes, one-add) refl
 
-pub word_at : (bytes : List ℕ) (n : ℕ) (l : Lexeme) → Starts Letter bytes → n ≡ prefix_len is_word_byte bytes →
+pub word_at : (bytes : List ℕ) (n : ℕ) (l : Lexeme) → BeginsWith Letter bytes → n ≡ prefix_len is_word_byte bytes →
     (IsWord (take n bytes) → IsSpelled l (take n bytes)) → TokenAt bytes l n
 word_at [] n l st e h = absurd st
 word_at (b ∷ bs) n l st e h =
@@ -257,7 +259,8 @@ word_at (b ∷ bs) n l st e h =
 number_front : (b : ℕ) (bs : List ℕ) → kind_of b ≡ Digit → prefix_len is_digit (b ∷ bs) ≡ suc (prefix_len is_digit bs)
 number_front b bs k = let yes : is_digit b ≡ true = ap is_digit_kind k in rw (yes, one-add) refl
 
-pub number_at : (bytes : List ℕ) (n v : ℕ) → Starts Digit bytes → get_or bytes 0 0 ≢ 48 → n ≡ prefix_len is_digit bytes → v ≡ value_on 0 (take n bytes) → TokenAt bytes (number v) n
+pub number_at : (bytes : List ℕ) (n v : ℕ) → BeginsWith Digit bytes → get_or bytes 0 0 ≢ 48 → n ≡ prefix_len is_digit bytes → v ≡ value_on 0 (take n bytes)
+    → TokenAt bytes (number v) n
 number_at [] n v st nz e h = absurd st
 number_at (b ∷ bs) n v st nz e h =
     let size : n ≡ suc (prefix_len is_digit bs) = e ∙ number_front b bs st in

@@ -6,18 +6,20 @@ use Rattle.std.proofs.lemmas.Bool.Decides.{eqb_tells}
 use Rattle.tp_token.specs.Lexeme.{Lexeme}
 use Rattle.tp_token.specs.declared.byte.Kind.{Kind}
 use Rattle.tp_token.specs.declared.byte.Kind.TheVariants.{Letter, Digit, Underscore, Quote, Blank, Other}
-use Rattle.tp_token.specs.Cut.{Starts, TokenAt, PieceAt, blank, line_comment, block_comment, token, HasNoEnd, ends_here}
+use Rattle.tp_token.specs.Cut.{BeginsWith, TokenAt, PieceAt, blank, line_comment, block_comment, token, HasNoEnd, ends_here}
 use Rattle.tp_token.specs.Byte.{kind_of, between, is_in_line}
 use Rattle.tp_token.proofs.Runs.{run_front, run_stops}
 
 pub piece_of_token : (bytes : List ℕ) (l : Lexeme) (n : ℕ) → TokenAt bytes l n → PieceAt bytes (Some l) n
-piece_of_token bytes l n h = record { some = h.some; within = h.within; piece = token l (take n bytes); spelled = refl; fits = (h.spelled, h.longest); holds = refl }
+piece_of_token bytes l n h =
+    record { some = h.some; within = h.within; piece = token l (take n bytes); spelled = refl; fits = (h.spelled, h.longest); holds = refl }
 
-pub blank_at : (bytes : List ℕ) → Starts Blank bytes → PieceAt bytes None 1
+pub blank_at : (bytes : List ℕ) → BeginsWith Blank bytes → PieceAt bytes None 1
 blank_at [] h = absurd h
 blank_at (b ∷ bs) h = record { some = omega arith; within = omega arith; piece = blank b; spelled = refl; fits = h; holds = refl }
 
-pub line_at : (bytes : List ℕ) (n : ℕ) → 2 ≤ length bytes → get_or bytes 0 0 ≡ 47 → get_or bytes 1 0 ≡ 47 → n ≡ prefix_len is_in_line (drop 2 bytes) → PieceAt bytes None (2 + n)
+pub line_at : (bytes : List ℕ) (n : ℕ) → 2 ≤ length bytes → get_or bytes 0 0 ≡ 47 → get_or bytes 1 0 ≡ 47 → n ≡ prefix_len is_in_line (drop 2 bytes)
+    → PieceAt bytes None (2 + n)
 line_at [] n h a b e = absurd (omega arith)
 line_at (x ∷ []) n h a b e = absurd (omega arith)
 line_at (x ∷ y ∷ bs) n h a b e =
@@ -51,14 +53,15 @@ first_ok b (suc n) (c ∷ cs) lt h = ends b c (take n cs ++ 42 ∷ []) h
 zero_below : (n : ℕ) → 0 < suc n
 zero_below n = omega arith
 
-pub no_end : (n : ℕ) (bytes : List ℕ) → n < length bytes → ((k : ℕ) → k < n → get_or bytes k 0 ≡ 42 → get_or bytes (suc k) 0 ≡ 47 → ⊥) → HasNoEnd (take n bytes ++ 42 ∷ [])
+pub no_end : (n : ℕ) (bytes : List ℕ) → n < length bytes → ((k : ℕ) → k < n → get_or bytes k 0 ≡ 42 → get_or bytes (suc k) 0 ≡ 47 → ⊥)
+    → HasNoEnd (take n bytes ++ 42 ∷ [])
 no_end n [] lt none = absurd (omega arith)
 no_end zero (b ∷ bs) lt none = (refl, tt)
 no_end (suc n) (b ∷ bs) lt none =
     let below : n < length bs = omega arith in
     (first_ok b n bs below (none 0 (zero_below n)), no_end n bs below (λ k h. none (suc k) (suc-le-suc h)))
 
-pub starts_some : (k : Kind) (bytes : List ℕ) → Starts k bytes → 0 < length bytes
+pub starts_some : (k : Kind) (bytes : List ℕ) → BeginsWith k bytes → 0 < length bytes
 starts_some k [] h = absurd h
 starts_some k (b ∷ bs) h = omega arith
 
@@ -72,7 +75,8 @@ block_at (x ∷ y ∷ bs) n h a b w e f =
       some = omega arith;
       within = suc-le-suc (suc-le-suc w);
       piece = block_comment (take n bs);
-      spelled = ap (λ (z : ℕ). z ∷ 42 ∷ (take n bs ++ 42 ∷ 47 ∷ [])) (sym a) ∙ ap (λ (z : ℕ). x ∷ z ∷ (take n bs ++ 42 ∷ 47 ∷ [])) (sym b) ∙ ap (λ (z : List ℕ). x ∷ y ∷ z) (sym e);
+      spelled = ap (λ (z : ℕ). z ∷ 42 ∷ (take n bs ++ 42 ∷ 47 ∷ [])) (sym a) ∙ ap (λ (z : ℕ). x ∷ z ∷ (take n bs ++ 42 ∷ 47 ∷ [])) (sym b)
+          ∙ ap (λ (z : List ℕ). x ∷ y ∷ z) (sym e);
       fits = f;
       holds = refl;
     })
@@ -94,6 +98,6 @@ quote_byte b e = elim (eqb_tells b 34) [
 ]
 
 -- a quote is one byte
-pub starts_quote : (bytes : List ℕ) → Starts Quote bytes → get_or bytes 0 0 ≡ 34
+pub starts_quote : (bytes : List ℕ) → BeginsWith Quote bytes → get_or bytes 0 0 ≡ 34
 starts_quote [] h = absurd h
 starts_quote (b ∷ bs) h = quote_byte b h

@@ -29,15 +29,18 @@ other b ne = elim (eqb_tells b 34) [
 pub one_more : (bytes t : List ℕ) (at : ℕ) → at < length bytes → take at bytes ≡ doubled t → get_or bytes at 0 ≢ 34 →
     take (at + 1) bytes ≡ doubled (t ++ get_or bytes at 0 ∷ [])
 one_more bytes t at h e ne =
-    take_more bytes at 0 h ∙ ap (λ (x : List ℕ). x ++ get_or bytes at 0 ∷ []) e ∙ sym (ap (λ (x : List ℕ). doubled t ++ x) (other (get_or bytes at 0) ne)) ∙ sym (doubled_append t (get_or bytes at 0 ∷ []))
+    take_more bytes at 0 h ∙ ap (λ (x : List ℕ). x ++ get_or bytes at 0 ∷ []) e ∙ sym (ap (λ (x : List ℕ). doubled t ++ x) (other (get_or bytes at 0) ne))
+    ∙ sym (doubled_append t (get_or bytes at 0 ∷ []))
 
 -- a doubled quote more
 pub quote_more : (bytes t : List ℕ) (at : ℕ) → at + 1 < length bytes → take at bytes ≡ doubled t → get_or bytes at 0 ≡ 34 → get_or bytes (at + 1) 0 ≡ 34 →
     take (at + 2) bytes ≡ doubled (t ++ 34 ∷ [])
 quote_more bytes t at h e e1 e2 =
     let h0 : at < length bytes = omega arith in
-    let first : take (at + 1) bytes ≡ doubled t ++ 34 ∷ [] = take_more bytes at 0 h0 ∙ ap (λ (x : List ℕ). x ++ get_or bytes at 0 ∷ []) e ∙ ap (λ (y : ℕ). doubled t ++ y ∷ []) e1 in
-    let second : take (at + 1 + 1) bytes ≡ (doubled t ++ 34 ∷ []) ++ 34 ∷ [] = take_more bytes (at + 1) 0 h ∙ ap (λ (x : List ℕ). x ++ get_or bytes (at + 1) 0 ∷ []) first ∙ ap (λ (y : ℕ). (doubled t ++ 34 ∷ []) ++ y ∷ []) e2 in
+    let first : take (at + 1) bytes ≡ doubled t ++ 34 ∷ [] =
+    take_more bytes at 0 h0 ∙ ap (λ (x : List ℕ). x ++ get_or bytes at 0 ∷ []) e ∙ ap (λ (y : ℕ). doubled t ++ y ∷ []) e1 in
+    let second : take (at + 1 + 1) bytes ≡ (doubled t ++ 34 ∷ []) ++ 34 ∷ [] =
+    take_more bytes (at + 1) 0 h ∙ ap (λ (x : List ℕ). x ++ get_or bytes (at + 1) 0 ∷ []) first ∙ ap (λ (y : ℕ). (doubled t ++ 34 ∷ []) ++ y ∷ []) e2 in
     let two : at + 2 ≡ at + 1 + 1 = omega arith in
     rw two (second ∙ append_assoc (doubled t) (34 ∷ []) (34 ∷ []) ∙ sym (doubled_append t (34 ∷ [])))
 

@@ -4,7 +4,8 @@ use Rattle.std.specs.List.{prefix_len}
 use Rattle.tp_token.specs.Cut.{StopsAt}
 use Rattle.tp_token.specs.Spelling.{Run}
 
-front_case : (p : ℕ → Bool) (x : ℕ) (xs : List ℕ) (b : Bool) → p x ≡ b → Run p (take (prefix_len p xs) xs) → Run p (take (cond b (1 + prefix_len p xs) 0) (x ∷ xs))
+front_case : (p : ℕ → Bool) (x : ℕ) (xs : List ℕ) (b : Bool) → p x ≡ b → Run p (take (prefix_len p xs) xs)
+    → Run p (take (cond b (1 + prefix_len p xs) 0) (x ∷ xs))
 front_case p x xs true e rest = rw one-add (e, rest)
 front_case p x xs false e rest = tt
 
@@ -13,7 +14,8 @@ pub run_front : (p : ℕ → Bool) (xs : List ℕ) → Run p (take (prefix_len p
 run_front p [] = tt
 run_front p (x ∷ xs) = front_case p x xs (p x) refl (run_front p xs)
 
-stops_case : (p : ℕ → Bool) (x : ℕ) (xs : List ℕ) (b : Bool) → p x ≡ b → StopsAt p (drop (prefix_len p xs) xs) → StopsAt p (drop (cond b (1 + prefix_len p xs) 0) (x ∷ xs))
+stops_case : (p : ℕ → Bool) (x : ℕ) (xs : List ℕ) (b : Bool) → p x ≡ b → StopsAt p (drop (prefix_len p xs) xs)
+    → StopsAt p (drop (cond b (1 + prefix_len p xs) 0) (x ∷ xs))
 stops_case p x xs true e rest = rw one-add rest
 stops_case p x xs false e rest = e
 

@@ -37,7 +37,8 @@ symbol_from bs [] = s.Arrow
 symbol_from bs (x ∷ xs) = if bytes_eq bs (symbol_spelling x) then x else symbol_from bs xs
 
 all_symbols : List Symbol
-all_symbols = s.LeftBrace ∷ s.RightBrace ∷ s.LeftParen ∷ s.RightParen ∷ s.LeftBracket ∷ s.RightBracket ∷ s.Comma ∷ s.Semicolon ∷ s.Colon ∷ s.Dot ∷ s.Question ∷ s.Star ∷ s.Minus ∷ s.Less ∷ s.Plus ∷ s.DotDot ∷ s.Assign ∷ []
+all_symbols = s.LeftBrace ∷ s.RightBrace ∷ s.LeftParen ∷ s.RightParen ∷ s.LeftBracket ∷ s.RightBracket ∷ s.Comma ∷ s.Semicolon ∷ s.Colon ∷ s.Dot ∷ s.Question ∷
+    s.Star ∷ s.Minus ∷ s.Less ∷ s.Plus ∷ s.DotDot ∷ s.Assign ∷ []
 
 symbol_back : (x : Symbol) → symbol_from (symbol_spelling x) all_symbols ≡ x
 unfolding symbol_from all_symbols
@@ -233,7 +234,8 @@ star_end c [] r y h e =
 star_end c (d ∷ ds) r y h e =
     let first : c ≡ 42 = sym (heads 42 c (47 ∷ r) (d ∷ (ds ++ 42 ∷ 47 ∷ y)) e) in
     let second : d ≡ 47 = sym (heads 47 d r (ds ++ 42 ∷ 47 ∷ y) (tails 42 c (47 ∷ r) (d ∷ (ds ++ 42 ∷ 47 ∷ y)) e)) in
-    let ends : ends_here 42 (47 ∷ (ds ++ 42 ∷ [])) ≡ false = subst (λ (z : ℕ). ends_here 42 (z ∷ (ds ++ 42 ∷ [])) ≡ false) second (subst (λ (z : ℕ). ends_here z (d ∷ (ds ++ 42 ∷ [])) ≡ false) first h.0) in
+    let ends : ends_here 42 (47 ∷ (ds ++ 42 ∷ [])) ≡ false =
+    subst (λ (z : ℕ). ends_here 42 (z ∷ (ds ++ 42 ∷ [])) ≡ false) second (subst (λ (z : ℕ). ends_here z (d ∷ (ds ++ 42 ∷ [])) ≡ false) first h.0) in
     let clash : true ≡ false = ends in
     cc
 
@@ -248,7 +250,8 @@ comments (b ∷ bs) (c ∷ cs) r y h i e =
     cc
 
 -- two longest tokens at one place are the same
-longest_same : (l m : Lexeme) (bs cs r y : List ℕ) → IsSpelled l bs → IsLongest bs r → IsSpelled m cs → IsLongest cs y → bs ++ r ≡ cs ++ y → token l bs ≡ token m cs
+longest_same : (l m : Lexeme) (bs cs r y : List ℕ) → IsSpelled l bs → IsLongest bs r → IsSpelled m cs → IsLongest cs y → bs ++ r ≡ cs ++ y
+    → token l bs ≡ token m cs
 longest_same l m bs cs r y h long i also e =
     let one : length cs ≤ length bs = long m cs y i e in
     let other : length bs ≤ length cs = also l bs r h (sym e) in

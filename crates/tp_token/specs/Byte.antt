@@ -7,7 +7,8 @@ use Rattle.tp_token.specs.declared.byte.Kind.TheVariants.{Letter, Digit, Undersc
 abbrev pub between : ℕ → ℕ → ℕ → Bool
 between low high b = nat_le low b && nat_le b high
 
--- what a byte can be part of: `a` to `z` and `A` to `Z` are letters, `0` to `9` digits, then `_` and `"`; 9 to 13 and 32 are white space
+-- what a byte can be part of: `a` to `z` and `A` to `Z` are letters, `0` to `9` digits, then `_` and `"`; 9 to 13 and
+-- 32 are white space
 unfoldable pub kind_of : ℕ → Kind
 kind_of b =
     if between 97 122 b || between 65 90 b then Letter

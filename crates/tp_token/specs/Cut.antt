@@ -2,7 +2,7 @@
 use Rattle.std.specs.Prelude.{◌≡◌, ℕ, ◌+◌, ◌<◌, ◌≤◌, Bool, false, List, [], ◌∷◌, ◌++◌, length, take, drop, Option, Some, None, codes, count_by, ◌==◌, if◌then◌else◌}
 use Rattle.tp_token.specs.declared.byte.Kind.{Kind}
 use Rattle.tp_token.specs.declared.byte.Kind.TheVariants.{Blank}
-use Rattle.tp_token.specs.Lexeme.{Lexeme, Line}
+use Rattle.tp_token.specs.Lexeme.{Lexeme, PlacedLexeme}
 use Rattle.tp_token.specs.Byte.{kind_of, is_in_line}
 use Rattle.tp_token.specs.Spelling.{IsSpelled, Run}
 
@@ -39,7 +39,8 @@ StopsAt p (b ∷ bs) = p b ≡ false
 abbrev pub IsLongest : List ℕ → List ℕ → Type 0
 IsLongest bs rest = (l : Lexeme) (cs more : List ℕ) → IsSpelled l cs → bs ++ rest ≡ cs ++ more → length cs ≤ length bs
 
--- the piece can stand before this rest: a line comment goes to the end of its line or of the text, a block comment to the first `*/`, and a token is the longest one
+-- the piece can stand before this rest: a line comment goes to the end of its line or of the text, a block comment to
+-- the first `*/`, and a token is the longest one
 abbrev pub IsPiece : Piece → List ℕ → Type 0
 IsPiece (blank b) rest = kind_of b ≡ Blank
 IsPiece (line_comment bs) rest = Run is_in_line bs × StopsAt is_in_line rest
@@ -61,27 +62,27 @@ line_after n [] = n
 line_after n (p ∷ ps) = line_after (n + newlines (piece_bytes p)) ps
 
 -- the tokens that follow, after the piece's own token on line n, if it is one
-abbrev pub place : ℕ → Piece → List Line → List Line
+abbrev pub place : ℕ → Piece → List PlacedLexeme → List PlacedLexeme
 place n (token l bs) ts = record { token = l; line = n } ∷ ts
 place n _ ts = ts
 
 -- the tokens among the pieces, the first of which stands on line n
-abbrev pub tokens_in : ℕ → List Piece → List Line
+abbrev pub tokens_in : ℕ → List Piece → List PlacedLexeme
 tokens_in n [] = []
 tokens_in n (p ∷ ps) = place n p (tokens_in (n + newlines (piece_bytes p)) ps)
 
 -- these are the tokens of the text, with their lines
-abbrev pub AreTokens : List ℕ → List Line → Type 0
+abbrev pub AreTokens : List ℕ → List PlacedLexeme → Type 0
 AreTokens bytes ts = (ps : List Piece) × Cuts ps bytes [] × (ts ≡ tokens_in 1 ps)
 
 -- a text has one list of tokens: two lists that are its tokens are the same
 abbrev pub TokensAreUnique : Type 0
-TokensAreUnique = (text : List ℕ) (a b : List Line) → AreTokens text a → AreTokens text b → a ≡ b
+TokensAreUnique = (text : List ℕ) (a b : List PlacedLexeme) → AreTokens text a → AreTokens text b → a ≡ b
 
 -- the first byte is of this kind
-abbrev pub Starts : Kind → List ℕ → Type 0
-Starts k [] = ⊥
-Starts k (b ∷ bs) = kind_of b ≡ k
+abbrev pub BeginsWith : Kind → List ℕ → Type 0
+BeginsWith k [] = ⊥
+BeginsWith k (b ∷ bs) = kind_of b ≡ k
 
 -- the token stands at the front, in so many bytes
 pub record TokenAt (bytes : List ℕ) (l : Lexeme) (size : ℕ) : Type 0 where
@@ -105,6 +106,6 @@ pub record PieceAt (bytes : List ℕ) (found : Option Lexeme) (size : ℕ) : Typ
   pub holds : token_of piece ≡ found
 
 -- the token of a piece, on its line
-abbrev pub placed : Option Lexeme → ℕ → List Line
+abbrev pub placed : Option Lexeme → ℕ → List PlacedLexeme
 placed None n = []
 placed (Some l) n = record { token = l; line = n } ∷ []

@@ -6,7 +6,7 @@ use Rattle.tp_refusal.specs.declared.refusal.Refusal.TheVariants.{Syntax, Limit}
 use Rattle.tp_token.specs.declared.fault.ScriptFault.{ScriptFault}
 use Rattle.tp_token.specs.declared.fault.ScriptFault.TheVariants.{Refused, Memory}
 use Rattle.tp_token.specs.declared.token.Symbol.{Symbol}
-use Rattle.tp_token.specs.Lexeme.{Lexeme, name, word, number, text, symbol, Line}
+use Rattle.tp_token.specs.Lexeme.{Lexeme, name, word, number, text, symbol, PlacedLexeme}
 use Rattle.tp_token.specs.Byte.{is_printable}
 use Rattle.tp_token.specs.Spelling.{Run, doubled, symbol_spelling}
 use Rattle.tp_token.specs.Cut.{Piece, piece_bytes, IsPiece, Cuts, AreTokens, tokens_in, line_after, TokenAt}
@@ -20,7 +20,7 @@ IsWithinLimits (text t) = Unit {0}
 IsWithinLimits (symbol s) = Unit {0}
 
 -- each of the tokens is within the limits
-abbrev pub AreWithinLimits : List Line → Type 0
+abbrev pub AreWithinLimits : List PlacedLexeme → Type 0
 AreWithinLimits ts = AllByRecursion (λ t. IsWithinLimits t.token) ts
 
 -- a piece that is no token, or a token within the limits
@@ -37,7 +37,8 @@ abbrev pub IsBroken : List ℕ → Type 0
 IsBroken [] = Unit {0}
 IsBroken (b ∷ bs) = is_printable b ≡ false
 
--- behind an opening quote: characters of a text, but no closing quote before the end or a byte that can't stand in a text
+-- behind an opening quote: characters of a text, but no closing quote before the end or a byte that can't stand in a
+-- text
 abbrev pub IsOpen : List ℕ → Type 0
 IsOpen bytes = (t : List ℕ) × (rest : List ℕ) × (bytes ≡ doubled t ++ rest) × Run is_printable t × IsBroken rest
 
@@ -49,10 +50,12 @@ HasOpenText bytes = (rest : List ℕ) × (bytes ≡ 34 ∷ rest) × IsOpen rest
 abbrev pub IsBeyondLimits : List ℕ → Type 0
 IsBeyondLimits bytes = (l : Lexeme) × (size : ℕ) × TokenAt bytes l size × ¬ IsWithinLimits l
 
--- the front of the bytes is refused so: 10 where no piece can stand or a text isn't closed, 15 where a token is beyond the limits
+-- the front of the bytes is refused so: 10 where no piece can stand or a text isn't closed, 15 where a token is beyond
+-- the limits
 abbrev pub IsFaulty : Refusal → List ℕ → Type 0
 IsFaulty r bytes =
-    (bytes ≢ []) × (((r ≡ Syntax) × HasNoPiece bytes) ⊎ (((r ≡ Syntax) × HasOpenText bytes) ⊎ ((r ≡ Limit) × IsBeyondLimits bytes)))
+    (bytes ≢ []) × (((r ≡ Syntax) × HasNoPiece bytes)
+    ⊎ (((r ≡ Syntax) × HasOpenText bytes) ⊎ ((r ≡ Limit) × IsBeyondLimits bytes)))
 
 -- the front of the bytes, which stands on this line, is refused, or memory was
 abbrev pub IsFaultAt : List ℕ → ℕ → ScriptFault → Type 0
@@ -62,7 +65,8 @@ IsFaultAt bytes line (Memory m) = Unit {0}
 -- the first fault of the text: pieces within the limits stand before it, and it stands on this line
 abbrev pub IsFirstFault : List ℕ → Refusal → ℕ → Type 0
 IsFirstFault bytes r n =
-    (ps : List Piece) × (rest : List ℕ) × Cuts ps bytes rest × AreWithinLimits (tokens_in 1 ps) × (n ≡ line_after 1 ps) × IsFaulty r rest
+    (ps : List Piece) × (rest : List ℕ) × Cuts ps bytes rest × AreWithinLimits (tokens_in 1 ps)
+    × (n ≡ line_after 1 ps) × IsFaulty r rest
 
 -- the text is refused so: because it is too long, before all else, or at its first fault; or memory was refused
 abbrev pub IsRefused : List ℕ → ScriptFault → Type 0
@@ -78,7 +82,8 @@ IsMemory (Memory m) = Unit {0}
 -- a text that isn't too long and has tokens, each within the limits, is refused for want of memory alone
 abbrev pub GoodTextsAreAccepted : Type 0
 GoodTextsAreAccepted =
-    (text : List ℕ) (ts : List Line) (fault : ScriptFault) → AreTokens text ts → AreWithinLimits ts → length text ≤ 1048576 → IsRefused text fault → IsMemory fault
+    (text : List ℕ) (ts : List PlacedLexeme) (fault : ScriptFault) → AreTokens text ts → AreWithinLimits ts
+    → length text ≤ 1048576 → IsRefused text fault → IsMemory fault
 
 -- behind an opening quote no text is closed, which is 10 on this line, or memory was refused
 abbrev pub IsUnclosed : List ℕ → ℕ → ScriptFault → Type 0

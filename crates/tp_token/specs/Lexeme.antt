@@ -23,10 +23,10 @@ lexeme_of (token.Text t) = text t.items
 lexeme_of (token.Symbol s) = symbol s
 
 -- a token with the line where it begins
-pub record Line : Type 0 where
+pub record PlacedLexeme : Type 0 where
   pub token : Lexeme
   pub line : ℕ
 
 -- what a placed token is, and its line
-abbrev pub line_of : Placed → Line
+abbrev pub line_of : Placed → PlacedLexeme
 line_of p = record { token = lexeme_of p.token; line = p.line }

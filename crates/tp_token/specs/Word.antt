@@ -64,7 +64,8 @@ abbrev pub words : List Word
 words =
     w.Of ∷ w.In ∷ w.On ∷ w.To ∷
     w.Out ∷ w.Var ∷ w.Map ∷ w.Mtc ∷ w.Alt ∷ w.For ∷ w.All ∷
-    w.Type ∷ w.Port ∷ w.Runs ∷ w.SelfWord ∷ w.Stop ∷ w.Halt ∷ w.Send ∷ w.From ∷ w.Else ∷ w.NoneWord ∷ w.Pass ∷ w.Fail ∷ w.Done ∷ w.True ∷
+    w.Type ∷ w.Port ∷ w.Runs ∷ w.SelfWord ∷ w.Stop ∷ w.Halt ∷ w.Send ∷ w.From ∷ w.Else ∷ w.NoneWord ∷ w.Pass ∷
+    w.Fail ∷ w.Done ∷ w.True ∷
     w.Inout ∷ w.Start ∷ w.Clear ∷ w.Check ∷ w.Error ∷ w.False ∷ w.Value ∷
     w.Module ∷ w.Record ∷ w.System ∷ w.Create ∷ w.Inconc ∷ w.Sender ∷
     w.Message ∷ w.Connect ∷ w.Receive ∷ w.Trigger ∷ w.Integer ∷ w.Boolean ∷ w.Pattern ∷

@@ -14,7 +14,8 @@ use tp_refusal::limit::TEXT_LIMIT;
 
 /// The tokens of the text, in order, each with its line: at each place the longest that can stand
 /// there. White space (bytes 9 to 13 and 32) and comments (`//` to the next byte 10 or the end of
-/// the text, `/*` to the next `*/`) are left out. It reads the text once, and borrows names from it.
+/// the text, `/*` to the next `*/`) are left out. It reads the text once, and borrows names from
+/// it.
 ///
 /// The first fault in the text is answered:
 /// - 15 `Limit` at line 0, before all else: the text has more than 1,048,576 bytes;
@@ -53,8 +54,8 @@ pub fn tokens_are_unique()
     ensures { TokensAreUnique }
 {}
 
-/// The law that [`lex`] refuses no good text: where a text has tokens within the limits and isn't too
-/// long, the refusals that `lex` may answer leave want of memory alone. It does nothing.
+/// The law that [`lex`] refuses no good text: where a text has tokens within the limits and isn't
+/// too long, the refusals that `lex` may answer leave want of memory alone. It does nothing.
 pub fn good_texts_are_accepted()
     ensures { GoodTextsAreAccepted }
 {}
@@ -70,7 +71,8 @@ fn add<'t>(
     found: Option<Token<'t>>,
     line: u32,
 ) -> Result<(), ScriptFault>
-    ensures added { OnOk result (map line_of tokens.new.items ≡ map line_of tokens.old.items ++ placed (option_map lexeme_of found.entry) line) }
+    ensures added { OnOk result (map line_of tokens.new.items
+        ≡ map line_of tokens.old.items ++ placed (option_map lexeme_of found.entry) line) }
     ensures memory { IfErr result IsMemory }
 {
     if let Some(token) = found {

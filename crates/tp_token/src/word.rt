@@ -134,7 +134,8 @@ pub fn word_of(text: &str) -> Option<Word>
 
 /// The part of the table where a text of so many characters is found if it stands in the table.
 fn words_of_length(size: usize) -> &'static [(&'static str, Word)]
-    ensures { (bs : List ℕ) → length bs ≡ size → first_word bs (map (λ entry. (entry.0.now, entry.1)) result.now) ≡ word_of bs }
+    ensures { (bs : List ℕ) → length bs ≡ size →
+        first_word bs (map (λ entry. (entry.0.now, entry.1)) result.now) ≡ word_of bs }
 {
     let words: &'static [(&'static str, Word)] = &WORDS;
     match size {

@@ -5,7 +5,7 @@ use Rattle.tp_value.specs.declared.types.Ty.TheVariants as ty
 use Rattle.tp_value.specs.declared.types.TypeDef.{TypeDef}
 use Rattle.tp_value.specs.declared.types.TypeDef.TheVariants as def
 use Rattle.tp_value.specs.declared.types.Types.{Types}
-use Rattle.tp_value.specs.declared.template.Part.{Part}
+use Rattle.tp_value.specs.declared.template.PatternPart.{PatternPart}
 use Rattle.tp_value.specs.declared.template.Template.{Template}
 use Rattle.tp_value.specs.declared.template.Template.TheVariants as o
 use Rattle.tp_value.specs.declared.template.Template.TheOpen as t
@@ -32,7 +32,7 @@ natural : (types : Types) (X : Type 0) (g : X → Template) (k : Template → Ty
     → template_fits types X g (λ p. k (g p)) x ≡ template_fits types Template (λ y. y) k (map-Template X Template g x)
 natural types X g k (t.Exact w) = refl
 natural types X g k t.Any = refl
-natural types X g k t.Many = refl
+natural types X g k t.AnyOrNone = refl
 natural types X g k (t.OneOf xs) = λ i u. AllHave-map g k u xs i
 natural types X g k (t.NoneOf xs) = λ i u. AllHave-map g k u xs i
 natural types X g k (t.Range lo hi) = refl
@@ -41,7 +41,8 @@ natural types X g k (t.Record xs) = λ i u. RecordHas-map g k xs (named types u)
 natural types X g k (t.List xs) = λ i u. ListFits-map g k xs (named types u) i
 
 -- one layer
-fits_roll : (types : Types) (u : Ty) (x : t.Template-F Template) → Fits types u (roll-Template x) ≡ template_fits types Template (λ y. y) (λ w s. Fits types s w) x u
+fits_roll : (types : Types) (u : Ty) (x : t.Template-F Template)
+    → Fits types u (roll-Template x) ≡ template_fits types Template (λ y. y) (λ w s. Fits types s w) x u
 unfolding Fits
 fits_roll types u x = λ i. rec-roll-Template (Ty → Type 0) (template_fits types) (natural types) x i u
 
@@ -52,8 +53,8 @@ module _ (types : Types) (u : Ty) where
   pub fits_any : Fits types u o.Any ≡ Unit {0}
   fits_any = ap (Fits types u) (sym o.rolls-Any) ∙ fits_roll types u t.Any
 
-  pub fits_many : Fits types u o.Many ≡ ⊥
-  fits_many = ap (Fits types u) (sym o.rolls-Many) ∙ fits_roll types u t.Many
+  pub fits_many : Fits types u o.AnyOrNone ≡ ⊥
+  fits_many = ap (Fits types u) (sym o.rolls-AnyOrNone) ∙ fits_roll types u t.AnyOrNone
 
   pub fits_one_of : (xs : List Template) → Fits types u (o.OneOf xs) ≡ AllHave (λ w s. Fits types s w) u xs
   fits_one_of xs = ap (Fits types u) (sym (o.rolls-OneOf xs)) ∙ fits_roll types u (t.OneOf xs)
@@ -64,7 +65,7 @@ module _ (types : Types) (u : Ty) where
   pub fits_range : (lo hi : Option ℤ) → Fits types u (o.Range lo hi) ≡ ((u ≡ ty.Integer) × AreOrdered lo hi)
   fits_range lo hi = ap (Fits types u) (sym (o.rolls-Range lo hi)) ∙ fits_roll types u (t.Range lo hi)
 
-  pub fits_pattern : (ps : List Part) → Fits types u (o.Pattern ps) ≡ (u ≡ ty.Charstring)
+  pub fits_pattern : (ps : List PatternPart) → Fits types u (o.Pattern ps) ≡ (u ≡ ty.Charstring)
   fits_pattern ps = ap (Fits types u) (sym (o.rolls-Pattern ps)) ∙ fits_roll types u (t.Pattern ps)
 
   pub fits_record : (xs : List Template) → Fits types u (o.Record xs) ≡ RecordHas (λ w s. Fits types s w) xs (named types u)

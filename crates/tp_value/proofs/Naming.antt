@@ -19,7 +19,8 @@ place_map v p (x ∷ xs) = ap (λ n. cond (not (p (v x))) (1 + n) 0) (place_map 
 
 position_map : {X Y : Type 0} (v : X → Y) (p : Y → Bool) (xs : List X) → position (λ x. p (v x)) xs ≡ position p (map v xs)
 position_map v p xs =
-    ap (λ n. cond (nat_lt n (length xs)) (Some n) None) (place_map v p xs) ∙ ap (λ m. cond (nat_lt (position_or_len p (map v xs)) m) (Some (position_or_len p (map v xs))) None) (sym (length-map xs v))
+    ap (λ n. cond (nat_lt n (length xs)) (Some n) None) (place_map v p xs)
+    ∙ ap (λ m. cond (nat_lt (position_or_len p (map v xs)) m) (Some (position_or_len p (map v xs))) None) (sym (length-map xs v))
 
 -- the name of this number is the one that was looked for
 pub name_there : (types : Types) (name : List ℕ) (n : ℕ) → Some n ≡ number_of types name → slice_get (names types) n ≡ Some name
@@ -55,7 +56,8 @@ module _ {K : Type 0} (v : K → List ℕ) where
   names_shown (e ∷ es) = ap (λ r. v e.0 ∷ r) (names_shown es)
 
   -- a look-up among the keys gives the number
-  pub number_is : (es : List (K × TypeDef)) (types : Types) (name : List ℕ) → shown es ≡ types → position (λ k. bytes_eq name (v k)) (map (λ e. e.0) es) ≡ number_of types name
+  pub number_is : (es : List (K × TypeDef)) (types : Types) (name : List ℕ) → shown es ≡ types
+      → position (λ k. bytes_eq name (v k)) (map (λ e. e.0) es) ≡ number_of types name
   number_is es types name e =
       position_map v (bytes_eq name) (map (λ e. e.0) es) ∙ ap (position (bytes_eq name)) (names_shown es) ∙ ap (λ t. number_of t name) e
 

@@ -72,10 +72,13 @@ module _ (types : Types) (t : Ty) where
   text_text cs = ap (value_text types t) (sym (o.rolls-Text cs)) ∙ layer (v.Text cs)
 
   pub text_record : (xs : List Value) → value_text types t (o.Record xs) ≡ record_text (λ w u. value_text types u w) xs (named types t)
-  text_record xs = ap (value_text types t) (sym (o.rolls-Record xs)) ∙ layer (v.Record xs) ∙ record_text-map (λ w u. value_text types u w) (λ text. text) xs (named types t)
+  text_record xs =
+      ap (value_text types t) (sym (o.rolls-Record xs)) ∙ layer (v.Record xs)
+      ∙ record_text-map (λ w u. value_text types u w) (λ text. text) xs (named types t)
 
   pub text_list : (xs : List Value) → value_text types t (o.List xs) ≡ list_text (λ w u. value_text types u w) xs (named types t)
-  text_list xs = ap (value_text types t) (sym (o.rolls-List xs)) ∙ layer (v.List xs) ∙ list_text-map (λ w u. value_text types u w) (λ text. text) xs (named types t)
+  text_list xs =
+      ap (value_text types t) (sym (o.rolls-List xs)) ∙ layer (v.List xs) ∙ list_text-map (λ w u. value_text types u w) (λ text. text) xs (named types t)
 
 -- one item behind those before it
 pub listed_step : (n : ℕ) (x : List ℕ) (xs : List (List ℕ)) → listed_from n (x ∷ xs) ≡ separator n ++ (x ++ listed_from (n + 1) xs)
@@ -97,7 +100,8 @@ to_quote (suc at) (c ∷ cs) h is before =
     ap (λ b. cond b (codes "\"\"") (c ∷ []) ++ escaped cs) (before 0 (omega arith))
     ∙ ap (λ r. c ∷ r) (to_quote at cs (omega arith) is (λ k l. before (suc k) (omega arith)))
 
-pub escaped_to_quote : (at : ℕ) (cs : List ℕ) → Some at ≡ position (λ c. nat_eq c 34) cs → escaped cs ≡ take (at + 1) cs ++ (codes "\"" ++ escaped (drop (at + 1) cs))
+pub escaped_to_quote : (at : ℕ) (cs : List ℕ) → Some at ≡ position (λ c. nat_eq c 34) cs
+    → escaped cs ≡ take (at + 1) cs ++ (codes "\"" ++ escaped (drop (at + 1) cs))
 escaped_to_quote at cs e =
     let p = position-Some (λ c. nat_eq c 34) cs at 0 (sym e) in
     rw (add-one at) (to_quote at cs p.0 p.1 p.2)
@@ -131,8 +135,10 @@ module _ {X : Type 0} (text : X → Ty → List ℕ) where
       → (done : Option (List ℕ)) → Appends now done (listed_from (i + 1) (element_texts text t (drop (i + 1) xs))) → Appends start done whole
   elements_grow t xs i x h is start here apart now whole grows p q done r =
       let rest : List ℕ = listed_from (i + 1) (element_texts text t (drop (i + 1) xs)) in
-      let all : Appends here done (separator i ++ (text x t ++ rest)) = appends_both here apart done (separator i) (text x t ++ rest) p (appends_both apart now done (text x t) rest q r) in
-      grows done (subst (Appends here done) (sym (ap (λ ys. listed_from i (element_texts text t ys)) (first_left xs i x h is) ∙ listed_step i (text x t) (element_texts text t (drop (i + 1) xs)))) all)
+      let all : Appends here done (separator i ++ (text x t ++ rest)) =
+      appends_both here apart done (separator i) (text x t ++ rest) p (appends_both apart now done (text x t) rest q r) in
+      grows done (subst (Appends here done) (sym (ap (λ ys. listed_from i (element_texts text t ys)) (first_left xs i x h is)
+      ∙ listed_step i (text x t) (element_texts text t (drop (i + 1) xs)))) all)
 
   pub fields_grow : (fs : List Field) (xs : List X) (i : ℕ) (f : Field) (x : X) → i < length fs → f ≡ get_or fs i f → i < length xs → x ≡ get_or xs i x
       → (start here apart named given now : Option (List ℕ)) (whole : List ℕ)
@@ -142,8 +148,10 @@ module _ {X : Type 0} (text : X → Ty → List ℕ) where
   fields_grow fs xs i f x k at h is start here apart named given now whole grows p n a q done r =
       let rest : List ℕ = listed_from (i + 1) (field_texts text (drop (i + 1) fs) (drop (i + 1) xs)) in
       let one : List ℕ = f.name ++ (codes " := " ++ text x f.ty) in
-      let field : Appends apart now one = appends_both apart named now f.name (codes " := " ++ text x f.ty) n (appends_both named given now (codes " := ") (text x f.ty) a q) in
-      let all : Appends here done (separator i ++ (one ++ rest)) = appends_both here apart done (separator i) (one ++ rest) p (appends_both apart now done one rest field r) in
+      let field : Appends apart now one =
+      appends_both apart named now f.name (codes " := " ++ text x f.ty) n (appends_both named given now (codes " := ") (text x f.ty) a q) in
+      let all : Appends here done (separator i ++ (one ++ rest)) =
+      appends_both here apart done (separator i) (one ++ rest) p (appends_both apart now done one rest field r) in
       grows done (subst (Appends here done) (sym (ap (λ gs. listed_from i (field_texts text gs (drop i xs))) (first_left fs i f k at)
       ∙ ap (λ ys. listed_from i (field_texts text (f ∷ drop (i + 1) fs) ys)) (first_left xs i x h is)
       ∙ listed_step i one (field_texts text (drop (i + 1) fs) (drop (i + 1) xs)))) all)

@@ -33,7 +33,7 @@ ListFits many fits xs None = ⊥
 abbrev pub template_fits : Types → (X : Type 0) → (X → Template) → (X → Ty → Type 0) → t.Template-F X → Ty → Type 0
 template_fits types X template fits (t.Exact v) u = HasType types u v
 template_fits types X template fits t.Any u = Unit {0}
-template_fits types X template fits t.Many u = ⊥
+template_fits types X template fits t.AnyOrNone u = ⊥
 template_fits types X template fits (t.OneOf xs) u = AllHave fits u xs
 template_fits types X template fits (t.NoneOf xs) u = AllHave fits u xs
 template_fits types X template fits (t.Range lo hi) u = (u ≡ ty.Integer) × AreOrdered lo hi

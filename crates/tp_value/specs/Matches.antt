@@ -3,8 +3,8 @@ use Rattle.std.specs.Prelude.{◌≡◌, ℕ, ℤ, ◌≤ℤ◌, Bool, true, fal
 use Rattle.tp_value.specs.declared.value.Value.{Value}
 use Rattle.tp_value.specs.declared.value.Value.TheOpen as v
 use Rattle.tp_value.specs.declared.value.Value.TheViews.{out-Value}
-use Rattle.tp_value.specs.declared.template.Part.{Part}
-use Rattle.tp_value.specs.declared.template.Part.TheVariants as part
+use Rattle.tp_value.specs.declared.template.PatternPart.{PatternPart}
+use Rattle.tp_value.specs.declared.template.PatternPart.TheVariants as part
 use Rattle.tp_value.specs.declared.template.Template.{Template}
 use Rattle.tp_value.specs.declared.template.Template.TheOpen as t
 use Rattle.tp_value.specs.declared.template.Template.TheViews.{out-Template}
@@ -12,19 +12,19 @@ use Rattle.tp_value.specs.declared.template.Template.TheFolds.{rec-Template}
 use Rattle.tp_value.specs.Cuts.{HasCut, PieceOf}
 
 -- the part is `*`
-abbrev pub is_many_part : Part → Bool
-is_many_part part.Many = true
+abbrev pub is_many_part : PatternPart → Bool
+is_many_part part.AnyOrNone = true
 is_many_part part.One = false
 is_many_part (part.Literal c) = false
 
 -- a part that stands for one character admits this one
-abbrev pub AdmitsChar : Part → ℕ → Type 0
+abbrev pub AdmitsChar : PatternPart → ℕ → Type 0
 AdmitsChar (part.Literal c) d = d ≡ c
 AdmitsChar part.One d = Unit {0}
-AdmitsChar part.Many d = ⊥
+AdmitsChar part.AnyOrNone d = ⊥
 
 -- the piece is the literal character, one character, or any piece
-abbrev pub IsTextPiece : Part → List ℕ → Type 0
+abbrev pub IsTextPiece : PatternPart → List ℕ → Type 0
 IsTextPiece p x = PieceOf (is_many_part p) (AdmitsChar p) x
 
 -- the number of an integer
@@ -60,7 +60,7 @@ elements_in (v.Record vs) = None
 elements_in (v.List vs) = Some vs
 
 -- the value is a charstring, and there is a cut of it into pieces of the parts
-abbrev pub TextMatches : List Part → Option (List ℕ) → Type 0
+abbrev pub TextMatches : List PatternPart → Option (List ℕ) → Type 0
 TextMatches ps (Some cs) = HasCut IsTextPiece ps cs
 TextMatches ps None = ⊥
 
@@ -98,7 +98,7 @@ RecordMatches matches xs None = ⊥
 
 -- the layer is `*`
 abbrev pub is_many_step : {X : Type 0} → t.Template-F X → Bool
-is_many_step t.Many = true
+is_many_step t.AnyOrNone = true
 is_many_step (t.Exact v) = false
 is_many_step t.Any = false
 is_many_step (t.OneOf xs) = false
@@ -121,13 +121,14 @@ ListMatches many matches xs None = ⊥
 abbrev pub template_matches : (X : Type 0) → (X → Template) → (X → Value → Type 0) → t.Template-F X → Value → Type 0
 template_matches X template matches (t.Exact w) v = v ≡ w
 template_matches X template matches t.Any v = Unit {0}
-template_matches X template matches t.Many v = ⊥
+template_matches X template matches t.AnyOrNone v = ⊥
 template_matches X template matches (t.OneOf xs) v = SomeMatches matches xs v
 template_matches X template matches (t.NoneOf xs) v = SomeMatches matches xs v → ⊥
 template_matches X template matches (t.Range lo hi) v = IsInRange lo hi (number_in (out-Value v))
 template_matches X template matches (t.Pattern ps) v = TextMatches ps (text_in (out-Value v))
 template_matches X template matches (t.Record xs) v = RecordMatches matches xs (fields_in (out-Value v))
-template_matches X template matches (t.List xs) v = ListMatches (λ x. is_many (template x)) matches xs (elements_in (out-Value v))
+template_matches X template matches (t.List xs) v =
+    ListMatches (λ x. is_many (template x)) matches xs (elements_in (out-Value v))
 
 -- the template matches the value
 unfoldable pub Matches : Template → Value → Type 0

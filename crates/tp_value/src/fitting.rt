@@ -24,11 +24,11 @@ fn are_ordered(lower: Option<i64>, upper: Option<i64>) -> bool
 /// Whether the template fits the type, so that it may stand where values of the type are matched
 /// (ES 201 873-1, 15 and B.1). Takes no memory.
 ///
-/// A value fits its own types, and `?` fits every type. A list of templates, and its complement, fits
-/// what each member fits. A range fits `integer` where its lower bound is at most its upper, and a
-/// pattern fits `charstring`. A record template has one template for each declared field, in order,
-/// that fits the field's type. The elements of a record-of template fit the element type or are `*`;
-/// elsewhere `*` fits nothing.
+/// A value fits its own types, and `?` fits every type. A list of templates, and its complement,
+/// fits what each member fits. A range fits `integer` where its lower bound is at most its upper,
+/// and a pattern fits `charstring`. A record template has one template for each declared field, in
+/// order, that fits the field's type. The elements of a record-of template fit the element type or
+/// are `*`; elsewhere `*` fits nothing.
 ///
 /// It calls itself once for each level of nesting.
 #[cycle(template_fits)]
@@ -38,7 +38,7 @@ pub fn template_fits(types: &Types, ty: Ty, template: &Template) -> bool
     match template {
         Template::Exact(value) => has_type(types, ty, value),
         Template::Any => true,
-        Template::Many => false,
+        Template::AnyOrNone => false,
         Template::OneOf(members) => all_fit(types, ty, members.as_slice()),
         Template::NoneOf(members) => all_fit(types, ty, members.as_slice()),
         Template::Range(lower, upper) => ty == Ty::Integer && are_ordered(*lower, *upper),

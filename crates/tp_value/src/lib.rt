@@ -9,6 +9,7 @@ pub mod matching;
 pub mod message;
 mod pattern;
 mod scan;
+pub mod shared;
 pub mod template;
 pub mod types;
 pub mod typing;

@@ -83,14 +83,14 @@ fn elements(value: &Value) -> Option<&[Value]>
 ///
 /// A value matches a template of its own kind alone, and no type is asked: a specific value matches
 /// what equals it, `?` everything, a list what some member matches, its complement what no member
-/// matches, and a range the integers between its bounds, both included. A pattern matches a charstring
-/// that can be cut into consecutive pieces, one for each part: the literal character, one character for
-/// `?`, any piece for `*`. A record template matches a record of as many fields, each of which matches.
-/// A record-of template matches a list that can be cut in the same way, any piece for `*` and one
-/// element that matches for each other template.
+/// matches, and a range the integers between its bounds, both included. A pattern matches a
+/// charstring that can be cut into consecutive pieces, one for each part: the literal character,
+/// one character for `?`, any piece for `*`. A record template matches a record of as many fields,
+/// each of which matches. A record-of template matches a list that can be cut in the same way, any
+/// piece for `*` and one element that matches for each other template.
 ///
-/// The work is linear in the sizes for values and records. For a pattern, or a list with `*`, it is at
-/// most the number of parts times the number of characters or elements, comparisons of elements
+/// The work is linear in the sizes for values and records. For a pattern, or a list with `*`, it is
+/// at most the number of parts times the number of characters or elements, comparisons of elements
 /// counted. It calls itself once for each level of nesting.
 #[cycle(matches)]
 pub fn matches(template: &Template, value: &Value) -> bool
@@ -99,7 +99,7 @@ pub fn matches(template: &Template, value: &Value) -> bool
     match template {
         Template::Exact(wanted) => are_equal(value, wanted),
         Template::Any => true,
-        Template::Many => false,
+        Template::AnyOrNone => false,
         Template::OneOf(members) => some_matches(members.as_slice(), value),
         Template::NoneOf(members) => !some_matches(members.as_slice(), value),
         Template::Range(lower, upper) => match number(value) {
@@ -154,12 +154,13 @@ fn fields_match(members: &[Template], fields: &[Value]) -> bool
 #[cycle(matches)]
 fn list_step(members: &[Template], part: usize, elements: &[Value], at: usize) -> Step
     requires { at < length elements.now }
-    ensures { StepIs is_many_template Matches (drop part members.now) (drop at elements.now) result }
+    ensures { StepIs is_many_template Matches
+        (drop part members.now) (drop at elements.now) result }
 {
     if part >= members.len() {
         Step::Stuck
     } else if members[part].is_many() {
-        Step::Many
+        Step::AnyOrNone
     } else if matches(&members[part], &elements[at]) {
         Step::One
     } else {
@@ -170,7 +171,8 @@ fn list_step(members: &[Template], part: usize, elements: &[Value], at: usize) -
 /// Whether all templates from here on are `*`.
 fn only_many(members: &[Template], from: usize) -> bool
     requires { from ≤ length members.now }
-    ensures { IsTrue result ↔ HasCut (λ t. PieceOf (is_many_template t) (Matches t)) (drop from members.now) [] }
+    ensures { IsTrue result
+        ↔ HasCut (λ t. PieceOf (is_many_template t) (Matches t)) (drop from members.now) [] }
 {
     for part in from..members.len() {
         if !members[part].is_many() {
@@ -184,14 +186,15 @@ fn only_many(members: &[Template], from: usize) -> bool
 /// where it is stuck goes back to the last `*`, which then takes one element more.
 #[cycle(matches)]
 fn list_matches(members: &[Template], elements: &[Value]) -> bool
-    ensures { IsTrue result ↔ HasCut (λ t. PieceOf (is_many_template t) (Matches t)) members.now elements.now }
+    ensures { IsTrue result
+        ↔ HasCut (λ t. PieceOf (is_many_template t) (Matches t)) members.now elements.now }
 {
     let mut part = 0;
     let mut at = 0;
     let mut back: Option<(usize, usize)> = None;
     while at < elements.len() {
         match list_step(members, part, elements, at) {
-            Step::Many => {
+            Step::AnyOrNone => {
                 part += 1;
                 back = Some((part, at));
             }

@@ -6,8 +6,8 @@ use crate::value::Value;
 use std::alloc::Global;
 use tp_port::payload::{Memory, Payload, Wanted};
 
-/// What a send sends: a value under a type (ES 201 873-1, 22.2.1). A message of a script has a value of
-/// its type; one that a caller builds may have another.
+/// What a send sends: a value under a type (ES 201 873-1, 22.2.1). A message of a script has a
+/// value of its type; one that a caller builds may have another.
 #[derive(Debug, Drop)]
 pub struct Message {
     /// The type under which it is sent.
@@ -16,7 +16,7 @@ pub struct Message {
     pub value: Value,
 }
 
-/// The copy equals the original. 50 `Memory` only where an allocation was refused.
+/// The copy equals the original. It takes no memory, as the copy of a [`Value`] takes none.
 impl Payload for Message {
     fn copy(&self, alloc: Global) -> Result<Message, Memory> {
         Ok(Message {

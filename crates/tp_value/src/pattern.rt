@@ -5,38 +5,38 @@ ghost use Rattle.tp_value.specs.Steps.{StepIs};
 ghost use Rattle.tp_value.specs.Matches.{is_many_part, AdmitsChar, IsTextPiece};
 
 use crate::scan::Step;
-use crate::template::Part;
+use crate::template::PatternPart;
 
 /// Whether the part is `*`.
-fn is_many(part: Part) -> bool
+fn is_many(part: PatternPart) -> bool
     ensures { result ≡ is_many_part part }
 {
     match part {
-        Part::Many => true,
-        Part::One | Part::Literal(_) => false,
+        PatternPart::AnyOrNone => true,
+        PatternPart::One | PatternPart::Literal(_) => false,
     }
 }
 
 /// Whether the part stands for one character, and for this one.
-fn admits(part: Part, char: u8) -> bool
+fn admits(part: PatternPart, char: u8) -> bool
     ensures { IsTrue result ↔ AdmitsChar part char }
 {
     match part {
-        Part::Many => false,
-        Part::One => true,
-        Part::Literal(wanted) => char == wanted,
+        PatternPart::AnyOrNone => false,
+        PatternPart::One => true,
+        PatternPart::Literal(wanted) => char == wanted,
     }
 }
 
 /// The next step at these places: past a `*`, past one part with one character, or back.
-fn step(parts: &[Part], part: usize, text: &[u8], at: usize) -> Step
+fn step(parts: &[PatternPart], part: usize, text: &[u8], at: usize) -> Step
     requires { at < length text.now }
     ensures { StepIs is_many_part AdmitsChar (drop part parts.now) (drop at text.now) result }
 {
     if part >= parts.len() {
         Step::Stuck
     } else if is_many(parts[part]) {
-        Step::Many
+        Step::AnyOrNone
     } else if admits(parts[part], text[at]) {
         Step::One
     } else {
@@ -45,7 +45,7 @@ fn step(parts: &[Part], part: usize, text: &[u8], at: usize) -> Step
 }
 
 /// Whether all parts from here on are `*`.
-fn only_many(parts: &[Part], from: usize) -> bool
+fn only_many(parts: &[PatternPart], from: usize) -> bool
     requires { from ≤ length parts.now }
     ensures { IsTrue result ↔ HasCut IsTextPiece (drop from parts.now) [] }
 {
@@ -57,9 +57,9 @@ fn only_many(parts: &[Part], from: usize) -> bool
     true
 }
 
-/// Whether there is a cut of the text for the parts: goes on from part to part, and where it is stuck
-/// goes back to the last `*`, which then takes one character more.
-pub fn text_matches(parts: &[Part], text: &[u8]) -> bool
+/// Whether there is a cut of the text for the parts: goes on from part to part, and where it is
+/// stuck goes back to the last `*`, which then takes one character more.
+pub fn text_matches(parts: &[PatternPart], text: &[u8]) -> bool
     ensures { IsTrue result ↔ HasCut IsTextPiece parts.now text.now }
 {
     let mut part = 0;
@@ -67,7 +67,7 @@ pub fn text_matches(parts: &[Part], text: &[u8]) -> bool
     let mut back: Option<(usize, usize)> = None;
     while at < text.len() {
         match step(parts, part, text, at) {
-            Step::Many => {
+            Step::AnyOrNone => {
                 part += 1;
                 back = Some((part, at));
             }

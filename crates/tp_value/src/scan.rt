@@ -3,7 +3,7 @@
 /// What a scan does next: pass a `*`, pass one part with one element, or go back.
 #[derive(Clone, Copy, Drop)]
 pub enum Step {
-    Many,
+    AnyOrNone,
     One,
     Stuck,
 }

@@ -8,13 +8,13 @@ use tp_refusal::memory::Memory;
 
 /// A part of a pattern (ES 201 873-1, B.1.5).
 #[derive(Clone, Copy, Debug, PartialEq, Eq, Hash)]
-pub enum Part {
+pub enum PatternPart {
     /// This one character.
     Literal(u8),
     /// `?`: any one character.
     One,
     /// `*`: any number of characters, none included.
-    Many,
+    AnyOrNone,
 }
 
 /// A template of values (ES 201 873-1, 15). Which types it fits says
@@ -30,7 +30,7 @@ pub enum Template {
     Any,
     /// `*`: any number of elements, none included (B.1.3.2). It stands only among the elements of a
     /// `List`, and by itself matches nothing.
-    Many,
+    AnyOrNone,
     /// `(t1, t2, ..)`: what one member matches (B.1.2.1).
     OneOf(Items<Template>),
     /// `complement (t1, ..)`: what no member matches (B.1.2.2).
@@ -39,11 +39,11 @@ pub enum Template {
     /// bound is `-infinity` or `infinity` (B.1.2.5).
     Range(Option<i64>, Option<i64>),
     /// `pattern "..."`: the charstrings that can be cut into pieces, one for each part (B.1.5).
-    Pattern(Items<Part>),
+    Pattern(Items<PatternPart>),
     /// `{..}` for a record: one template for each field, in declared order (B.1.1).
     Record(Items<Template>),
-    /// `{..}` for a record of: the lists that can be cut into pieces, any piece for `*` and one element
-    /// for each other template (B.1.3).
+    /// `{..}` for a record of: the lists that can be cut into pieces, any piece for `*` and one
+    /// element for each other template (B.1.3).
     List(Items<Template>),
 }
 
@@ -56,7 +56,7 @@ impl Template {
         ensures { result ≡ is_many self.now }
     {
         match self {
-            Template::Many => true,
+            Template::AnyOrNone => true,
             Template::Exact(_) => false,
             Template::Any => false,
             Template::OneOf(_) => false,
@@ -77,7 +77,7 @@ impl Template {
         match self {
             Template::Exact(value) => Ok(Template::Exact(value.copy(alloc)?)),
             Template::Any => Ok(Template::Any),
-            Template::Many => Ok(Template::Many),
+            Template::AnyOrNone => Ok(Template::AnyOrNone),
             Template::OneOf(members) => Ok(Template::OneOf(copy_all(alloc, members.as_slice())?)),
             Template::NoneOf(members) => Ok(Template::NoneOf(copy_all(alloc, members.as_slice())?)),
             Template::Range(lower, upper) => Ok(Template::Range(*lower, *upper)),

@@ -61,8 +61,8 @@ impl<T: Drop> From<AllocFailed<T>> for AddFault {
     }
 }
 
-/// The named types, numbered from 0 in the order in which they were added. Contracts see the list of
-/// their names and definitions. A definition may refer to itself, and to numbers that have no
+/// The named types, numbered from 0 in the order in which they were added. Contracts see the list
+/// of their names and definitions. A definition may refer to itself, and to numbers that have no
 /// definition yet.
 #[derive(Drop)]
 pub struct Types {
@@ -101,16 +101,18 @@ impl Types {
         self.definitions.len()
     }
 
-    /// Adds a type and answers its number, which is the number of types before. There are fewer than
-    /// 4,294,967,295 of them.
+    /// Adds a type and answers its number, which is the number of types before. There are fewer
+    /// than 4,294,967,295 of them.
     ///
-    /// 12 `Duplicate` exactly where the name is there; otherwise 50 `Memory` only where an allocation
-    /// was refused. The types are then as before.
+    /// 12 `Duplicate` exactly where the name is there; otherwise 50 `Memory` only where an
+    /// allocation was refused. The types are then as before.
     pub fn add(&mut self, name: String, definition: TypeDef) -> Result<u32, AddFault>
         requires { length self.old < u32.MAX }
         ensures number { IfOk result (λ number. number ≡ length self.old) }
-        ensures ok { IfOk result (λ _. self.new ≡ self.old ++ (string_bytes name, definition) ∷ []) }
-        ensures duplicate { IsErrOf result AddFault.Duplicate ↔ Contains (names self.old) (string_bytes name) }
+        ensures ok { IfOk result (λ _.
+            self.new ≡ self.old ++ (string_bytes name, definition) ∷ []) }
+        ensures duplicate { IsErrOf result AddFault.Duplicate
+            ↔ Contains (names self.old) (string_bytes name) }
         ensures err { OnErr result (self.new ≡ self.old) }
     {
         if self.find(name.as_str()).is_some() {
@@ -124,7 +126,8 @@ impl Types {
     /// The number of the type of this name, or `None` where no type has it. Takes no memory.
     pub fn find(&self, name: &str) -> Option<u32>
         ensures number { result ≡ number_of self.now name.now }
-        ensures there { IfSome result (λ number. slice_get (names self.now) number ≡ Some name.now) }
+        ensures there { IfSome result (λ number.
+            slice_get (names self.now) number ≡ Some name.now) }
         ensures known { IsSome result ↔ Contains (names self.now) name.now }
     {
         match self.definitions.get_index_of(name) {
@@ -133,7 +136,8 @@ impl Types {
         }
     }
 
-    /// The name of the type of this number, or `None` where there is no such number. Takes no memory.
+    /// The name of the type of this number, or `None` where there is no such number. Takes no
+    /// memory.
     pub fn name(&self, number: u32) -> Option<&str>
         ensures { option_copied result ≡ slice_get (names self.now) number }
     {

@@ -19,12 +19,13 @@ fn are_printable(text: &[u8]) -> bool
 
 /// Whether the value has the type (ES 201 873-1, 6). Takes no memory.
 ///
-/// An integer has type `integer`, a boolean `boolean`, and a charstring of the characters 32 to 126
-/// `charstring`. A record has a record type that declares as many fields, where each value has its
-/// field's type, in declared order. A record of has a record-of type where each element has the element
-/// type. A number that names no type has no values.
+/// An integer has type `integer`, a boolean `boolean`, and a charstring of the characters 32 to
+/// 126 `charstring`. A record has a record type that declares as many fields, where each value has
+/// its field's type, in declared order. A record of has a record-of type where each element has the
+/// element type. A number that names no type has no values.
 ///
-/// It calls itself once for each level of nesting of the value, however often a type refers to itself.
+/// It calls itself once for each level of nesting of the value, however often a type refers to
+/// itself.
 #[cycle(has_type)]
 pub fn has_type(types: &Types, ty: Ty, value: &Value) -> bool
     ensures { IsTrue result ↔ HasType types.now ty value.now }

@@ -28,7 +28,8 @@ fn put<W: Write>(bytes: &[u8], out: &mut W) -> Result<(), WriteFault>
 
 /// Writes an integer.
 fn write_number<W: Write>(number: i64, out: &mut W) -> Result<(), WriteFault>
-    ensures { OnOk result (Appends (W.contents out.old) (W.contents out.new) (signed_decimal number)) }
+    ensures { OnOk result (Appends (W.contents out.old) (W.contents out.new)
+        (signed_decimal number)) }
 {
     let mut buffer = Buffer::new();
     put(buffer.format(number).as_bytes(), out)
@@ -54,7 +55,9 @@ fn quote_place(text: &[u8]) -> Option<usize>
 
 /// What stands up to the first quote, which it ends with, and what stands behind it.
 fn cut_at_quote(text: &[u8]) -> Option<(&[u8], &[u8])>
-    ensures cut { MatchOption result (escaped text.now ≡ text.now) (λ cut. escaped text.now ≡ cut.0.now ++ (codes "\"" ++ escaped cut.1.now)) }
+    ensures cut { MatchOption result
+        (escaped text.now ≡ text.now)
+        (λ cut. escaped text.now ≡ cut.0.now ++ (codes "\"" ++ escaped cut.1.now)) }
     ensures shorter { IfSome result (λ cut. length cut.1.now < length text.now) }
 {
     match quote_place(text) {
@@ -91,15 +94,15 @@ fn separate<W: Write>(place: usize, out: &mut W) -> Result<(), WriteFault>
 
 /// Writes the text of a value of the type, in the core notation of values (ES 201 873-1, 6).
 ///
-/// An integer is decimal, with `-` where it is negative; a boolean is `true` or `false`; a charstring
-/// stands in quotes, with each quote in it doubled. A record is `{f := v, g := w}`, its fields in
-/// declared order, and a record of is `{v, w}`; an empty one of either is `{}`. Ask
-/// [`has_type`](crate::typing::has_type) first: of a value that hasn't the type what is written tells
-/// nothing, and a record without a record type, or a list without a record-of type, is written as
-/// nothing at all.
+/// An integer is decimal, with `-` where it is negative; a boolean is `true` or `false`; a
+/// charstring stands in quotes, with each quote in it doubled. A record is `{f := v, g := w}`, its
+/// fields in declared order, and a record of is `{v, w}`; an empty one of either is `{}`. Ask
+/// [`has_type`](crate::typing::has_type) first: of a value that hasn't the type what is written
+/// tells nothing, and a record without a record type, or a list without a record-of type, is
+/// written as nothing at all.
 ///
-/// 3 `Write` where the writer answers an error or takes no byte; how much is written then is open. It
-/// takes no memory. It calls itself once for each level of nesting.
+/// 3 `Write` where the writer answers an error or takes no byte; how much is written then is open.
+/// It takes no memory. It calls itself once for each level of nesting.
 #[cycle(write)]
 pub fn write_value<W: Write>(
     types: &Types,
@@ -107,7 +110,8 @@ pub fn write_value<W: Write>(
     value: &Value,
     out: &mut W,
 ) -> Result<(), WriteFault>
-    ensures { OnOk result (Appends (W.contents out.old) (W.contents out.new) (value_text types.now ty value.now)) }
+    ensures { OnOk result (Appends (W.contents out.old) (W.contents out.new)
+        (value_text types.now ty value.now)) }
 {
     match value {
         Value::Int(number) => write_number(*number, out),
@@ -136,7 +140,8 @@ fn write_fields<W: Write>(
     values: &[Value],
     out: &mut W,
 ) -> Result<(), WriteFault>
-    ensures { OnOk result (Appends (W.contents out.old) (W.contents out.new) (braced (field_texts (λ v t. value_text types.now t v) declared.now values.now))) }
+    ensures { OnOk result (Appends (W.contents out.old) (W.contents out.new)
+        (braced (field_texts (λ v t. value_text types.now t v) declared.now values.now))) }
 {
     put(b"{", out)?;
     for index in 0..declared.len().min(values.len()) {
@@ -157,7 +162,8 @@ fn write_elements<W: Write>(
     values: &[Value],
     out: &mut W,
 ) -> Result<(), WriteFault>
-    ensures { OnOk result (Appends (W.contents out.old) (W.contents out.new) (braced (element_texts (λ v t. value_text types.now t v) ty values.now))) }
+    ensures { OnOk result (Appends (W.contents out.old) (W.contents out.new)
+        (braced (element_texts (λ v t. value_text types.now t v) ty values.now))) }
 {
     put(b"{", out)?;
     for (index, value) in values.iter().enumerate() {

@@ -1,26 +1,14 @@
 -- The outcome of mode run: what is printed of a test case, and the status.
-use Rattle.std.specs.Prelude.{◌≡◌, ℕ, ◌⊎◌, ◌++◌, Option, List, codes, IfSome}
+use Rattle.std.specs.Prelude.{◌≡◌, ℕ, ◌⊎◌, Option, List, IfSome}
 use Rattle.std.specs.Io.KnownBytes.{Appends}
-use Rattle.tp_refusal.specs.declared.refusal.Refusal.{Refusal}
-use Rattle.tp_refusal.specs.declared.refusal.Refusal.TheVariants as refusal
 use Rattle.tp_script.specs.TestCases.{Made}
 use Rattle.tp_report.specs.declared.report.Report.{Report}
 use Rattle.tp_report.specs.Reports.{report_text}
 use Rattle.tp_exec.specs.declared.fault.RunFault.{RunFault}
-use Rattle.tp_exec.specs.declared.fault.RunFault.TheVariants as fault
 use Rattle.tp_exec.specs.Delivery.{IsReportOf}
+use Rattle.tp_exec.specs.Faults.{run_fault_text}
 use Rattle.tp_exec.specs.Order.{NoCircle}
-use Rattle.tpr.specs.Outcome.{label_text}
 use Rattle.tpr.specs.Checked.{IsNotAccepted, IsScriptOf}
-
-abbrev pub run_refusal : RunFault → Refusal
-run_refusal fault.NoThread = refusal.NoThread
-run_refusal fault.Memory = refusal.Memory
-run_refusal fault.Restless = refusal.Restless
-
--- what is printed where a run has no report
-abbrev pub run_fault_text : RunFault → List ℕ
-run_fault_text f = codes "fault " ++ label_text (run_refusal f) ++ codes "\n"
 
 -- the text of a report of the test case was added, for which **delivery** holds, and the status is 0
 pub record IsReported (made : Made) (old new : Option (List ℕ)) (status : ℕ) : Type 0 where

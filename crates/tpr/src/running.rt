@@ -1,41 +1,21 @@
 //! What happens in a test case.
-ghost use Rattle.std.specs.Prelude.{◌≡◌, IfSome, OnOk, OnSome};
+ghost use Rattle.std.specs.Prelude.{◌≡◌, IfSome, OnSome};
 ghost use Rattle.std.specs.Io.KnownBytes.{Appends};
-ghost use Rattle.tpr.specs.Ran.{IsRunAnswer, IsRunOf, run_fault_text, run_refusal};
+ghost use Rattle.tp_exec.specs.Faults.{run_fault_text};
+ghost use Rattle.tpr.specs.Ran.{IsRunAnswer, IsRunOf};
 
 use crate::checking::{answer_check_fault, check_script};
 use crate::modes::{ANSWERED, FAULTED, flushed};
 use std::alloc::Global;
 use std::io::{Read, Write};
+use std::mem;
 use std::sync::Wait;
 use std::thread::Threads;
-use std::{io, mem};
-use tp_exec::fault::RunFault;
+use tp_exec::fault::{RunFault, write_run_fault};
 use tp_exec::gate::Gate;
 use tp_exec::run::run;
 use tp_exec::writing::write_report;
-use tp_refusal::refusal::Refusal;
 use tp_script::TestCase;
-
-/// The refusal that a fault of a run is told by.
-fn refusal_of(fault: RunFault) -> Refusal
-    ensures { result ≡ run_refusal fault }
-{
-    match fault {
-        RunFault::NoThread => Refusal::NoThread,
-        RunFault::Memory => Refusal::Memory,
-        RunFault::Restless => Refusal::Restless,
-    }
-}
-
-/// Writes the line of a fault of a run.
-fn write_run_fault<W: Write>(writer: &mut W, fault: RunFault) -> io::Result<()>
-    ensures { OnOk result (Appends (W.contents writer.old) (W.contents writer.new)
-        (run_fault_text fault)) }
-{
-    let (number, name) = refusal_of(fault).label();
-    write!(writer, "fault {number} {name}\n")
-}
 
 /// Prints the line of a fault of a run. The status is 3; `None` where the writer failed.
 fn answer_run_fault<W: Write>(writer: &mut W, fault: RunFault) -> Option<u8>

@@ -1,5 +1,5 @@
-//! `tpr_ordered`: a test case, run once in each of some orders of its steps. It is for tests, and no part of
-//! what `tpr` offers.
+//! `tpr_ordered`: a test case, run once in each of some orders of its steps. It is for tests, and
+//! no part of what `tpr` offers.
 #![tactic(auto)]
 
 mod fault;
@@ -104,8 +104,8 @@ where
     }
 }
 
-/// Reads both files, and runs the test case of the first in each of the orders of the second. Nothing is run
-/// where one of them is refused.
+/// Reads both files, and runs the test case of the first in each of the orders of the second.
+/// Nothing is run where one of them is refused.
 fn answer_files<T>(rt: &T, script: &str, orders: &str) -> u8
 where
     T: AllocGlobal + Files + Print + Eprint + Threads + Wait + Sync,

@@ -8,10 +8,10 @@ use tp_exec::gate::Gate;
 /// After so many turns that yield, a gate gives up.
 pub const PATIENCE: u32 = 10_000_000;
 
-/// Holds each component before its next step until the order has come to it, and the component that the
-/// order names before it has come to its own next step: a gate hears of no end of a step but by this. So
-/// one step after the other is carried out, and the steps that the order doesn't name come behind all that
-/// it names.
+/// Holds each component before its next step until the order has come to it, and the component that
+/// the order names before it has come to its own next step: a gate hears of no end of a step but by
+/// this. So one step after the other is carried out, and the steps that the order doesn't name come
+/// behind all that it names.
 ///
 /// Where a component is held for too many turns, the gate gives up, and all pass from then on.
 #[derive(Drop)]
@@ -58,8 +58,9 @@ fn note_places(places: &mut Vec<Vec<u64>>, steps: &[CompId]) -> Result<(), Alloc
 }
 
 impl OrderGate {
-    /// A gate for one run of a test case with so many components, in the order of these steps, each named
-    /// by its component. It gives up where a component is held for more than `patience` turns.
+    /// A gate for one run of a test case with so many components, in the order of these steps, each
+    /// named by its component. It gives up where a component is held for more than `patience`
+    /// turns.
     ///
     /// 50 where an allocation was refused.
     pub fn new(
@@ -83,8 +84,8 @@ impl OrderGate {
         !self.gave_up.load(Ordering::SeqCst)
     }
 
-    /// The place in the order of this step of the component, its steps counted from 0, if the order names
-    /// it.
+    /// The place in the order of this step of the component, its steps counted from 0, if the order
+    /// names it.
     fn place_of(&self, who: CompId, step: u64) -> Option<u64> {
         let places = self.places.get(who.0 as usize)?;
         places.get(step as usize).copied()

@@ -1,7 +1,7 @@
 //! A test case, run in each of some orders.
-ghost use Rattle.std.specs.Prelude.{◌≡◌, OnOk};
+ghost use Rattle.std.specs.Prelude.{OnOk};
 ghost use Rattle.std.specs.Io.KnownBytes.{Appends};
-ghost use Rattle.tpr_ordered.specs.Ordered.{IsRunWritten, run_fault_text, run_refusal};
+ghost use Rattle.tpr_ordered.specs.Ordered.{IsRunWritten};
 
 use crate::order_gate::OrderGate;
 use crate::orders::Order;
@@ -11,34 +11,13 @@ use std::io::{ErrorKind, Write};
 use std::sync::Wait;
 use std::thread::Threads;
 use tp_config::port_type::CompId;
-use tp_exec::fault::RunFault;
+use tp_exec::fault::{RunFault, write_run_fault};
 use tp_exec::run::run;
 use tp_exec::writing::write_report;
-use tp_refusal::refusal::Refusal;
 use tp_script::TestCase;
 
-/// The refusal that a fault of a run is told by.
-fn refusal_of(fault: RunFault) -> Refusal
-    ensures { result ≡ run_refusal fault }
-{
-    match fault {
-        RunFault::NoThread => Refusal::NoThread,
-        RunFault::Memory => Refusal::Memory,
-        RunFault::Restless => Refusal::Restless,
-    }
-}
-
-/// Writes the line of a fault of a run.
-fn write_run_fault<W: Write>(writer: &mut W, fault: RunFault) -> io::Result<()>
-    ensures { OnOk result (Appends (W.contents writer.old) (W.contents writer.new)
-        (run_fault_text fault)) }
-{
-    let (number, name) = refusal_of(fault).label();
-    write!(writer, "fault {number} {name}\n")
-}
-
-/// Runs the test case in the order of these steps, and writes its report; or `not held`, where the gate
-/// gave up; or the line of the fault by which the run has no report.
+/// Runs the test case in the order of these steps, and writes its report; or `not held`, where the
+/// gate gave up; or the line of the fault by which the run has no report.
 fn write_run<T: Threads + Wait + Sync, W: Write>(
     rt: &T,
     alloc: Global,
@@ -89,10 +68,10 @@ fn write_order<T: Threads + Wait + Sync, W: Write>(
     writer.flush()
 }
 
-/// Runs the test case once in each of these orders, one run after the other, and writes for each the line
-/// `order NAMES`, the report as mode `run` of `tpr` prints it, and an empty line. In place of the report
-/// stands `not held`, where the gate gave up after so many turns that yield, or the line of the fault by
-/// which there is none.
+/// Runs the test case once in each of these orders, one run after the other, and writes for each
+/// the line `order NAMES`, the report as mode `run` of `tpr` prints it, and an empty line. In place
+/// of the report stands `not held`, where the gate gave up after so many turns that yield, or the
+/// line of the fault by which there is none.
 ///
 /// An error where the writer failed. It may wait for good.
 pub fn write_orders<T: Threads + Wait + Sync, W: Write>(

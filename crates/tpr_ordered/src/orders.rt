@@ -15,8 +15,8 @@ pub struct Order {
 
 /// The components that a line names, one space between two names. An empty line names none.
 ///
-/// 11 `Unknown` where no component has a name, at the line of this number; 50 where an allocation was
-/// refused.
+/// 11 `Unknown` where no component has a name, at the line of this number; 50 where an allocation
+/// was refused.
 fn steps_of(
     alloc: Global,
     config: &Config,
@@ -45,12 +45,12 @@ fn order_of(alloc: Global, config: &Config, line: &str, number: u32) -> Result<O
     Ok(Order { line, steps })
 }
 
-/// The orders that a text says, one a line: the names of components of the configuration, one for each step,
-/// one space between two of them. Each line ends with a byte 10; the last may lack it. An empty line is the
-/// order of no step.
+/// The orders that a text says, one a line: the names of components of the configuration, one for
+/// each step, one space between two of them. Each line ends with a byte 10; the last may lack it.
+/// An empty line is the order of no step.
 ///
-/// 2 `Read` where the text isn't UTF-8; else the first of 11 `Unknown`, at the first line in which a name is
-/// that of no component, and 50, where an allocation was refused.
+/// 2 `Read` where the text isn't UTF-8; else the first of 11 `Unknown`, at the first line in which
+/// a name is that of no component, and 50, where an allocation was refused.
 pub fn read_orders(alloc: Global, config: &Config, text: &[u8]) -> Result<Vec<Order>, FileFault> {
     let Ok(text) = str::from_utf8(text) else {
         return Err(FileFault::Read);

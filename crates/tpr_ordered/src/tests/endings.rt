@@ -57,8 +57,8 @@ fn two_wait_until_the_others_have_ended(rt: HostRuntime) -> Result<(), Fail> {
     Ok(())
 }
 
-/// Holds mtc before its first step until the components 1 and 2 have looked, and for some turns more, in
-/// which they come to rest.
+/// Holds mtc before its first step until the components 1 and 2 have looked, and for some turns
+/// more, in which they come to rest.
 #[derive(Drop)]
 struct Latecomer {
     /// How often components 1 and 2 have looked.
@@ -121,7 +121,8 @@ fn whoever_ends_last_closes_all_inboxes(rt: HostRuntime) -> Result<(), Fail> {
     Ok(())
 }
 
-/// A test system interface that the script doesn't play doesn't live: the run ends where mtc waits alone.
+/// A test system interface that the script doesn't play doesn't live: the run ends where mtc waits
+/// alone.
 #[test]
 fn a_system_without_a_thread_does_not_live(rt: HostRuntime) -> Result<(), Fail> {
     let script = "module M {

@@ -45,7 +45,8 @@ const SIX: [(&str, &str, &str); 6] = [
     ("b a o", "took p b 0 integer:1\ntook p a 0 integer:1\n", ""),
 ];
 
-/// What comes before the halt is delivered in its order, and what comes behind it is left in its order.
+/// What comes before the halt is delivered in its order, and what comes behind it is left in its
+/// order.
 #[test]
 fn a_halt_beside_two_sends(rt: HostRuntime) -> Result<(), Fail> {
     for (line, found, left) in SIX {
@@ -78,8 +79,8 @@ all component.done;
 }
 }";
 
-/// `[else]` isn't taken once the sender's next step has begun: the message is there then. It is taken
-/// where the sender has not begun its send.
+/// `[else]` isn't taken once the sender's next step has begun: the message is there then. It is
+/// taken where the sender has not begun its send.
 #[test]
 fn else_beside_a_send(rt: HostRuntime) -> Result<(), Fail> {
     let printed = answers_of(&rt, rt.alloc(), ELSE_BESIDE_A_SEND, "a o\no a\n", PATIENCE)?;
@@ -143,7 +144,8 @@ fn an_order_that_cannot_be_held(rt: HostRuntime) -> Result<(), Fail> {
     Ok(())
 }
 
-/// What is sent first is taken, and the order of no step leaves all free. A last line may lack its end.
+/// What is sent first is taken, and the order of no step leaves all free. A last line may lack its
+/// end.
 #[test]
 fn an_order_of_no_step(rt: HostRuntime) -> Result<(), Fail> {
     let report = "component mtc

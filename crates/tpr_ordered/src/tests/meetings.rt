@@ -18,7 +18,8 @@ fn has_come(count: &AtomicU64, least: u64) -> bool {
     false
 }
 
-/// Holds each of the components 1 and 2 inside an operation until the other has been inside as many.
+/// Holds each of the components 1 and 2 inside an operation until the other has been inside as
+/// many.
 #[derive(Drop)]
 struct Meeting {
     /// How many operations component 1 has been inside.
@@ -59,8 +60,8 @@ impl Gate for Meeting {
     }
 }
 
-/// Two receivers that hold each other in turn: each is held inside its first receive until the other is
-/// inside its own, and then inside the second.
+/// Two receivers that hold each other in turn: each is held inside its first receive until the
+/// other is inside its own, and then inside the second.
 #[test]
 fn two_receivers_are_inside_at_once(rt: HostRuntime) -> Result<(), Fail> {
     let script = "module M {
@@ -123,7 +124,8 @@ impl Gate for Bystander {
     }
 }
 
-/// A receiver is held inside until two others have passed a message: no lock is held around its receive.
+/// A receiver is held inside until two others have passed a message: no lock is held around its
+/// receive.
 #[test]
 fn two_others_pass_a_message(rt: HostRuntime) -> Result<(), Fail> {
     let script = "module M {

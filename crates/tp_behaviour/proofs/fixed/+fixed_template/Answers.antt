@@ -14,8 +14,8 @@ is_fixed-returns-in-Exact t c = λ yes. subst IsFixed (sym c.in-Exact.is) (fixed
 pub is_fixed-returns-in-Any : goal.is_fixed-returns-in-Any
 is_fixed-returns-in-Any t c = λ yes. subst IsFixed (sym c.in-Any.is) fixed_any
 
-pub is_fixed-returns-in-Many : goal.is_fixed-returns-in-Many
-is_fixed-returns-in-Many t c = λ yes. subst IsFixed (sym c.in-Many.is) fixed_many
+pub is_fixed-returns-in-AnyOrNone : goal.is_fixed-returns-in-AnyOrNone
+is_fixed-returns-in-AnyOrNone t c = λ yes. subst IsFixed (sym c.in-AnyOrNone.is) fixed_many
 
 pub is_fixed-returns-in-Range : goal.is_fixed-returns-in-Range
 is_fixed-returns-in-Range t c = λ yes. subst IsFixed (sym c.in-Range.is) (fixed_range c.in-Range.field-0 c.in-Range.field-1)

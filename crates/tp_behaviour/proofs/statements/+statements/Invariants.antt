@@ -3,7 +3,7 @@ use Rattle.std.proofs.Common.{◌≡◌}
 use Rattle.tp_behaviour.specs.Outcomes.{HoldsAsDeclared}
 use Rattle.tp_behaviour.specs.Stations.{IsManned, IsSame, role_of}
 use Rattle.tp_behaviour.proofs.Executed.{Passed}
-use Rattle.tp_behaviour.proofs.Turned.{Made}
+use Rattle.tp_behaviour.proofs.Turned.{TurnsMade}
 use Rattle.tp_behaviour.proofs.statements.+statements.Given as goal
 
 -- the statements so far were carried out
@@ -23,5 +23,5 @@ invariant-turns-loop-value g l = record {
   same : IsSame l.initial.station l.station;
   held : HoldsAsDeclared l.post l.state;
   turns : l.state.turns.items ≡ l.initial.state.turns.items;
-  made : Made l.post l.first l.value l.bound l.block l.initial.station l.initial.state l.station l.state;
+  made : TurnsMade l.post l.first l.value l.bound l.block l.initial.station l.initial.state l.station l.state;
 }

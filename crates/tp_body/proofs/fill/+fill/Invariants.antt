@@ -1,3 +1,4 @@
+-- What the values so far come to is made, in their order.
 use Rattle.std.proofs.Common.{◌≡◌, map, take}
 use Rattle.tp_body.specs.Fills.{filled}
 use Rattle.tp_body.proofs.fill.+fill.Given as goal

@@ -1,3 +1,4 @@
+-- What the templates so far come to is made, in their order.
 use Rattle.std.proofs.Common.{◌≡◌, map, take}
 use Rattle.tp_body.specs.Fills.{filled_template}
 use Rattle.tp_body.proofs.fill.+template.Given as goal

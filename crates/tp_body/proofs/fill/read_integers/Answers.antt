@@ -1,3 +1,4 @@
+-- The next integer has 64 bits too, and at the end none is left.
 use Rattle.std.proofs.Common.{pos, get_or, FitsSigned, SFits, w64, All, rules, subst}
 use Rattle.std.proofs.lemmas.List.{take_all}
 use Rattle.std.proofs.lemmas.List.Elements.{All-more}

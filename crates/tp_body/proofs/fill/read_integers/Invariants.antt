@@ -1,3 +1,4 @@
+-- Each of the integers so far is known to have 64 bits.
 use Rattle.std.proofs.Common.{take, FitsSigned, w64, All}
 use Rattle.tp_body.proofs.fill.read_integers.Given as goal
 

@@ -1,3 +1,4 @@
+-- What the values so far stand for is made, each in its turn or at the place of its field.
 use Rattle.std.proofs.Common.{◌≡◌, length, take, string_bytes}
 use Rattle.tp_name.specs.Named.{texts}
 use Rattle.tp_body.specs.Messages.{AreElements, AreFields, IsValue}
@@ -13,5 +14,6 @@ invariant-resolve_fields-loop-index l = AreFields l.context.types.now (texts l.c
 abbrev pub invariant-resolve_named-loop-index : goal.invariant-resolve_named-loop-index
 invariant-resolve_named-loop-index l = record {
   as_many : length l.made.items ≡ length l.fields;
-  filled : Filled (λ x. string_bytes x.name) (λ f x. IsValue l.context.types.now (texts l.context.turns.now) f.ty x.value) l.entries l.fields l.places.items l.index l.made.items;
+  filled : Filled (λ x. string_bytes x.name) (λ f x. IsValue l.context.types.now (texts l.context.turns.now) f.ty x.value)
+      l.entries l.fields l.places.items l.index l.made.items;
 }

@@ -1,3 +1,4 @@
+-- The names by which the values so far are given are listed, in their order.
 use Rattle.std.proofs.Common.{◌≡◌, map, take, string_bytes}
 use Rattle.tp_name.specs.Named.{texts}
 use Rattle.tp_body.proofs.messages.entry_names.Given as goal

@@ -1,3 +1,4 @@
+-- There are as many values as were counted so far.
 use Rattle.std.proofs.Common.{◌≡◌, length}
 use Rattle.tp_body.proofs.messages.room.Given as goal
 

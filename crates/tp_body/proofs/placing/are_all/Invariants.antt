@@ -1,3 +1,4 @@
+-- The places so far are taken.
 use Rattle.std.proofs.Common.{◌≡◌, ℕ, ◌<◌, true, slice_get, Some}
 use Rattle.tp_body.proofs.placing.are_all.Given as goal
 

@@ -1,3 +1,4 @@
+-- Each entry so far stands at a field of its name, and each place that is taken has an entry.
 use Rattle.std.proofs.Common.{◌≡◌, ℕ, true, slice_get, Some, length, Contains}
 use Rattle.tp_name.specs.Named.{texts}
 use Rattle.tp_body.specs.Placing.{field_names}

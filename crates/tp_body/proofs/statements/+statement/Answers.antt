@@ -1,3 +1,4 @@
+-- The next statement or branch stands for what is made; a `for` adds its variable to those around.
 use Rattle.std.proofs.Common.{arith, ◌≡◌, [], ◌∷◌, ◌++◌, ap, sym, ◌∙◌, string_bytes}
 use Rattle.tp_syntax.specs.declared.tree.Counted.{out-Counted}
 use Rattle.tp_name.specs.Named.{texts}
@@ -11,14 +12,16 @@ resolve_block-loop-statement-init t c = rw c.new-made.ensures (no_statement (tex
 
 pub resolve_block-loop-statement-preserved : goal.resolve_block-loop-statement-preserved
 resolve_block-loop-statement-preserved t c =
-    rw c.in_ok-push.ensures.ok (block_more _ _ _ c.args.block.now c.loop-statement.statement-index c.statement-item.result c.loop-statement.made c.in_ok-one.one (omega arith) c.statement-item.is c.loop-statement.invariant c.in_ok-one.ensures)
+    rw c.in_ok-push.ensures.ok (block_more _ _ _ c.args.block.now c.loop-statement.statement-index c.statement-item.result c.loop-statement.made c.in_ok-one.one
+    (omega arith) c.statement-item.is c.loop-statement.invariant c.in_ok-one.ensures)
 
 pub resolve_branches-loop-branch-init : goal.resolve_branches-loop-branch-init
 resolve_branches-loop-branch-init t c = rw c.new-made.ensures (no_branch (texts c.args.turns.now))
 
 pub resolve_branches-loop-branch-preserved : goal.resolve_branches-loop-branch-preserved
 resolve_branches-loop-branch-preserved t c =
-    rw c.in_ok-push.ensures.ok (branches_more _ _ _ c.args.branches.now c.loop-branch.branch-index c.branch-item.result c.loop-branch.made c.in_ok-one.one (omega arith) c.branch-item.is c.loop-branch.invariant c.in_ok-one.ensures)
+    rw c.in_ok-push.ensures.ok (branches_more _ _ _ c.args.branches.now c.loop-branch.branch-index c.branch-item.result c.loop-branch.made c.in_ok-one.one
+    (omega arith) c.branch-item.is c.loop-branch.invariant c.in_ok-one.ensures)
 
 pub resolve_branch-returns : goal.resolve_branch-returns
 resolve_branch-returns t c = branch (texts c.args.turns.now) c.args.branch.now _ c.in_ok-receiving.ensures c.in_ok-block.ensures
@@ -26,8 +29,12 @@ resolve_branch-returns t c = branch (texts c.args.turns.now) c.args.branch.now _
 pub resolve_statement-returns-in_ok-block-in-For : goal.resolve_statement-returns-in_ok-block-in-For
 resolve_statement-returns-in_ok-block-in-For t c =
     let looped = out-Counted c.in-For.looped in
-    let new : IsNew c.args.scope.now c.args.variables.now (texts c.args.turns.now) (string_bytes looped.turns.name) = rw c.as_str-name.ensures.value at c.is_new.ensures c.if-not-is_new.false in
+    let new : IsNew c.args.scope.now c.args.variables.now (texts c.args.turns.now) (string_bytes looped.turns.name) =
+    rw c.as_str-name.ensures.value at c.is_new.ensures c.if-not-is_new.false in
     let row : texts c.deref-in-For.result.now ≡ texts c.args.turns.now ++ string_bytes looped.turns.name ∷ [] =
     ap texts c.deref-in-For.ensures.value ∙ c.in_ok-inside-in-For.ensures ∙ ap (λ x. texts c.args.turns.now ++ x ∷ []) c.as_str-name.ensures.value in
-    let inside : IsBlock c.args.scope.now c.args.variables.now (texts c.args.turns.now ++ string_bytes looped.turns.name ∷ []) looped.block.items c.in_ok-block-in-For.block = rw (sym row, sym c.deref-in-For-2.ensures.value) c.in_ok-block-in-For.ensures in
-    rw c.counted.ensures (statement_for c.args.scope.now c.args.variables.now (texts c.args.turns.now) c.args.action.now c.in-For.looped c.in_ok-block-in-For.block c.in-For.is new inside)
+    let inside : IsBlock c.args.scope.now c.args.variables.now (texts c.args.turns.now ++ string_bytes looped.turns.name ∷ [])
+    looped.block.items c.in_ok-block-in-For.block =
+    rw (sym row, sym c.deref-in-For-2.ensures.value) c.in_ok-block-in-For.ensures in
+    rw c.counted.ensures (statement_for c.args.scope.now c.args.variables.now (texts c.args.turns.now) c.args.action.now c.in-For.looped
+    c.in_ok-block-in-For.block c.in-For.is new inside)

@@ -1,3 +1,4 @@
+-- The statements or branches so far stand for what is made of them.
 use Rattle.std.proofs.Common.{take}
 use Rattle.tp_name.specs.Named.{texts}
 use Rattle.tp_body.specs.Bodies.{IsBlock, AreBranches}

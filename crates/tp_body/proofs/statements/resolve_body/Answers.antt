@@ -1,3 +1,4 @@
+-- The statements of a body speak of no loop variable from outside, and they can be played.
 use Rattle.std.proofs.Common.{arith}
 use Rattle.tp_body.proofs.Closed.{block_closed}
 use Rattle.tp_body.proofs.Played.{block_played}

@@ -1,3 +1,4 @@
+-- What the templates so far stand for is made, each in its turn or at the place of its field.
 use Rattle.std.proofs.Common.{◌≡◌, length, take, string_bytes}
 use Rattle.tp_name.specs.Named.{texts}
 use Rattle.tp_body.specs.Messages.{AreMembers, AreElementTemplates, AreFieldTemplates, IsTemplate}
@@ -5,15 +6,18 @@ use Rattle.tp_body.proofs.Entries.{Filled}
 use Rattle.tp_body.proofs.templates.+template.Given as goal
 
 abbrev pub invariant-resolve_element_templates-loop-member : goal.invariant-resolve_element_templates-loop-member
-invariant-resolve_element_templates-loop-member l = AreElementTemplates l.context.types.now (texts l.context.turns.now) l.ty (take l.member-index l.members) l.made
+invariant-resolve_element_templates-loop-member l =
+    AreElementTemplates l.context.types.now (texts l.context.turns.now) l.ty (take l.member-index l.members) l.made
 
 abbrev pub invariant-resolve_field_templates-loop-index : goal.invariant-resolve_field_templates-loop-index
-invariant-resolve_field_templates-loop-index l = AreFieldTemplates l.context.types.now (texts l.context.turns.now) (take l.index l.fields) (take l.index l.members) l.made
+invariant-resolve_field_templates-loop-index l =
+    AreFieldTemplates l.context.types.now (texts l.context.turns.now) (take l.index l.fields) (take l.index l.members) l.made
 
 abbrev pub invariant-resolve_named_templates-loop-index : goal.invariant-resolve_named_templates-loop-index
 invariant-resolve_named_templates-loop-index l = record {
   as_many : length l.made.items ≡ length l.fields;
-  filled : Filled (λ x. string_bytes x.name) (λ f x. IsTemplate l.context.types.now (texts l.context.turns.now) f.ty x.template) l.entries l.fields l.places.items l.index l.made.items;
+  filled : Filled (λ x. string_bytes x.name) (λ f x. IsTemplate l.context.types.now (texts l.context.turns.now) f.ty x.template)
+      l.entries l.fields l.places.items l.index l.made.items;
 }
 
 abbrev pub invariant-resolve_members-loop-member : goal.invariant-resolve_members-loop-member

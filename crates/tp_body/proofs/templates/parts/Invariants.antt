@@ -1,3 +1,4 @@
+-- Each character of the pattern so far has its part.
 use Rattle.std.proofs.Common.{◌≡◌, map, take}
 use Rattle.tp_body.specs.Messages.{part_of}
 use Rattle.tp_body.proofs.templates.parts.Given as goal

@@ -1,3 +1,4 @@
+-- There are as many templates as were counted so far.
 use Rattle.std.proofs.Common.{◌≡◌, length}
 use Rattle.tp_body.proofs.templates.room.Given as goal
 

@@ -1,3 +1,4 @@
+-- No parameter has the name of the next port, and at the end there is no other.
 use Rattle.std.proofs.Common.{◌≡◌, arith, ap, sym, ◌∙◌, option_map, slice_get, Some, string_bytes}
 use Rattle.std.proofs.lemmas.List.{length-map}
 use Rattle.std.proofs.lemmas.Option.{slice_get-map, slice_get_within}
@@ -10,7 +11,8 @@ loop-place-preserved c =
     let entries = c.args.scope.now.ports.now.ports.entries in
     let here : slice_get (port_names c.args.scope.now.ports.now) c.loop-place.place ≡ Some (string_bytes c.in-Some.name.now) =
     slice_get-map (λ e. string_bytes e.0) entries c.loop-place.place ∙ ap (option_map (λ e. string_bytes e.0)) (sym c.in-Some.ensures.entry) in
-    ports_more (port_names c.args.scope.now.ports.now) c.args.scope.now.parameters.now c.loop-place.place (string_bytes c.in-Some.name.now) here (rw c.as_str.ensures.value at c.in-None.ensures.absent) c.loop-place.invariant
+    ports_more (port_names c.args.scope.now.ports.now) c.args.scope.now.parameters.now c.loop-place.place (string_bytes c.in-Some.name.now) here
+    (rw c.as_str.ensures.value at c.in-None.ensures.absent) c.loop-place.invariant
 
 pub returns : goal.returns
 returns c = λ t k name there.

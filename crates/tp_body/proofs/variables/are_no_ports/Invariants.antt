@@ -1,3 +1,4 @@
+-- No parameter has the name of one of the ports so far.
 use Rattle.std.proofs.Common.{◌≡◌, ℕ, ◌<◌, List, slice_get, Some}
 use Rattle.tp_name.specs.Named.{IsAbsent}
 use Rattle.tp_body.specs.Scoping.{port_names}

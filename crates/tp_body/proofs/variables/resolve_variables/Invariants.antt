@@ -1,3 +1,4 @@
+-- The variables so far hold what their types say, and each had a new name.
 use Rattle.std.proofs.Common.{take}
 use Rattle.tp_body.specs.Bodies.{AreVariables}
 use Rattle.tp_body.proofs.variables.resolve_variables.Given as goal

@@ -1,3 +1,4 @@
+-- Nothing stands beside the port of a component that isn't there.
 use Rattle.std.proofs.Common.{◌∙◌, ap, sym}
 use Rattle.std.specs.Option.{option_copied}
 use Rattle.tp_config.proofs.Places.{links_none}

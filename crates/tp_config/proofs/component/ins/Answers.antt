@@ -1,3 +1,4 @@
+-- A port receives what its port type receives, and one that isn't there receives nothing.
 use Rattle.std.proofs.Common.{◌∙◌, ap, sym, Some, None}
 use Rattle.std.specs.Prelude.{option_map}
 use Rattle.std.specs.Option.{option_copied}

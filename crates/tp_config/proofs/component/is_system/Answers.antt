@@ -1,3 +1,4 @@
+-- The role of its component decides whether a port is one of the test system interface.
 use Rattle.std.proofs.Common.{◌∙◌, ap, sym}
 use Rattle.std.specs.Option.{option_copied}
 use Rattle.tp_config.proofs.Look.{system_some, system_none}

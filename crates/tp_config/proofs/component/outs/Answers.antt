@@ -1,3 +1,4 @@
+-- A port sends what its port type sends, and one that isn't there sends nothing.
 use Rattle.std.proofs.Common.{◌∙◌, ap, sym, Some, None}
 use Rattle.std.specs.Prelude.{option_map}
 use Rattle.std.specs.Option.{option_copied}

@@ -1,3 +1,4 @@
+-- A port has the port type that its component's type declares for it.
 use Rattle.tp_config.proofs.Look.{types_none, types_entry}
 use Rattle.tp_config.proofs.component.port_type.Goals as goal
 

@@ -1,3 +1,4 @@
+-- The components have the names that contracts see.
 use Rattle.std.proofs.Common.{◌∙◌}
 use Rattle.tp_config.proofs.Made.{names_made}
 use Rattle.tp_config.proofs.creating.has_name.Goals as goal

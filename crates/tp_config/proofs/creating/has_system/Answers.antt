@@ -1,3 +1,4 @@
+-- The components have the roles that contracts see.
 use Rattle.std.proofs.Common.{◌∙◌}
 use Rattle.tp_config.proofs.Made.{roles_made}
 use Rattle.tp_config.proofs.creating.has_system.Goals as goal

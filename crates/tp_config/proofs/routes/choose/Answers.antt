@@ -1,3 +1,4 @@
+-- The first port of the component named gives the route to it; with none there is no such route.
 use Rattle.std.proofs.Common.{◌∙◌, sym}
 use Rattle.tp_config.proofs.Finds.{found_to, none_to}
 use Rattle.tp_config.proofs.routes.choose.Goals as goal

@@ -1,3 +1,4 @@
+-- The routes to the ports passed so far are there.
 use Rattle.std.proofs.Common.{◌≡◌, map}
 use Rattle.tp_config.specs.Links.{routes_kept}
 use Rattle.tp_config.specs.Shape.{links_of}

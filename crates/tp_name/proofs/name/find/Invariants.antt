@@ -1,3 +1,4 @@
+-- The name is not among those that were looked at.
 use Rattle.std.proofs.Common.{◌≢◌, ℕ, ◌<◌, slice_get, Some}
 use Rattle.tp_name.specs.Named.{texts}
 use Rattle.tp_name.proofs.name.find.Given as goal

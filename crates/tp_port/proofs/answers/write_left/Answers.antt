@@ -1,3 +1,4 @@
+-- One more entry of the queue stands in the text.
 use Rattle.tp_port.specs.Replay.{entry_text}
 use Rattle.tp_port.proofs.Entries.{text_next}
 use Rattle.tp_port.proofs.answers.write_left.Goals as goal

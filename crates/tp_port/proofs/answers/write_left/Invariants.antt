@@ -1,3 +1,4 @@
+-- As many entries of the queue stand in the text as there were turns.
 use Rattle.std.proofs.Common.{◌≡◌, ◌++◌, take}
 use Rattle.std.specs.Prelude.{string_bytes}
 use Rattle.std.specs.List.{flat_map}

@@ -1,3 +1,4 @@
+-- Where words follow a verb that has no operands, no line is spelled.
 use Rattle.std.proofs.Common.{ap}
 use Rattle.std.specs.Option.{option_copied}
 use Rattle.tp_port.specs.Line.{words_after}

@@ -1,3 +1,4 @@
+-- Bytes that are ASCII are text.
 use Rattle.std.proofs.lemmas.Str.{IsUtf8-from_ascii}
 use Rattle.tp_port.proofs.command.text_of.Goals as goal
 

@@ -1,3 +1,4 @@
+-- The decimal form of an integer is ASCII, and is read as that integer.
 use Rattle.std.proofs.Common.{◌∙◌, ap, sym, subst, List, ℕ}
 use Rattle.std.specs.Str.{IsAscii}
 use Rattle.std.proofs.lemmas.Bool.{false≢true}

@@ -1,3 +1,4 @@
+-- The first line ends at the first byte 10, and is the whole text where there is none.
 use Rattle.std.proofs.Common.{sym, ◌∙◌}
 use Rattle.tp_port.proofs.Splits.{line_at, line_whole}
 use Rattle.tp_port.proofs.cut.first_line.Goals as goal

@@ -1,3 +1,4 @@
+-- The first word ends at the first space, and is the whole line where there is none.
 use Rattle.std.proofs.Common.{sym, ◌∙◌}
 use Rattle.tp_port.proofs.Splits.{word_at, word_whole}
 use Rattle.tp_port.proofs.cut.first_word.Goals as goal

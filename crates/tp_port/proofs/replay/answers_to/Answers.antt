@@ -1,3 +1,4 @@
+-- Each line is carried out and answered, and with the last the whole text is.
 use Rattle.std.proofs.Common.{◌≡◌, ◌∙◌, arith, length}
 use Rattle.std.proofs.lemmas.Bool.Decides.{nat_tests}
 use Rattle.tp_port.proofs.Judging.{Goes-more, Goes-end}

@@ -1,3 +1,4 @@
+-- The answers so far, and then those to the rest, are the answers to the whole text.
 use Rattle.std.proofs.Common.{◌-◌, ◌≤◌, length}
 use Rattle.std.specs.Prelude.{string_bytes}
 use Rattle.tp_port.specs.Carried.{IsWithin, stage_of}

@@ -1,3 +1,4 @@
+-- Where only the writing failed, all lines of the text are good.
 use Rattle.tp_port.proofs.Judging.{says_good}
 use Rattle.tp_port.proofs.replay.replay_text.Goals as goal
 

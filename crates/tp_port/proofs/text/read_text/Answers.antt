@@ -1,3 +1,4 @@
+-- Each read takes more off the front of what the reader has, and a failed one takes nothing.
 use Rattle.std.proofs.Common.{Some, rules, length-take-le, sym, subst}
 use Rattle.std.proofs.lemmas.List.{places}
 use Rattle.tp_port.specs.Reading.{EndsAt}
@@ -12,5 +13,8 @@ loop-size-preserved g c =
 
 pub returns-in-Err-clause-taken : goal.returns-in-Err-clause-taken
 returns-in-Err-clause-taken g c =
-    let long = length-take-le c.loop-size.size c.loop-size.text.items (search (rules, places)) in
-    (_, Consumes-kept _ _ _ _ c.loop-size.invariant.3 c.in-Err.ensures.kept, subst (EndsAt (Some c.in-Err.fault)) (sym long) (ends_before _ _ c.loop-size-test.true c.in-Err.ensures.fault c.in-Err.ensures.full))
+    let long = length-take-le c.loop-size.size c.loop-size.text.items (search (rules, places)) in (
+      _,
+      Consumes-kept _ _ _ _ c.loop-size.invariant.3 c.in-Err.ensures.kept,
+      subst (EndsAt (Some c.in-Err.fault)) (sym long) (ends_before _ _ c.loop-size-test.true c.in-Err.ensures.fault c.in-Err.ensures.full),
+    )

@@ -5,7 +5,9 @@ use Rattle.tp_port.specs.Reading.{IsRoom}
 use Rattle.tp_port.proofs.text.read_text.Given as goal
 
 abbrev pub invariant-loop-size : goal.invariant-loop-size
-invariant-loop-size g l = (l.size ≤ vec_len l.text) × (vec_len l.text ≤ 1048577) × IsRoom (vec_len l.text) × Consumes (g.R.Read.remaining l.initial.reader) (g.R.Read.remaining l.reader) (take l.size l.text.items)
+invariant-loop-size g l =
+    (l.size ≤ vec_len l.text) × (vec_len l.text ≤ 1048577) × IsRoom (vec_len l.text)
+    × Consumes (g.R.Read.remaining l.initial.reader) (g.R.Read.remaining l.reader) (take l.size l.text.items)
 
 abbrev pub decreases-loop-size : goal.decreases-loop-size
 decreases-loop-size g l = 1048577 - l.size

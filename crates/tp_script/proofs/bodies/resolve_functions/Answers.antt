@@ -1,3 +1,4 @@
+-- The next definition is no function, or its body stands behind the others.
 use Rattle.std.proofs.Common.{arith, sym, subst}
 use Rattle.std.specs.List.{AllZip}
 use Rattle.tp_script.specs.Parts.{known_in}
@@ -7,11 +8,13 @@ use Rattle.tp_script.proofs.bodies.resolve_functions.Goals as goal
 
 pub loop-definition-preserved-in_default : goal.loop-definition-preserved-in_default
 loop-definition-preserved-in_default c =
-    no_function (IsFunctionBody (known_in c.args.prepared.now)) c.args.definitions.now c.loop-definition.bodies.items c.loop-definition.definition-index c.definition-item.result (omega arith) c.definition-item.is
+    no_function (IsFunctionBody (known_in c.args.prepared.now)) c.args.definitions.now c.loop-definition.bodies.items c.loop-definition.definition-index
+    c.definition-item.result (omega arith) c.definition-item.is
     c.loop-definition.invariant c.in_default.ensures
 
 pub loop-definition-preserved : goal.loop-definition-preserved
 loop-definition-preserved c =
     subst (AllZip (IsFunctionBody (known_in c.args.prepared.now)) _) (sym c.in_ok-push.ensures.items)
-    (one_function (IsFunctionBody (known_in c.args.prepared.now)) c.args.definitions.now c.loop-definition.bodies.items c.loop-definition.definition-index c.definition-item.result (omega arith) c.definition-item.is
+    (one_function (IsFunctionBody (known_in c.args.prepared.now)) c.args.definitions.now c.loop-definition.bodies.items c.loop-definition.definition-index
+    c.definition-item.result (omega arith) c.definition-item.is
     c.loop-definition.invariant c.in-Some.function.now c.in_ok-body.body c.in-Some.ensures c.in_ok-body.ensures)

@@ -1,3 +1,4 @@
+-- Each function among the definitions so far has its body, in the order of the text.
 use Rattle.std.proofs.Common.{take}
 use Rattle.std.specs.List.{AllZip}
 use Rattle.tp_setup.specs.Definitions.{among, function_of}

@@ -1,3 +1,4 @@
+-- What the passes made is the test case of a module that obeys the rules, and can be executed.
 use Rattle.std.proofs.Common.{◌≤◌, sym, subst}
 use Rattle.std.specs.List.{AllZip}
 use Rattle.tp_setup.specs.Definitions.{functions}

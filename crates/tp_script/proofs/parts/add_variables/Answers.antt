@@ -1,3 +1,4 @@
+-- The component of the next variable has the next number.
 use Rattle.std.proofs.Common.{◌∙◌, ap, map}
 use Rattle.std.proofs.lemmas.List.{map_push}
 use Rattle.tp_script.proofs.Numbering.{numbers_more}
@@ -5,5 +6,6 @@ use Rattle.tp_script.proofs.parts.add_variables.Goals as goal
 
 pub loop-place-preserved : goal.loop-place-preserved
 loop-place-preserved c =
-    numbers_more c.loop-place.place (map (λ x. x.0) c.args.references.now.items) (map (λ x. x.0) c.loop-place.references.items) (map (λ x. x.0) c.push.new.self.items) c.loop-place.invariant
+    numbers_more c.loop-place.place (map (λ x. x.0) c.args.references.now.items) (map (λ x. x.0) c.loop-place.references.items)
+    (map (λ x. x.0) c.push.new.self.items) c.loop-place.invariant
     (ap (map (λ x. x.0)) c.in_ok-push.ensures.items ∙ map_push (λ x. x.0) c.loop-place.references.items _)

@@ -1,3 +1,4 @@
+-- The components of the variables so far stand behind the others, numbered from 1.
 use Rattle.std.proofs.Common.{map}
 use Rattle.tp_script.specs.Duties.{Numbers}
 use Rattle.tp_script.proofs.parts.add_variables.Given as goal

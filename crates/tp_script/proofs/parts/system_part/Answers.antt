@@ -1,3 +1,4 @@
+-- The test system interface has the body of `sut`, or none where no function has that name.
 use Rattle.std.proofs.Common.{◌+◌, ◌∙◌, [], ap, map, sym, subst, length, refl}
 use Rattle.tp_script.specs.Duties.{AreReferences}
 use Rattle.tp_script.specs.Parts.{system, nobody}

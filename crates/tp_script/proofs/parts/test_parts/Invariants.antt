@@ -1,3 +1,4 @@
+-- `mtc` and the components so far have their parts.
 use Rattle.std.proofs.Common.{◌≡◌, ◌+◌, length}
 use Rattle.tp_script.specs.Parts.{AreParts}
 use Rattle.tp_script.proofs.parts.test_parts.Given as goal

@@ -1,3 +1,4 @@
+-- The sizes of the bodies so far are listed, each up to where counting stops.
 use Rattle.std.proofs.Common.{◌≡◌, map, take}
 use Rattle.tp_body.specs.Sizes.{capped, size_of_body}
 use Rattle.tp_script.proofs.total.count_bodies.Given as goal

@@ -1,3 +1,4 @@
+-- The sizes of what the components so far do are summed, up to where counting stops.
 use Rattle.std.proofs.Common.{◌≡◌, map, sum, take}
 use Rattle.tp_body.specs.Sizes.{capped}
 use Rattle.tp_script.specs.Parts.{size_of_part}

@@ -1,3 +1,4 @@
+-- The components of the statements so far are made, and their variables are sound.
 use Rattle.std.proofs.Common.{◌≡◌, map, take}
 use Rattle.tp_name.specs.Tables.{AreDistinct}
 use Rattle.tp_setup.specs.Components.{AddsAll, HasSoundVariables, created, creations, variable}

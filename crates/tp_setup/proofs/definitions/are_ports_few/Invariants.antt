@@ -1,3 +1,4 @@
+-- The ports of the declarations so far are counted, and they are at most 64.
 use Rattle.std.proofs.Common.{◌≡◌, ◌≤◌, length, take}
 use Rattle.tp_setup.specs.Definitions.{declared_ports}
 use Rattle.tp_setup.proofs.definitions.are_ports_few.Given as goal

@@ -1,3 +1,4 @@
+-- A component type is refused for an unknown port type first, and else for too many ports.
 use Rattle.std.proofs.Common.{◌≡◌, ◌≤◌, ◌∙◌, ℕ, Bool, true, false, List, arith, inl, inr, length, sym}
 use Rattle.tp_refusal.specs.declared.refusal.Refusal.TheVariants.{Unknown, Limit}
 use Rattle.tp_token.specs.declared.fault.ScriptFault.{ScriptFault}

@@ -1,3 +1,4 @@
+-- The definitions so far obey the rules.
 use Rattle.std.proofs.Common.{take, option_map, string_bytes}
 use Rattle.tp_setup.specs.Sorted.{AreSound}
 use Rattle.tp_setup.proofs.definitions.check_definitions.Given as goal

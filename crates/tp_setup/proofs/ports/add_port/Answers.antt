@@ -1,3 +1,4 @@
+-- A port whose name is new goes behind the others, and receives and sends what its type does.
 use Rattle.std.proofs.Common.{◌++◌, ◌∷◌, [], ◌∙◌, Contains, ap, map, string_bytes, subst, sym}
 use Rattle.tp_config.specs.Shape.{decl_of, ports_of}
 use Rattle.tp_setup.specs.Definitions.{declared}
@@ -14,4 +15,5 @@ returns c =
     ap (map decl_of) c.in_ok-insert.ensures.entries
     ∙ port_added es c.in_ok-text.text c.in_ok-shared.shared new
     ∙ ap (λ d. map decl_of es ++ d ∷ [])
-    (same_declaration (string_bytes c.in_ok-text.text) (declared c.args.name.now) c.in_ok-shared.shared.ins c.args.port_type.now.ins c.in_ok-shared.shared.outs c.args.port_type.now.outs named c.in_ok-shared.ensures.0 c.in_ok-shared.ensures.1)
+    (same_declaration (string_bytes c.in_ok-text.text) (declared c.args.name.now) c.in_ok-shared.shared.ins c.args.port_type.now.ins c.in_ok-shared.shared.outs
+    c.args.port_type.now.outs named c.in_ok-shared.ensures.0 c.in_ok-shared.ensures.1)

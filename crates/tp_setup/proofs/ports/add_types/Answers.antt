@@ -1,3 +1,4 @@
+-- Before the first name nothing is added, and the next adds the type that it names.
 use Rattle.std.proofs.Common.{◌++◌, ◌∷◌, [], arith, append-nil, subst, sym, take}
 use Rattle.std.specs.List.{AllZip}
 use Rattle.std.proofs.lemmas.List.{take_all}
@@ -11,8 +12,12 @@ loop-name-init c = λ before h. subst (λ l. AllZip (Names c.args.types.now) l c
 pub loop-name-preserved : goal.loop-name-preserved
 loop-name-preserved c = λ before h.
     rw c.in_ok-push.ensures.ok
-    (subst (λ l. AllZip (Names c.args.types.now) l (c.loop-name.made ++ c.in-Some.ty ∷ [])) (behind_more before c.args.names.now c.loop-name.name-index c.name-item.result (omega arith) c.name-item.is)
-    (zip_push (Names c.args.types.now) (before ++ take c.loop-name.name-index c.args.names.now) c.loop-name.made c.name-item.result c.in-Some.ty (c.loop-name.invariant before h) (sym c.in-Some.ensures)))
+    (subst (λ l. AllZip (Names c.args.types.now) l (c.loop-name.made ++ c.in-Some.ty ∷ []))
+    (behind_more before c.args.names.now c.loop-name.name-index c.name-item.result (omega arith) c.name-item.is)
+    (zip_push (Names c.args.types.now) (before ++ take c.loop-name.name-index c.args.names.now) c.loop-name.made c.name-item.result c.in-Some.ty
+    (c.loop-name.invariant before h) (sym c.in-Some.ensures)))
 
 pub returns : goal.returns
-returns c = λ before h. subst (λ l. AllZip (Names c.args.types.now) (before ++ l) c.loop-name.made) (take_all c.loop-name.name-index c.args.names.now (omega arith)) (c.loop-name.invariant before h)
+returns c =
+    λ before h. subst (λ l. AllZip (Names c.args.types.now) (before ++ l) c.loop-name.made) (take_all c.loop-name.name-index c.args.names.now (omega arith))
+    (c.loop-name.invariant before h)

@@ -1,3 +1,4 @@
+-- The types of the names so far stand behind those that were there.
 use Rattle.std.proofs.Common.{take}
 use Rattle.tp_setup.specs.Resolved.{Appends}
 use Rattle.tp_setup.proofs.ports.add_types.Given as goal

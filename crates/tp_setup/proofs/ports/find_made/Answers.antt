@@ -1,8 +1,11 @@
-use Rattle.std.proofs.Common.{map, sym}
+-- What was made at the place of the name is that of the port type of this name.
+use Rattle.std.proofs.Common.{sym}
+use Rattle.tp_setup.specs.Sorted.{port_types_in}
 use Rattle.tp_setup.proofs.Made.{made_of}
 use Rattle.tp_setup.proofs.ports.find_made.Goals as goal
 
 pub returns : goal.returns
 returns c =
-    made_of c.args.sorted.now.type_names c.args.sorted.now.port_names (map (λ p. p.now) c.args.sorted.now.ports.items) c.args.made.now c.args.name.now c.in-Some.place c.in-Some-made_at.found.now
+    made_of c.args.sorted.now.type_names c.args.sorted.now.port_names (port_types_in c.args.sorted.now) c.args.made.now c.args.name.now c.in-Some.place
+    c.in-Some-made_at.found.now
     c.requires.names c.requires.lists c.in-Some.ensures.place (sym c.in-Some-made_at.ensures)

@@ -1,3 +1,4 @@
+-- The next port type has the lists of what it receives and sends.
 use Rattle.std.proofs.Common.{arith}
 use Rattle.tp_setup.specs.Resolved.{IsMade}
 use Rattle.tp_setup.proofs.Steps.{zip_map_more}
@@ -6,5 +7,6 @@ use Rattle.tp_setup.proofs.ports.make_port_types.Goals as goal
 pub loop-port_type-preserved : goal.loop-port_type-preserved
 loop-port_type-preserved c =
     rw c.in_ok-push.ensures.items
-    (zip_map_more (IsMade c.args.types.now) (λ p. p.now) c.args.port_types.now c.loop-port_type.made.items c.loop-port_type.port_type-index c.port_type-item.result c.in_ok-one.one (omega arith) c.port_type-item.is
+    (zip_map_more (IsMade c.args.types.now) (λ p. p.now) c.args.port_types.now c.loop-port_type.made.items c.loop-port_type.port_type-index
+    c.port_type-item.result c.in_ok-one.one (omega arith) c.port_type-item.is
     c.loop-port_type.invariant c.in_ok-one.ensures)

@@ -1,3 +1,4 @@
+-- The port types so far have the lists of what they receive and send.
 use Rattle.std.proofs.Common.{map, take}
 use Rattle.std.specs.List.{AllZip}
 use Rattle.tp_setup.specs.Resolved.{IsMade}

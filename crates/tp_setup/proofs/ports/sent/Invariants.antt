@@ -1,3 +1,4 @@
+-- The types are those that the directions so far let out.
 use Rattle.std.proofs.Common.{take}
 use Rattle.std.specs.List.{AllZip, flat_map}
 use Rattle.tp_setup.specs.Resolved.{Names, sent}

@@ -1,3 +1,4 @@
+-- What the passes made and checked over the sorted names holds of the module itself.
 use Rattle.std.proofs.Common.{◌∙◌, ap, map, string_bytes, subst, sym}
 use Rattle.tp_syntax.specs.declared.tree.ComponentType.{ComponentType}
 use Rattle.tp_syntax.specs.declared.tree.Function.{Function}
@@ -10,11 +11,13 @@ use Rattle.tp_setup.proofs.preparing.prepare.Goals as goal
 
 pub configure-requires-clause-components : goal.configure-requires-clause-components
 configure-requires-clause-components c =
-    c.in_ok-case.ensures.defined.sorted.components.names_are ∙ ap (map (λ (x : ComponentType). string_bytes x.name)) (sym c.in_ok-case.ensures.defined.sorted.components.items_are)
+    c.in_ok-case.ensures.defined.sorted.components.names_are
+    ∙ ap (map (λ (x : ComponentType). string_bytes x.name)) (sym c.in_ok-case.ensures.defined.sorted.components.items_are)
 
 pub configure-requires-clause-functions : goal.configure-requires-clause-functions
 configure-requires-clause-functions c =
-    c.in_ok-case.ensures.defined.sorted.functions.names_are ∙ ap (map (λ (x : Function). string_bytes x.name)) (sym c.in_ok-case.ensures.defined.sorted.functions.items_are)
+    c.in_ok-case.ensures.defined.sorted.functions.names_are
+    ∙ ap (map (λ (x : Function). string_bytes x.name)) (sym c.in_ok-case.ensures.defined.sorted.functions.items_are)
 
 pub returns-clause-rules : goal.returns-clause-rules
 returns-clause-rules c =
@@ -26,7 +29,8 @@ returns-clause-rules c =
       types = d.components.items;
       types_are = made.components;
       few_ports = made.few_ports;
-      set_up = subst (λ n. IsSetUp n (map ports_of d.components.items) case c.in_ok-configured.configured.made.config) made.sorted.components.names_are c.in_ok-configured.ensures.config;
+      set_up = subst (λ n. IsSetUp n (map ports_of d.components.items) case c.in_ok-configured.configured.made.config) made.sorted.components.names_are
+          c.in_ok-configured.ensures.config;
     } in
     record {
       case = case;
@@ -54,7 +58,8 @@ returns-clause-made c =
         types = d.components.items;
         types_are = made.components;
         few_ports = made.few_ports;
-        set_up = subst (λ n. IsSetUp n (map ports_of d.components.items) case c.in_ok-configured.configured.made.config) made.sorted.components.names_are c.in_ok-configured.ensures.config;
+        set_up = subst (λ n. IsSetUp n (map ports_of d.components.items) case c.in_ok-configured.configured.made.config) made.sorted.components.names_are
+            c.in_ok-configured.ensures.config;
       };
       variables_are = c.in_ok-configured.ensures.variables;
       starts = subst (λ l. AreStarts l case c.in_ok-configured.configured.starts) made.sorted.functions.items_are c.in_ok-configured.ensures.starts;

@@ -1,3 +1,4 @@
+-- The fields so far are made, in their order.
 use Rattle.std.proofs.Common.{take}
 use Rattle.std.specs.List.{AllZip}
 use Rattle.tp_setup.specs.Resolved.{IsField}

@@ -1,3 +1,4 @@
+-- The types so far are made, each under its own name.
 use Rattle.std.proofs.Common.{map, take}
 use Rattle.std.specs.List.{AllZip}
 use Rattle.tp_setup.specs.Resolved.{IsNamedType}

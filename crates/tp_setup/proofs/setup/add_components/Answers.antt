@@ -1,3 +1,4 @@
+-- First `mtc` is added, and behind it the components of the setup statements.
 use Rattle.tp_setup.proofs.Setting.{adds_main}
 use Rattle.tp_setup.proofs.setup.add_components.Goals as goal
 

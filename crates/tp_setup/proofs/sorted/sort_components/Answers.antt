@@ -1,3 +1,4 @@
+-- A definition of another kind changes nothing, and a component type goes behind the others.
 use Rattle.std.proofs.Common.{◌++◌, ◌∷◌, [], ◌∙◌, ap, arith, map, string_bytes}
 use Rattle.std.proofs.lemmas.List.{map_push}
 use Rattle.tp_setup.specs.Definitions.{component_of}
@@ -6,12 +7,17 @@ use Rattle.tp_setup.proofs.sorted.sort_components.Goals as goal
 
 pub loop-definition-preserved-in_default : goal.loop-definition-preserved-in_default
 loop-definition-preserved-in_default c =
-    same_kind component_of (λ p. string_bytes p.name) c.args.definitions.now c.loop-definition.definition-index c.definition-item.result (omega arith) c.definition-item.is
+    same_kind component_of (λ p. string_bytes p.name) c.args.definitions.now c.loop-definition.definition-index c.definition-item.result (omega arith)
+    c.definition-item.is
     c.loop-definition.names (map (λ x. x.now) c.loop-definition.components.items) c.loop-definition.invariant c.in_default.ensures
 
 pub loop-definition-preserved : goal.loop-definition-preserved
 loop-definition-preserved c =
-    more_kind component_of (λ p. string_bytes p.name) c.args.definitions.now c.loop-definition.definition-index c.definition-item.result (omega arith) c.definition-item.is
-    c.loop-definition.names c.add.new.self (map (λ x. x.now) c.loop-definition.components.items) (map (λ x. x.now) c.push.new.self.items) c.in-Some.component.now c.loop-definition.invariant c.in-Some.ensures
-    (c.in_default-add.ensures.ok ∙ ap (λ l. c.loop-definition.names ++ l ∷ []) (c.defined_name.ensures ∙ component_name c.definition-item.result.defined c.in-Some.component.now c.in-Some.ensures))
+    more_kind component_of (λ p. string_bytes p.name) c.args.definitions.now c.loop-definition.definition-index c.definition-item.result (omega arith)
+    c.definition-item.is
+    c.loop-definition.names c.add.new.self (map (λ x. x.now) c.loop-definition.components.items) (map (λ x. x.now) c.push.new.self.items)
+    c.in-Some.component.now c.loop-definition.invariant c.in-Some.ensures
+    (c.in_default-add.ensures.ok
+    ∙ ap (λ l. c.loop-definition.names ++ l ∷ [])
+    (c.defined_name.ensures ∙ component_name c.definition-item.result.defined c.in-Some.component.now c.in-Some.ensures))
     (ap (map (λ x. x.now)) c.in_ok-push.ensures.items ∙ map_push (λ x. x.now) c.loop-definition.components.items c.in-Some.component)

@@ -1,3 +1,4 @@
+-- The component types so far are sorted out, with their names.
 use Rattle.std.proofs.Common.{map, take}
 use Rattle.tp_setup.specs.Sorted.{ComponentTypes}
 use Rattle.tp_setup.proofs.sorted.sort_components.Given as goal

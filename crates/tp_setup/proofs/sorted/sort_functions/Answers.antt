@@ -1,3 +1,4 @@
+-- A definition of another kind changes nothing, and a function goes behind the others.
 use Rattle.std.proofs.Common.{◌++◌, ◌∷◌, [], ◌∙◌, ap, arith, map, string_bytes}
 use Rattle.std.proofs.lemmas.List.{map_push}
 use Rattle.tp_setup.specs.Definitions.{function_of}
@@ -6,12 +7,17 @@ use Rattle.tp_setup.proofs.sorted.sort_functions.Goals as goal
 
 pub loop-definition-preserved-in_default : goal.loop-definition-preserved-in_default
 loop-definition-preserved-in_default c =
-    same_kind function_of (λ p. string_bytes p.name) c.args.definitions.now c.loop-definition.definition-index c.definition-item.result (omega arith) c.definition-item.is
+    same_kind function_of (λ p. string_bytes p.name) c.args.definitions.now c.loop-definition.definition-index c.definition-item.result (omega arith)
+    c.definition-item.is
     c.loop-definition.names (map (λ x. x.now) c.loop-definition.functions.items) c.loop-definition.invariant c.in_default.ensures
 
 pub loop-definition-preserved : goal.loop-definition-preserved
 loop-definition-preserved c =
-    more_kind function_of (λ p. string_bytes p.name) c.args.definitions.now c.loop-definition.definition-index c.definition-item.result (omega arith) c.definition-item.is
-    c.loop-definition.names c.add.new.self (map (λ x. x.now) c.loop-definition.functions.items) (map (λ x. x.now) c.push.new.self.items) c.in-Some.function.now c.loop-definition.invariant c.in-Some.ensures
-    (c.in_default-add.ensures.ok ∙ ap (λ l. c.loop-definition.names ++ l ∷ []) (c.defined_name.ensures ∙ function_name c.definition-item.result.defined c.in-Some.function.now c.in-Some.ensures))
+    more_kind function_of (λ p. string_bytes p.name) c.args.definitions.now c.loop-definition.definition-index c.definition-item.result (omega arith)
+    c.definition-item.is
+    c.loop-definition.names c.add.new.self (map (λ x. x.now) c.loop-definition.functions.items) (map (λ x. x.now) c.push.new.self.items) c.in-Some.function.now
+    c.loop-definition.invariant c.in-Some.ensures
+    (c.in_default-add.ensures.ok
+    ∙ ap (λ l. c.loop-definition.names ++ l ∷ [])
+    (c.defined_name.ensures ∙ function_name c.definition-item.result.defined c.in-Some.function.now c.in-Some.ensures))
     (ap (map (λ x. x.now)) c.in_ok-push.ensures.items ∙ map_push (λ x. x.now) c.loop-definition.functions.items c.in-Some.function)

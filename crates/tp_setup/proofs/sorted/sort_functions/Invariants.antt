@@ -1,3 +1,4 @@
+-- The functions so far are sorted out, with their names.
 use Rattle.std.proofs.Common.{map, take}
 use Rattle.tp_setup.specs.Sorted.{Functions}
 use Rattle.tp_setup.proofs.sorted.sort_functions.Given as goal

@@ -1,3 +1,4 @@
+-- The port types so far are sorted out, with their names.
 use Rattle.std.proofs.Common.{map, take}
 use Rattle.tp_setup.specs.Sorted.{PortTypes}
 use Rattle.tp_setup.proofs.sorted.sort_ports.Given as goal

@@ -1,3 +1,4 @@
+-- The record and record-of types so far are sorted out, with their names.
 use Rattle.std.proofs.Common.{map, take}
 use Rattle.tp_setup.specs.Sorted.{TypeDefinitions}
 use Rattle.tp_setup.proofs.sorted.sort_types.Given as goal

@@ -1,3 +1,4 @@
+-- The arguments so far name components, each of its parameter's type.
 use Rattle.std.proofs.Common.{map, take}
 use Rattle.std.specs.List.{AllZip}
 use Rattle.tp_setup.specs.Starting.{HasParameterType, IsReference}

@@ -1,3 +1,4 @@
+-- Each component is started once, and `all component.done` is there where there are any.
 use Rattle.std.proofs.Common.{subst}
 use Rattle.tp_name.specs.Tables.{AreDistinct}
 use Rattle.tp_setup.proofs.starting.check_starts.Goals as goal

@@ -1,3 +1,4 @@
+-- A statement that makes no component adds no type, and the next `var` adds its own.
 use Rattle.std.proofs.Common.{◌++◌, ◌∷◌, [], ◌∙◌, ap, arith, map, string_bytes, sym, take}
 use Rattle.std.proofs.lemmas.List.{map_push}
 use Rattle.tp_syntax.specs.declared.tree.Creation.{Creation}
@@ -7,7 +8,9 @@ use Rattle.tp_setup.proofs.starting.component_types.Goals as goal
 
 pub loop-setup-preserved-in_default : goal.loop-setup-preserved-in_default
 loop-setup-preserved-in_default c =
-    c.loop-setup.invariant ∙ ap (λ l. string_bytes c.args.case.now.runs_on ∷ map (λ (c : Creation). string_bytes c.type_name) l) (sym (no_creation c.deref-setup-items.result.now c.loop-setup.setup-index c.setup-item.result (omega arith) c.setup-item.is c.in_default.ensures))
+    c.loop-setup.invariant
+    ∙ ap (λ l. string_bytes c.args.case.now.runs_on ∷ map (λ (c : Creation). string_bytes c.type_name) l)
+    (sym (no_creation c.deref-setup-items.result.now c.loop-setup.setup-index c.setup-item.result (omega arith) c.setup-item.is c.in_default.ensures))
 
 pub loop-setup-preserved : goal.loop-setup-preserved
 loop-setup-preserved c =

@@ -1,3 +1,4 @@
+-- A statement that makes no component needs no start, and the next `var` has one.
 use Rattle.std.proofs.Common.{◌++◌, ◌∷◌, [], arith, map, subst, sym, take}
 use Rattle.std.specs.List.{AllZip}
 use Rattle.std.proofs.lemmas.List.{map_push}
@@ -16,6 +17,10 @@ loop-setup-preserved c =
     let before = creations (take c.loop-setup.setup-index c.args.setups.now) in
     let one = c.in-Some.creation.now in
     let R = IsStartPlace c.args.started.now in
-    rw (one_creation c.args.setups.now c.loop-setup.setup-index c.setup-item.result (omega arith) c.setup-item.is one c.in-Some.ensures, c.in_ok-push.ensures.items)
+    rw (
+      one_creation c.args.setups.now c.loop-setup.setup-index c.setup-item.result (omega arith) c.setup-item.is one c.in-Some.ensures,
+      c.in_ok-push.ensures.items,
+    )
     (subst (λ l. AllZip R l (c.loop-setup.places.items ++ c.in-Some-find.place ∷ [])) (sym (map_push variable before one))
-    (zip_push R (map variable before) c.loop-setup.places.items (variable one) c.in-Some-find.place c.loop-setup.invariant (rw c.as_str.ensures.value at (sym c.in-Some-find.ensures.place))))
+    (zip_push R (map variable before) c.loop-setup.places.items (variable one) c.in-Some-find.place c.loop-setup.invariant
+    (rw c.as_str.ensures.value at (sym c.in-Some-find.ensures.place))))

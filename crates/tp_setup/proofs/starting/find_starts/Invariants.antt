@@ -1,3 +1,4 @@
+-- The places of the starts of the variables so far are found.
 use Rattle.std.proofs.Common.{take}
 use Rattle.std.specs.List.{AllZip}
 use Rattle.tp_setup.specs.Components.{variables}

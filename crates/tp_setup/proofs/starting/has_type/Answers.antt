@@ -1,3 +1,4 @@
+-- Two type names whose characters are the same are one.
 use Rattle.std.proofs.Common.{List, ℕ, Some, ap, sym, ◌∙◌}
 use Rattle.std.proofs.lemmas.Slice.Eq.{bytes_eq-Decides}
 use Rattle.tp_setup.proofs.starting.has_type.Goals as goal

@@ -1,3 +1,4 @@
+-- There are as many starts as components, so where there are any they are waited for.
 use Rattle.std.proofs.Common.{◌≡◌, ◌<◌, ◌∙◌, arith, length, subst, sym}
 use Rattle.std.specs.List.{AllZip}
 use Rattle.std.proofs.lemmas.List.{length-map}
@@ -12,7 +13,9 @@ returns-clause-places c = rw (← c.deref.ensures.value) c.in_ok-places.ensures
 pub returns-clause-done : goal.returns-clause-done
 returns-clause-done c =
     let case = c.args.case.case.now in
-    let all : AllZip (IsStartPlace c.args.started.now) (variables case.setups.items) c.in_ok-places.places.items = rw (← c.deref.ensures.value) c.in_ok-places.ensures in
+    let all : AllZip (IsStartPlace c.args.started.now) (variables case.setups.items) c.in_ok-places.places.items =
+    rw (← c.deref.ensures.value) c.in_ok-places.ensures in
     let count : length c.in_ok-places.places.items ≡ length (creations case.setups.items) =
-    AllZip-long (IsStartPlace c.args.started.now) (variables case.setups.items) c.in_ok-places.places.items all ∙ length-map (creations case.setups.items) variable in
+    AllZip-long (IsStartPlace c.args.started.now) (variables case.setups.items) c.in_ok-places.places.items all
+    ∙ length-map (creations case.setups.items) variable in
     λ some. c.in_ok-check_done.ensures (subst (λ l. 0 < length l) (sym c.deref-2.ensures.value) (omega (arith, some, count)))

@@ -1,3 +1,4 @@
+-- What is started is judged by the types of `mtc` and of the components that are made.
 use Rattle.std.proofs.Common.{◌∙◌, ap}
 use Rattle.tp_setup.specs.Starting.{started_names}
 use Rattle.tp_setup.proofs.starting.start_all.Goals as goal

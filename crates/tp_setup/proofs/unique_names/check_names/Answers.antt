@@ -1,3 +1,4 @@
+-- No two definitions of the module have one name, nor any two names within a definition.
 use Rattle.std.proofs.Common.{ap, map, subst, All}
 use Rattle.tp_syntax.specs.declared.tree.Definition.{Definition}
 use Rattle.tp_name.specs.Tables.{AreDistinct}

@@ -1,3 +1,4 @@
+-- The names of the ports so far are added, and no two are equal.
 use Rattle.std.proofs.Common.{◌≡◌, ◌++◌, take}
 use Rattle.tp_name.specs.Tables.{AreDistinct}
 use Rattle.tp_setup.specs.Definitions.{declared_ports}

@@ -1,3 +1,4 @@
+-- The next definition has a new name and none twice in it, and is a test case or not.
 use Rattle.std.proofs.Common.{◌++◌, ◌∷◌, [], ◌∙◌, ap, arith, map, sym, take, subst, All}
 use Rattle.std.proofs.lemmas.List.{map_push, take_all}
 use Rattle.std.specs.Option.{option_to_list}
@@ -20,7 +21,8 @@ loop-definition-preserved c =
       distinct = c.in_ok-check_name.ensures.distinct;
       case = kept_more (λ (d : Definition). case_of d.defined) items i x (omega arith) c.definition-item.is
           ∙ ap (λ l. l ++ option_to_list (case_of x.defined)) c.loop-definition.invariant.case ∙ sym c.in_ok-case.ensures;
-      inner = all_more (λ (d : Definition). AreDistinct (inner_names d.defined)) items i x (omega arith) c.definition-item.is c.loop-definition.invariant.inner c.in_ok-check_name.ensures.inner;
+      inner = all_more (λ (d : Definition). AreDistinct (inner_names d.defined)) items i x (omega arith) c.definition-item.is c.loop-definition.invariant.inner
+          c.in_ok-check_name.ensures.inner;
     }
 
 pub returns-clause-case : goal.returns-clause-case
@@ -30,9 +32,11 @@ returns-clause-case c =
 pub returns-clause-names : goal.returns-clause-names
 returns-clause-names c =
     subst AreDistinct
-    (c.loop-definition.invariant.names ∙ ap (map (λ (d : Definition). name_of d.defined)) (take_all c.loop-definition.definition-index c.args.definitions.now (omega arith)))
+    (c.loop-definition.invariant.names
+    ∙ ap (map (λ (d : Definition). name_of d.defined)) (take_all c.loop-definition.definition-index c.args.definitions.now (omega arith)))
     c.loop-definition.invariant.distinct
 
 pub returns-clause-inner : goal.returns-clause-inner
 returns-clause-inner c =
-    subst (All (λ (d : Definition). AreDistinct (inner_names d.defined))) (take_all c.loop-definition.definition-index c.args.definitions.now (omega arith)) c.loop-definition.invariant.inner
+    subst (All (λ (d : Definition). AreDistinct (inner_names d.defined))) (take_all c.loop-definition.definition-index c.args.definitions.now (omega arith))
+    c.loop-definition.invariant.inner

@@ -1,3 +1,4 @@
+-- No name so far is given twice, and what was found is the only test case so far, if any.
 use Rattle.std.proofs.Common.{◌≡◌, map, take, All}
 use Rattle.tp_syntax.specs.declared.tree.Definition.{Definition}
 use Rattle.tp_name.specs.Tables.{AreDistinct}

@@ -1,6 +1,7 @@
+-- The next piece is cut off behind the others, and a fault there is the first in the text.
 use Rattle.std.proofs.Common.{◌≡◌, ℕ, ◌+◌, ◌≤◌, List, [], ◌∷◌, ◌++◌, length, map, sym, ap, subst, ◌∙◌, arith, Option}
 use Rattle.std.proofs.lemmas.List.{nil_from_length}
-use Rattle.tp_token.specs.Lexeme.{Lexeme, lexeme_of, line_of, Line}
+use Rattle.tp_token.specs.Lexeme.{Lexeme, lexeme_of, line_of, PlacedLexeme}
 use Rattle.std.specs.Option.{option_map}
 use Rattle.tp_token.specs.Cut.{piece_bytes, newlines, Cuts, placed, token_of, tokens_in, line_after}
 use Rattle.tp_token.proofs.Cutting.{line_after_push, tokens_in_push, cut_more, within_more}
@@ -27,13 +28,16 @@ pieces-preserved c =
     let front : c.split_at.result.0.now ≡ piece_bytes h.piece = c.split_at.ensures.front ∙ sym h.spelled in
     record {
       front = inv.front ++ h.piece ∷ [];
-      cut = subst (λ (x : List ℕ). Cuts (inv.front ++ h.piece ∷ []) c.args.text.now x) (sym c.split_at.ensures.back) (cut_more c.pieces.rest.now c.args.text.now (option_map lexeme_of c.in_ok-found.found) c.in_ok-found.size inv.front h inv.cut);
-      limits = rw c.in_ok-add.ensures.added (within_more (map line_of c.pieces.tokens.items) (option_map lexeme_of c.in_ok-found.found) c.pieces.line inv.limits c.in_ok-found.ensures.limits);
-      tokens = c.in_ok-add.ensures.added ∙ ap (λ (x : List Line). x ++ placed (option_map lexeme_of c.in_ok-found.found) c.pieces.line) inv.tokens
+      cut = subst (λ (x : List ℕ). Cuts (inv.front ++ h.piece ∷ []) c.args.text.now x) (sym c.split_at.ensures.back)
+          (cut_more c.pieces.rest.now c.args.text.now (option_map lexeme_of c.in_ok-found.found) c.in_ok-found.size inv.front h inv.cut);
+      limits = rw c.in_ok-add.ensures.added
+          (within_more (map line_of c.pieces.tokens.items) (option_map lexeme_of c.in_ok-found.found) c.pieces.line inv.limits c.in_ok-found.ensures.limits);
+      tokens = c.in_ok-add.ensures.added ∙ ap (λ (x : List PlacedLexeme). x ++ placed (option_map lexeme_of c.in_ok-found.found) c.pieces.line) inv.tokens
           ∙ ap (λ (x : Option Lexeme). tokens_in 1 inv.front ++ placed x c.pieces.line) (sym h.holds)
           ∙ ap (λ (x : ℕ). tokens_in 1 inv.front ++ placed (token_of h.piece) x) inv.at
           ∙ sym (tokens_in_push 1 inv.front h.piece);
-      at = ap (λ (x : ℕ). x + c.lines_in-line.result) inv.at ∙ ap (λ (x : ℕ). line_after 1 inv.front + x) (c.lines_in-line.ensures.value ∙ ap newlines front) ∙ sym (line_after_push 1 inv.front h.piece);
+      at = ap (λ (x : ℕ). x + c.lines_in-line.result) inv.at ∙ ap (λ (x : ℕ). line_after 1 inv.front + x) (c.lines_in-line.ensures.value ∙ ap newlines front)
+          ∙ sym (line_after_push 1 inv.front h.piece);
       bound = omega (arith, inv.bound, c.lines_in-line.ensures.bound, c.split_at.ensures.front_len, c.split_at.ensures.back_len);
       within = omega (arith, inv.within, c.split_at.ensures.back_len);
       short = inv.short;
@@ -50,4 +54,5 @@ pub returns-in_err-found-clause-refused : goal.returns-in_err-found-clause-refus
 returns-in_err-found-clause-refused c =
     let p = err_from_is_err_and c.from_residual.result c.from_residual.ensures.1 in
     let inv = c.pieces.invariant in
-    rw (p.1, p.2) (first_fault c.args.text.now c.pieces.rest.now inv.front c.pieces.line c.in_err-found.field-0.0 inv.short inv.cut (subst (λ ts. AreWithinLimits ts) inv.tokens inv.limits) inv.at c.in_err-found.ensures.refused)
+    rw (p.1, p.2) (first_fault c.args.text.now c.pieces.rest.now inv.front c.pieces.line c.in_err-found.field-0.0 inv.short inv.cut
+    (subst (λ ts. AreWithinLimits ts) inv.tokens inv.limits) inv.at c.in_err-found.ensures.refused)

@@ -1,3 +1,4 @@
+-- The pieces so far are cut off the front of the text, with their tokens and their lines.
 use Rattle.std.proofs.Common.{◌≡◌, ◌+◌, ◌≤◌, List, length, map}
 use Rattle.tp_token.specs.Cut.{Piece, Cuts, tokens_in, line_after}
 use Rattle.tp_token.specs.Fault.{AreWithinLimits}

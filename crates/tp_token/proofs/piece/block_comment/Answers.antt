@@ -1,3 +1,4 @@
+-- The first `*/` that is met is the first that there is; where none is met, there is none.
 use Rattle.std.proofs.Common.{arith, add-one}
 use Rattle.tp_token.proofs.Faults.{no_end_all}
 use Rattle.tp_token.proofs.Pieces.{no_end}

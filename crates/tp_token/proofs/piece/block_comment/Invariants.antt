@@ -1,3 +1,4 @@
+-- No `*/` begins among the bytes so far.
 use Rattle.std.proofs.Common.{◌≡◌, ℕ, ◌+◌, ◌≤◌, ◌<◌, ◌-◌, get_or, length}
 use Rattle.tp_token.proofs.piece.block_comment.Given as goal
 

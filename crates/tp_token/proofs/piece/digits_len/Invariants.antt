@@ -1,3 +1,4 @@
+-- The digits so far, and then those at the front of the rest, are all that stand at the front.
 use Rattle.std.proofs.Common.{◌≡◌, ◌+◌, ◌≤◌, ◌-◌, length, drop}
 use Rattle.std.specs.List.{prefix_len}
 use Rattle.tp_token.specs.Byte.{is_digit}

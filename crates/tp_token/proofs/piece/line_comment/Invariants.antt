@@ -1,3 +1,4 @@
+-- The bytes so far, and then those of the line at the front of the rest, are all of the line.
 use Rattle.std.proofs.Common.{◌≡◌, ◌+◌, ◌≤◌, ◌-◌, length, drop}
 use Rattle.std.specs.List.{prefix_len}
 use Rattle.tp_token.specs.Byte.{is_in_line}

@@ -1,3 +1,4 @@
+-- All the digits at the front are the number, and one beyond the limit is refused as such.
 use Rattle.std.proofs.Common.{ℕ, refl, take}
 use Rattle.std.proofs.lemmas.Result.{err_from_is_err_and}
 use Rattle.tp_token.specs.Byte.{is_digit}
@@ -12,7 +13,9 @@ pub value_of-requires : goal.value_of-requires
 value_of-requires c = rw c.digits_len-size.ensures (run_front is_digit c.args.bytes.now)
 
 pub returns-clause-token : goal.returns-clause-token
-returns-clause-token c = number_at c.args.bytes.now c.digits_len-size.result c.in_ok-value.value c.requires c.if-bytes-eq48.false c.digits_len-size.ensures c.in_ok-value.ensures.value
+returns-clause-token c =
+    number_at c.args.bytes.now c.digits_len-size.result c.in_ok-value.value c.requires c.if-bytes-eq48.false
+    c.digits_len-size.ensures c.in_ok-value.ensures.value
 
 pub returns-in_err-value-clause-refused : goal.returns-in_err-value-clause-refused
 returns-in_err-value-clause-refused c =

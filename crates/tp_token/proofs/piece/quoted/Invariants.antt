@@ -1,3 +1,4 @@
+-- The bytes so far are printable characters of the text, with each quote doubled.
 use Rattle.std.proofs.Common.{◌≡◌, ◌≤◌, ◌-◌, length, take}
 use Rattle.tp_token.specs.Byte.{is_printable}
 use Rattle.tp_token.specs.Spelling.{Run, doubled}

@@ -1,3 +1,4 @@
+-- The characters between the quotes are the token, and a text that isn't closed is refused.
 use Rattle.std.proofs.Common.{sym}
 use Rattle.std.proofs.lemmas.Result.{err_from_is_err_and}
 use Rattle.tp_token.proofs.Faults.{refused_text}
@@ -9,7 +10,8 @@ pub split_at-requires : goal.split_at-requires
 split_at-requires c = starts_some _ _ c.requires
 
 pub returns-clause-token : goal.returns-clause-token
-returns-clause-token c = text_at c.args.bytes.now c.in_ok-characters.characters.items c.in_ok-characters.size (starts_some _ _ c.requires) (starts_quote _ c.requires)
+returns-clause-token c =
+    text_at c.args.bytes.now c.in_ok-characters.characters.items c.in_ok-characters.size (starts_some _ _ c.requires) (starts_quote _ c.requires)
     (rw (sym c.split_at.ensures.back) c.in_ok-characters.ensures.within) (rw (sym c.split_at.ensures.back) c.in_ok-characters.ensures.spelled)
     (rw (sym c.split_at.ensures.back) c.in_ok-characters.ensures.closed) c.in_ok-characters.ensures.printable
 

@@ -1,3 +1,4 @@
+-- The value so far, carried on by the digits that are left, is the value of all the digits.
 use Rattle.std.proofs.Common.{◌≡◌, drop}
 use Rattle.tp_token.specs.Spelling.{value_on}
 use Rattle.tp_token.proofs.piece.value_of.Given as goal

@@ -1,3 +1,4 @@
+-- The longest word at the front is a reserved word or a name; a name too long is refused.
 use Rattle.std.proofs.Common.{sym, ap, ◌∙◌, arith}
 use Rattle.tp_token.specs.Lexeme.{name, word}
 use Rattle.tp_token.specs.Word.{word_of}
@@ -25,4 +26,5 @@ returns-then-size-gt-LONGEST_NAME-clause-refused c = refused_limit c.args.bytes.
     (beyond c.args.bytes.now (name c.in-Ok.spelling.now) c.word_len-size.result
     (word_at c.args.bytes.now c.word_len-size.result (name c.in-Ok.spelling.now) c.requires c.word_len-size.ensures
     (λ is. (is, ap word_of (sym c.in-Ok.ensures.cases.0) ∙ sym c.word_of.ensures ∙ c.in_default-word_of.is, c.in-Ok.ensures.cases.0)))
-    (λ le. beyond_longest c.args.bytes.now c.in-Ok.spelling.now c.word_len-size.result c.in-Ok.ensures.cases.0 (omega (arith, c.word_len-size.ensures, prefix_len-le-length is_word_byte c.args.bytes.now)) c.if-size-gt-LONGEST_NAME.true le))
+    (λ le. beyond_longest c.args.bytes.now c.in-Ok.spelling.now c.word_len-size.result c.in-Ok.ensures.cases.0
+    (omega (arith, c.word_len-size.ensures, prefix_len-le-length is_word_byte c.args.bytes.now)) c.if-size-gt-LONGEST_NAME.true le))

@@ -1,3 +1,4 @@
+-- The letters, digits and `_` so far, and then those of the rest's front, are all at the front.
 use Rattle.std.proofs.Common.{◌≡◌, ◌+◌, ◌≤◌, ◌-◌, length, drop}
 use Rattle.std.specs.List.{prefix_len}
 use Rattle.tp_token.specs.Byte.{is_word_byte}

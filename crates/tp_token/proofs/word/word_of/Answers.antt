@@ -1,3 +1,4 @@
+-- What the entries of the text's length answer is what all the entries answer.
 use Rattle.std.proofs.Common.{◌∙◌, refl}
 use Rattle.tp_token.proofs.word.word_of.Goals as goal
 

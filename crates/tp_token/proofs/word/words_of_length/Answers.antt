@@ -1,3 +1,4 @@
+-- Each part of the table has all the words of its length: a text of that length has none elsewhere.
 use Rattle.std.proofs.Common.{◌∙◌, refl}
 use Rattle.tp_token.specs.Word.{reserved}
 use Rattle.tp_token.proofs.Words.{one, two, three, four, five, six, seven, eight, nine, ten}

@@ -1,3 +1,4 @@
+-- A template of each kind fits as its layer says, and fields fit only where there are as many.
 use Rattle.std.proofs.Common.{rules, arith, ◌≡◌, length}
 use Rattle.std.proofs.lemmas.Grind.{common_steps}
 use Rattle.tp_value.proofs.Typed.{FieldsHave-length}
@@ -5,7 +6,8 @@ use Rattle.tp_value.proofs.Fitted.{fits_exact, fits_any, fits_many, fits_one_of,
 use Rattle.tp_value.proofs.fitting.+template_fits.Goals as goal
 
 pub fields_fit-returns-then-declared-members : goal.fields_fit-returns-then-declared-members
-fields_fit-returns-then-declared-members t c = (λ h. (cc), λ h. let e : length c.args.declared.now ≡ length c.args.members.now = FieldsHave-length _ _ _ h in grind (arith, common_steps))
+fields_fit-returns-then-declared-members t c =
+    (λ h. (cc), λ h. let e : length c.args.declared.now ≡ length c.args.members.now = FieldsHave-length _ _ _ h in grind (arith, common_steps))
 
 pub template_fits-returns-in-Exact : goal.template_fits-returns-in-Exact
 template_fits-returns-in-Exact t c = rw (c.in-Exact.is, fits_exact) (search rules)
@@ -13,8 +15,8 @@ template_fits-returns-in-Exact t c = rw (c.in-Exact.is, fits_exact) (search rule
 pub template_fits-returns-in-Any : goal.template_fits-returns-in-Any
 template_fits-returns-in-Any t c = rw (c.in-Any.is, fits_any) (search rules)
 
-pub template_fits-returns-in-Many : goal.template_fits-returns-in-Many
-template_fits-returns-in-Many t c = rw (c.in-Many.is, fits_many) (search rules)
+pub template_fits-returns-in-AnyOrNone : goal.template_fits-returns-in-AnyOrNone
+template_fits-returns-in-AnyOrNone t c = rw (c.in-AnyOrNone.is, fits_many) (search rules)
 
 pub template_fits-returns-in-OneOf : goal.template_fits-returns-in-OneOf
 template_fits-returns-in-OneOf t c = rw (c.in-OneOf.is, fits_one_of, ← c.as_slice.ensures) (search rules)
@@ -32,7 +34,15 @@ pub template_fits-returns-in-Pattern : goal.template_fits-returns-in-Pattern
 template_fits-returns-in-Pattern t c = rw (c.in-Pattern.is, fits_pattern) (search rules)
 
 pub template_fits-returns-in-Some-Record : goal.template_fits-returns-in-Some-Record
-template_fits-returns-in-Some-Record t c = rw (c.in-Record.is, fits_record, ← c.in-Some-Record.ensures, c.in-Some-Record.field-0-is, ← c.as_slice-in-Some-Record.ensures, ← c.as_slice-in-Some-Record-2.ensures) (search rules)
+template_fits-returns-in-Some-Record t c =
+    rw (
+      c.in-Record.is,
+      fits_record,
+      ← c.in-Some-Record.ensures,
+      c.in-Some-Record.field-0-is,
+      ← c.as_slice-in-Some-Record.ensures,
+      ← c.as_slice-in-Some-Record-2.ensures,
+    ) (search rules)
 
 pub template_fits-returns-in-Some-ListOf : goal.template_fits-returns-in-Some-ListOf
 template_fits-returns-in-Some-ListOf t c = rw (c.in-Record.is, fits_record) (search rules)
@@ -41,7 +51,14 @@ pub template_fits-returns-in-Some-ListOf-2 : goal.template_fits-returns-in-Some-
 template_fits-returns-in-Some-ListOf-2 t c = rw (c.in-Record.is, fits_record) (search rules)
 
 pub template_fits-returns-in-Some-ListOf-definition : goal.template_fits-returns-in-Some-ListOf-definition
-template_fits-returns-in-Some-ListOf-definition t c = rw (c.in-List.is, fits_list, ← c.in-Some-ListOf-definition.ensures, c.in-Some-ListOf-definition.field-0-is, ← c.as_slice-in-Some-ListOf-definition.ensures) (search rules)
+template_fits-returns-in-Some-ListOf-definition t c =
+    rw (
+      c.in-List.is,
+      fits_list,
+      ← c.in-Some-ListOf-definition.ensures,
+      c.in-Some-ListOf-definition.field-0-is,
+      ← c.as_slice-in-Some-ListOf-definition.ensures,
+    ) (search rules)
 
 pub template_fits-returns-in-Some-Record-definition : goal.template_fits-returns-in-Some-Record-definition
 template_fits-returns-in-Some-Record-definition t c = rw (c.in-List.is, fits_list) (search rules)

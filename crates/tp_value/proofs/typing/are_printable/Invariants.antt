@@ -1,3 +1,4 @@
+-- All are printable where those that are left are.
 use Rattle.std.proofs.Common.{◌↔◌, drop}
 use Rattle.tp_value.specs.HasType.{ArePrintable}
 use Rattle.tp_value.proofs.typing.are_printable.Given as goal

@@ -1,11 +1,12 @@
+-- What writes the rest writes the whole.
 use Rattle.std.proofs.Common.{ℕ, List, Option, length}
 use Rattle.std.specs.Io.KnownBytes.{Appends}
 use Rattle.tp_value.specs.ValueText.{escaped}
 use Rattle.tp_value.proofs.writing.write_text.Given as goal
 
--- what writes the rest writes the whole
 abbrev pub invariant-loop-front : goal.invariant-loop-front
-invariant-loop-front g l = (done : Option (List ℕ)) → Appends (g.W.Write.contents l.out) done (escaped l.rest) → Appends (g.W.Write.contents l.initial.out) done (escaped l.text)
+invariant-loop-front g l =
+    (done : Option (List ℕ)) → Appends (g.W.Write.contents l.out) done (escaped l.rest) → Appends (g.W.Write.contents l.initial.out) done (escaped l.text)
 
 abbrev pub decreases-loop-front : goal.decreases-loop-front
 decreases-loop-front g l = length l.rest

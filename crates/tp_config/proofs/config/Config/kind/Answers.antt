@@ -1,3 +1,4 @@
+-- The number of the type is the one of the component at this place.
 use Rattle.std.proofs.Common.{refl}
 use Rattle.tp_config.specs.Shape.{setup_of}
 use Rattle.tp_config.proofs.Named.{member_at, kind_is}

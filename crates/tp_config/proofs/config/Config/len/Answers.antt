@@ -1,3 +1,4 @@
+-- A configuration is an allowed one at every moment.
 use Rattle.std.proofs.Common.{subst}
 use Rattle.tp_config.specs.Allowed.{IsSetup}
 use Rattle.tp_config.proofs.config.Config.len.Goals as goal

@@ -1,3 +1,4 @@
+-- The name is the one of the component at this place.
 use Rattle.std.proofs.Common.{◌∙◌, Some, ap, refl, sym}
 use Rattle.tp_config.specs.Shape.{setup_of}
 use Rattle.tp_config.proofs.Named.{member_at, name_at}
@@ -7,4 +8,5 @@ pub returns : goal.returns
 returns c =
     let i = c.self.inside in
     let s = setup_of i.types.items i.components.items i.connected.items i.mapped.items in
-    name_at c.args.self.now _ c.index.result.now (member_at s _ i.components.items _ _ c.self.view_is refl c.requires c.index.ensures) ∙ ap (λ x. Some x) (sym c.as_str.ensures.value)
+    name_at c.args.self.now _ c.index.result.now (member_at s _ i.components.items _ _ c.self.view_is refl c.requires c.index.ensures)
+    ∙ ap (λ x. Some x) (sym c.as_str.ensures.value)

@@ -1,3 +1,4 @@
+-- A configuration with no component and no pair is allowed.
 use Rattle.tp_config.proofs.Created.{keeps_empty}
 use Rattle.tp_config.proofs.config.Config.new.Goals as goal
 

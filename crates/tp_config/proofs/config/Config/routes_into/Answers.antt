@@ -1,3 +1,4 @@
+-- What stands beside its ports gives the routes into a component: those to it from any port.
 use Rattle.std.proofs.Common.{◌≡◌, ◌∙◌, ap, arith, length, map, subst}
 use Rattle.std.specs.Prelude.{IfOk}
 use Rattle.tp_config.specs.Setup.{ports_at}
@@ -11,7 +12,8 @@ routes_in-requires c =
     let i = c.self.inside in
     let s = setup_of i.types.items i.components.items i.connected.items i.mapped.items in
     let count : c.port_count-count.result ≡ length (ports_at s.types s.components c.args.comp) =
-    c.port_count-count.ensures ∙ ap (λ l. length (ports_at (map ports_of l) (map member_of c.as_slice-components.result.now) c.args.comp)) c.as_slice.ensures.value ∙ ap (λ l. length (ports_at s.types (map member_of l) c.args.comp)) c.as_slice-components.ensures.value in
+    c.port_count-count.ensures ∙ ap (λ l. length (ports_at (map ports_of l) (map member_of c.as_slice-components.result.now) c.args.comp))
+    c.as_slice.ensures.value ∙ ap (λ l. length (ports_at s.types (map member_of l) c.args.comp)) c.as_slice-components.ensures.value in
     omega (arith, count, few_at s c.self.invariant.setup c.args.comp)
 
 pub returns-clause-routes : goal.returns-clause-routes
@@ -19,8 +21,11 @@ returns-clause-routes c =
     let i = c.self.inside in
     let s = setup_of i.types.items i.components.items i.connected.items i.mapped.items in
     let count : c.port_count-count.result ≡ length (ports_at s.types s.components c.args.comp) =
-    c.port_count-count.ensures ∙ ap (λ l. length (ports_at (map ports_of l) (map member_of c.as_slice-components.result.now) c.args.comp)) c.as_slice.ensures.value ∙ ap (λ l. length (ports_at s.types (map member_of l) c.args.comp)) c.as_slice-components.ensures.value in
-    subst (λ l. IfOk c.routes_in.result (λ v. v.items ≡ l)) (kept_into s c.args.self.now (map links_of i.components.items) (map links_of c.as_slice-components.result.now) c.self.invariant c.self.view_is (ap (map links_of) c.as_slice-components.ensures.value) c.args.comp _ count) c.routes_in.ensures
+    c.port_count-count.ensures ∙ ap (λ l. length (ports_at (map ports_of l) (map member_of c.as_slice-components.result.now) c.args.comp))
+    c.as_slice.ensures.value ∙ ap (λ l. length (ports_at s.types (map member_of l) c.args.comp)) c.as_slice-components.ensures.value in
+    subst (λ l. IfOk c.routes_in.result (λ v. v.items ≡ l)) (kept_into s c.args.self.now (map links_of i.components.items)
+    (map links_of c.as_slice-components.result.now) c.self.invariant c.self.view_is
+    (ap (map links_of) c.as_slice-components.ensures.value) c.args.comp _ count) c.routes_in.ensures
 
 pub returns-clause-distinct : goal.returns-clause-distinct
 returns-clause-distinct c =

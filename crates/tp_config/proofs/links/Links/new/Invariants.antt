@@ -1,3 +1,4 @@
+-- The ports so far have nothing beside them.
 use Rattle.std.proofs.Common.{◌≡◌, [], replicate}
 use Rattle.tp_config.proofs.links.Links.new.Given as goal
 

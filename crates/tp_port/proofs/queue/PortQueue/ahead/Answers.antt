@@ -1,3 +1,4 @@
+-- All that is queued, what is ahead of the mark, or nothing is deliverable, by the status.
 use Rattle.std.proofs.Common.{◌∙◌}
 use Rattle.tp_port.proofs.Moves.{ahead_is, gone_within}
 use Rattle.tp_port.proofs.queue.PortQueue.ahead.Goals as goal

@@ -1,3 +1,4 @@
+-- The fields keep to the history with the arrival behind it.
 use Rattle.std.proofs.Common.{arith, ◌≡◌, ◌∷◌, ◌++◌, []}
 use Rattle.std.proofs.lemmas.Grind.{common_steps}
 use Rattle.tp_port.specs.declared.event.Event.TheVariants as event

@@ -1,3 +1,4 @@
+-- The fields of a new queue keep to the history in which nothing has happened.
 use Rattle.tp_port.proofs.Moves.{empty_keeps}
 use Rattle.tp_port.proofs.queue.PortQueue.new.Goals as goal
 

@@ -1,3 +1,4 @@
+-- The fields keep to the history with the start behind it.
 use Rattle.tp_port.proofs.Moves.{start_keeps, Keeps-at}
 use Rattle.tp_port.proofs.queue.PortQueue.start.Goals as goal
 

@@ -1,3 +1,4 @@
+-- The fields keep to the history with the top taken or dropped, and the top is what is given.
 use Rattle.std.proofs.Common.{arith, ◌∙◌, ◌≡◌, ap, sym, ◌∷◌, ◌++◌, [], Some}
 use Rattle.std.proofs.lemmas.Grind.{common_steps}
 use Rattle.std.specs.Option.{option_copied}
@@ -21,10 +22,13 @@ history_after g c =
 
 pub invariant_of-self-2 : goal.invariant_of-self-2
 invariant_of-self-2 g c =
-    out_keeps c.args.received _ _ _ c.in-Some.first.now _ _ _ _ _ (top_before g c) c.self.view_is (history_after g c) c.pop_front.ensures.rest (omega arith) c.self.invariant
+    out_keeps c.args.received _ _ _ c.in-Some.first.now _ _ _ _ _ (top_before g c) c.self.view_is (history_after g c)
+    c.pop_front.ensures.rest (omega arith) c.self.invariant
 
 pub returns-clause-ok : goal.returns-clause-ok
-returns-clause-ok g c = taken_is c.args.received _ _ _ c.in-Some.first.now _ _ _ _ (top_before g c) c.self.view_is (history_after g c) (λ some. c.pop_front.ensures.value c.in-Some.first.now (grind (arith, common_steps))) c.self.invariant
+returns-clause-ok g c =
+    taken_is c.args.received _ _ _ c.in-Some.first.now _ _ _ _ (top_before g c) c.self.view_is (history_after g c)
+    (λ some. c.pop_front.ensures.value c.in-Some.first.now (grind (arith, common_steps))) c.self.invariant
 
 pub returns-clause-lawful : goal.returns-clause-lawful
 returns-clause-lawful g c = (invariant_of-self-2 g c).lawful

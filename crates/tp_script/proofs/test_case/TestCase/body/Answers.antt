@@ -15,4 +15,5 @@ returns-clause-can c =
     let fields = c.self.inside in
     let made : Made = record { config = fields.config; types = fields.types; duties = map (duty_of fields.bodies) fields.parts.items } in
     let duty = c.conduct_of.ensures ∙ ap (λ (parts : List (Option Part)). get_or (map (duty_of fields.bodies) parts) k None) c.deref.ensures.value in
-    subst (λ (t : Made). IfSome c.conduct_of.result (λ x. CanDo t.config t.types k (seen x))) c.self.view_is (can_at made k c.conduct_of.result c.self.invariant duty)
+    subst (λ (t : Made). IfSome c.conduct_of.result (λ x. CanDo t.config t.types k (seen x))) c.self.view_is
+    (can_at made k c.conduct_of.result c.self.invariant duty)

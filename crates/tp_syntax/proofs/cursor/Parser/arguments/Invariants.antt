@@ -1,3 +1,4 @@
+-- The tokens passed are those of the arguments so far, of which there is one at least.
 use Rattle.std.proofs.Common.{◌≡◌, ◌<◌, ◌++◌, length}
 use Rattle.tp_syntax.specs.Ahead.{ahead}
 use Rattle.tp_syntax.specs.Definitions.{arguments_lexemes}

@@ -1,3 +1,4 @@
+-- The tokens passed are those of the definitions so far, which nest no deeper than allowed.
 use Rattle.std.proofs.Common.{◌≡◌, ◌≤◌, ◌++◌, length}
 use Rattle.tp_syntax.specs.Ahead.{ahead}
 use Rattle.tp_syntax.specs.Definitions.{definitions_lexemes}

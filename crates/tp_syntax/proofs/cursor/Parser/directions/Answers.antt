@@ -1,3 +1,4 @@
+-- One more way through a port is read behind the others.
 use Rattle.std.proofs.Common.{arith}
 use Rattle.tp_syntax.specs.Definitions.{direction_lexemes}
 use Rattle.tp_syntax.proofs.Commas.{push_read_all}
@@ -5,6 +6,7 @@ use Rattle.tp_syntax.proofs.cursor.Parser.directions.Goals as goal
 
 pub more-preserved : goal.more-preserved
 more-preserved c = record {
-  tokens = rw c.in_ok-push.ensures.items (push_read_all direction_lexemes c.more.directions.items c.in_ok-direction.direction _ _ _ c.more.invariant.tokens c.in_ok-direction.ensures.tokens);
+  tokens = rw c.in_ok-push.ensures.items
+      (push_read_all direction_lexemes c.more.directions.items c.in_ok-direction.direction _ _ _ c.more.invariant.tokens c.in_ok-direction.ensures.tokens);
   shorter = omega (arith, c.more.invariant.shorter, c.in_ok-direction.ensures.shorter);
 }

@@ -1,3 +1,4 @@
+-- The tokens passed are those of the ways through the port so far.
 use Rattle.std.proofs.Common.{◌≡◌, ◌≤◌, ◌++◌, length}
 use Rattle.tp_syntax.specs.Ahead.{ahead}
 use Rattle.tp_syntax.specs.Definitions.{directions_lexemes}

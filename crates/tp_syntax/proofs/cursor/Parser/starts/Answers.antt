@@ -1,3 +1,4 @@
+-- One more start of a component is read behind the others.
 use Rattle.std.proofs.Common.{arith}
 use Rattle.tp_syntax.specs.Definitions.{start_lexemes}
 use Rattle.tp_syntax.proofs.Commas.{push_read_all}
@@ -5,6 +6,7 @@ use Rattle.tp_syntax.proofs.cursor.Parser.starts.Goals as goal
 
 pub more-preserved : goal.more-preserved
 more-preserved c = record {
-  tokens = rw c.in_ok-push.ensures.items (push_read_all start_lexemes c.more.starts.items c.in_ok-start.start _ _ _ c.more.invariant.tokens c.in_ok-start.ensures.tokens);
+  tokens = rw c.in_ok-push.ensures.items
+      (push_read_all start_lexemes c.more.starts.items c.in_ok-start.start _ _ _ c.more.invariant.tokens c.in_ok-start.ensures.tokens);
   shorter = omega (arith, c.more.invariant.shorter, c.in_ok-start.ensures.shorter);
 }

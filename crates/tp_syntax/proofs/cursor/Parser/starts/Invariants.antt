@@ -1,3 +1,4 @@
+-- The tokens passed are those of the starts of components so far.
 use Rattle.std.proofs.Common.{◌≡◌, ◌≤◌, ◌++◌, length}
 use Rattle.tp_syntax.specs.Ahead.{ahead}
 use Rattle.tp_syntax.specs.Definitions.{starts_lexemes}

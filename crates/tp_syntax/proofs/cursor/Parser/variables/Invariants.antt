@@ -1,3 +1,4 @@
+-- The tokens passed are those of the `var` statements so far.
 use Rattle.std.proofs.Common.{◌≡◌, ◌≤◌, ◌++◌, length}
 use Rattle.tp_syntax.specs.Ahead.{ahead}
 use Rattle.tp_syntax.specs.Statements.{variables_lexemes}

@@ -1,3 +1,4 @@
+-- The comparison answers yes exactly where both are one word.
 use Rattle.std.proofs.Common.{rules, sym, ◌∙◌}
 use Rattle.tp_token.specs.contracts.word.Word.{the_type}
 use denote.Enum.Bare.{same_true, true_same}

@@ -1,6 +1,6 @@
 //! Whether the definitions of types, values and templates say what the standard's rules do, and
 //! each public call on its happy path.
-use crate::tests::writers::Short;
+use crate::writers::Short;
 use std::alloc::Global;
 use std::process::Abort;
 use std::test::Fail;
@@ -12,7 +12,8 @@ use tp_value::fitting::template_fits;
 use tp_value::items::Items;
 use tp_value::matching::matches;
 use tp_value::message::{Message, MsgTemplate};
-use tp_value::template::{Part, Template};
+use tp_value::shared::Shared;
+use tp_value::template::{PatternPart, Template};
 use tp_value::types::{AddFault, Field, Ty, TypeDef, Types};
 use tp_value::typing::has_type;
 use tp_value::value::Value;
@@ -21,7 +22,7 @@ use tp_value::writing::write_value;
 
 /// A charstring.
 fn text(alloc: Global, characters: &[u8]) -> Result<Value, Memory> {
-    Ok(Value::Text(Items::from_slice(alloc, characters)?))
+    Ok(Value::Text(Shared::from_slice(alloc, characters)?))
 }
 
 /// A list of integers.
@@ -30,7 +31,7 @@ fn integers(alloc: Global, numbers: &[i64]) -> Result<Value, Memory> {
     for number in numbers {
         elements.push(Value::Int(*number))?;
     }
-    Ok(Value::List(elements))
+    Ok(Value::List(Shared::new(alloc, elements)?))
 }
 
 /// Templates of integers.
@@ -47,9 +48,9 @@ fn pattern(alloc: Global, written: &[u8]) -> Result<Template, Memory> {
     let mut parts = Items::new(alloc);
     for character in written {
         parts.push(match *character {
-            b'*' => Part::Many,
-            b'?' => Part::One,
-            literal => Part::Literal(literal),
+            b'*' => PatternPart::AnyOrNone,
+            b'?' => PatternPart::One,
+            literal => PatternPart::Literal(literal),
         })?;
     }
     Ok(Template::Pattern(parts))
@@ -139,7 +140,7 @@ fn pair(alloc: Global, first: Template, second: Template) -> Result<Template, Me
 
 #[test]
 fn lists_match_any_number_of_elements(rt: HostRuntime) -> Result<(), Fail> {
-    let many = Template::List(Items::from_vec(vec![in rt.alloc(); Template::Many]?));
+    let many = Template::List(Items::from_vec(vec![in rt.alloc(); Template::AnyOrNone]?));
     asks_list(&rt, &many, [].as_slice(), true)?;
     let any = Template::List(Items::from_vec(vec![in rt.alloc(); Template::Any]?));
     asks_list(&rt, &any, [].as_slice(), false)?;
@@ -149,7 +150,7 @@ fn lists_match_any_number_of_elements(rt: HostRuntime) -> Result<(), Fail> {
 #[test]
 fn lists_match_one_of_some_and_any_number(rt: HostRuntime) -> Result<(), Fail> {
     let first = Template::OneOf(exactly(rt.alloc(), [1, 2].as_slice())?);
-    let template = pair(rt.alloc(), first, Template::Many)?;
+    let template = pair(rt.alloc(), first, Template::AnyOrNone)?;
     asks_list(&rt, &template, [2].as_slice(), true)?;
     asks_list(&rt, &template, [3, 1].as_slice(), false)
 }
@@ -158,7 +159,7 @@ fn lists_match_one_of_some_and_any_number(rt: HostRuntime) -> Result<(), Fail> {
 fn lists_match_from_their_end(rt: HostRuntime) -> Result<(), Fail> {
     let one = Template::Exact(Value::Int(1));
     let mut members = Items::new(rt.alloc());
-    members.push(Template::Many)?;
+    members.push(Template::AnyOrNone)?;
     members.push(one)?;
     members.push(Template::Any)?;
     let template = Template::List(members);
@@ -201,7 +202,7 @@ fn record(alloc: Global, id: i64, tag: &[u8]) -> Result<Value, Memory> {
     let mut fields = Items::new(alloc);
     fields.push(Value::Int(id))?;
     fields.push(text(alloc, tag)?)?;
-    Ok(Value::Record(fields))
+    Ok(Value::Record(Shared::new(alloc, fields)?))
 }
 
 /// A value of `L`.
@@ -209,7 +210,7 @@ fn records(alloc: Global) -> Result<Value, Memory> {
     let mut elements = Items::new(alloc);
     elements.push(record(alloc, -5, b"a\"b")?)?;
     elements.push(record(alloc, 0, b"")?)?;
-    Ok(Value::List(elements))
+    Ok(Value::List(Shared::new(alloc, elements)?))
 }
 
 /// Its text.
@@ -270,7 +271,7 @@ fn values_are_written(rt: HostRuntime) -> Result<(), Fail> {
         &Value::Int(i64::MIN),
         "-9223372036854775808",
     )?;
-    let none = Value::List(Items::new(rt.alloc()));
+    let none = Value::List(Shared::new(rt.alloc(), Items::new(rt.alloc()))?);
     writes(&rt, &types, Ty::Named(1), &none, "{}")?;
     let value = records(rt.alloc())?;
     writes(&rt, &types, Ty::Named(1), &value, WRITTEN)
@@ -309,7 +310,7 @@ fn plain_templates_fit_their_types(rt: HostRuntime) -> Result<(), Fail> {
         &Template::Range(Some(6), Some(5)),
         false,
     );
-    asks_fit(&rt, &types, Ty::Integer, &Template::Many, false);
+    asks_fit(&rt, &types, Ty::Integer, &Template::AnyOrNone, false);
     let list = Template::NoneOf(exactly(rt.alloc(), [1, 5].as_slice())?);
     asks_fit(&rt, &types, Ty::Integer, &list, true);
     asks_fit(&rt, &types, Ty::Charstring, &list, false);
@@ -323,7 +324,7 @@ fn templates_in_braces_fit_their_types(rt: HostRuntime) -> Result<(), Fail> {
     let types = record_and_list(&rt)?;
     let exact = Template::Exact(records(rt.alloc())?);
     asks_fit(&rt, &types, Ty::Named(1), &exact, true);
-    let list = pair(rt.alloc(), Template::Many, Template::Any)?;
+    let list = pair(rt.alloc(), Template::AnyOrNone, Template::Any)?;
     asks_fit(&rt, &types, Ty::Named(1), &list, true);
     asks_fit(&rt, &types, Ty::Named(0), &list, false);
     let mut fields = Items::new(rt.alloc());
@@ -404,11 +405,11 @@ const LEVELS: u32 = 2_000;
 
 /// `{{..{}..}}`.
 fn deep_value(alloc: Global) -> Result<Value, Memory> {
-    let mut value = Value::List(Items::new(alloc));
+    let mut value = Value::List(Shared::new(alloc, Items::new(alloc))?);
     for _ in 0..LEVELS {
         let mut elements = Items::new(alloc);
         elements.push(value)?;
-        value = Value::List(elements);
+        value = Value::List(Shared::new(alloc, elements)?);
     }
     Ok(value)
 }
@@ -450,7 +451,7 @@ fn nested(alloc: Global) -> Result<Template, Memory> {
     members.push(pattern(alloc, b"a*b?")?)?;
     members.push(Template::Exact(records(alloc)?))?;
     members.push(Template::Record(exactly(alloc, [4].as_slice())?))?;
-    members.push(Template::Many)?;
+    members.push(Template::AnyOrNone)?;
     members.push(Template::Range(Some(-1), None))?;
     Ok(Template::List(members))
 }
@@ -468,8 +469,10 @@ fn refused_memory_leaves_copies_whole(rt: HostRuntime) {
     let (Ok(value), Ok(template)) = (records(rt.alloc()), nested(rt.alloc())) else {
         return;
     };
-    if let Ok(twin) = value.copy(rt.alloc()) {
-        assert!(rt; are_equal(&value, &twin));
+    // A value's copy takes no memory, so none can be refused it.
+    match value.copy(rt.alloc()) {
+        Ok(twin) => assert!(rt; are_equal(&value, &twin)),
+        Err(Memory) => assert!(rt; false),
     }
     if let Ok(twin) = template.copy(rt.alloc()) {
         let alike = print_alike(rt.alloc(), &template, &twin);

@@ -4,6 +4,7 @@ use std::test::Fail;
 use tp_port::payload::Memory;
 use tp_value::equal::are_equal;
 use tp_value::items::Items;
+use tp_value::shared::Shared;
 use tp_value::types::{Ty, TypeDef, Types};
 use tp_value::typing::has_type;
 use tp_value::value::Value;
@@ -15,7 +16,7 @@ fn long_list(alloc: Global, length: i64) -> Result<Value, Memory> {
     for number in 0..length {
         elements.push(Value::Int(number))?;
     }
-    Ok(Value::List(elements))
+    Ok(Value::List(Shared::new(alloc, elements)?))
 }
 
 #[test]

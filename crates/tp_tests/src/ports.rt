@@ -1,6 +1,6 @@
 //! The calls of a port's queue on their happy paths, with the values of the standard's rules, and
 //! readers and writers that fail.
-use crate::tests::writers::Short;
+use crate::writers::Short;
 use std::io;
 use std::io::{ErrorKind, Read};
 use std::process::Abort;

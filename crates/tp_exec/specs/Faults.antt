@@ -1,0 +1,19 @@
+-- How the fault of a run is told.
+use Rattle.std.specs.Prelude.{ℕ, ◌++◌, List, codes}
+use Rattle.std.specs.Fmt.{decimal}
+use Rattle.tp_refusal.specs.declared.refusal.Refusal.{Refusal}
+use Rattle.tp_refusal.specs.declared.refusal.Refusal.TheVariants as refusal
+use Rattle.tp_refusal.specs.Label.{label}
+use Rattle.tp_exec.specs.declared.fault.RunFault.{RunFault}
+use Rattle.tp_exec.specs.declared.fault.RunFault.TheVariants as fault
+
+-- its number and its name are those of this refusal
+abbrev pub run_refusal : RunFault → Refusal
+run_refusal fault.NoThread = refusal.NoThread
+run_refusal fault.Memory = refusal.Memory
+run_refusal fault.Restless = refusal.Restless
+
+-- its line
+abbrev pub run_fault_text : RunFault → List ℕ
+run_fault_text f =
+    codes "fault " ++ decimal (label (run_refusal f)).0 ++ codes " " ++ (label (run_refusal f)).1 ++ codes "\n"

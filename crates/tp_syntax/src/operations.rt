@@ -1,0 +1,279 @@
+//! Operations on ports: sends, receiving operations, and those that start or stop a port.
+ghost use Rattle.std.specs.Prelude.{◌≡◌, ◌+◌, ◌<◌, ◌≤◌, ◌∷◌, ◌++◌, length, IfErr, IfOk, OnOk};
+ghost use Rattle.tp_syntax.specs.Ahead.{ahead};
+ghost use Rattle.tp_syntax.specs.Passing.{Passes};
+ghost use Rattle.tp_syntax.specs.Statements.{component_lexemes, sent_lexemes, to_lexemes, send_lexemes, template_part, from_lexemes, named_part, redirect_lexemes, receive_lexemes, port_operation_lexeme, control_lexemes, all_ports_lexemes};
+ghost use Rattle.tp_syntax.specs.Nesting.{part_depth, receive_depth, sent_depth};
+ghost use Rattle.tp_syntax.specs.Refusals.{IsOfGrammar};
+
+use crate::cursor::Parser;
+use crate::tree::{
+    ComponentName, Control, Destination, MessageTemplate, PortOperation, Receive, ReceiveKind,
+    Redirect, Send, Sent,
+};
+use std::alloc::Global;
+use tp_token::fault::ScriptFault;
+use tp_token::token::{Symbol, Token};
+use tp_token::word::Word;
+
+/// What stands behind the word of a receiving operation.
+#[derive(Drop)]
+struct Received {
+    template: Option<MessageTemplate>,
+    sender: Option<ComponentName>,
+    redirect: Redirect,
+}
+
+impl<'a, 't> Parser<'a, 't> {
+    /// A component.
+    pub fn component(&mut self, alloc: Global) -> Result<ComponentName, ScriptFault>
+        ensures tokens { IfOk result (λ c. Passes self.old (component_lexemes c) self.new) }
+        ensures shorter { OnOk result (length self.new.rest.now < length self.old.rest.now) }
+        ensures fault { IfErr result IsOfGrammar }
+    {
+        let placed = self.take()?;
+        match &placed.token {
+            Token::Word(Word::Mtc) => Ok(ComponentName::Mtc),
+            Token::Word(Word::SelfWord) => Ok(ComponentName::SelfComponent),
+            Token::Name(spelling) => {
+                let name = String::from_str(alloc, spelling)?;
+                Ok(ComponentName::Named(name))
+            }
+            _ => Err(ScriptFault::syntax(placed.line)),
+        }
+    }
+
+    /// What is sent.
+    fn sent(&mut self, alloc: Global, left: u32) -> Result<Sent, ScriptFault>
+        ensures tokens { IfOk result (λ s. Passes self.old (sent_lexemes s) self.new) }
+        ensures shorter { OnOk result (length self.new.rest.now < length self.old.rest.now) }
+        ensures nested { IfOk result (λ s. sent_depth s ≤ left) }
+        ensures fault { IfErr result IsOfGrammar }
+    {
+        if self.is_name_at(0) && self.is_symbol_at(1, Symbol::RightParen) {
+            let name = self.name(alloc)?;
+            return Ok(Sent::Variable(name));
+        }
+        let message = self.message(alloc, left)?;
+        Ok(Sent::Message(message))
+    }
+
+    /// What stands behind `to`, if it is there.
+    fn to_part(&mut self, alloc: Global) -> Result<Option<Destination>, ScriptFault>
+        ensures tokens { IfOk result (λ d. Passes self.old (to_lexemes d) self.new) }
+        ensures shorter { OnOk result (length self.new.rest.now ≤ length self.old.rest.now) }
+        ensures fault { IfErr result IsOfGrammar }
+    {
+        if !self.has_word(Word::To) {
+            return Ok(None);
+        }
+        if self.has_word(Word::All) {
+            self.word(Word::Component)?;
+            return Ok(Some(Destination::AllComponents));
+        }
+        let component = self.component(alloc)?;
+        Ok(Some(Destination::Component(component)))
+    }
+
+    /// A send.
+    #[tactic(auto, using(std::proofs::lemmas::List::append_assoc), unfolding(crate::specs::Statements::send_lexemes))]
+    pub fn send(&mut self, alloc: Global, left: u32) -> Result<Send, ScriptFault>
+        ensures tokens { IfOk result (λ s. Passes self.old (send_lexemes s) self.new) }
+        ensures shorter { OnOk result (length self.new.rest.now < length self.old.rest.now) }
+        ensures nested { IfOk result (λ s. sent_depth s.sent + 1 ≤ left) }
+        ensures fault { IfErr result IsOfGrammar }
+    {
+        let port = self.name(alloc)?;
+        self.symbol(Symbol::Dot)?;
+        self.word(Word::Send)?;
+        let inner = self.open(Symbol::LeftParen, left)?;
+        let sent = self.sent(alloc, inner)?;
+        self.symbol(Symbol::RightParen)?;
+        let to = self.to_part(alloc)?;
+        Ok(Send { port, sent, to })
+    }
+
+    /// The template of a receiving operation in its parentheses, if it is there.
+    #[tactic(auto, using(std::proofs::lemmas::List::append_assoc))]
+    fn template_part(
+        &mut self,
+        alloc: Global,
+        left: u32,
+    ) -> Result<Option<MessageTemplate>, ScriptFault>
+        ensures tokens { IfOk result (λ t. Passes self.old (template_part t) self.new) }
+        ensures shorter { OnOk result (length self.new.rest.now ≤ length self.old.rest.now) }
+        ensures nested { IfOk result (λ t. part_depth t ≤ left) }
+        ensures fault { IfErr result IsOfGrammar }
+    {
+        if !self.is_symbol_at(0, Symbol::LeftParen) {
+            return Ok(None);
+        }
+        let inner = self.open(Symbol::LeftParen, left)?;
+        let template = self.message_template(alloc, inner)?;
+        self.symbol(Symbol::RightParen)?;
+        Ok(Some(template))
+    }
+
+    /// The component behind `from`, if it is there.
+    fn from_part(&mut self, alloc: Global) -> Result<Option<ComponentName>, ScriptFault>
+        ensures tokens { IfOk result (λ c. Passes self.old (from_lexemes c) self.new) }
+        ensures shorter { OnOk result (length self.new.rest.now ≤ length self.old.rest.now) }
+        ensures fault { IfErr result IsOfGrammar }
+    {
+        if !self.has_word(Word::From) {
+            return Ok(None);
+        }
+        let component = self.component(alloc)?;
+        Ok(Some(component))
+    }
+
+    /// The name behind this word, if it is there.
+    fn named_part(&mut self, alloc: Global, want: Word) -> Result<Option<String>, ScriptFault>
+        ensures tokens { IfOk result (λ n. Passes self.old (named_part want n) self.new) }
+        ensures shorter { OnOk result (length self.new.rest.now ≤ length self.old.rest.now) }
+        ensures fault { IfErr result IsOfGrammar }
+    {
+        if !self.has_word(want) {
+            return Ok(None);
+        }
+        let name = self.name(alloc)?;
+        Ok(Some(name))
+    }
+
+    /// What stands behind `->`, and the arrow, if it is there.
+    #[tactic(auto, using(std::proofs::lemmas::List::append_assoc))]
+    fn redirect(&mut self, alloc: Global) -> Result<Redirect, ScriptFault>
+        ensures tokens { IfOk result (λ r. Passes self.old (redirect_lexemes r) self.new) }
+        ensures shorter { OnOk result (length self.new.rest.now ≤ length self.old.rest.now) }
+        ensures fault { IfErr result IsOfGrammar }
+    {
+        if !self.has_symbol(Symbol::Arrow) {
+            return Ok(Redirect {
+                value: None,
+                sender: None,
+            });
+        }
+        if self.has_word(Word::Value) {
+            let value = self.name(alloc)?;
+            let sender = self.named_part(alloc, Word::Sender)?;
+            return Ok(Redirect {
+                value: Some(value),
+                sender,
+            });
+        }
+        self.word(Word::Sender)?;
+        let sender = self.name(alloc)?;
+        Ok(Redirect {
+            value: None,
+            sender: Some(sender),
+        })
+    }
+
+    /// What stands behind the word of a receiving operation.
+    #[tactic(auto, using(std::proofs::lemmas::List::append_assoc))]
+    fn received(&mut self, alloc: Global, left: u32) -> Result<Received, ScriptFault>
+        ensures tokens { IfOk result (λ r.
+            ahead self.old.rest.now
+            ≡ template_part r.template ++ (from_lexemes r.sender
+            ++ (redirect_lexemes r.redirect ++ ahead self.new.rest.now))) }
+        ensures shorter { OnOk result (length self.new.rest.now ≤ length self.old.rest.now) }
+        ensures nested { IfOk result (λ r. part_depth r.template ≤ left) }
+        ensures fault { IfErr result IsOfGrammar }
+    {
+        let template = self.template_part(alloc, left)?;
+        let sender = self.from_part(alloc)?;
+        let redirect = self.redirect(alloc)?;
+        Ok(Received {
+            template,
+            sender,
+            redirect,
+        })
+    }
+
+    /// A receiving operation.
+    #[tactic(auto, using(std::proofs::lemmas::List::append_assoc), unfolding(crate::specs::Statements::receive_lexemes, crate::specs::Statements::received_lexemes))]
+    pub fn receive(&mut self, alloc: Global, left: u32) -> Result<Receive, ScriptFault>
+        ensures tokens { IfOk result (λ r. Passes self.old (receive_lexemes r) self.new) }
+        ensures shorter { OnOk result (length self.new.rest.now < length self.old.rest.now) }
+        ensures nested { IfOk result (λ r. receive_depth r ≤ left) }
+        ensures fault { IfErr result IsOfGrammar }
+    {
+        let port = self.name(alloc)?;
+        self.symbol(Symbol::Dot)?;
+        if self.has_word(Word::Check) {
+            let inner = self.open(Symbol::LeftParen, left)?;
+            self.word(Word::Receive)?;
+            let received = self.received(alloc, inner)?;
+            self.symbol(Symbol::RightParen)?;
+            return Ok(Receive {
+                port,
+                kind: ReceiveKind::Check,
+                template: received.template,
+                sender: received.sender,
+                redirect: received.redirect,
+            });
+        }
+        if self.has_word(Word::Trigger) {
+            let received = self.received(alloc, left)?;
+            return Ok(Receive {
+                port,
+                kind: ReceiveKind::Trigger,
+                template: received.template,
+                sender: received.sender,
+                redirect: received.redirect,
+            });
+        }
+        self.word(Word::Receive)?;
+        let received = self.received(alloc, left)?;
+        Ok(Receive {
+            port,
+            kind: ReceiveKind::Receive,
+            template: received.template,
+            sender: received.sender,
+            redirect: received.redirect,
+        })
+    }
+
+    /// An operation on ports.
+    fn port_operation(&mut self) -> Result<PortOperation, ScriptFault>
+        ensures tokens { IfOk result (λ o.
+            ahead self.old.rest.now ≡ port_operation_lexeme o ∷ ahead self.new.rest.now) }
+        ensures shorter { OnOk result (length self.new.rest.now < length self.old.rest.now) }
+        ensures fault { IfErr result IsOfGrammar }
+    {
+        let placed = self.take()?;
+        match &placed.token {
+            Token::Word(Word::Start) => Ok(PortOperation::Start),
+            Token::Word(Word::Stop) => Ok(PortOperation::Stop),
+            Token::Word(Word::Halt) => Ok(PortOperation::Halt),
+            Token::Word(Word::Clear) => Ok(PortOperation::Clear),
+            _ => Err(ScriptFault::syntax(placed.line)),
+        }
+    }
+
+    /// An operation on one port.
+    #[tactic(auto, unfolding(crate::specs::Statements::control_lexemes))]
+    pub fn control(&mut self, alloc: Global) -> Result<Control, ScriptFault>
+        ensures tokens { IfOk result (λ c. Passes self.old (control_lexemes c) self.new) }
+        ensures shorter { OnOk result (length self.new.rest.now < length self.old.rest.now) }
+        ensures fault { IfErr result IsOfGrammar }
+    {
+        let port = self.name(alloc)?;
+        self.symbol(Symbol::Dot)?;
+        let operation = self.port_operation()?;
+        Ok(Control { port, operation })
+    }
+
+    /// An operation on all ports.
+    #[tactic(auto, unfolding(crate::specs::Statements::all_ports_lexemes))]
+    pub fn all_ports(&mut self) -> Result<PortOperation, ScriptFault>
+        ensures tokens { IfOk result (λ o. Passes self.old (all_ports_lexemes o) self.new) }
+        ensures shorter { OnOk result (length self.new.rest.now < length self.old.rest.now) }
+        ensures fault { IfErr result IsOfGrammar }
+    {
+        self.word(Word::All)?;
+        self.word(Word::Port)?;
+        self.symbol(Symbol::Dot)?;
+        self.port_operation()
+    }
+}

@@ -1,0 +1,281 @@
+//! Test cases, with their setup statements and starts.
+ghost use Rattle.std.specs.Prelude.{◌≡◌, ◌<◌, ◌≤◌, ◌∷◌, length, IfErr, IfOk, OnOk};
+ghost use Rattle.tp_syntax.specs.Ahead.{ahead};
+ghost use Rattle.tp_syntax.specs.Definitions.{end_component_lexeme, end_point_lexemes, ends_lexemes, setup_action_lexemes, setup_lexemes, setups_lexemes, arguments_lexemes, start_lexemes, starts_lexemes, all_done_lexemes, system_lexemes, test_case_lexemes};
+ghost use Rattle.tp_syntax.specs.Nesting.{defined_depth};
+ghost use Rattle.tp_syntax.specs.Passing.{Passes};
+ghost use Rattle.tp_syntax.specs.Refusals.{IsOfGrammar};
+
+use crate::cursor::Parser;
+use crate::tree::{
+    AllDone, ComponentName, ComponentStart, Creation, Defined, EndComponent, PairEnd, SetupAction,
+    SetupStatement, TestCase,
+};
+use std::alloc::Global;
+use tp_token::fault::ScriptFault;
+use tp_token::token::{Symbol, Token};
+use tp_token::word::Word;
+
+impl<'a, 't> Parser<'a, 't> {
+    /// A component in a `connect` or a `map`.
+    fn end_component(&mut self, alloc: Global) -> Result<EndComponent, ScriptFault>
+        ensures tokens { IfOk result (λ x.
+            ahead self.old.rest.now ≡ end_component_lexeme x ∷ ahead self.new.rest.now) }
+        ensures shorter { OnOk result (length self.new.rest.now < length self.old.rest.now) }
+        ensures fault { IfErr result IsOfGrammar }
+    {
+        let placed = self.take()?;
+        match &placed.token {
+            Token::Word(Word::Mtc) => Ok(EndComponent::Mtc),
+            Token::Word(Word::SelfWord) => Ok(EndComponent::SelfComponent),
+            Token::Word(Word::System) => Ok(EndComponent::System),
+            Token::Name(spelling) => {
+                let name = String::from_str(alloc, spelling)?;
+                Ok(EndComponent::Named(name))
+            }
+            _ => Err(ScriptFault::syntax(placed.line)),
+        }
+    }
+
+    /// A port of a component.
+    #[tactic(auto, using(std::proofs::lemmas::List::append_assoc))]
+    fn end_point(&mut self, alloc: Global) -> Result<PairEnd, ScriptFault>
+        ensures tokens { IfOk result (λ x. Passes self.old (end_point_lexemes x) self.new) }
+        ensures shorter { OnOk result (length self.new.rest.now < length self.old.rest.now) }
+        ensures fault { IfErr result IsOfGrammar }
+    {
+        let component = self.end_component(alloc)?;
+        self.symbol(Symbol::Colon)?;
+        let port = self.name(alloc)?;
+        Ok(PairEnd { component, port })
+    }
+
+    /// The two ports of a `connect` or a `map`, in their parentheses.
+    #[tactic(auto, using(std::proofs::lemmas::List::append_assoc))]
+    fn ends(&mut self, alloc: Global) -> Result<(PairEnd, PairEnd), ScriptFault>
+        ensures tokens { IfOk result (λ x. Passes self.old (ends_lexemes x.0 x.1) self.new) }
+        ensures shorter { OnOk result (length self.new.rest.now < length self.old.rest.now) }
+        ensures fault { IfErr result IsOfGrammar }
+    {
+        self.symbol(Symbol::LeftParen)?;
+        let first = self.end_point(alloc)?;
+        self.symbol(Symbol::Comma)?;
+        let second = self.end_point(alloc)?;
+        self.symbol(Symbol::RightParen)?;
+        Ok((first, second))
+    }
+
+    /// The `var` that makes a component.
+    #[tactic(auto, unfolding(crate::specs::Definitions::setup_action_lexemes))]
+    fn creation(&mut self, alloc: Global) -> Result<SetupAction, ScriptFault>
+        ensures tokens { IfOk result (λ x. Passes self.old (setup_action_lexemes x) self.new) }
+        ensures shorter { OnOk result (length self.new.rest.now < length self.old.rest.now) }
+        ensures fault { IfErr result IsOfGrammar }
+    {
+        self.word(Word::Var)?;
+        let type_name = self.name(alloc)?;
+        let name = self.name(alloc)?;
+        self.symbol(Symbol::Assign)?;
+        let created = self.name(alloc)?;
+        self.symbol(Symbol::Dot)?;
+        self.word(Word::Create)?;
+        Ok(SetupAction::Create(Creation {
+            type_name,
+            name,
+            created,
+        }))
+    }
+
+    /// What a setup statement does.
+    #[tactic(auto, unfolding(crate::specs::Definitions::setup_action_lexemes))]
+    fn setup_action(&mut self, alloc: Global) -> Result<SetupAction, ScriptFault>
+        ensures tokens { IfOk result (λ x. Passes self.old (setup_action_lexemes x) self.new) }
+        ensures shorter { OnOk result (length self.new.rest.now < length self.old.rest.now) }
+        ensures fault { IfErr result IsOfGrammar }
+    {
+        if self.has_word(Word::Connect) {
+            let (first, second) = self.ends(alloc)?;
+            return Ok(SetupAction::Connect(first, second));
+        }
+        if self.has_word(Word::Map) {
+            let (first, second) = self.ends(alloc)?;
+            return Ok(SetupAction::Map(first, second));
+        }
+        self.creation(alloc)
+    }
+
+    /// A setup statement.
+    #[tactic(auto, using(std::proofs::lemmas::List::append_assoc))]
+    fn setup(&mut self, alloc: Global) -> Result<SetupStatement, ScriptFault>
+        ensures tokens { IfOk result (λ x. Passes self.old (setup_lexemes x) self.new) }
+        ensures shorter { OnOk result (length self.new.rest.now < length self.old.rest.now) }
+        ensures fault { IfErr result IsOfGrammar }
+    {
+        let line = self.line();
+        let action = self.setup_action(alloc)?;
+        let has_semicolon = self.end(false)?;
+        Ok(SetupStatement {
+            line,
+            action,
+            has_semicolon,
+        })
+    }
+
+    /// Whether a setup statement comes next. A `var` without `:=` declares a variable.
+    fn is_setup(&self) -> bool {
+        match self.word_at(0) {
+            Some(Word::Connect) => true,
+            Some(Word::Map) => true,
+            Some(Word::Var) => {
+                self.is_name_at(1) && self.is_name_at(2) && self.is_symbol_at(3, Symbol::Assign)
+            }
+            _ => false,
+        }
+    }
+
+    /// The setup statements that come next.
+    fn setups(&mut self, alloc: Global) -> Result<Vec<SetupStatement>, ScriptFault>
+        ensures tokens { IfOk result (λ x. Passes self.old (setups_lexemes x.items) self.new) }
+        ensures shorter { OnOk result (length self.new.rest.now ≤ length self.old.rest.now) }
+        ensures fault { IfErr result IsOfGrammar }
+    {
+        let mut setups = Vec::new(alloc);
+        'more: while self.is_setup() {
+            let setup = self.setup(alloc)?;
+            setups.push(setup)?;
+        }
+        Ok(setups)
+    }
+
+    /// The arguments of a start, up to the `)`.
+    fn arguments(&mut self, alloc: Global) -> Result<Vec<ComponentName>, ScriptFault>
+        ensures tokens { IfOk result (λ x. Passes self.old (arguments_lexemes x.items) self.new) }
+        ensures shorter { OnOk result (length self.new.rest.now ≤ length self.old.rest.now) }
+        ensures fault { IfErr result IsOfGrammar }
+    {
+        let mut arguments = Vec::new(alloc);
+        if self.is_symbol_at(0, Symbol::RightParen) {
+            return Ok(arguments);
+        }
+        let first = self.component(alloc)?;
+        arguments.push(first)?;
+        'more: while self.has_symbol(Symbol::Comma) {
+            let next = self.component(alloc)?;
+            arguments.push(next)?;
+        }
+        Ok(arguments)
+    }
+
+    /// The start of a component.
+    #[tactic(auto, using(std::proofs::lemmas::List::append_assoc), unfolding(crate::specs::Definitions::start_lexemes))]
+    fn start(&mut self, alloc: Global) -> Result<ComponentStart, ScriptFault>
+        ensures tokens { IfOk result (λ x. Passes self.old (start_lexemes x) self.new) }
+        ensures shorter { OnOk result (length self.new.rest.now < length self.old.rest.now) }
+        ensures fault { IfErr result IsOfGrammar }
+    {
+        let line = self.line();
+        let component = self.name(alloc)?;
+        self.symbol(Symbol::Dot)?;
+        self.word(Word::Start)?;
+        self.symbol(Symbol::LeftParen)?;
+        let function = self.name(alloc)?;
+        self.symbol(Symbol::LeftParen)?;
+        let arguments = self.arguments(alloc)?;
+        self.symbol(Symbol::RightParen)?;
+        self.symbol(Symbol::RightParen)?;
+        let has_semicolon = self.end(false)?;
+        Ok(ComponentStart {
+            line,
+            component,
+            function,
+            arguments,
+            has_semicolon,
+        })
+    }
+
+    /// Whether the start of a component comes next: without the `(` it is an operation on a port.
+    fn is_start(&self) -> bool {
+        self.is_name_at(0)
+            && self.is_symbol_at(1, Symbol::Dot)
+            && self.is_word_at(2, Word::Start)
+            && self.is_symbol_at(3, Symbol::LeftParen)
+    }
+
+    /// The starts of components that come next.
+    fn starts(&mut self, alloc: Global) -> Result<Vec<ComponentStart>, ScriptFault>
+        ensures tokens { IfOk result (λ x. Passes self.old (starts_lexemes x.items) self.new) }
+        ensures shorter { OnOk result (length self.new.rest.now ≤ length self.old.rest.now) }
+        ensures fault { IfErr result IsOfGrammar }
+    {
+        let mut starts = Vec::new(alloc);
+        'more: while self.is_start() {
+            let start = self.start(alloc)?;
+            starts.push(start)?;
+        }
+        Ok(starts)
+    }
+
+    /// `all component.done`, if it comes next.
+    fn all_done(&mut self) -> Result<Option<AllDone>, ScriptFault>
+        ensures tokens { IfOk result (λ x. Passes self.old (all_done_lexemes x) self.new) }
+        ensures shorter { OnOk result (length self.new.rest.now ≤ length self.old.rest.now) }
+        ensures fault { IfErr result IsOfGrammar }
+    {
+        if !self.has_word(Word::All) {
+            return Ok(None);
+        }
+        self.word(Word::Component)?;
+        self.symbol(Symbol::Dot)?;
+        self.word(Word::Done)?;
+        let has_semicolon = self.end(false)?;
+        Ok(Some(AllDone { has_semicolon }))
+    }
+
+    /// The component type behind `system`, if it is there.
+    fn system(&mut self, alloc: Global) -> Result<Option<String>, ScriptFault>
+        ensures tokens { IfOk result (λ x. Passes self.old (system_lexemes x) self.new) }
+        ensures shorter { OnOk result (length self.new.rest.now ≤ length self.old.rest.now) }
+        ensures fault { IfErr result IsOfGrammar }
+    {
+        if !self.has_word(Word::System) {
+            return Ok(None);
+        }
+        let name = self.name(alloc)?;
+        Ok(Some(name))
+    }
+
+    /// A test case.
+    #[tactic(auto, using(std::proofs::lemmas::List::append_assoc), unfolding(crate::specs::Definitions::test_case_lexemes, crate::specs::Definitions::behaviour_lexemes))]
+    pub fn test_case(&mut self, alloc: Global, left: u32) -> Result<TestCase, ScriptFault>
+        ensures tokens { IfOk result (λ x. Passes self.old (test_case_lexemes x) self.new) }
+        ensures shorter { OnOk result (length self.new.rest.now < length self.old.rest.now) }
+        ensures nested { IfOk result (λ x. defined_depth (Defined.TestCase x) ≤ left) }
+        ensures fault { IfErr result IsOfGrammar }
+    {
+        self.word(Word::Testcase)?;
+        let name = self.name(alloc)?;
+        self.symbol(Symbol::LeftParen)?;
+        self.symbol(Symbol::RightParen)?;
+        self.word(Word::Runs)?;
+        self.word(Word::On)?;
+        let runs_on = self.name(alloc)?;
+        let system = self.system(alloc)?;
+        let inner = self.open(Symbol::LeftBrace, left)?;
+        let setups = self.setups(alloc)?;
+        let starts = self.starts(alloc)?;
+        let variables = self.variables(alloc)?;
+        let statements = self.statements(alloc, inner, true)?;
+        let all_done = self.all_done()?;
+        self.symbol(Symbol::RightBrace)?;
+        Ok(TestCase {
+            name,
+            runs_on,
+            system,
+            setups,
+            starts,
+            variables,
+            statements,
+            all_done,
+        })
+    }
+}

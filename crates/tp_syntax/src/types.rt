@@ -1,0 +1,274 @@
+//! Types: of records and lists, of ports, of components.
+ghost use Rattle.std.specs.Prelude.{◌≡◌, ◌<◌, ◌≤◌, ◌∷◌, length, IfErr, IfOk, OnOk};
+ghost use Rattle.tp_syntax.specs.Ahead.{ahead};
+ghost use Rattle.tp_syntax.specs.Definitions.{field_type_lexemes, field_types_lexemes, record_type_lexemes, list_type_lexemes, way_lexeme, types_lexemes, direction_lexemes, directions_lexemes, port_type_lexemes, declared_name_lexemes, declared_names_lexemes, port_declaration_lexemes, port_declarations_lexemes, component_type_lexemes, defined_lexemes};
+ghost use Rattle.tp_syntax.specs.Nesting.{defined_depth};
+ghost use Rattle.tp_syntax.specs.Passing.{Passes};
+ghost use Rattle.tp_syntax.specs.Refusals.{IsOfGrammar};
+
+use crate::cursor::Parser;
+use crate::tree::{
+    ComponentType, DeclaredName, Defined, Direction, FieldType, ListType, PortDeclaration,
+    PortType, RecordType, TypeName, Way,
+};
+use std::alloc::Global;
+use tp_token::fault::ScriptFault;
+use tp_token::token::{Symbol, Token};
+use tp_token::word::Word;
+
+impl<'a, 't> Parser<'a, 't> {
+    /// A name where it is declared.
+    pub fn declared_name(&mut self, alloc: Global) -> Result<DeclaredName, ScriptFault>
+        ensures tokens { IfOk result (λ x. Passes self.old (declared_name_lexemes x) self.new) }
+        ensures shorter { OnOk result (length self.new.rest.now < length self.old.rest.now) }
+        ensures fault { IfErr result IsOfGrammar }
+    {
+        let line = self.line();
+        let name = self.name(alloc)?;
+        Ok(DeclaredName { line, name })
+    }
+
+    /// A field of a record type.
+    #[tactic(auto, using(std::proofs::lemmas::List::append_assoc))]
+    fn field_type(&mut self, alloc: Global) -> Result<FieldType, ScriptFault>
+        ensures tokens { IfOk result (λ x. Passes self.old (field_type_lexemes x) self.new) }
+        ensures shorter { OnOk result (length self.new.rest.now < length self.old.rest.now) }
+        ensures fault { IfErr result IsOfGrammar }
+    {
+        let type_name = self.type_name(alloc)?;
+        let name = self.declared_name(alloc)?;
+        Ok(FieldType { type_name, name })
+    }
+
+    /// The fields of a record type, up to its `}`.
+    fn fields(&mut self, alloc: Global) -> Result<Vec<FieldType>, ScriptFault>
+        ensures tokens { IfOk result (λ x. Passes self.old (field_types_lexemes x.items) self.new) }
+        ensures shorter { OnOk result (length self.new.rest.now ≤ length self.old.rest.now) }
+        ensures fault { IfErr result IsOfGrammar }
+    {
+        let mut fields = Vec::new(alloc);
+        if self.is_symbol_at(0, Symbol::RightBrace) {
+            return Ok(fields);
+        }
+        let first = self.field_type(alloc)?;
+        fields.push(first)?;
+        'more: while self.has_symbol(Symbol::Comma) {
+            let next = self.field_type(alloc)?;
+            fields.push(next)?;
+        }
+        Ok(fields)
+    }
+
+    /// A record type.
+    #[tactic(auto, using(std::proofs::lemmas::List::append_assoc), unfolding(crate::specs::Definitions::record_type_lexemes))]
+    fn record_type(&mut self, alloc: Global) -> Result<RecordType, ScriptFault>
+        ensures tokens { IfOk result (λ x. Passes self.old (record_type_lexemes x) self.new) }
+        ensures shorter { OnOk result (length self.new.rest.now < length self.old.rest.now) }
+        ensures fault { IfErr result IsOfGrammar }
+    {
+        self.word(Word::Type)?;
+        self.word(Word::Record)?;
+        let name = self.name(alloc)?;
+        self.symbol(Symbol::LeftBrace)?;
+        let fields = self.fields(alloc)?;
+        self.symbol(Symbol::RightBrace)?;
+        Ok(RecordType { name, fields })
+    }
+
+    /// A list type.
+    #[tactic(auto, using(std::proofs::lemmas::List::append_assoc), unfolding(crate::specs::Definitions::list_type_lexemes))]
+    fn list_type(&mut self, alloc: Global) -> Result<ListType, ScriptFault>
+        ensures tokens { IfOk result (λ x. Passes self.old (list_type_lexemes x) self.new) }
+        ensures shorter { OnOk result (length self.new.rest.now < length self.old.rest.now) }
+        ensures fault { IfErr result IsOfGrammar }
+    {
+        self.word(Word::Type)?;
+        self.word(Word::Record)?;
+        self.word(Word::Of)?;
+        let element = self.type_name(alloc)?;
+        let name = self.name(alloc)?;
+        Ok(ListType { element, name })
+    }
+
+    /// A way through a port.
+    fn way(&mut self) -> Result<Way, ScriptFault>
+        ensures tokens { IfOk result (λ x.
+            ahead self.old.rest.now ≡ way_lexeme x ∷ ahead self.new.rest.now) }
+        ensures shorter { OnOk result (length self.new.rest.now < length self.old.rest.now) }
+        ensures fault { IfErr result IsOfGrammar }
+    {
+        let placed = self.take()?;
+        match &placed.token {
+            Token::Word(Word::In) => Ok(Way::In),
+            Token::Word(Word::Out) => Ok(Way::Out),
+            Token::Word(Word::Inout) => Ok(Way::InOut),
+            _ => Err(ScriptFault::syntax(placed.line)),
+        }
+    }
+
+    /// Types with a `,` between them.
+    fn types(&mut self, alloc: Global) -> Result<Vec<TypeName>, ScriptFault>
+        ensures tokens { IfOk result (λ x. Passes self.old (types_lexemes x.items) self.new) }
+        ensures shorter { OnOk result (length self.new.rest.now < length self.old.rest.now) }
+        ensures fault { IfErr result IsOfGrammar }
+    {
+        let mut types = Vec::new(alloc);
+        let first = self.type_name(alloc)?;
+        types.push(first)?;
+        'more: while self.has_symbol(Symbol::Comma) {
+            let next = self.type_name(alloc)?;
+            types.push(next)?;
+        }
+        Ok(types)
+    }
+
+    /// The types that go one way through a port.
+    #[tactic(auto, using(std::proofs::lemmas::List::append_assoc), unfolding(crate::specs::Definitions::direction_lexemes))]
+    fn direction(&mut self, alloc: Global) -> Result<Direction, ScriptFault>
+        ensures tokens { IfOk result (λ x. Passes self.old (direction_lexemes x) self.new) }
+        ensures shorter { OnOk result (length self.new.rest.now < length self.old.rest.now) }
+        ensures fault { IfErr result IsOfGrammar }
+    {
+        let way = self.way()?;
+        let types = self.types(alloc)?;
+        let has_semicolon = self.end(false)?;
+        Ok(Direction {
+            way,
+            types,
+            has_semicolon,
+        })
+    }
+
+    /// The ways through a port, up to its `}`.
+    fn directions(&mut self, alloc: Global) -> Result<Vec<Direction>, ScriptFault>
+        ensures tokens { IfOk result (λ x. Passes self.old (directions_lexemes x.items) self.new) }
+        ensures shorter { OnOk result (length self.new.rest.now ≤ length self.old.rest.now) }
+        ensures fault { IfErr result IsOfGrammar }
+    {
+        let mut directions = Vec::new(alloc);
+        'more: while !self.is_symbol_at(0, Symbol::RightBrace) {
+            let direction = self.direction(alloc)?;
+            directions.push(direction)?;
+        }
+        Ok(directions)
+    }
+
+    /// A port type. 10 `Syntax` also: no way leads through it.
+    #[tactic(auto, using(std::proofs::lemmas::List::append_assoc), unfolding(crate::specs::Definitions::port_type_lexemes))]
+    fn port_type(&mut self, alloc: Global) -> Result<PortType, ScriptFault>
+        ensures tokens { IfOk result (λ x. Passes self.old (port_type_lexemes x) self.new) }
+        ensures shorter { OnOk result (length self.new.rest.now < length self.old.rest.now) }
+        ensures fault { IfErr result IsOfGrammar }
+    {
+        self.word(Word::Type)?;
+        self.word(Word::Port)?;
+        let name = self.name(alloc)?;
+        self.word(Word::Message)?;
+        self.symbol(Symbol::LeftBrace)?;
+        if self.is_symbol_at(0, Symbol::RightBrace) {
+            return Err(ScriptFault::syntax(self.line()));
+        }
+        let directions = self.directions(alloc)?;
+        self.symbol(Symbol::RightBrace)?;
+        Ok(PortType { name, directions })
+    }
+
+    /// Names with a `,` between them.
+    fn names(&mut self, alloc: Global) -> Result<Vec<DeclaredName>, ScriptFault>
+        ensures tokens { IfOk result (λ x.
+            Passes self.old (declared_names_lexemes x.items) self.new) }
+        ensures shorter { OnOk result (length self.new.rest.now < length self.old.rest.now) }
+        ensures fault { IfErr result IsOfGrammar }
+    {
+        let mut names = Vec::new(alloc);
+        let first = self.declared_name(alloc)?;
+        names.push(first)?;
+        'more: while self.has_symbol(Symbol::Comma) {
+            let next = self.declared_name(alloc)?;
+            names.push(next)?;
+        }
+        Ok(names)
+    }
+
+    /// Ports of one type.
+    #[tactic(auto, using(std::proofs::lemmas::List::append_assoc), unfolding(crate::specs::Definitions::port_declaration_lexemes))]
+    fn port_declaration(&mut self, alloc: Global) -> Result<PortDeclaration, ScriptFault>
+        ensures tokens { IfOk result (λ x. Passes self.old (port_declaration_lexemes x) self.new) }
+        ensures shorter { OnOk result (length self.new.rest.now < length self.old.rest.now) }
+        ensures fault { IfErr result IsOfGrammar }
+    {
+        self.word(Word::Port)?;
+        let type_name = self.name(alloc)?;
+        let names = self.names(alloc)?;
+        let has_semicolon = self.end(false)?;
+        Ok(PortDeclaration {
+            type_name,
+            names,
+            has_semicolon,
+        })
+    }
+
+    /// The ports of a component type, up to its `}`.
+    fn ports(&mut self, alloc: Global) -> Result<Vec<PortDeclaration>, ScriptFault>
+        ensures tokens { IfOk result (λ x.
+            Passes self.old (port_declarations_lexemes x.items) self.new) }
+        ensures shorter { OnOk result (length self.new.rest.now ≤ length self.old.rest.now) }
+        ensures fault { IfErr result IsOfGrammar }
+    {
+        let mut ports = Vec::new(alloc);
+        'more: while !self.is_symbol_at(0, Symbol::RightBrace) {
+            let port_declaration = self.port_declaration(alloc)?;
+            ports.push(port_declaration)?;
+        }
+        Ok(ports)
+    }
+
+    /// A component type.
+    #[tactic(auto, using(std::proofs::lemmas::List::append_assoc), unfolding(crate::specs::Definitions::component_type_lexemes))]
+    fn component_type(&mut self, alloc: Global) -> Result<ComponentType, ScriptFault>
+        ensures tokens { IfOk result (λ x. Passes self.old (component_type_lexemes x) self.new) }
+        ensures shorter { OnOk result (length self.new.rest.now < length self.old.rest.now) }
+        ensures fault { IfErr result IsOfGrammar }
+    {
+        self.word(Word::Type)?;
+        self.word(Word::Component)?;
+        let name = self.name(alloc)?;
+        self.symbol(Symbol::LeftBrace)?;
+        let ports = self.ports(alloc)?;
+        self.symbol(Symbol::RightBrace)?;
+        Ok(ComponentType { name, ports })
+    }
+
+    /// What the definition of a type defines.
+    #[tactic(auto, unfolding(crate::specs::Definitions::defined_lexemes))]
+    pub fn defined_type(&mut self, alloc: Global) -> Result<Defined, ScriptFault>
+        ensures tokens { IfOk result (λ x. Passes self.old (defined_lexemes x) self.new) }
+        ensures shorter { OnOk result (length self.new.rest.now < length self.old.rest.now) }
+        ensures nested { IfOk result (λ x. defined_depth x ≡ 0) }
+        ensures fault { IfErr result IsOfGrammar }
+    {
+        match self.word_at(1) {
+            Some(Word::Port) => {
+                let port = self.port_type(alloc)?;
+                Ok(Defined::Port(port))
+            }
+            Some(Word::Component) => {
+                let component = self.component_type(alloc)?;
+                Ok(Defined::Component(component))
+            }
+            _ if self.is_word_at(2, Word::Of) => {
+                let list = self.list_type(alloc)?;
+                Ok(Defined::List(list))
+            }
+            _ => {
+                let record = self.record_type(alloc)?;
+                Ok(Defined::Record(record))
+            }
+        }
+    }
+
+    /// Whether a list type comes next: it is the one definition that ends in no `}`.
+    pub fn is_list_type(&self) -> bool {
+        self.is_word_at(0, Word::Type) && self.is_word_at(2, Word::Of)
+    }
+}

@@ -1,0 +1,18 @@
+//! Tests of the public calls of the crates below: `tp_token`, `tp_port`, `tp_value` and `tp_config`.
+//! They stand here, and not in the crates that they test, so that those are proved once.
+#![tactic(auto)]
+
+#[cfg(test)]
+mod configurations;
+#[cfg(test)]
+mod lists;
+#[cfg(test)]
+mod partners;
+#[cfg(test)]
+mod ports;
+#[cfg(test)]
+mod tokens;
+#[cfg(test)]
+mod values;
+#[cfg(test)]
+mod writers;

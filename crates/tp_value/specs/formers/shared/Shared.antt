@@ -1,0 +1,75 @@
+-- `Shared` as a type that may hold the type that holds it.
+use mathlib.Core.Path.{◌≡◌, refl, sym}
+use mathlib.Core.List.{List, []}
+use mathlib.Core.Former.{Former, this, const, pair, list, via, children}
+use base.Stored.{gnil, code_map}
+use base.Fml.{ftrue}
+use denote.RattleType.{RattleType}
+use denote.Memory.{part_of}
+use denote.RawPtr.{Ptr}
+use denote.Sharing.{nothing}
+use denote.HoleLaws.{Alike}
+use denote.HolePlaces.{Recodes, struct_places, laid, one_value}
+use denote.Hole.Carrier.{listed, list-listed}
+use denote.Hole.Fix.{over}
+use denote.Param.Weighed.{Weighed, w_list}
+use denote.Model.Placed.{view_places}
+use Rattle.std.specs.declared.sync.Arc.{Arc}
+use Rattle.std.specs.contracts.sync.Arc as arc
+use Rattle.std.specs.declared.alloc.Global.{Global}
+use Rattle.std.specs.contracts.alloc.Global as heap
+use Rattle.std.specs.contracts.impls.GlobalAllocator.TheImpl.{ghosts}
+use Rattle.tp_value.specs.formers.items.Items as items
+use Rattle.tp_value.specs.contracts.items.Items as I
+use Rattle.tp_value.specs.declared.shared.Shared.TheInside.{Inside}
+use Rattle.tp_value.specs.declared.shared.Shared.TheView.{view, invariant}
+use Rattle.tp_value.specs.contracts.shared.Shared as C
+use Rattle.tp_value.specs.contracts.shared.Shared.TheInside as J
+
+abbrev pub the_former : Former {0} → Former {0}
+the_former g = list g
+
+abbrev pub the_weighed : {g : Former {0}} → Weighed g → Weighed (the_former g)
+the_weighed w = w_list w
+
+pub the_empty : List ⊥
+the_empty = []
+
+abbrev pub the_items : (X : Type 0) → List X → List X
+the_items X d = d
+
+pub the_items_listed : (X : Type 0) (d : List X) → listed _ (children (the_former this) X d) ≡ the_items X d
+the_items_listed X d = list-listed X d
+
+abbrev fields : Former {0}
+fields = via (pair (const Ptr) (list this)) Inside (λ X a. (a.items.ptr, a.items.value))
+    (λ X v. record { items = record { ptr = v.0; value = v.1 } }) (λ X a. refl) (λ X v. refl)
+
+abbrev with_value : {X Y : Type 0} → Arc X Global → Y → Arc Y Global
+with_value a y = record { ptr = a.ptr; value = y }
+
+abbrev arc_of : RattleType → RattleType
+arc_of R = arc.the_row R heap.the_row ghosts
+
+module _ (R S : RattleType) (h : R.Denot → S.Denot) where
+  arc_places : Alike R S h → Alike (arc_of R) (arc_of S) (λ a. with_value a (h a.value))
+  unfolding part_of
+  arc_places a = record {
+    mir_same = λ i. (arc_of (one_value R (a.mir_same i) (λ _. ftrue) (λ _ _. nothing) gnil)).mir;
+    own_same = λ b i. (arc_of (one_value R (a.mir_same i) (a.own_same b.value i) (a.shr_same b.value i) gnil)).own_val (with_value b tt);
+    shr_same = λ b i. (arc_of (one_value R (a.mir_same i) (a.own_same b.value i) (a.shr_same b.value i) gnil)).shr_at (with_value b tt);
+  }
+
+module _ (R S : RattleType) (h : R.Denot → S.Denot) where
+  abbrev mapped : List R.Denot → List S.Denot
+  mapped = (items.the_former this).map R.Denot S.Denot h
+
+  pub the_places : Alike R S h → Alike (C.the_row R) (C.the_row S) ((the_former this).map R.Denot S.Denot h)
+  the_places a = view_places fields (list this) view (λ X Y k u. refl) (λ X u. refl) R.Denot S.Denot h (C.the_row R).coded (C.the_row S).coded
+      (invariant R.Denot) (invariant S.Denot) (λ u p q. refl) (λ u p q. refl) (λ u e. tt) (λ u e. tt)
+      (over (J.the_row R)) (over (J.the_row S))
+      (struct_places (J.the_type R) (J.the_type S) ((λ b. with_value b (mapped b.value)), tt) _ (λ d. refl) refl
+      (laid _ _ _ (arc_places (I.the_row R) (I.the_row S) mapped (items.the_places R S h a)), tt))
+
+  pub the_codes_placed : Recodes R S h → Recodes (C.the_row R) (C.the_row S) ((the_former this).map R.Denot S.Denot h)
+  the_codes_placed e d = sym (code_map R.coded.code S.coded.code h (λ x. sym (e x)) d)
