@@ -1,7 +1,7 @@
 //! A test case, run in each of some orders.
 ghost use Rattle.std.specs.Prelude.{OnOk};
 ghost use Rattle.std.specs.Io.KnownBytes.{Appends};
-ghost use Rattle.tpr_ordered.specs.Ordered.{IsRunWritten};
+ghost use Rattle.tpr_ordered.specs.Ordered.{AreOrdersWritten, IsOrderWritten, IsRunWritten};
 
 use crate::order_gate::OrderGate;
 use crate::orders::Order;
@@ -53,7 +53,10 @@ fn write_order<T: Threads + Wait + Sync, W: Write>(
     order: &Order,
     patience: u32,
     writer: &mut W,
-) -> io::Result<()> {
+) -> io::Result<()>
+    ensures { OnOk result (IsOrderWritten test_case.now order.now
+        (W.contents writer.old) (W.contents writer.new)) }
+{
     let line = order.line.as_str();
     write!(writer, "order {line}\n")?;
     write_run(
@@ -81,7 +84,10 @@ pub fn write_orders<T: Threads + Wait + Sync, W: Write>(
     orders: &[Order],
     patience: u32,
     writer: &mut W,
-) -> io::Result<()> {
+) -> io::Result<()>
+    ensures { OnOk result (AreOrdersWritten test_case.now (W.contents writer.old) orders.now
+        (W.contents writer.new)) }
+{
     for order in orders {
         write_order(rt, alloc, test_case, order, patience, writer)?;
     }
