@@ -44,10 +44,10 @@ run_each_again() {
     count $?
 }
 
-# Beside a load of two busy processes for each processor, and behind them in rank.
+# Beside a load of a busy process for each processor, and behind them in rank.
 run_each_beside_a_load() {
     local base number load=()
-    for ((number = 0; number < 2 * $(nproc); number++)); do
+    for ((number = 0; number < $(nproc); number++)); do
         yes >/dev/null &
         load+=($!)
     done
@@ -266,8 +266,8 @@ write_turns() { # FILE ELEMENT
     lists=$(yes '{1, 2}' | head -n 99 | tr '\n' ',')
     cat >"$1" <<END
 module Turns {
-    type record of integer Row
-    type record of Row Table
+    type record of integer Row;
+    type record of Row Table;
     type port Tables message { inout Table; }
     type component Looker { port Tables tables; }
     testcase looks() runs on Looker {
@@ -282,8 +282,8 @@ module Turns {
 END
 }
 
-# A template in which no loop variable stands is filled once for a behaviour and not at each turn, which
-# would take 50,000 allocations. One with a loop variable is filled at each turn.
+# A template in which no loop variable stands is filled once for a behaviour, and not at each turn, which
+# would take an allocation at least for each of its lists, 50,000 in all. One with a loop variable is.
 fills_a_template_once() {
     write_turns "$room/fixed.ttcn" 2
     write_turns "$room/varied.ttcn" turn
