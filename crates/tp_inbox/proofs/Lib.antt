@@ -12,3 +12,4 @@ pub mod Gathering
 pub mod Rests
 pub mod Made
 pub mod Senders
+pub mod Standing

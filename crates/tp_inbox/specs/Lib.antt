@@ -9,3 +9,4 @@ pub mod Places
 pub mod Ledgers
 pub mod Ends
 pub mod Gathers
+pub mod Standing

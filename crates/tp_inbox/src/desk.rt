@@ -1,5 +1,6 @@
 //! A component's desk: its ports and its history.
-ghost use Rattle.std.specs.Prelude.{◌≡◌, [], ℕ, ◌+◌, ◌^◌, ◌<◌, ◌≤◌, All, SomeIff, length, IfErr, IfOk, OnErr, OnOk};
+ghost use Rattle.std.specs.Prelude.{◌≡◌, [], ℕ, ◌+◌, ◌^◌, ◌<◌, ◌≤◌};
+ghost use Rattle.std.specs.Prelude.{All, SomeIff, length, IfErr, IfOk, OnErr, OnOk};
 ghost use Rattle.std.specs.Option.{option_copied};
 ghost use Rattle.std.specs.Borrow.{sem};
 ghost use Rattle.tp_port.specs.History.{Lawful, queued, status_of, top};
@@ -7,7 +8,8 @@ ghost use Rattle.tp_port.specs.Answers.{Checks, halted_count};
 ghost use Rattle.tp_config.specs.Setup.{IsComponent, ports_at};
 ghost use Rattle.tp_inbox.specs.declared.entry.Entry.TheVariants as entry;
 ghost use Rattle.tp_inbox.specs.History.{IsClocked, IsTimely, arrivals, clock_of, next_of};
-ghost use Rattle.tp_inbox.specs.Desks.{IsNote, IsWithin, Notes, Receives, Triggers, adding, at_port, new_desk};
+ghost use Rattle.tp_inbox.specs.Desks.{IsNote, IsWithin, Notes, Receives, Triggers};
+ghost use Rattle.tp_inbox.specs.Desks.{adding, at_port, new_desk};
 ghost use Rattle.tp_inbox.specs.Lending.{ends_checked};
 ghost use Rattle.tp_inbox.specs.Ledgers.{putting};
 

@@ -1,8 +1,10 @@
 //! What is left of an inbox once its senders have ended.
-ghost use Rattle.std.specs.Prelude.{◌≡◌, ◌++◌, ◌≤◌, [], All, IfErr, IfOk, length, map, vec_capacity};
+ghost use Rattle.std.specs.Prelude.{◌≡◌, ◌++◌, ◌≤◌, [], All, IfErr, IfOk};
+ghost use Rattle.std.specs.Prelude.{length, map, vec_capacity};
 ghost use Rattle.tp_inbox.specs.History.{arrivals};
 ghost use Rattle.tp_inbox.specs.Envelopes.{one_of};
-ghost use Rattle.tp_inbox.specs.Routed.{AreBegun, AreDelivered, IsArrivalOn, AreRoutes, arrivals_of, rest_arrivals};
+ghost use Rattle.tp_inbox.specs.Routed.{AreBegun, AreDelivered, IsArrivalOn, AreRoutes};
+ghost use Rattle.tp_inbox.specs.Routed.{arrivals_of, rest_arrivals};
 ghost use Rattle.tp_inbox.specs.Envelopes.{AreRouted};
 ghost use Rattle.tp_inbox.specs.Ledgers.{AreSenders, IsDeskOf, put_by};
 ghost use Rattle.tp_inbox.specs.Ends.{seen_sent};

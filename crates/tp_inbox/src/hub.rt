@@ -32,7 +32,7 @@ pub enum Woken {
 /// looks and comes to rest under the one lock under which a push is announced: either it finds the
 /// announcement, or the announcement finds it at rest. Whoever ends a rest takes it from the floor
 /// under that same lock, and only then wakes: so a behaviour that is on its way back counts as
-/// awake. The floor's lock is taken inside the inbox's lock, never the other way round.
+/// awake. The floor is changed inside the inbox's lock, never the other way round.
 pub(crate) struct Hub {
     /// The queue. It has a rule, and no lock.
     pub(crate) line: InboxQueue,
@@ -44,7 +44,6 @@ pub(crate) struct Hub {
     pub(crate) routes: Vec<RouteId>,
     bell: Mutex<Bell>,
     rung: Condvar,
-    floor: Arc<Floor, Global>,
     ghost routed: { AreRoutes comp ports routes.items },
 }
 
@@ -68,32 +67,28 @@ impl Hub {
             comp,
             ports,
             routes,
-            bell: Mutex::new(Bell::new()),
+            bell: Mutex::new(Bell::new(floor)),
             rung: Condvar::new(),
-            floor,
         }
     }
 
     /// Announces a push, and wakes the owner where it rests and has not taken this one out yet.
     pub(crate) fn announce<R: Wait>(&self, rt: &R) {
         let mut bell = self.bell.lock(rt);
-        let wakes = bell.announce();
-        self.wake(rt, bell, wakes);
+        let wakes = bell.announce(rt);
+        self.wake(bell, wakes);
     }
 
     /// Closes the inbox, and wakes the owner where it rests.
     pub(crate) fn close<R: Wait>(&self, rt: &R) {
         let mut bell = self.bell.lock(rt);
-        let wakes = bell.close();
-        self.wake(rt, bell, wakes);
+        let wakes = bell.close(rt);
+        self.wake(bell, wakes);
     }
 
-    /// Lets the owner rise where it is to be woken, and wakes it. It wakes all that wait at this
-    /// inbox: a wait only borrows the owner, so that nothing here rules out that there are two.
-    fn wake<R: Wait>(&self, rt: &R, bell: MutexGuard<Bell>, wakes: bool) {
-        if wakes {
-            self.floor.rise(rt);
-        }
+    /// Gives the bell back, and wakes the owner where it is to be woken. It wakes all that wait at
+    /// this inbox: a wait only borrows the owner, so that nothing here rules out that there are two.
+    fn wake(&self, bell: MutexGuard<Bell>, wakes: bool) {
         drop(bell);
         if wakes {
             self.rung.notify_all();
@@ -107,7 +102,7 @@ impl Hub {
         if let Some(found) = bell.look(taken) {
             return found;
         }
-        if let Some(last) = bell.rest(taken, self.floor.rest(rt)) {
+        if let Some(last) = bell.rest(rt, taken) {
             return last;
         }
         let bell = self.rung.wait_while(rt, bell, |bell| bell.rests());
@@ -141,7 +136,6 @@ impl Drop for Hub {
             routes: _,
             bell: _,
             rung: _,
-            floor: _,
         } = self;
         line.destroy();
     }

@@ -25,7 +25,7 @@ const TURNS: u32 = 10_000_000;
 const ROUNDS: u32 = 50;
 
 /// Whether so many come to rest.
-fn rest_is<R: Wait>(rt: &R, floor: &Floor, count: u32) -> bool {
+fn rest_is<R: Wait>(rt: &R, floor: &Floor, count: u64) -> bool {
     for _ in 0..TURNS {
         if floor.resting(rt) == count {
             return true;
