@@ -21,11 +21,12 @@ with_refused() { # KIND=NUMBER.. -- COMMAND..
     env "${refusals[@]}" REFUSED_MARKS="$room/marks" LD_PRELOAD="$room/refused.so" timeout 20 "$@" \
         >"$room/printed" 2>"$room/said" </dev/null
     status=$?
+    if is_refused '*'; then ((refused_of_all += 1)); fi
 }
 
 # Whether a call of this kind was refused in the last run.
-is_refused() { # memory | thread | read | write
-    [[ -e $room/marks/$1 ]]
+is_refused() { # memory | thread | read | write | *
+    compgen -G "$room/marks/$1" >/dev/null
 }
 
 refuse_each() { # MODE FILE ANSWER

@@ -16,6 +16,7 @@ is_a_report_of() { # EXAMPLE
 run_again() { # TIMES EXAMPLE [COMMAND..]
     local turn
     for ((turn = 1; turn <= $1; turn++)); do
+        ((runs_of_all += 1))
         observe "${@:3}" timeout 20 "$tpr" run "$root/examples/$2.ttcn" </dev/null
         if ! is_a_report_of "$2"; then
             echo "FAILED: $2, run $turn of $1 ${*:3}: status $status, and printed"
@@ -62,6 +63,7 @@ run_each_beside_a_load() {
 # Runs an example where the process may map so many KiB: the program itself, since ./tpr needs some too.
 run_within() { # KIB EXAMPLE
     local program=$tpr
+    ((runs_of_all += 1))
     if [[ -z ${TPR-} ]]; then program=$root/crates/tpr/out/tpr; fi
     (ulimit -v "$1" && exec timeout 20 "$program" run "$root/examples/$2.ttcn") >"$room/printed" 2>"$room/said" </dev/null
     status=$?

@@ -1,9 +1,9 @@
 -- Which branch of an `alt` can be chosen (ES 201 873-1, 20.2, 22.2.2 to 22.2.4). A receiving operation that stands alone is an `alt` of one
 -- branch without `[else]`.
 use Rattle.std.specs.Prelude.{◌≡◌, ◌⊎◌, ℕ, Bool, true, Option, Some, None, List, All, slice_get, take}
-use Rattle.tp_port.specs.declared.event.Env.{Env}
-use Rattle.tp_port.specs.History.{top}
-use Rattle.tp_port.specs.Answers.{Finds, Satisfies}
+use Rattle.tp_queue.specs.declared.event.Env.{Env}
+use Rattle.tp_queue.specs.History.{top}
+use Rattle.tp_queue.specs.Answers.{Finds, Satisfies}
 use Rattle.tp_value.specs.declared.message.Message.{Message}
 use Rattle.tp_value.specs.Admits.{Admits}
 use Rattle.tp_syntax.specs.declared.tree.ReceiveKind.{ReceiveKind}

@@ -1,8 +1,8 @@
 -- What trying the branches of an `alt` comes to.
 use Rattle.std.specs.Prelude.{◌≡◌, ℕ, Bool, Some, List}
-use Rattle.tp_port.specs.declared.event.Env.{Env}
-use Rattle.tp_port.specs.History.{top}
-use Rattle.tp_port.specs.Answers.{Finds, Satisfies}
+use Rattle.tp_queue.specs.declared.event.Env.{Env}
+use Rattle.tp_queue.specs.History.{top}
+use Rattle.tp_queue.specs.Answers.{Finds, Satisfies}
 use Rattle.tp_value.specs.declared.message.Message.{Message}
 use Rattle.tp_value.specs.Admits.{Admits}
 use Rattle.tp_syntax.specs.declared.tree.ReceiveKind.TheVariants as kind

@@ -2,9 +2,9 @@
 -- evaluates its statements one after the other). A path is a list of moments.
 use Rattle.std.specs.Prelude.{◌≡◌, ◌≢◌, ℕ, suc, ℤ, pos, ◌+ℤ◌, Bool, true, false, Option, Some, None, List, [], ◌∷◌, ◌++◌, All, length, map, slice_get}
 use Rattle.std.specs.List.{AllZip}
-use Rattle.tp_port.specs.declared.event.Env.{Env}
-use Rattle.tp_port.specs.declared.event.Status.TheVariants as status
-use Rattle.tp_port.specs.History.{status_of}
+use Rattle.tp_queue.specs.declared.event.Env.{Env}
+use Rattle.tp_queue.specs.declared.event.Status.TheVariants as status
+use Rattle.tp_queue.specs.History.{status_of}
 use Rattle.tp_value.specs.declared.message.Message.{Message}
 use Rattle.tp_value.specs.declared.verdict.Verdict.{Verdict}
 use Rattle.tp_config.specs.declared.port_type.CompId.{CompId}

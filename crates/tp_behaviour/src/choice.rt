@@ -7,8 +7,8 @@ use crate::gate::Gate;
 use std::alloc::Global;
 use tp_body::body::ReceiveKind;
 use tp_inbox::desk::Desk;
-use tp_port::event::{Env, TriggerAnswer};
-use tp_port::payload::Wanted;
+use tp_queue::event::{Env, TriggerAnswer};
+use tp_queue::payload::Wanted;
 use tp_refusal::memory::Memory;
 use tp_value::message::{Message, MsgTemplate};
 

@@ -13,7 +13,7 @@ use std::sync::Wait;
 use tp_inbox::entry::Entry;
 use tp_inbox::hub::Woken;
 use tp_inbox::owner::Owner;
-use tp_port::event::Env;
+use tp_queue::event::Env;
 use tp_refusal::memory::Memory;
 use tp_value::message::Message;
 

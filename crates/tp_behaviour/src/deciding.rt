@@ -15,7 +15,7 @@ use crate::receiving::{fill_guards, redirect, view_guards};
 use crate::station::{State, Station};
 use std::sync::Wait;
 use tp_body::body::Branch;
-use tp_port::event::Env;
+use tp_queue::event::Env;
 use tp_refusal::memory::Memory;
 use tp_value::message::Message;
 

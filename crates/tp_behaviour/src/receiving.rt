@@ -1,5 +1,5 @@
 //! What a behaviour receives.
-ghost use Rattle.std.specs.Prelude.{◌≡◌, ◌<◌, ◌≤◌, IfOk, IfSome, OnOk, length, map};
+ghost use Rattle.std.specs.Prelude.{◌≡◌, ◌<◌, ◌≤◌, IfOk, IfSome, OnOk, length};
 ghost use Rattle.std.specs.Option.{option_map};
 ghost use Rattle.std.specs.List.{slice_index_or};
 ghost use Rattle.tp_body.specs.declared.body.Statement.TheVariants as b;
@@ -25,7 +25,7 @@ use std::sync::Wait;
 use tp_body::body::{Branch, Receiving, RecvMsg};
 use tp_body::fill::fill_template;
 use tp_config::port_type::CompId;
-use tp_port::event::Env;
+use tp_queue::event::Env;
 use tp_refusal::memory::Memory;
 use tp_value::message::{Message, MsgTemplate};
 

@@ -12,7 +12,7 @@ use std::alloc::Global;
 use tp_body::body::{Receiver, Sent};
 use tp_body::fill::fill_message;
 use tp_config::port_type::CompId;
-use tp_port::payload::Payload;
+use tp_queue::payload::Payload;
 use tp_refusal::memory::Memory;
 use tp_value::message::Message;
 

@@ -2,16 +2,17 @@
 ghost use Rattle.std.specs.Prelude.{◌≡◌, ◌↔◌, IfOk, IsTrue, length, map, string_bytes};
 ghost use Rattle.tp_value.specs.HasType.{ArePrintable};
 ghost use Rattle.tp_name.specs.Named.{texts};
-ghost use Rattle.tp_body.specs.Placing.{IsPlacing};
 ghost use Rattle.tp_body.specs.Messages.{AreElements, AreFields, AreNamed, IsValue};
 
 use crate::body::SendValue;
 use crate::placing::field_places;
 use std::alloc::Global;
-use tp_name::fault::{Refusal, ScriptFault, refused};
+use tp_name::fault::refused;
 use tp_name::name::{Name, find};
 use tp_name::name_set::NameSet;
+use tp_refusal::refusal::Refusal;
 use tp_syntax::tree::{Value, ValueField};
+use tp_token::fault::ScriptFault;
 use tp_value::items::Items;
 use tp_value::shared::Shared;
 use tp_value::types::{Field, Ty, TypeDef, Types};

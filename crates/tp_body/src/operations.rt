@@ -16,10 +16,12 @@ use crate::scope::{Scope, Variables};
 use crate::templates::resolve_template;
 use std::alloc::Global;
 use tp_config::type_list::TypeList;
-use tp_name::fault::{Refusal, ScriptFault, refused};
+use tp_name::fault::refused;
 use tp_name::name::{Name, find};
+use tp_refusal::refusal::Refusal;
 use tp_syntax::tree;
 use tp_syntax::tree::{ComponentName, Destination, Message, MessageTemplate, VerdictName};
+use tp_token::fault::ScriptFault;
 use tp_value::types::Ty;
 use tp_value::verdict::Verdict;
 

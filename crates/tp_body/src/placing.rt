@@ -5,8 +5,11 @@ ghost use Rattle.tp_body.specs.Placing.{IsPlacing, field_names};
 
 use indexmap::IndexSet;
 use std::alloc::Global;
-use tp_name::fault::{Memory, Refusal, ScriptFault, refused};
+use tp_name::fault::refused;
 use tp_name::name::Name;
+use tp_refusal::memory::Memory;
+use tp_refusal::refusal::Refusal;
+use tp_token::fault::ScriptFault;
 use tp_value::types::Field;
 
 /// Whether the field at this place has this name.

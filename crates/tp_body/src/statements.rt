@@ -11,10 +11,12 @@ use crate::operations::{resolve_receive, resolve_send, resolve_verdict};
 use crate::scope::{Behaviour, Scope, Variables};
 use crate::variables::{are_no_ports, is_new, resolve_variables};
 use std::alloc::Global;
-use tp_name::fault::{Refusal, ScriptFault, refused};
+use tp_name::fault::refused;
 use tp_name::name::Name;
+use tp_refusal::refusal::Refusal;
 use tp_syntax::tree;
 use tp_syntax::tree::{Action, BranchBody, Control, PortOperation, Turns, Variable, VerdictName};
+use tp_token::fault::ScriptFault;
 use tp_value::items::Items;
 
 /// The loop variables inside a `for`.

@@ -8,10 +8,12 @@ use crate::body::VariableType;
 use crate::lookup::{find_type, place_of_port};
 use crate::scope::{Behaviour, Scope, Variables};
 use std::alloc::Global;
-use tp_name::fault::{Refusal, ScriptFault, refused};
+use tp_name::fault::refused;
 use tp_name::name::{Name, find};
 use tp_name::name_set::NameSet;
+use tp_refusal::refusal::Refusal;
 use tp_syntax::tree::{TypeName, Variable};
+use tp_token::fault::ScriptFault;
 use tp_value::items::Items;
 
 /// Whether the name is new: no port, parameter, variable or loop variable has it, and in the test

@@ -4,10 +4,10 @@ use Rattle.std.specs.Prelude.{All, Contains, IsSome, slice_get}
 use Rattle.std.specs.List.{cons_option, filter_map}
 use Rattle.std.proofs.lemmas.List.Elements.{All-cons, All-head, All-nil, All-tail, All-take}
 use Rattle.std.proofs.lemmas.Option.{get_or_from_slice_get, none-some, slice_get-get_or, slice_get_within}
-use Rattle.tp_port.specs.declared.event.Env.{Env}
-use Rattle.tp_port.specs.declared.event.Event.{Event}
-use Rattle.tp_port.specs.declared.event.Event.TheVariants as event
-use Rattle.tp_port.specs.History.{Lawful, MayFollow, accepted, arrival, gone, limit, top}
+use Rattle.tp_queue.specs.declared.event.Env.{Env}
+use Rattle.tp_queue.specs.declared.event.Event.{Event}
+use Rattle.tp_queue.specs.declared.event.Event.TheVariants as event
+use Rattle.tp_queue.specs.History.{Lawful, MayFollow, accepted, arrival, gone, limit, top}
 use Rattle.tp_value.specs.declared.message.Message.{Message}
 use Rattle.tp_config.specs.declared.port_type.CompId.{CompId}
 use Rattle.tp_config.specs.declared.port_type.PortRef.{PortRef}

@@ -4,8 +4,8 @@ use Rattle.std.specs.Prelude.{All, Contains, slice_get, string_bytes}
 use Rattle.std.specs.List.{AllZip}
 use Rattle.std.proofs.lemmas.List.{append-nil}
 use Rattle.std.proofs.lemmas.Option.{same_Some, slice_get-get_or}
-use Rattle.tp_port.specs.History.{Lawful}
-use Rattle.tp_port.proofs.Cuts.{length-push}
+use Rattle.tp_queue.specs.History.{Lawful}
+use Rattle.tp_queue.proofs.Cuts.{length-push}
 use Rattle.tp_config.specs.declared.port_type.CompId.{CompId}
 use Rattle.tp_config.specs.declared.port_type.RouteId.{RouteId}
 use Rattle.tp_config.specs.Allowed.{IsSetup}

@@ -1,6 +1,6 @@
 -- What a report promises of the messages of a run.
 use Rattle.std.specs.Prelude.{◌≡◌, ◌<◌, ℕ, List, [], ◌∷◌, Option, Some, None, Contains, length, map, slice_get, string_bytes, ◌+◌, ⊤}
-use Rattle.tp_port.specs.History.{Lawful}
+use Rattle.tp_queue.specs.History.{Lawful}
 use Rattle.tp_config.specs.declared.port_type.CompId.{CompId}
 use Rattle.tp_config.specs.declared.port_type.RouteId.{RouteId}
 use Rattle.tp_config.specs.Setup.{Setup, names, ports_at}

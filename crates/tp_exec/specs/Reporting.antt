@@ -1,6 +1,6 @@
 -- What a report has of what a run came to, and why there is none.
 use Rattle.std.specs.Prelude.{◌≡◌, ◌+◌, ◌<◌, ℕ, zero, suc, Option, Some, None, List, All, slice_get, string_bytes}
-use Rattle.tp_port.specs.History.{Lawful}
+use Rattle.tp_queue.specs.History.{Lawful}
 use Rattle.tp_config.specs.Setup.{Setup, names}
 use Rattle.tp_inbox.specs.declared.entry.Entry.{Entry}
 use Rattle.tp_inbox.specs.Desks.{IsWithin, Journal, at_port}

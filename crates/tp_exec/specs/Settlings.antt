@@ -1,6 +1,6 @@
 -- What a run comes to once all messages have come.
 use Rattle.std.specs.Prelude.{◌≡◌, ◌++◌, ℕ, Some, List, All, Contains, length, map, slice_get}
-use Rattle.tp_port.specs.declared.event.Env.{Env}
+use Rattle.tp_queue.specs.declared.event.Env.{Env}
 use Rattle.tp_value.specs.declared.message.Message.{Message}
 use Rattle.tp_config.specs.declared.port_type.CompId.{CompId}
 use Rattle.tp_config.specs.declared.port_type.RouteId.{RouteId}

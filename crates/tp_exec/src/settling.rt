@@ -24,7 +24,7 @@ use tp_inbox::gathered::{Settled, gather};
 use tp_inbox::owner::Owner;
 use tp_inbox::sender::Sender;
 use tp_inbox::stamped::Stamped;
-use tp_port::event::Env;
+use tp_queue::event::Env;
 use tp_refusal::memory::Memory;
 use tp_value::message::Message;
 

@@ -1,8 +1,8 @@
 //! Whether a behaviour waits for what has come.
 ghost use Rattle.std.specs.Prelude.{◌<◌, ◌≡◌, ◌↔◌, All, IsTrue};
 ghost use Rattle.std.specs.Option.{option_copied};
-ghost use Rattle.tp_port.specs.Answers.{Satisfies};
-ghost use Rattle.tp_port.specs.History.{top};
+ghost use Rattle.tp_queue.specs.Answers.{Satisfies};
+ghost use Rattle.tp_queue.specs.History.{top};
 ghost use Rattle.tp_value.specs.Admits.{Admits};
 ghost use Rattle.tp_inbox.specs.Desks.{at_port};
 ghost use Rattle.tp_behaviour.specs.Choices.{IsOpen, NoneOpen};
@@ -14,8 +14,8 @@ use tp_behaviour::choice::Guard;
 use tp_behaviour::outcome::Outcome;
 use tp_body::body::ReceiveKind;
 use tp_inbox::desk::Desk;
-use tp_port::event::Env;
-use tp_port::payload::Wanted;
+use tp_queue::event::Env;
+use tp_queue::payload::Wanted;
 use tp_value::message::Message;
 
 /// The envelope that a receiving operation sees at this port, if any is deliverable.

@@ -8,12 +8,12 @@ use Rattle.std.proofs.lemmas.Option.{cond_some}
 use native.Mathlib.Decide.{ℕ_discrete}
 use Rattle.std.proofs.lemmas.Grind.{get_or-set_at}
 use Rattle.std.proofs.lemmas.List.{get_or-set_other, length-set, get_or_read}
-use Rattle.tp_port.specs.declared.event.Event.{Event}
-use Rattle.tp_port.specs.declared.event.Event.TheVariants as event
-use Rattle.tp_port.specs.declared.event.Env.{Env}
-use Rattle.tp_port.specs.History.{Lawful, top}
-use Rattle.tp_port.specs.Answers.{Checks}
-use Rattle.tp_port.proofs.Moves.{top_found}
+use Rattle.tp_queue.specs.declared.event.Event.{Event}
+use Rattle.tp_queue.specs.declared.event.Event.TheVariants as event
+use Rattle.tp_queue.specs.declared.event.Env.{Env}
+use Rattle.tp_queue.specs.History.{Lawful, top}
+use Rattle.tp_queue.specs.Answers.{Checks}
+use Rattle.tp_queue.proofs.Moves.{top_found}
 use Rattle.tp_value.specs.declared.message.Message.{Message}
 use Rattle.tp_inbox.specs.declared.entry.Entry.{Entry}
 use Rattle.tp_inbox.specs.declared.entry.Entry.TheVariants as entry

@@ -2,9 +2,9 @@
 use Rattle.std.proofs.Common.{◌≡◌, ℕ, zero, suc, ◌-◌, ◌<◌, ◌≤◌, None, List, [], ◌∷◌, drop, refl, arith}
 use Rattle.std.specs.Prelude.{slice_get}
 use Rattle.std.proofs.lemmas.Bool.{lt-ltb}
-use Rattle.tp_port.specs.declared.event.Event.{Event}
-use Rattle.tp_port.specs.History.{accepted, gone, limit, queued, top}
-use Rattle.tp_port.proofs.Moves.{no_top as nothing_on_top}
+use Rattle.tp_queue.specs.declared.event.Event.{Event}
+use Rattle.tp_queue.specs.History.{accepted, gone, limit, queued, top}
+use Rattle.tp_queue.proofs.Moves.{no_top as nothing_on_top}
 
 slice_get-drop : {X : Type 0} (n : ℕ) (l : List X) → slice_get (drop n l) 0 ≡ slice_get l n
 slice_get-drop zero l = refl

@@ -1,10 +1,10 @@
 -- The calls of a port's queue, with a copy of the message that is taken out or found.
 use Rattle.std.specs.Prelude.{◌≡◌, ℕ, Option, Some, None, List, [], ◌∷◌, ◌++◌}
-use Rattle.tp_port.specs.declared.event.Env.{Env}
-use Rattle.tp_port.specs.declared.event.Event.{Event}
-use Rattle.tp_port.specs.declared.event.Event.TheVariants as event
-use Rattle.tp_port.specs.History.{top}
-use Rattle.tp_port.specs.Answers.{Finds, FindsNone, Satisfies}
+use Rattle.tp_queue.specs.declared.event.Env.{Env}
+use Rattle.tp_queue.specs.declared.event.Event.{Event}
+use Rattle.tp_queue.specs.declared.event.Event.TheVariants as event
+use Rattle.tp_queue.specs.History.{top}
+use Rattle.tp_queue.specs.Answers.{Finds, FindsNone, Satisfies}
 use Rattle.tp_value.specs.declared.message.Message.{Message}
 use Rattle.tp_inbox.specs.declared.calls.Triggered.{Triggered}
 use Rattle.tp_inbox.specs.declared.calls.Triggered.TheVariants as triggered

@@ -1,11 +1,11 @@
 -- What contracts see of a desk, and what its calls answer and do.
 use Rattle.std.specs.Prelude.{◌≡◌, ℕ, ◌<◌, Bool, true, false, Option, Some, None, List, [], ◌∷◌, ◌++◌, length, slice_index_or, All}
-use Rattle.tp_port.specs.declared.event.Env.{Env}
-use Rattle.tp_port.specs.declared.event.Event.{Event}
-use Rattle.tp_port.specs.declared.event.TriggerAnswer.{TriggerAnswer}
-use Rattle.tp_port.specs.declared.event.TriggerAnswer.TheVariants as answer
-use Rattle.tp_port.specs.History.{Lawful, top}
-use Rattle.tp_port.specs.Answers.{Finds, FindsNone, Satisfies}
+use Rattle.tp_queue.specs.declared.event.Env.{Env}
+use Rattle.tp_queue.specs.declared.event.Event.{Event}
+use Rattle.tp_queue.specs.declared.event.TriggerAnswer.{TriggerAnswer}
+use Rattle.tp_queue.specs.declared.event.TriggerAnswer.TheVariants as answer
+use Rattle.tp_queue.specs.History.{Lawful, top}
+use Rattle.tp_queue.specs.Answers.{Finds, FindsNone, Satisfies}
 use Rattle.tp_value.specs.declared.message.Message.{Message}
 use Rattle.tp_config.specs.declared.port_type.CompId.{CompId}
 use Rattle.tp_inbox.specs.declared.entry.Entry.{Entry}

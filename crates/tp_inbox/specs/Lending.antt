@@ -3,7 +3,7 @@ use Rattle.std.specs.Prelude.{◌≡◌, ℕ, Option, Result, MatchResult, ⊤}
 use Rattle.std.specs.Option.{option_copied}
 use Rattle.std.specs.Borrow.{Fml, Bor, MutBor, follows_so}
 use mathlib.Core.Option.{none}
-use Rattle.tp_port.specs.declared.event.Env.{Env}
+use Rattle.tp_queue.specs.declared.event.Env.{Env}
 use Rattle.tp_value.specs.declared.message.Message.{Message}
 use Rattle.tp_inbox.specs.Desks.{Journal, checked}
 use Rattle.tp_inbox.specs.contracts.desk.Desk.{the_row}

@@ -2,14 +2,15 @@
 //! component's history.
 ghost use Rattle.std.specs.Prelude.{◌≡◌, IfOk, OnErr, IsTrue, ◌↔◌};
 ghost use Rattle.std.specs.Option.{option_copied};
-ghost use Rattle.tp_port.specs.History.{Lawful, top};
-ghost use Rattle.tp_port.specs.Answers.{Checks, Satisfies};
+ghost use Rattle.tp_queue.specs.History.{Lawful, top};
+ghost use Rattle.tp_queue.specs.Answers.{Checks, Satisfies};
 ghost use Rattle.tp_inbox.specs.Calls.{FindsWith, ReceivesWith, TriggersWith};
 
 use std::alloc::Global;
-use tp_port::event::{Env, TriggerAnswer};
-use tp_port::payload::{Memory, Wanted};
-use tp_port::queue::PortQueue;
+use tp_queue::event::{Env, TriggerAnswer};
+use tp_queue::payload::Wanted;
+use tp_queue::queue::PortQueue;
+use tp_refusal::memory::Memory;
 use tp_value::message::{Message, MsgTemplate};
 
 /// The envelope that a receiving operation sees, if any is deliverable.

@@ -3,8 +3,8 @@ ghost use Rattle.std.specs.Prelude.{◌≡◌, [], ℕ, ◌+◌, ◌^◌, ◌<�
 ghost use Rattle.std.specs.Prelude.{All, SomeIff, length, IfErr, IfOk, OnErr, OnOk};
 ghost use Rattle.std.specs.Option.{option_copied};
 ghost use Rattle.std.specs.Borrow.{sem};
-ghost use Rattle.tp_port.specs.History.{Lawful, queued, status_of, top};
-ghost use Rattle.tp_port.specs.Answers.{Checks, halted_count};
+ghost use Rattle.tp_queue.specs.History.{Lawful, queued, status_of, top};
+ghost use Rattle.tp_queue.specs.Answers.{Checks, halted_count};
 ghost use Rattle.tp_config.specs.Setup.{IsComponent, ports_at};
 ghost use Rattle.tp_inbox.specs.declared.entry.Entry.TheVariants as entry;
 ghost use Rattle.tp_inbox.specs.History.{IsClocked, IsTimely, arrivals, clock_of, next_of};
@@ -23,9 +23,10 @@ use std::marker::Model;
 use std::sync::Wait;
 use tp_config::config::Config;
 use tp_config::port_type::CompId;
-use tp_port::event::{Env, TriggerAnswer};
-use tp_port::payload::{Memory, Payload, Wanted};
-use tp_port::queue::PortQueue;
+use tp_queue::event::{Env, TriggerAnswer};
+use tp_queue::payload::{Payload, Wanted};
+use tp_queue::queue::PortQueue;
+use tp_refusal::memory::Memory;
 use tp_value::message::Message;
 
 /// The ports of one component and its history, seen by contracts as the component, the number of

@@ -4,7 +4,7 @@ ghost use Rattle.tp_inbox.specs.History.{stamp_of};
 
 use crate::stamped::Stamped;
 use tp_config::port_type::RouteId;
-use tp_port::event::Env;
+use tp_queue::event::Env;
 use tp_value::message::Message;
 use tp_value::verdict::Verdict;
 

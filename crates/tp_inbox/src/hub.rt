@@ -10,7 +10,7 @@ use crate::stamped::Stamped;
 use std::alloc::Global;
 use std::sync::{Arc, Condvar, Mutex, MutexGuard, Wait};
 use tp_config::port_type::{CompId, RouteId};
-use tp_port::event::Env;
+use tp_queue::event::Env;
 use tp_value::message::Message;
 
 /// What a wait found.

@@ -4,6 +4,8 @@
 mod bell;
 mod calls;
 pub mod desk;
+#[cfg(test)]
+mod desk_calls;
 pub mod entry;
 mod envelope;
 pub mod floor;

@@ -11,7 +11,7 @@ use std::marker::Model;
 use std::sync::{Arc, Wait};
 use thiserror::Error;
 use tp_config::port_type::RouteId;
-use tp_port::payload::Payload;
+use tp_queue::payload::Payload;
 
 /// How many messages a route takes.
 pub const ROUTE_LIMIT: usize = 100_000;

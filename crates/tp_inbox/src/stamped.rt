@@ -1,8 +1,9 @@
 //! Messages with the stamps of their sendings.
-ghost use Rattle.std.specs.Prelude.{◌≡◌, IfOk};
+ghost use Rattle.std.specs.Prelude.{◌≡◌};
 
 use std::alloc::Global;
-use tp_port::payload::{Memory, Payload};
+use tp_queue::payload::Payload;
+use tp_refusal::memory::Memory;
 use tp_value::message::Message;
 
 /// A message with the stamp of its sending: a number that is above all stamps that its sender had

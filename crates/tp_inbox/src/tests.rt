@@ -1,7 +1,6 @@
-//! The calls on worked values, what a wait answers where nobody else is there, and refused memory.
+//! What the calls answer for one route, what a wait answers where nobody else is there, and refused
+//! memory.
 ghost use Rattle.std.specs.Prelude.{◌≡◌, ◌<◌, ◌≤◌, IfOk, length};
-ghost use Rattle.tp_inbox.specs.Desks.{IsNote};
-ghost use Rattle.tp_inbox.specs.History.{IsTimely};
 
 use crate::desk::Desk;
 use crate::entry::Entry;
@@ -20,14 +19,12 @@ use std::test::Fail;
 use tp_config::config::Config;
 use tp_config::port_type::{CompId, CompType, PORT_LIMIT, PortRef, PortType, Role, RouteId};
 use tp_config::type_list::TypeList;
-use tp_port::event::{Env, TriggerAnswer};
 use tp_refusal::memory::Memory;
 use tp_value::items::Items;
 use tp_value::message::{Message, MsgTemplate};
 use tp_value::template::Template;
 use tp_value::types::Ty;
 use tp_value::value::Value;
-use tp_value::verdict::Verdict;
 
 /// The message `integer:n`.
 pub(crate) fn integer(n: i64) -> Message {
@@ -59,7 +56,7 @@ pub(crate) fn is_stamped(stamped: &Stamped, n: i64) -> bool {
 }
 
 /// What `integer:?` wants.
-fn any_integer() -> MsgTemplate {
+pub(crate) fn any_integer() -> MsgTemplate {
     MsgTemplate::Of(Ty::Integer, Template::Any)
 }
 
@@ -302,7 +299,7 @@ pub(crate) fn arrivals_from(log: &[Entry], sender: u32) -> Option<u64> {
 }
 
 /// The route from the component mtc to port p of a.
-fn way() -> RouteId {
+pub(crate) fn way() -> RouteId {
     RouteId {
         source: CompId(0),
         to: PortRef {
@@ -404,241 +401,8 @@ fn a_route_has_a_limit(rt: HostRuntime) -> Result<(), Fail> {
     Ok(())
 }
 
-/// The calls of a desk on its happy path, each made again where memory is refused: what they
-/// answer, and the history.
-#[test]
-fn the_calls_of_a_desk(rt: HostRuntime) {
-    let Ok((mut ends, _floor)) = two(rt.alloc()) else {
-        return;
-    };
-    for n in 0..4 {
-        assert!(rt; put_again(&rt, &mut ends, n as i64, n));
-    }
-    assert!(rt; drain_again(&rt, &mut ends));
-    let Ok(mut desk) = Ported::new(ends.into_desk()) else {
-        return;
-    };
-    for call in CALLS {
-        assert!(rt; desk.again(call));
-    }
-    assert!(rt; desk.is_noted());
-}
-
-/// A call of a desk.
-#[derive(Clone, Copy)]
-enum Call {
-    ReceiveOther,
-    Check,
-    Receive,
-    TriggerOther,
-    Trigger,
-    Halt,
-    Clear,
-    Stop,
-    Start,
-    Send,
-    Else,
-    Verdict,
-    Failed,
-}
-
-/// The calls of the test, in order.
-const CALLS: [Call; 13] = [
-    Call::ReceiveOther,
-    Call::Check,
-    Call::Receive,
-    Call::TriggerOther,
-    Call::Trigger,
-    Call::Halt,
-    Call::Clear,
-    Call::Stop,
-    Call::Start,
-    Call::Send,
-    Call::Else,
-    Call::Verdict,
-    Call::Failed,
-];
-
-/// Whether the entry is of this kind, at port 0 and in this branch if it has one.
-fn is_at(entry: &Entry, name: &str, branch: usize) -> bool {
-    match entry {
-        Entry::Arrive(0, _, _) => name == "arrive",
-        Entry::Took(0, _, at) => name == "took" && *at == branch,
-        Entry::Found(0, _, at) => name == "found" && *at == branch,
-        Entry::Dropped(0, _, at) => name == "dropped" && *at == branch,
-        Entry::Cleared(0) => name == "cleared",
-        Entry::Started(0) => name == "started",
-        Entry::Stopped(0) => name == "stopped",
-        Entry::Halted(0) => name == "halted",
-        Entry::Sent(_, 0, stamped) => name == "sent" && stamped.stamp == 4,
-        Entry::Else => name == "else",
-        Entry::Verdict(verdict) => name == "verdict" && *verdict == Verdict::Pass,
-        Entry::Failed(code) => name == "failed" && *code == 40,
-        _ => false,
-    }
-}
-
-/// A desk that has a port 0.
-#[derive(Drop)]
-struct Ported {
-    desk: Desk,
-    ghost there: { 1 ≤ desk.ports },
-}
-
-impl Ported {
-    fn new(desk: Desk) -> Result<Ported, Memory> {
-        if desk.port_count() == 0 {
-            return Err(Memory);
-        }
-        Ok(Ported { desk })
-    }
-
-    /// The number of what is received.
-    fn receive(
-        &mut self,
-        wanted: &MsgTemplate,
-        from: Option<u32>,
-        branch: usize,
-    ) -> Result<Option<u64>, Memory> {
-        let took = self.desk.receive(0, wanted, from, branch)?;
-        Ok(took.map(|env| env.number))
-    }
-
-    /// The number of what is found.
-    fn check(
-        &mut self,
-        wanted: &MsgTemplate,
-        from: Option<u32>,
-        branch: usize,
-    ) -> Result<Option<u64>, Memory> {
-        let found = self.desk.check(0, wanted, from, branch)?;
-        Ok(found.map(|env| env.number))
-    }
-
-    /// Whether it matched, and the number.
-    fn trigger(
-        &mut self,
-        wanted: &MsgTemplate,
-        from: Option<u32>,
-        branch: usize,
-    ) -> Result<Option<(bool, u64)>, Memory> {
-        match self.desk.trigger(0, wanted, from, branch)? {
-            TriggerAnswer::Took(env) => Ok(Some((true, env.number))),
-            TriggerAnswer::Dropped(env) => Ok(Some((false, env.number))),
-            TriggerAnswer::Nothing => Ok(None),
-        }
-    }
-
-    /// Whether the history is that of the calls in the test.
-    fn is_noted(&self) -> bool {
-        let wanted = [
-            ("arrive", 0),
-            ("arrive", 0),
-            ("arrive", 0),
-            ("arrive", 0),
-            ("found", 2),
-            ("took", 1),
-            ("dropped", 3),
-            ("took", 0),
-            ("halted", 0),
-            ("cleared", 0),
-            ("stopped", 0),
-            ("started", 0),
-            ("sent", 0),
-            ("else", 0),
-            ("verdict", 0),
-            ("failed", 0),
-        ];
-        let log = self.desk.log();
-        for (k, (name, branch)) in wanted.iter().enumerate() {
-            match log.get(k) {
-                Some(entry) if is_at(entry, name, *branch) => {}
-                _ => return false,
-            }
-        }
-        log.len() == wanted.len()
-    }
-
-    /// Whether the desk answers this call as it must at the call's place in [`CALLS`].
-    fn answers(&mut self, call: Call) -> Result<bool, Memory> {
-        match call {
-            Call::ReceiveOther => Ok(self.receive(&any_integer(), Some(1), 0)?.is_none()),
-            Call::Check => Ok(self.check(&any_integer(), Some(0), 2)? == Some(0)),
-            Call::Receive => Ok(self.receive(&MsgTemplate::Any, None, 1)? == Some(0)),
-            Call::TriggerOther => Ok(self.trigger(&any_integer(), Some(1), 3)? == Some((false, 1))),
-            Call::Trigger => Ok(self.trigger(&any_integer(), Some(0), 0)? == Some((true, 2))),
-            Call::Halt => Ok(self.desk.halt(0)? == Some(1)),
-            Call::Clear => Ok(self.desk.clear(0)? == 1),
-            Call::Stop => {
-                self.desk.stop(0)?;
-                Ok(!self.desk.queue(0).may_send())
-            }
-            Call::Start => Ok(self.desk.start(0)? == 0),
-            Call::Send => self.send(),
-            Call::Else => self.note(Entry::Else),
-            Call::Verdict => self.note(Entry::Verdict(Verdict::Pass)),
-            Call::Failed => self.note(Entry::Failed(40)),
-        }
-    }
-
-    /// Notes a sending with the next stamp. True where it was noted.
-    fn send(&mut self) -> Result<bool, Memory> {
-        let Some(stamp) = self.desk.stamp() else {
-            return Ok(false);
-        };
-        let message = integer(7);
-        self.note(Entry::Sent(way(), 0, Stamped { stamp, message }))
-    }
-
-    /// A message comes with this stamp. True where there was memory for it.
-    fn arrive(&mut self, stamp: u64) -> bool {
-        let env = Env {
-            sender: 0,
-            number: 0,
-            msg: integer(7),
-        };
-        self.desk.arrive(0, env, stamp).is_ok()
-    }
-
-    /// True where the entry was noted.
-    fn note(&mut self, entry: Entry) -> Result<bool, Memory>
-        requires note { IsNote entry }
-        requires timely { IsTimely self.old.desk.log entry }
-    {
-        match self.desk.note(entry) {
-            Ok(()) => Ok(true),
-            Err((Memory, _)) => Err(Memory),
-        }
-    }
-
-    /// Makes the call, a second time where memory is refused: the history is as long as before
-    /// then.
-    fn again(&mut self, call: Call) -> bool {
-        let had = self.desk.log().len();
-        match self.answers(call) {
-            Ok(right) => right,
-            Err(Memory) => self.desk.log().len() == had && self.answers(call).unwrap_or(false),
-        }
-    }
-}
-
-/// The next stamp is one above the greatest that came, and there is none above the last number.
-#[test]
-fn stamps_are_used_up(rt: HostRuntime) -> Result<(), Fail> {
-    let (ends, _floor) = two(rt.alloc())?;
-    let mut desk = Ported::new(ends.into_desk())?;
-    assert_eq!(rt; desk.desk.stamp(), Some(1));
-    assert!(rt; desk.arrive(20) && desk.arrive(7));
-    assert_eq!(rt; desk.desk.stamp(), Some(21));
-    assert!(rt; desk.send()?);
-    assert_eq!(rt; desk.desk.stamp(), Some(22));
-    assert!(rt; desk.arrive(u64::MAX));
-    assert_eq!(rt; desk.desk.stamp(), None);
-    Ok(())
-}
-
 /// Puts `integer:n`, a second time where memory is refused. Answers whether it has this number.
-fn put_again<R: Wait>(rt: &R, ends: &mut Ends, n: i64, number: u64) -> bool {
+pub(crate) fn put_again<R: Wait>(rt: &R, ends: &mut Ends, n: i64, number: u64) -> bool {
     match ends.put(rt, 0, n) {
         Ok(given) => given == number,
         Err((PutFault::Memory, back)) if is_stamped(&back, n) => {
@@ -649,7 +413,7 @@ fn put_again<R: Wait>(rt: &R, ends: &mut Ends, n: i64, number: u64) -> bool {
 }
 
 /// Drains, a second time where memory is refused.
-fn drain_again<R: Wait>(rt: &R, ends: &mut Ends) -> bool {
+pub(crate) fn drain_again<R: Wait>(rt: &R, ends: &mut Ends) -> bool {
     ends.drain(rt).is_ok() || (ends.wait(rt) == Woken::Arrived && ends.drain(rt).is_ok())
 }
 

@@ -1,7 +1,8 @@
 //! Refusals of a script, at a line.
 ghost use Rattle.std.specs.Prelude.{◌≡◌};
 
-pub use tp_token::fault::{Memory, Refusal, ScriptFault};
+use tp_refusal::refusal::Refusal;
+use tp_token::fault::ScriptFault;
 
 /// The refusal at this line.
 pub fn refused(refusal: Refusal, line: u32) -> ScriptFault

@@ -1,11 +1,14 @@
 //! Names, each once.
 ghost use Rattle.std.specs.Prelude.{◌≡◌, ◌<◌, ◌≤◌, ◌∷◌, ◌++◌, ◌↔◌, [], length, Contains, IfNone, IfSome, OnOk, IsErrOf, IsSome, IsTrue, OnErr, is_some};
 
-use crate::fault::{Memory, Refusal, ScriptFault, refused};
+use crate::fault::refused;
 use indexmap::IndexSet;
 use std::alloc::Global;
 use std::marker::Model;
 use thiserror::Error;
+use tp_refusal::memory::Memory;
+use tp_refusal::refusal::Refusal;
+use tp_token::fault::ScriptFault;
 
 /// Why a name was not added.
 #[derive(Clone, Copy, Debug, PartialEq, Eq, Error)]

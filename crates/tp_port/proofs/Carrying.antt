@@ -5,15 +5,15 @@ use Rattle.std.specs.List.{filter_map}
 use Rattle.std.specs.Option.{option_map, option_to_list}
 use Rattle.std.proofs.lemmas.List.Elements.{filter_map-append}
 use Rattle.std.proofs.lemmas.List.{length-append}
-use Rattle.tp_port.specs.declared.event.Env.{Env}
-use Rattle.tp_port.specs.declared.event.Event.{Event}
-use Rattle.tp_port.specs.declared.event.Event.TheVariants as event
+use Rattle.tp_queue.specs.declared.event.Env.{Env}
+use Rattle.tp_queue.specs.declared.event.Event.{Event}
+use Rattle.tp_queue.specs.declared.event.Event.TheVariants as event
 use Rattle.tp_port.specs.declared.engine.Engine.{Engine}
-use Rattle.tp_port.specs.History.{accepted, arrival, top}
+use Rattle.tp_queue.specs.History.{accepted, arrival, top}
 use Rattle.tp_port.specs.Line.{Line, Wish, arrive, receive, check, trigger}
 use Rattle.tp_port.specs.Replay.{Stage, seen_in, seen_if, seen, sighted, answer, events_of, found, meets, triggered, number_of, entry_or_no, triggered_text, envelope}
 use Rattle.tp_port.specs.Carried.{Carries, IsWithin, stage_of}
-use Rattle.tp_port.proofs.Words.{accepted_more}
+use Rattle.tp_queue.proofs.Words.{accepted_more}
 
 abbrev staged : List (List ℕ) → List (Event ℤ) → Stage
 staged senders history = record { senders = senders; history = history }

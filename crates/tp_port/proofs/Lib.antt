@@ -1,6 +1,3 @@
-pub mod Cuts
-pub mod Words
-pub mod Moves
 pub mod Splits
 pub mod Numbers
 pub mod Verbs

@@ -4,15 +4,15 @@ use Rattle.std.specs.Prelude.{ℤ, ◌&&◌, IfSome, option_and_then, if◌then�
 use Rattle.std.specs.Option.{option_to_list}
 use Rattle.std.specs.Cmp.{signed_Decides}
 use Rattle.std.proofs.lemmas.Bool.{eqb-true}
-use Rattle.tp_port.specs.declared.event.Env.{Env}
-use Rattle.tp_port.specs.declared.event.Event.{Event}
-use Rattle.tp_port.specs.declared.event.Event.TheVariants as event
-use Rattle.tp_port.specs.declared.event.TriggerAnswer.TheVariants as answer
+use Rattle.tp_queue.specs.declared.event.Env.{Env}
+use Rattle.tp_queue.specs.declared.event.Event.{Event}
+use Rattle.tp_queue.specs.declared.event.Event.TheVariants as event
+use Rattle.tp_queue.specs.declared.event.TriggerAnswer.TheVariants as answer
 use Rattle.tp_port.specs.declared.pattern.Pattern.{Pattern}
 use Rattle.tp_port.specs.declared.pattern.Pattern.TheVariants as pattern
-use Rattle.tp_port.specs.History.{top}
+use Rattle.tp_queue.specs.History.{top}
 use Rattle.tp_port.specs.Admits.{Admits}
-use Rattle.tp_port.specs.Answers.{Satisfies, Finds, Receives, Triggers, Checks, checked}
+use Rattle.tp_queue.specs.Answers.{Satisfies, Finds, Receives, Triggers, Checks, checked}
 use Rattle.tp_port.specs.Replay.{is_wanted, is_from, meets, found}
 
 both : (a b : Bool) → a ≡ true → b ≡ true → (a && b) ≡ true

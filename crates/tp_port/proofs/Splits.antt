@@ -9,7 +9,7 @@ use Rattle.std.proofs.lemmas.List.Sums.{prefix_len-le-length}
 use Rattle.std.proofs.Math.Seq.{take-length}
 use Rattle.std.proofs.lemmas.Grind.{common_steps}
 use Rattle.tp_port.specs.Line.{lines_of, is_space}
-use Rattle.tp_port.proofs.Cuts.{after_first-cons}
+use Rattle.tp_queue.proofs.Cuts.{after_first-cons}
 
 abbrev is_end : ℕ → Bool
 is_end c = c == 10

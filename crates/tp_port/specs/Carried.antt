@@ -1,7 +1,7 @@
 -- What a replay has come to, and what carrying out one more line makes of it.
 use Rattle.std.specs.Prelude.{◌≡◌, ℕ, ◌+◌, ◌≤◌, ◌++◌, length, string_bytes}
 use Rattle.tp_port.specs.declared.engine.Engine.{Engine}
-use Rattle.tp_port.specs.History.{accepted}
+use Rattle.tp_queue.specs.History.{accepted}
 use Rattle.tp_port.specs.Line.{Line}
 use Rattle.tp_port.specs.Replay.{Stage, after, answer, sighted}
 

@@ -1,7 +1,3 @@
-pub mod History
-pub mod Answers
-pub mod Kept
-pub mod Lending
 pub mod Admits
 pub mod Line
 pub mod Command

@@ -5,13 +5,13 @@ use Rattle.std.specs.Cmp.Lexicographic.{pointwise}
 use Rattle.std.specs.Option.{option_to_list, option_map}
 use Rattle.std.specs.Ordering.{int_eq}
 use Rattle.std.specs.Fmt.{decimal, signed_decimal}
-use Rattle.tp_port.specs.declared.event.Env.{Env}
-use Rattle.tp_port.specs.declared.event.Event.{Event}
-use Rattle.tp_port.specs.declared.event.Event.TheVariants as event
+use Rattle.tp_queue.specs.declared.event.Env.{Env}
+use Rattle.tp_queue.specs.declared.event.Event.{Event}
+use Rattle.tp_queue.specs.declared.event.Event.TheVariants as event
 use Rattle.tp_port.specs.declared.pattern.Pattern.{Pattern}
 use Rattle.tp_port.specs.declared.pattern.Pattern.TheVariants as pattern
-use Rattle.tp_port.specs.History.{accepted, queued, status_of, top}
-use Rattle.tp_port.specs.Answers.{halted_count}
+use Rattle.tp_queue.specs.History.{accepted, queued, status_of, top}
+use Rattle.tp_queue.specs.Answers.{halted_count}
 use Rattle.tp_port.specs.Line.{Line, arrive, receive, check, trigger, clear, start, stop, halt, Wish}
 
 -- how far a replay has come: the senders in the order of their first sight, and the port's history

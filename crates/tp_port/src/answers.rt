@@ -1,16 +1,16 @@
 //! The texts of answers.
-ghost use Rattle.std.specs.Prelude.{◌≡◌, ◌++◌, OnOk, length, string_bytes};
+ghost use Rattle.std.specs.Prelude.{◌≡◌, ◌++◌, OnOk, string_bytes};
 ghost use Rattle.std.specs.List.{flat_map};
 ghost use Rattle.std.specs.Option.{option_copied, option_to_list};
-ghost use Rattle.tp_port.specs.History.{queued};
+ghost use Rattle.tp_queue.specs.History.{queued};
 ghost use Rattle.tp_port.specs.Replay.{counted_text, entry_or_no, entry_text, left_text};
-ghost use Rattle.std.specs.Prelude.{slice_get, codes};
+ghost use Rattle.std.specs.Prelude.{slice_get};
 
-use crate::event::Env;
-use crate::payload::Memory;
-use crate::queue::PortQueue;
 use crate::senders::Senders;
 use itoa::Buffer;
+use tp_queue::event::Env;
+use tp_queue::queue::PortQueue;
+use tp_refusal::memory::Memory;
 
 /// Adds a word, a number and the end of the line.
 pub fn write_count(out: &mut String, word: &str, count: u64) -> Result<(), Memory>

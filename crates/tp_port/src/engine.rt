@@ -1,8 +1,8 @@
 //! The engine of a queue file: one port, its senders, and the answers so far.
 ghost use Rattle.std.specs.Prelude.{◌≡◌, ◌++◌, [], codes, map, IfOk, OnOk, string_bytes};
 ghost use Rattle.std.specs.Option.{option_to_list};
-ghost use Rattle.tp_port.specs.declared.event.Event.TheVariants as event;
-ghost use Rattle.tp_port.specs.History.{top};
+ghost use Rattle.tp_queue.specs.declared.event.Event.TheVariants as event;
+ghost use Rattle.tp_queue.specs.History.{top};
 ghost use Rattle.tp_port.specs.Line.{arrive, check, clear, halt, receive, start, stop, trigger};
 ghost use Rattle.tp_port.specs.Command.{line_of, wish_of};
 ghost use Rattle.tp_port.specs.Carried.{Carries, IsWithin, stage_of};
@@ -10,13 +10,13 @@ ghost use Rattle.tp_port.specs.Replay.{entry_or_no, first_stage, found, left_tex
 
 use crate::answers::{write_count, write_entry_or_no, write_left};
 use crate::command::{Command, Criteria};
-use crate::event::{Env, TriggerAnswer};
 use crate::pattern::Pattern;
-use crate::payload::Memory;
-use crate::queue::PortQueue;
 use crate::senders::Senders;
 use std::alloc::Global;
+use tp_queue::event::{Env, TriggerAnswer};
+use tp_queue::queue::PortQueue;
 use tp_refusal::limit::TEXT_LIMIT;
+use tp_refusal::memory::Memory;
 
 /// A queue file that is carried out, line by line.
 #[derive(Drop)]

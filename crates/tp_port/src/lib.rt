@@ -1,14 +1,13 @@
-//! The queue of one message port.
+//! The queue of one message port, and the file that replays what happens there.
 #![tactic(auto)]
 
 mod answers;
 pub mod command;
 mod cut;
 mod engine;
-pub mod event;
 pub mod pattern;
-pub mod payload;
-pub mod queue;
 pub mod replay;
 mod senders;
 pub mod text;
+
+pub use tp_queue::{event, payload, queue};

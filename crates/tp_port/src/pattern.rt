@@ -1,5 +1,5 @@
 //! The wanted part of a receiving operation in a queue file.
-use crate::payload::Wanted;
+use tp_queue::payload::Wanted;
 
 /// Which integers are wanted.
 #[derive(Clone, Copy, Debug, PartialEq, Eq, Hash)]

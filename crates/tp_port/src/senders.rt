@@ -3,10 +3,10 @@ ghost use Rattle.std.specs.Prelude.{◌≡◌, ◌+◌, ◌<◌, ◌≤◌, ◌^
 ghost use Rattle.tp_port.specs.Replay.{name_of, number_of, seen, seen_if};
 ghost use Rattle.std.specs.Option.{option_copied, option_map};
 
-use crate::payload::Memory;
 use indexmap::IndexSet;
 use std::alloc::Global;
 use std::marker::Model;
+use tp_refusal::memory::Memory;
 
 /// The names of senders, numbered from 0 by first sight. Each name lies in the text.
 #[derive(Drop)]

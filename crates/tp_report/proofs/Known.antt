@@ -4,10 +4,10 @@ use Rattle.std.specs.Prelude.{All, IsSome}
 use Rattle.std.specs.List.{filter_map, cons_option}
 use Rattle.std.proofs.lemmas.Option.{slice_get-get_or}
 use Rattle.std.proofs.lemmas.List.Elements.{All-cons, All-drop, All-head, All-tail}
-use Rattle.tp_port.specs.declared.event.Env.{Env}
-use Rattle.tp_port.specs.declared.event.Event.{Event}
-use Rattle.tp_port.specs.declared.event.Event.TheVariants as event
-use Rattle.tp_port.specs.History.{accepted, arrival, gone, queued}
+use Rattle.tp_queue.specs.declared.event.Env.{Env}
+use Rattle.tp_queue.specs.declared.event.Event.{Event}
+use Rattle.tp_queue.specs.declared.event.Event.TheVariants as event
+use Rattle.tp_queue.specs.History.{accepted, arrival, gone, queued}
 use Rattle.tp_value.specs.declared.message.Message.{Message}
 use Rattle.tp_config.specs.declared.port_type.CompId.{CompId}
 use Rattle.tp_config.specs.Setup.{Setup, PortDecl, IsComponent, IsPort, decl_at, ports_at}

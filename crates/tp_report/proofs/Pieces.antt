@@ -10,8 +10,8 @@ use Rattle.tp_value.specs.declared.types.Types.{Types}
 use Rattle.tp_value.specs.declared.message.Message.{Message}
 use Rattle.tp_value.specs.ValueText.{value_text}
 use Rattle.tp_value.proofs.Written.{appends_both, nothing_written}
-use Rattle.tp_port.specs.declared.event.Event.{Event}
-use Rattle.tp_port.specs.History.{queued}
+use Rattle.tp_queue.specs.declared.event.Event.{Event}
+use Rattle.tp_queue.specs.History.{queued}
 use Rattle.tp_config.specs.declared.port_type.CompId.{CompId}
 use Rattle.tp_script.specs.TestCases.{Made}
 use Rattle.tp_inbox.specs.declared.entry.Entry.{Entry}

@@ -2,8 +2,8 @@
 use Rattle.std.specs.Prelude.{ℕ, zero, suc, List, [], ◌∷◌, ◌++◌, codes}
 use Rattle.std.specs.List.{flat_map}
 use Rattle.std.specs.Fmt.{decimal}
-use Rattle.tp_port.specs.declared.event.Env.{Env}
-use Rattle.tp_port.specs.History.{queued}
+use Rattle.tp_queue.specs.declared.event.Env.{Env}
+use Rattle.tp_queue.specs.History.{queued}
 use Rattle.tp_value.specs.declared.message.Message.{Message}
 use Rattle.tp_value.specs.declared.verdict.Verdict.{Verdict}
 use Rattle.tp_config.specs.declared.port_type.CompId.{CompId}

@@ -1,7 +1,7 @@
 -- The text of a report, and which reports have one.
 use Rattle.std.specs.Prelude.{◌≡◌, ℕ, List, ◌++◌, Some, All, codes, length, slice_get}
 use Rattle.std.specs.List.{flat_map}
-use Rattle.tp_port.specs.declared.event.Env.{Env}
+use Rattle.tp_queue.specs.declared.event.Env.{Env}
 use Rattle.tp_value.specs.declared.message.Message.{Message}
 use Rattle.tp_config.specs.declared.port_type.CompId.{CompId}
 use Rattle.tp_config.specs.Setup.{Setup, IsComponent, IsPort, ports_at}

@@ -2,7 +2,7 @@
 ghost use Rattle.std.specs.Prelude.{All, OnOk, codes};
 ghost use Rattle.std.specs.List.{flat_map};
 ghost use Rattle.std.specs.Io.KnownBytes.{Appends};
-ghost use Rattle.tp_port.specs.History.{queued};
+ghost use Rattle.tp_queue.specs.History.{queued};
 ghost use Rattle.tp_config.specs.Setup.{IsComponent, IsPort};
 ghost use Rattle.tp_report.specs.Lines.{envelope_line, left_below, sender_of};
 ghost use Rattle.tp_report.specs.Reports.{IsDeskIn};
@@ -11,7 +11,7 @@ use crate::lines::write_envelope;
 use std::io::Write;
 use tp_config::port_type::PortRef;
 use tp_inbox::desk::Desk;
-use tp_port::queue::PortQueue;
+use tp_queue::queue::PortQueue;
 use tp_script::TestCase;
 use tp_value::message::Message;
 use tp_value::writing::WriteFault;

@@ -13,7 +13,7 @@ use crate::words::{
 };
 use std::io::Write;
 use tp_config::port_type::{CompId, PortRef, RouteId};
-use tp_port::event::Env;
+use tp_queue::event::Env;
 use tp_script::TestCase;
 use tp_value::message::Message;
 use tp_value::types::Types;

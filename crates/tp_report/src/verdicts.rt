@@ -1,5 +1,5 @@
 //! The verdicts of a run.
-ghost use Rattle.std.specs.Prelude.{◌≡◌, ◌∷◌, ◌++◌, [], List, map};
+ghost use Rattle.std.specs.Prelude.{◌≡◌, ◌∷◌, ◌++◌, [], List};
 ghost use Rattle.tp_inbox.specs.declared.entry.Entry.{Entry};
 ghost use Rattle.tp_report.specs.Verdicts.{endings, local_verdict, locals, overall_verdict};
 ghost use Rattle.tp_report.specs.declared.report.CompReport.{CompReport};

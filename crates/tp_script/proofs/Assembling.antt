@@ -29,7 +29,7 @@ use Rattle.tp_script.specs.Scopes.{IsMainBody, IsFunctionBody}
 use Rattle.tp_script.specs.Duties as d
 use Rattle.tp_script.specs.Duties.{Duty, Does}
 use Rattle.tp_script.specs.Parts as parts
-use Rattle.tp_script.specs.Parts.{known_in, body_in, duty_in, duty_of, IsPart, AreParts, part_count}
+use Rattle.tp_script.specs.Parts.{known_in, body_in, duty_of, IsPart, AreParts, part_count}
 use Rattle.tp_script.specs.TestCases.{known_of, AreKinds, IsTestCaseOf}
 
 -- a setup statement leaves the component types and the components

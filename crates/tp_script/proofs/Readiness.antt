@@ -45,7 +45,7 @@ use Rattle.tp_body.specs.Playable.{IsPlayable, reference_count}
 use Rattle.tp_body.proofs.Played.{body_played}
 use Rattle.tp_script.specs.Scopes.{Known, StandsFor}
 use Rattle.tp_script.specs.Duties as d
-use Rattle.tp_script.specs.Duties.{Duty, Does, Numbers, AreReferences}
+use Rattle.tp_script.specs.Duties.{Duty, Does, AreReferences}
 use Rattle.tp_script.specs.TestCases.{Made, IsTestCaseOf, known_of, duty_at}
 use Rattle.tp_script.specs.Seen.{seen}
 use Rattle.tp_script.specs.declared.test_case.Conduct.{Conduct}

@@ -10,12 +10,12 @@ use std::alloc::Global;
 use tp_body::body::Body;
 use tp_body::scope::Behaviour;
 use tp_body::statements::resolve_body;
-use tp_name::fault::ScriptFault;
 use tp_name::name_set::NameSet;
 use tp_setup::definitions::is_sut;
 use tp_setup::prepared::Prepared;
 use tp_setup::sorted::as_function;
 use tp_syntax::tree::{Definition, Function, Module};
+use tp_token::fault::ScriptFault;
 
 /// The bodies of a module.
 #[derive(Drop)]

@@ -12,10 +12,10 @@ use crate::parts::make_parts;
 use crate::test_case::{Behaviours, TestCase};
 use crate::total::check_size;
 use std::alloc::Global;
-use tp_name::fault::ScriptFault;
 use tp_setup::prepared::Prepared;
 use tp_setup::preparing::prepare;
 use tp_syntax::tree::Module;
+use tp_token::fault::ScriptFault;
 
 /// The fourth pass and the fifth: the bodies, and what each component does with them. The first
 /// fault is the answer. 50 `Memory` only where an allocation was refused.

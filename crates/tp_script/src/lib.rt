@@ -16,5 +16,5 @@ pub use tp_body::body;
 pub use tp_body::fill::{fill_message, fill_template};
 pub use tp_syntax::parser::parse;
 pub use tp_syntax::tree;
-pub use tp_token::fault::{Memory, Refusal, ScriptFault};
+pub use tp_token::fault::ScriptFault;
 pub use tp_token::lexer::lex;

@@ -1,5 +1,5 @@
 //! What the components of a test case do.
-ghost use Rattle.std.specs.Prelude.{◌≡◌, ◌<◌, ◌≤◌, ◌+◌, ◌++◌, ◌∷◌, [], ℕ, Some, IfOk, IfSome, IsSome, OnOk, length, map, slice_get};
+ghost use Rattle.std.specs.Prelude.{◌≡◌, ◌<◌, ◌≤◌, ◌+◌, ◌++◌, ◌∷◌, [], Some, IfOk, IfSome, IsSome, OnOk, length, map, slice_get};
 ghost use Rattle.std.specs.Option.{option_copied};
 ghost use Rattle.tp_script.specs.declared.part.Source.TheVariants as source;
 ghost use Rattle.tp_script.specs.Duties.{AreReferences, Numbers};
@@ -8,9 +8,11 @@ ghost use Rattle.tp_script.specs.Parts.{AreParts, IsPart, part_count};
 use crate::part::{Part, Source};
 use std::alloc::Global;
 use tp_config::port_type::CompId;
-use tp_name::fault::{Refusal, ScriptFault, refused};
+use tp_name::fault::refused;
+use tp_refusal::refusal::Refusal;
 use tp_setup::prepared::Prepared;
 use tp_setup::starts::{Started, Starts};
+use tp_token::fault::ScriptFault;
 
 /// Adds the components of so many component variables, which are numbered from 1.
 fn add_variables(references: &mut Vec<CompId>, count: u32) -> Result<(), ScriptFault>

@@ -1,7 +1,6 @@
 //! What the bodies of a module may speak of.
-ghost use Rattle.std.specs.Prelude.{◌≡◌, IfOk, map, slice_get, option_map};
+ghost use Rattle.std.specs.Prelude.{◌≡◌, IfOk, map, slice_get};
 ghost use Rattle.std.specs.Option.{option_copied};
-ghost use Rattle.tp_config.specs.Shape.{ports_of};
 ghost use Rattle.tp_setup.specs.Definitions.{declared};
 ghost use Rattle.tp_script.specs.Parts.{known_in};
 ghost use Rattle.tp_script.specs.Scopes.{IsScope};
@@ -9,11 +8,13 @@ ghost use Rattle.tp_script.specs.Scopes.{IsScope};
 use std::alloc::Global;
 use tp_body::scope::{Behaviour, Scope};
 use tp_config::port_type::CompType;
-use tp_name::fault::{Refusal, ScriptFault, refused};
+use tp_name::fault::refused;
 use tp_name::name_set::NameSet;
+use tp_refusal::refusal::Refusal;
 use tp_setup::prepared::Prepared;
 use tp_setup::unique_names::declare_parameters;
 use tp_syntax::tree::Parameter;
+use tp_token::fault::ScriptFault;
 
 /// The component type at this place. Takes no memory.
 fn kind_at(kinds: &[CompType], place: u32) -> Option<&CompType>

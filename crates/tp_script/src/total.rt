@@ -3,14 +3,14 @@ ghost use Rattle.std.specs.Prelude.{◌≡◌, ◌≤◌, IfOk, OnOk, map, sum};
 ghost use Rattle.std.specs.List.{slice_index_or};
 ghost use Rattle.tp_body.specs.Sizes.{capped, size_of_body};
 ghost use Rattle.tp_script.specs.Duties.{size_of_duty};
-ghost use Rattle.tp_script.specs.Parts.{duty_of, size_from, size_of_part};
+ghost use Rattle.tp_script.specs.Parts.{duty_of, size_of_part};
 
 use crate::bodies::Bodies;
 use crate::part::{Part, Source};
 use std::alloc::Global;
 use tp_body::body::Body;
 use tp_body::size::{COUNTED, cap, count_body};
-use tp_name::fault::ScriptFault;
+use tp_token::fault::ScriptFault;
 
 /// How many statements each body has, up to [`COUNTED`].
 fn count_bodies(alloc: Global, bodies: &[Body]) -> Result<Vec<u64>, ScriptFault>

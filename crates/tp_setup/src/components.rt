@@ -1,8 +1,7 @@
 //! The third pass of the checks: the components of the test case.
-ghost use Rattle.std.specs.Prelude.{◌≡◌, ◌≤◌, ◌++◌, ◌∷◌, [], All, Contains, IfOk, IfSome, OnOk, length, map, option_map, slice_get, string_bytes};
+ghost use Rattle.std.specs.Prelude.{◌≡◌, ◌≤◌, ◌++◌, ◌∷◌, [], Contains, IfOk, OnOk, length, map, option_map, slice_get, string_bytes};
 ghost use Rattle.std.specs.Option.{option_copied};
 ghost use Rattle.tp_name.specs.Tables.{AreDistinct};
-ghost use Rattle.tp_setup.specs.Definitions.{declared_ports};
 ghost use Rattle.tp_setup.specs.Components.{Adds, AddsAll, HasPorts, HasSoundVariables, created, creation_of, creations, interface, number_of, variable};
 ghost use Rattle.tp_setup.specs.Sorted.{AreComponentsNamed, component_types_in};
 
@@ -12,9 +11,12 @@ use std::alloc::Global;
 use tp_config::config::Config;
 use tp_config::creating::CreateFault;
 use tp_config::port_type::{CompId, Role};
-use tp_name::fault::{Memory, Refusal, ScriptFault, refused};
+use tp_name::fault::refused;
 use tp_name::name_set::NameSet;
+use tp_refusal::memory::Memory;
+use tp_refusal::refusal::Refusal;
 use tp_syntax::tree::{ComponentType, Creation, SetupAction, SetupStatement, TestCase};
+use tp_token::fault::ScriptFault;
 
 /// The refusal of a component, at a line.
 fn create_fault(fault: CreateFault, line: u32) -> ScriptFault {

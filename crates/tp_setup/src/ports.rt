@@ -1,5 +1,5 @@
 //! The component types that a module defines, with what their ports receive and send.
-ghost use Rattle.std.specs.Prelude.{◌≡◌, ◌+◌, ◌≤◌, ◌↔◌, ◌++◌, ◌∷◌, [], List, IfOk, IfSome, IsTrue, OnOk, All, length, map, slice_get};
+ghost use Rattle.std.specs.Prelude.{◌≡◌, ◌+◌, ◌≤◌, ◌↔◌, ◌++◌, ◌∷◌, [], IfOk, IfSome, IsTrue, OnOk, All, length, map, slice_get};
 ghost use Rattle.std.specs.Option.{option_copied};
 ghost use Rattle.tp_value.specs.declared.types.Ty.{Ty};
 ghost use Rattle.std.specs.List.{AllZip, flat_map};
@@ -13,11 +13,13 @@ use indexmap::IndexMap;
 use std::alloc::Global;
 use tp_config::port_type::{CompType, PORT_LIMIT, PortType};
 use tp_config::type_list::TypeList;
-use tp_name::fault::{Memory, Refusal, ScriptFault, refused};
+use tp_name::fault::refused;
 use tp_name::name_set::NameSet;
+use tp_refusal::refusal::Refusal;
 use tp_syntax::tree::{
     self, ComponentType, DeclaredName, Direction, PortDeclaration, TypeName, Way,
 };
+use tp_token::fault::ScriptFault;
 use tp_value::items::Items;
 use tp_value::types::Ty;
 

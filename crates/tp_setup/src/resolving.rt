@@ -6,9 +6,12 @@ ghost use Rattle.tp_value.specs.declared.types.TypeDef.{TypeDef};
 
 use crate::unique_names::defined_name;
 use std::alloc::Global;
-use tp_name::fault::{Memory, Refusal, ScriptFault, refused};
+use tp_name::fault::refused;
 use tp_name::name_set::NameSet;
+use tp_refusal::memory::Memory;
+use tp_refusal::refusal::Refusal;
 use tp_syntax::tree::{Defined, FieldType, TypeName};
+use tp_token::fault::ScriptFault;
 use tp_value::items::Items;
 use tp_value::types::{AddFault, Field, Ty, TypeDef, Types};
 

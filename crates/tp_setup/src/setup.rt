@@ -15,9 +15,12 @@ use tp_config::config::Config;
 use tp_config::connecting::ConnectFault;
 use tp_config::mapping::MapFault;
 use tp_config::port_type::{COMPONENT_LIMIT, CompId, CompType, PortRef, Role};
-use tp_name::fault::{Memory, Refusal, ScriptFault, refused};
+use tp_name::fault::refused;
 use tp_name::name_set::NameSet;
+use tp_refusal::memory::Memory;
+use tp_refusal::refusal::Refusal;
 use tp_syntax::tree::{EndComponent, PairEnd, SetupAction, SetupStatement, TestCase};
+use tp_token::fault::ScriptFault;
 
 /// The component that is named, where the component variables so far have these names, or `None`
 /// where there is none. Takes no memory.

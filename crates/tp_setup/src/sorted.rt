@@ -6,9 +6,9 @@ ghost use Rattle.tp_setup.specs.Sorted.{AreSorted, ComponentTypes, Functions, Po
 
 use crate::unique_names::defined_name;
 use std::alloc::Global;
-use tp_name::fault::ScriptFault;
 use tp_name::name_set::NameSet;
 use tp_syntax::tree::{ComponentType, Defined, Definition, Function, Module, PortType};
+use tp_token::fault::ScriptFault;
 
 /// The definitions of a module, each kind in the order of the text with its names. A name's number
 /// is the place of its definition.

@@ -14,11 +14,13 @@ use crate::starts::{Started, Starts};
 use crate::unique_names::CaseAt;
 use std::alloc::Global;
 use tp_config::port_type::CompId;
-use tp_name::fault::{Refusal, ScriptFault, refused};
+use tp_name::fault::refused;
 use tp_name::name_set::{NameFault, NameSet};
+use tp_refusal::refusal::Refusal;
 use tp_syntax::tree::{
     ComponentName, ComponentStart, Function, Parameter, SetupStatement, TestCase,
 };
+use tp_token::fault::ScriptFault;
 
 /// The component that the argument names, or `None` where there is none. Takes no memory.
 fn find_reference(variables: &NameSet, argument: &ComponentName) -> Option<CompId>

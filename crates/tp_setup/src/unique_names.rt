@@ -1,6 +1,6 @@
 //! The first pass of the checks: names are given once, and there is one test case.
-ghost use Rattle.std.specs.Prelude.{◌≡◌, ◌∷◌, ◌++◌, [], All, IfOk, OnOk, map, string_bytes};
-ghost use Rattle.std.specs.Option.{option_map, option_to_list};
+ghost use Rattle.std.specs.Prelude.{◌≡◌, ◌∷◌, ◌++◌, [], All, IfOk, OnOk, map};
+ghost use Rattle.std.specs.Option.{option_to_list};
 ghost use Rattle.tp_name.specs.Tables.{AreDistinct};
 ghost use Rattle.tp_setup.specs.Definitions.{among, case_of, name_of, declared, declared_ports, inner_names, test_cases};
 ghost use Rattle.tp_setup.specs.Rules.{HasUniqueNames};
@@ -8,11 +8,13 @@ ghost use Rattle.tp_setup.specs.Cases.{cases_of};
 ghost use Rattle.tp_syntax.specs.declared.tree.Definition.{Definition};
 
 use std::alloc::Global;
-use tp_name::fault::{Refusal, ScriptFault, refused};
+use tp_name::fault::refused;
 use tp_name::name_set::NameSet;
+use tp_refusal::refusal::Refusal;
 use tp_syntax::tree::{
     DeclaredName, Defined, Definition, FieldType, Module, Parameter, PortDeclaration, TestCase,
 };
+use tp_token::fault::ScriptFault;
 
 /// A test case with the line of its first token.
 #[derive(Clone, Copy)]

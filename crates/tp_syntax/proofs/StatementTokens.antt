@@ -1,5 +1,5 @@
 -- The tokens of statements, an equation for each variant.
-use Rattle.std.proofs.Common.{◌≡◌, ℕ, ℤ, Bool, List, [], ◌∷◌, ◌++◌, Option, Some, None, map, append_assoc, ap, sym, ◌∙◌, string_bytes}
+use Rattle.std.proofs.Common.{◌≡◌, ℕ, Bool, List, [], ◌∷◌, ◌++◌, Option, Some, None, append_assoc, ap, sym, ◌∙◌}
 use Rattle.std.specs.declared.vec.Vec.{Vec}
 use Rattle.std.specs.declared.alloc.Global.{Global}
 use Rattle.tp_token.specs.declared.word.Word.TheVariants as w

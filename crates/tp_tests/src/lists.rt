@@ -1,7 +1,7 @@
 //! Copies of lists of many elements.
 use std::alloc::Global;
 use std::test::Fail;
-use tp_port::payload::Memory;
+use tp_refusal::memory::Memory;
 use tp_value::equal::are_equal;
 use tp_value::items::Items;
 use tp_value::shared::Shared;

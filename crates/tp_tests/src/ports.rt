@@ -5,11 +5,11 @@ use std::io;
 use std::io::{ErrorKind, Read};
 use std::process::Abort;
 use std::test::Fail;
-use tp_port::event::{Env, Event, Status, TriggerAnswer};
 use tp_port::pattern::Pattern;
-use tp_port::queue::PortQueue;
 use tp_port::replay::{QueueFault, replay, replay_text};
 use tp_port::text::{ReadFault, read_text};
+use tp_queue::event::{Env, Event, Status, TriggerAnswer};
+use tp_queue::queue::PortQueue;
 use tp_refusal::limit::TEXT_LIMIT;
 
 fn env(sender: u32, number: u64, msg: i64) -> Env<i64> {

@@ -2,7 +2,8 @@
 use std::alloc::{AllocError, Global};
 use std::process::Abort;
 use std::test::Fail;
-use tp_token::fault::{Memory, ScriptFault};
+use tp_refusal::memory::Memory;
+use tp_token::fault::ScriptFault;
 use tp_token::lexer::lex;
 use tp_token::token::{Symbol, Token};
 use tp_token::word::{Word, word_of};

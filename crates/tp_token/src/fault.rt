@@ -4,8 +4,8 @@ ghost use Rattle.tp_token.specs.declared.fault.ScriptFault.TheVariants as fault;
 
 use std::alloc::{AllocError, AllocFailed};
 use thiserror::Error;
-pub use tp_refusal::memory::Memory;
-pub use tp_refusal::refusal::Refusal;
+use tp_refusal::memory::Memory;
+use tp_refusal::refusal::Refusal;
 
 /// Why a text is not accepted.
 #[derive(Clone, Copy, Debug, PartialEq, Eq, Error)]

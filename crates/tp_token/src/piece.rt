@@ -9,10 +9,11 @@ ghost use Rattle.tp_token.specs.Lexeme.{lexeme_of, number, symbol, text};
 ghost use Rattle.tp_token.specs.Spelling.{Run, value_on, doubled};
 
 use crate::byte::{Kind, is_digit, is_printable, is_word_byte, kind_of};
-use crate::fault::{Refusal, ScriptFault};
+use crate::fault::ScriptFault;
 use crate::token::{Symbol, Token};
 use crate::word::word_of;
 use std::alloc::Global;
+use tp_refusal::refusal::Refusal;
 
 /// How many characters a name may have.
 const LONGEST_NAME: usize = 64;

@@ -1,5 +1,5 @@
 -- The answer of a run that has a report.
-use Rattle.std.proofs.Common.{◌≡◌, ℕ, inl, Option, Some, None, List, refl, ◌∙◌}
+use Rattle.std.proofs.Common.{◌≡◌, ℕ, inl, Option, Some, None, List, ◌∙◌}
 use Rattle.std.specs.Prelude.{IfSome}
 use Rattle.std.specs.Io.KnownBytes.{Appends, Keeps}
 use Rattle.tp_script.specs.TestCases.{Made}
@@ -7,7 +7,7 @@ use Rattle.tp_report.specs.declared.report.Report.{Report}
 use Rattle.tp_report.specs.Reports.{report_text}
 use Rattle.tp_exec.specs.Delivery.{IsReportOf}
 use Rattle.tp_exec.specs.Order.{NoCircle}
-use Rattle.tpr.specs.Ran.{IsReported, IsRunOf}
+use Rattle.tpr.specs.Ran.{IsRunOf}
 
 -- what is kept after something was added has it added
 pub added_and_kept : (old mid new : Option (List ℕ)) (text : List ℕ) → Appends old mid text → Keeps mid new → Appends old new text

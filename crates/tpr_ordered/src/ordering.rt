@@ -1,6 +1,5 @@
 //! A test case, run in each of some orders.
 ghost use Rattle.std.specs.Prelude.{OnOk};
-ghost use Rattle.std.specs.Io.KnownBytes.{Appends};
 ghost use Rattle.tpr_ordered.specs.Ordered.{AreOrdersWritten, IsOrderWritten, IsRunWritten};
 
 use crate::order_gate::OrderGate;

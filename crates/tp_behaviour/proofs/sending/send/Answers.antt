@@ -1,6 +1,6 @@
 -- A port that may not send isn't started.
 use Rattle.std.proofs.Common.{◌∙◌, ap, sym, true≢false}
-use Rattle.tp_port.specs.History.{status_of}
+use Rattle.tp_queue.specs.History.{status_of}
 use Rattle.tp_behaviour.specs.Ends.{IsFailure}
 use Rattle.tp_behaviour.proofs.sending.send.Goals as goal
 

@@ -1,6 +1,6 @@
 -- What had arrived came on the inbox's routes, and so did the rest, which goes to ports that there are.
 use Rattle.std.proofs.Common.{ℕ, ◌<◌, All, sym, subst}
-use Rattle.tp_port.specs.declared.event.Env.{Env}
+use Rattle.tp_queue.specs.declared.event.Env.{Env}
 use Rattle.tp_value.specs.declared.message.Message.{Message}
 use Rattle.tp_inbox.specs.Routed.{IsArrivalOn, rest_arrivals}
 use Rattle.tp_inbox.specs.Ledgers.{Inbox}

@@ -1,6 +1,6 @@
 -- The first of the queued is the top; where nothing is ahead of the mark there is none.
 use Rattle.std.proofs.Common.{ap, sym, ◌∙◌}
-use Rattle.tp_port.specs.History.{top}
+use Rattle.tp_queue.specs.History.{top}
 use Rattle.tp_inbox.proofs.Tops.{no_top, top_is_first}
 use Rattle.tp_exec.proofs.waiting.top_at.Goals as goal
 

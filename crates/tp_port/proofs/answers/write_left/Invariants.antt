@@ -2,7 +2,7 @@
 use Rattle.std.proofs.Common.{◌≡◌, ◌++◌, take}
 use Rattle.std.specs.Prelude.{string_bytes}
 use Rattle.std.specs.List.{flat_map}
-use Rattle.tp_port.specs.History.{queued}
+use Rattle.tp_queue.specs.History.{queued}
 use Rattle.tp_port.specs.Replay.{entry_text}
 use Rattle.tp_port.proofs.answers.write_left.Given as goal
 

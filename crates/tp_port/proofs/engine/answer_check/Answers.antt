@@ -2,7 +2,7 @@
 use Rattle.std.proofs.Common.{◌∙◌, ap, ◌++◌, map}
 use Rattle.std.specs.Prelude.{codes, string_bytes}
 use Rattle.std.specs.Option.{option_to_list, option_copied}
-use Rattle.tp_port.specs.declared.event.Event.TheVariants as event
+use Rattle.tp_queue.specs.declared.event.Event.TheVariants as event
 use Rattle.tp_port.specs.Replay.{entry_or_no}
 use Rattle.tp_port.proofs.Meeting.{checks_found, checked_is}
 use Rattle.tp_port.proofs.engine.answer_check.Goals as goal

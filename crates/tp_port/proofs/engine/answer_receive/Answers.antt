@@ -2,7 +2,7 @@
 use Rattle.std.proofs.Common.{◌∙◌, ap, ◌++◌, map}
 use Rattle.std.specs.Prelude.{codes, string_bytes}
 use Rattle.std.specs.Option.{option_to_list}
-use Rattle.tp_port.specs.declared.event.Event.TheVariants as event
+use Rattle.tp_queue.specs.declared.event.Event.TheVariants as event
 use Rattle.tp_port.specs.Replay.{entry_or_no}
 use Rattle.tp_port.proofs.Meeting.{receives_found, received_is}
 use Rattle.tp_port.proofs.engine.answer_receive.Goals as goal

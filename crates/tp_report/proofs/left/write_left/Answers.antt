@@ -1,7 +1,7 @@
 -- Each port is one of the component, the senders of what is left there are components, and its lines come next.
 use Rattle.std.proofs.Common.{◌<◌, length, subst, sym, arith}
 use Rattle.std.specs.Prelude.{All}
-use Rattle.tp_port.specs.History.{queued}
+use Rattle.tp_queue.specs.History.{queued}
 use Rattle.tp_config.specs.Setup.{IsComponent, IsPort, ports_at}
 use Rattle.tp_config.specs.Allowed.{IsSetup}
 use Rattle.tp_config.proofs.RouteLaws.{few_at}

@@ -1,6 +1,6 @@
 -- The next of the queued has the next line, and the queue has all that are counted.
 use Rattle.std.proofs.Common.{codes, sym, arith}
-use Rattle.tp_port.specs.History.{queued}
+use Rattle.tp_queue.specs.History.{queued}
 use Rattle.tp_report.specs.Lines.{envelope_line}
 use Rattle.tp_report.proofs.Pieces.{one_more_at, not_past}
 use Rattle.tp_report.proofs.left.write_queued.Goals.{in-Some+in_ok-write_envelope, in_default}

@@ -2,7 +2,7 @@
 use Rattle.std.proofs.Common.{take, codes}
 use Rattle.std.specs.List.{flat_map}
 use Rattle.std.specs.Io.KnownBytes.{Appends}
-use Rattle.tp_port.specs.History.{queued}
+use Rattle.tp_queue.specs.History.{queued}
 use Rattle.tp_report.specs.Lines.{envelope_line}
 use Rattle.tp_report.proofs.left.write_queued.Given as goal
 

@@ -1,6 +1,6 @@
 -- The port's queue keeps to the history with the clearing behind it.
 use Rattle.std.proofs.Common.{ap, refl, arith}
-use Rattle.tp_port.specs.declared.event.Event.TheVariants as event
+use Rattle.tp_queue.specs.declared.event.Event.TheVariants as event
 use Rattle.tp_inbox.specs.declared.entry.Entry.TheVariants as entry
 use Rattle.tp_inbox.specs.Desks.{Journal}
 use Rattle.tp_inbox.proofs.Ports.{kept_at, grown_by}

@@ -1,9 +1,9 @@
 -- The port's queue keeps to the history with what was found behind it.
 use Rattle.std.proofs.Common.{◌<◌, ◌∙◌, ap, subst, refl, arith, length, List}
 use Rattle.std.proofs.lemmas.List.{length-set}
-use Rattle.tp_port.specs.declared.event.Event.{Event}
-use Rattle.tp_port.specs.declared.event.Event.TheVariants as event
-use Rattle.tp_port.specs.Answers.{Finds}
+use Rattle.tp_queue.specs.declared.event.Event.{Event}
+use Rattle.tp_queue.specs.declared.event.Event.TheVariants as event
+use Rattle.tp_queue.specs.Answers.{Finds}
 use Rattle.tp_value.specs.declared.message.Message.{Message}
 use Rattle.tp_inbox.specs.declared.entry.Entry.TheVariants as entry
 use Rattle.tp_inbox.specs.Desks.{Journal, at_port}

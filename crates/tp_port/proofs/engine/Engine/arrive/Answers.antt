@@ -1,7 +1,7 @@
 -- The message has its sender's number and the number of arrivals before it, and is queued.
 use Rattle.std.proofs.Common.{◌∙◌, ap, refl, ◌∷◌, ◌++◌, []}
 use Rattle.std.proofs.lemmas.Int.{to_z-of_z}
-use Rattle.tp_port.specs.declared.event.Event.TheVariants as event
+use Rattle.tp_queue.specs.declared.event.Event.TheVariants as event
 use Rattle.tp_port.proofs.Carrying.{carries_arrive}
 use Rattle.tp_port.proofs.engine.Engine.arrive.Goals as goal
 

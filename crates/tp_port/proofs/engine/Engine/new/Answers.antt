@@ -1,6 +1,6 @@
 -- Before the first line nothing has arrived, and no sender is seen.
 use Rattle.std.proofs.Common.{ap, sym, length, arith}
-use Rattle.tp_port.specs.History.{accepted}
+use Rattle.tp_queue.specs.History.{accepted}
 use Rattle.tp_port.proofs.engine.Engine.new.Goals as goal
 
 pub returns-clause-within : goal.returns-clause-within

@@ -1,0 +1,65 @@
+-- What the calls of a queue answer.
+use Rattle.std.specs.Prelude.{◌≡◌, ℕ, Option, Some, None, List, [], ◌∷◌, ◌++◌, length, IfSome, MatchOption, Bool, true, false}
+use Rattle.tp_queue.specs.declared.event.Env.{Env}
+use Rattle.tp_queue.specs.declared.event.Event.{Event}
+use Rattle.tp_queue.specs.declared.event.Event.TheVariants as event
+use Rattle.tp_queue.specs.declared.event.TriggerAnswer.{TriggerAnswer}
+use Rattle.tp_queue.specs.declared.event.TriggerAnswer.TheVariants as answer
+use Rattle.tp_queue.specs.declared.event.Status.{Status}
+use Rattle.tp_queue.specs.declared.event.Status.TheVariants as status
+use Rattle.tp_queue.specs.History.{top, queued}
+
+-- the envelope is admitted, and comes from the named sender, if one is named
+abbrev pub Satisfies : {M : Type 0} → (M → Type 0) → Option ℕ → Env M → Type 0
+Satisfies admits from e = admits e.msg × IfSome from (λ sender. e.sender ≡ sender)
+
+-- a receiving operation succeeds with this envelope
+abbrev pub Finds : {M : Type 0} → (M → Type 0) → Option ℕ → List (Event M) → Env M → Type 0
+Finds admits from h e = (top h ≡ Some e) × Satisfies admits from e
+
+-- it succeeds with none
+abbrev pub FindsNone : {M : Type 0} → (M → Type 0) → Option ℕ → List (Event M) → Type 0
+FindsNone {M} admits from h = (e : Env M) → top h ≡ Some e → Satisfies admits from e → ⊥
+
+-- what `receive` answers, and the history after it
+abbrev pub Receives : {M : Type 0} → (M → Type 0) → Option ℕ → List (Event M) → Option (Env M) → List (Event M) → Type 0
+Receives admits from h (Some e) after = Finds admits from h e × (after ≡ h ++ event.Took e ∷ [])
+Receives admits from h None after = FindsNone admits from h × (after ≡ h)
+
+-- what `halt` answers: how many are ahead of the mark that it puts, or that it has no effect
+abbrev pub halted_count : {M : Type 0} → Status → List (Event M) → Option ℕ
+halted_count status.Started h = Some (length (queued h))
+halted_count status.Halted h = None
+halted_count status.Stopped h = None
+
+-- the event that takes an envelope out
+abbrev pub removal : {M : Type 0} → Bool → Env M → Event M
+removal true e = event.Took e
+removal false e = event.Dropped e
+
+-- the top is taken out, if there is one
+abbrev pub TakesOut : {M : Type 0} → Bool → List (Event M) → Option (Env M) → List (Event M) → Type 0
+TakesOut received h (Some e) after = (top h ≡ Some e) × (after ≡ h ++ removal received e ∷ [])
+TakesOut received h None after = (top h ≡ None) × (after ≡ h)
+
+-- what `trigger` answers, and the history after it
+abbrev pub Triggers : {M : Type 0} → (M → Type 0) → Option ℕ → List (Event M)
+    → TriggerAnswer M → List (Event M) → Type 0
+Triggers admits from h (answer.Took e) after = Finds admits from h e × (after ≡ h ++ event.Took e ∷ [])
+Triggers admits from h (answer.Dropped e) after =
+    (top h ≡ Some e) × ¬ Satisfies admits from e × (after ≡ h ++ event.Dropped e ∷ [])
+Triggers admits from h answer.Nothing after = (top h ≡ None) × (after ≡ h)
+
+-- the top, if there is one, was noted as found
+abbrev pub Notes : {M : Type 0} → List (Event M) → List (Event M) → Type 0
+Notes {M} h after = MatchOption (top h) (after ≡ h) (λ e. after ≡ h ++ event.Found e ∷ [])
+
+-- what `check` answers
+abbrev pub Checks : {M : Type 0} → (M → Type 0) → Option ℕ → List (Event M) → Option (Env M) → Type 0
+Checks admits from h (Some e) = Finds admits from h e
+Checks admits from h None = FindsNone admits from h
+
+-- the history after it
+abbrev pub checked : {M : Type 0} → List (Event M) → Option (Env M) → List (Event M)
+checked h (Some e) = h ++ event.Found e ∷ []
+checked h None = h

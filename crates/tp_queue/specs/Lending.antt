@@ -1,0 +1,17 @@
+-- What a queue ends as, once a reference into it has ended.
+use Rattle.std.specs.Prelude.{◌≡◌, List, Option, Result, MatchResult, ⊤}
+use Rattle.std.specs.Option.{option_copied}
+use Rattle.std.specs.Borrow.{Fml, RattleType, Bor, MutBor, follows_so}
+use mathlib.Core.Option.{none}
+use Rattle.tp_queue.specs.declared.event.Env.{Env}
+use Rattle.tp_queue.specs.declared.event.Event.{Event}
+use Rattle.tp_queue.specs.History.{Lawful}
+use Rattle.tp_queue.specs.Answers.{checked}
+use Rattle.tp_queue.specs.contracts.queue.PortQueue.{the_row}
+
+-- the queue ends with the history after a `check` that answered r, which is lawful
+abbrev pub ends_checked : (M : RattleType) {E : Type 0} → MutBor (List (Event M.Denot))
+    → Result (Option (Bor (Env M.Denot))) E → Fml
+ends_checked M q r = follows_so (the_row M) (the_row M) q.ghost_name none (λ _ _. ⊤) (λ n. MatchResult r
+    (λ answer. (n ≡ checked q.now (option_copied answer)) × Lawful n)
+    (λ _. (n ≡ q.now) × Lawful n))

@@ -1,0 +1,4 @@
+pub mod History
+pub mod Answers
+pub mod Kept
+pub mod Lending

@@ -1,0 +1,6 @@
+//! The queue of one message port: its events, what is queued, and what can be received.
+#![tactic(auto)]
+
+pub mod event;
+pub mod payload;
+pub mod queue;

@@ -1,0 +1,45 @@
+//! What a queue asks of its messages, and a receiving operation of its template.
+ghost use Rattle.std.specs.Prelude.{◌≡◌, ◌↔◌, IfOk, IsTrue};
+
+use crate::event::Env;
+use std::alloc::Global;
+use tp_refusal::memory::Memory;
+
+/// A message that a queue can hold: it can be copied where there is memory, since the history
+/// keeps each message that arrived, was taken, found or dropped.
+pub trait Payload: Drop {
+    /// A copy, which equals the original. 50 `Memory` only where an allocation was refused.
+    fn copy(&self, alloc: Global) -> Result<Self, Memory>
+        ensures { IfOk result (λ twin. twin ≡ self.now) };
+}
+
+/// An integer of 64 signed bits, as in a queue file. Its copy takes no memory.
+impl Payload for i64 {
+    fn copy(&self, _alloc: Global) -> Result<i64, Memory> {
+        Ok(*self)
+    }
+}
+
+impl<M: Payload> Env<M> {
+    /// A copy, which equals the original. 50 `Memory` only where the message's copy was refused.
+    pub fn copy(&self, alloc: Global) -> Result<Env<M>, Memory>
+        ensures { IfOk result (λ twin. twin ≡ self.now) }
+    {
+        Ok(Env {
+            sender: self.sender,
+            number: self.number,
+            msg: self.msg.copy(alloc)?,
+        })
+    }
+}
+
+/// The template of a receiving operation, or whatever else says which messages are wanted
+/// (ES 201 873-1, 22.2.2: the matching criteria).
+pub trait Wanted<M> {
+    /// The messages that are wanted: the definition that an implementation names.
+    ghost admits: { Self → M → Type 0 };
+
+    /// Whether the message is wanted. Takes no memory.
+    fn admits(&self, msg: &M) -> bool
+        ensures { IsTrue result ↔ admits self.now msg.now };
+}
