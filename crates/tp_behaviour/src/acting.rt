@@ -10,6 +10,7 @@ ghost use Rattle.tp_behaviour.specs.Stations.{IsManned, IsSame, role_of};
 use crate::gate::Gate;
 use crate::looking::{look_in, note};
 use crate::post::Post;
+use crate::scene::Scene;
 use crate::station::Station;
 use std::sync::Wait;
 use tp_body::body::PortOperation;
@@ -83,22 +84,21 @@ fn operate_at<G: Gate>(
 ///
 /// 50 `Memory` only where an allocation was refused.
 pub(crate) fn control<R: Wait, G: Gate>(
-    rt: &R,
-    gate: &G,
-    post: &Post<'_>,
+    scene: &Scene<'_, R, G>,
     station: &mut Station,
     port: u32,
     operation: PortOperation,
 ) -> Result<(), Memory>
-    requires manned { IsManned (role_of post.now) station.old }
+    requires manned { IsManned (role_of scene.now.post.now) station.old }
     requires within { port < station.old.desk.ports }
-    ensures manned { OnOk result (IsManned (role_of post.now) station.new) }
+    ensures manned { OnOk result (IsManned (role_of scene.now.post.now) station.new) }
     ensures same { OnOk result (IsSame station.old station.new) }
     ensures stepped { OnOk result
-        (Carries (role_of post.now) (b.Control port operation) station.old.desk station.new.desk) }
+        (Carries (role_of scene.now.post.now) (b.Control port operation)
+        station.old.desk station.new.desk) }
 {
-    look_in(rt, post, &mut *station)?;
-    operate_at(gate, post, &mut *station, port, operation)?;
+    look_in(scene.rt, scene.post, &mut *station)?;
+    operate_at(scene.gate, scene.post, &mut *station, port, operation)?;
     Ok(())
 }
 
@@ -107,21 +107,21 @@ pub(crate) fn control<R: Wait, G: Gate>(
 ///
 /// 50 `Memory` only where an allocation was refused.
 pub(crate) fn all_ports<R: Wait, G: Gate>(
-    rt: &R,
-    gate: &G,
-    post: &Post<'_>,
+    scene: &Scene<'_, R, G>,
     station: &mut Station,
     operation: PortOperation,
 ) -> Result<(), Memory>
-    requires { IsManned (role_of post.now) station.old }
-    ensures manned { OnOk result (IsManned (role_of post.now) station.new) }
+    requires { IsManned (role_of scene.now.post.now) station.old }
+    ensures manned { OnOk result (IsManned (role_of scene.now.post.now) station.new) }
     ensures same { OnOk result (IsSame station.old station.new) }
     ensures stepped { OnOk result
-        (Carries (role_of post.now) (b.AllPorts operation) station.old.desk station.new.desk) }
+        (Carries (role_of scene.now.post.now) (b.AllPorts operation)
+        station.old.desk station.new.desk) }
 {
-    look_in(rt, post, &mut *station)?;
+    look_in(scene.rt, scene.post, &mut *station)?;
     // A component of a configuration has at most 64 ports.
-    let _lawful = post.config.len();
+    let _lawful = scene.post.config.len();
+    let (gate, post) = (scene.gate, scene.post);
     for port in 0..station.desk.port_count() {
         operate_at(gate, post, &mut *station, port as u32, operation)?;
     }

@@ -6,9 +6,10 @@ ghost use Rattle.tp_behaviour.specs.Outcomes.{CanBehave, HasEnded, WaitsWithin};
 ghost use Rattle.tp_behaviour.specs.Stations.{IsManned, IsSame, role_of};
 
 use crate::gate::Gate;
-use crate::lasting::lasting_block;
+use crate::lasting::{Block, lasting_block};
 use crate::outcome::Outcome;
 use crate::post::Post;
+use crate::scene::Scene;
 use crate::statements::execute;
 use crate::station::{State, Station};
 use std::sync::Wait;
@@ -56,9 +57,13 @@ pub fn behave<R: Wait, G: Gate>(
     ensures within { IfOk result (WaitsWithin station.new.desk.ports) }
 {
     let mut state = begin(gate, post)?;
-    let block = post.conduct.body.statements.as_slice();
-    let lasting = lasting_block(post.alloc, block)?;
-    let kept = lasting.as_slice();
-    let outcome = execute(rt, gate, post, &mut *station, &mut state, block, kept)?;
+    let statements = post.conduct.body.statements.as_slice();
+    let lasting = lasting_block(post.alloc, statements)?;
+    let block = Block {
+        statements,
+        lasting: lasting.as_slice(),
+    };
+    let scene = Scene { rt, gate, post };
+    let outcome = execute(&scene, &mut *station, &mut state, block)?;
     Ok(outcome)
 }

@@ -8,6 +8,7 @@ use crate::choice::{GuardView, Sight};
 use crate::gate::Gate;
 use crate::looking::{look, note};
 use crate::post::Post;
+use crate::scene::Scene;
 use crate::station::Station;
 use std::sync::Wait;
 use tp_inbox::entry::Entry;
@@ -48,35 +49,33 @@ fn rest<R: Wait>(rt: &R, post: &Post<'_>, owner: &Owner) -> bool {
 ///
 /// 50 `Memory` only where an allocation was refused.
 pub(crate) fn choose<R: Wait, G: Gate>(
-    rt: &R,
-    gate: &G,
-    post: &Post<'_>,
+    scene: &Scene<'_, R, G>,
     station: &mut Station,
     guards: &[GuardView<'_>],
     has_else: bool,
 ) -> Result<Choice, Memory>
-    requires manned { IsManned (role_of post.now) station.old }
+    requires manned { IsManned (role_of scene.now.post.now) station.old }
     requires within { All (λ g. g.port < station.old.desk.ports) guards.now }
-    ensures manned { OnOk result (IsManned (role_of post.now) station.new) }
+    ensures manned { OnOk result (IsManned (role_of scene.now.post.now) station.new) }
     ensures same { OnOk result (IsSame station.old station.new) }
     ensures chose { IfOk result (λ choice.
         Grew (Chose (all_viewed guards.now) has_else choice)
         station.old.desk.log station.new.desk.log) }
 {
     let mut last = false;
-    for _ in rt.forever() {
-        match look(rt, gate, post, &mut *station, guards)? {
+    for _ in scene.rt.forever() {
+        match look(scene, &mut *station, guards)? {
             Sight::Taken(branch, env) => return Ok(Choice::Branch(branch, env)),
             Sight::Discarded => {}
             Sight::Nothing => {
                 if has_else {
-                    note(post, &mut *station, Entry::Else)?;
+                    note(scene.post, &mut *station, Entry::Else)?;
                     return Ok(Choice::Else);
                 }
                 if last {
                     return Ok(Choice::Waits);
                 }
-                last = rest(rt, post, &station.owner);
+                last = rest(scene.rt, scene.post, &station.owner);
             }
         }
     }

@@ -9,9 +9,10 @@ ghost use Rattle.tp_behaviour.specs.Stations.{IsManned, IsSame, role_of};
 use crate::choice::Guard;
 use crate::choosing::{Choice, choose};
 use crate::gate::Gate;
-use crate::lasting::Lasting;
+use crate::lasting::Alt;
 use crate::post::Post;
 use crate::receiving::{fill_guards, redirect, view_guards};
+use crate::scene::Scene;
 use crate::station::{State, Station};
 use std::sync::Wait;
 use tp_body::body::Branch;
@@ -48,37 +49,34 @@ fn enter(post: &Post<'_>, state: &mut State, branches: &[Branch], place: usize, 
 ///
 /// 50 `Memory` only where an allocation was refused.
 pub(crate) fn decide<R: Wait, G: Gate>(
-    rt: &R,
-    gate: &G,
-    post: &Post<'_>,
+    scene: &Scene<'_, R, G>,
     station: &mut Station,
     state: &mut State,
-    branches: &[Branch],
-    lasting: &[Lasting],
-    has_else: bool,
+    alt: Alt<'_>,
 ) -> Result<Way, Memory>
-    requires manned { IsManned (role_of post.now) station.old }
-    requires held { HoldsAsDeclared post.now state.old }
-    requires can { CanEnterAll (stage_at post.now) (depth_of state.old) branches.now }
-    requires lasting { AreLastingBranches branches.now lasting.now }
-    ensures manned { OnOk result (IsManned (role_of post.now) station.new) }
+    requires manned { IsManned (role_of scene.now.post.now) station.old }
+    requires held { HoldsAsDeclared scene.now.post.now state.old }
+    requires can { CanEnterAll (stage_at scene.now.post.now) (depth_of state.old) alt.branches.now }
+    requires lasting { AreLastingBranches alt.branches.now alt.lasting.now }
+    ensures manned { OnOk result (IsManned (role_of scene.now.post.now) station.new) }
     ensures same { OnOk result (IsSame station.old station.new) }
-    ensures held { OnOk result (HoldsAsDeclared post.now state.new) }
+    ensures held { OnOk result (HoldsAsDeclared scene.now.post.now state.new) }
     ensures turns { OnOk result (state.new.turns.items ≡ state.old.turns.items) }
     ensures decided { IfOk result (λ way.
-        Decided post.now branches.now has_else way station.old state.old station.new state.new) }
-    ensures there { IfOk result (IsWayOf branches.now) }
+        Decided scene.now.post.now alt.entry.branches.now alt.entry.has_else way
+        station.old state.old station.new state.new) }
+    ensures there { IfOk result (IsWayOf alt.entry.branches.now) }
     ensures within { IfOk result (RestsWithin station.old.desk.ports) }
 {
-    let views = view_guards(post, &*state, branches, lasting)?;
-    match choose(rt, gate, post, &mut *station, views.as_slice(), has_else)? {
+    let views = view_guards(scene.post, &*state, alt.branches, alt.lasting)?;
+    match choose(scene, &mut *station, views.as_slice(), alt.has_else)? {
         Choice::Branch(place, env) => {
-            enter(post, &mut *state, branches, place, env);
+            enter(scene.post, &mut *state, alt.branches, place, env);
             Ok(Way::Branch(place))
         }
         Choice::Else => Ok(Way::Else),
         Choice::Waits => {
-            let guards = fill_guards(post, &*state, branches)?;
+            let guards = fill_guards(scene.post, &*state, alt.branches)?;
             Ok(Way::Waits(guards))
         }
     }

@@ -22,6 +22,26 @@ pub struct Lasting {
     pub block: Items<Lasting>,
 }
 
+/// The statements of a block, and what lasts of each.
+#[derive(Clone, Copy)]
+pub(crate) struct Block<'t> {
+    /// The statements.
+    pub statements: &'t [Statement],
+    /// What lasts of them.
+    pub lasting: &'t [Lasting],
+}
+
+/// The branches of an `alt`, and what lasts of each.
+#[derive(Clone, Copy)]
+pub(crate) struct Alt<'t> {
+    /// The branches.
+    pub branches: &'t [Branch],
+    /// Whether `[else]` stands behind them.
+    pub has_else: bool,
+    /// What lasts of the branches.
+    pub lasting: &'t [Lasting],
+}
+
 /// What a receiving operation wants, where no loop variable stands in that.
 ///
 /// 50 `Memory` only where an allocation was refused.

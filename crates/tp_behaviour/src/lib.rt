@@ -16,6 +16,7 @@ pub mod outcome;
 mod playing;
 pub mod post;
 mod receiving;
+mod scene;
 mod sending;
 mod statements;
 pub mod station;

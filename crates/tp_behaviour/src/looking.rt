@@ -11,6 +11,7 @@ ghost use Rattle.tp_behaviour.specs.Views.{all_viewed};
 use crate::choice::{GuardView, Sight, snapshot};
 use crate::gate::Gate;
 use crate::post::Post;
+use crate::scene::Scene;
 use crate::station::Station;
 use std::sync::Wait;
 use tp_inbox::entry::Entry;
@@ -78,22 +79,20 @@ pub(crate) fn note(post: &Post<'_>, station: &mut Station, entry: Entry) -> Resu
 ///
 /// 50 `Memory` only where an allocation was refused.
 pub(crate) fn look<R: Wait, G: Gate>(
-    rt: &R,
-    gate: &G,
-    post: &Post<'_>,
+    scene: &Scene<'_, R, G>,
     station: &mut Station,
     guards: &[GuardView<'_>],
 ) -> Result<Sight, Memory>
-    requires manned { IsManned (role_of post.now) station.old }
+    requires manned { IsManned (role_of scene.now.post.now) station.old }
     requires within { All (λ g. g.port < station.old.desk.ports) guards.now }
-    ensures manned { OnOk result (IsManned (role_of post.now) station.new) }
+    ensures manned { OnOk result (IsManned (role_of scene.now.post.now) station.new) }
     ensures same { OnOk result (IsSame station.old station.new) }
     ensures ports { OnOk result (station.new.desk.ports ≡ station.old.desk.ports) }
     ensures saw { IfOk result (λ sight.
-        Saw post.now.comp (all_viewed guards.now) sight
+        Saw scene.now.post.now.comp (all_viewed guards.now) sight
         station.old.desk.log station.new.desk.log) }
 {
-    look_in(rt, post, &mut *station)?;
-    let sight = snapshot(gate, post.alloc, &mut station.desk, guards)?;
+    look_in(scene.rt, scene.post, &mut *station)?;
+    let sight = snapshot(scene.gate, scene.post.alloc, &mut station.desk, guards)?;
     Ok(sight)
 }

@@ -1,5 +1,5 @@
 //! The statements within which no other stands, each up to its end.
-ghost use Rattle.std.specs.Prelude.{◌≡◌, ◌<◌, IfOk, OnOk};
+ghost use Rattle.std.specs.Prelude.{◌<◌, IfOk, OnOk};
 ghost use Rattle.tp_body.specs.declared.body.Statement.TheVariants as b;
 ghost use Rattle.tp_body.specs.Playable.{CanSend};
 ghost use Rattle.tp_behaviour.specs.Outcomes.{HoldsAsDeclared, Stepped, WaitsWithin, depth_of, stage_at};
@@ -9,6 +9,7 @@ use crate::acting::{all_ports, control, set_verdict};
 use crate::gate::Gate;
 use crate::outcome::Outcome;
 use crate::post::Post;
+use crate::scene::Scene;
 use crate::sending::send;
 use crate::station::{State, Station};
 use std::sync::Wait;
@@ -19,23 +20,23 @@ use tp_value::verdict::Verdict;
 /// Carries out a send (ES 201 873-1, 22.2.1): where it can't be carried out, the behaviour ends.
 ///
 /// 50 `Memory` as [`send`].
-pub(crate) fn play_send<R: Wait>(
-    rt: &R,
-    post: &Post<'_>,
+pub(crate) fn play_send<R: Wait, G: Gate>(
+    scene: &Scene<'_, R, G>,
     station: &mut Station,
     state: &State,
     sending: &SendOperation,
 ) -> Result<Outcome, Memory>
-    requires manned { IsManned (role_of post.now) station.old }
-    requires held { HoldsAsDeclared post.now state.now }
-    requires can { CanSend (stage_at post.now) (depth_of state.now) sending.now }
-    ensures manned { OnOk result (IsManned (role_of post.now) station.new) }
+    requires manned { IsManned (role_of scene.now.post.now) station.old }
+    requires held { HoldsAsDeclared scene.now.post.now state.now }
+    requires can { CanSend (stage_at scene.now.post.now) (depth_of state.now) sending.now }
+    ensures manned { OnOk result (IsManned (role_of scene.now.post.now) station.new) }
     ensures same { OnOk result (IsSame station.old station.new) }
     ensures ended { IfOk result (λ o.
-        Stepped post.now (b.Send sending.now) o station.old state.now station.new state.now) }
+        Stepped scene.now.post.now (b.Send sending.now) o
+        station.old state.now station.new state.now) }
     ensures within { IfOk result (WaitsWithin station.old.desk.ports) }
 {
-    match send(rt, post, &mut *station, state, sending)? {
+    match send(scene, &mut *station, state, sending)? {
         None => Ok(Outcome::Done),
         Some(code) => Ok(Outcome::Error(code)),
     }
@@ -45,24 +46,23 @@ pub(crate) fn play_send<R: Wait>(
 ///
 /// 50 `Memory` only where an allocation was refused.
 pub(crate) fn play_control<R: Wait, G: Gate>(
-    rt: &R,
-    gate: &G,
-    post: &Post<'_>,
+    scene: &Scene<'_, R, G>,
     station: &mut Station,
     state: &State,
     port: u32,
     operation: PortOperation,
 ) -> Result<Outcome, Memory>
-    requires manned { IsManned (role_of post.now) station.old }
-    requires within { port < (stage_at post.now).ports }
-    ensures manned { OnOk result (IsManned (role_of post.now) station.new) }
+    requires manned { IsManned (role_of scene.now.post.now) station.old }
+    requires within { port < (stage_at scene.now.post.now).ports }
+    ensures manned { OnOk result (IsManned (role_of scene.now.post.now) station.new) }
     ensures same { OnOk result (IsSame station.old station.new) }
     ensures ended { IfOk result (λ o.
-        Stepped post.now (b.Control port operation) o station.old state.now station.new state.now) }
+        Stepped scene.now.post.now (b.Control port operation) o
+        station.old state.now station.new state.now) }
     ensures within { IfOk result (WaitsWithin station.old.desk.ports) }
 {
     let _state = state;
-    control(rt, gate, post, &mut *station, port, operation)?;
+    control(scene, &mut *station, port, operation)?;
     Ok(Outcome::Done)
 }
 
@@ -70,22 +70,21 @@ pub(crate) fn play_control<R: Wait, G: Gate>(
 ///
 /// 50 `Memory` only where an allocation was refused.
 pub(crate) fn play_all_ports<R: Wait, G: Gate>(
-    rt: &R,
-    gate: &G,
-    post: &Post<'_>,
+    scene: &Scene<'_, R, G>,
     station: &mut Station,
     state: &State,
     operation: PortOperation,
 ) -> Result<Outcome, Memory>
-    requires manned { IsManned (role_of post.now) station.old }
-    ensures manned { OnOk result (IsManned (role_of post.now) station.new) }
+    requires manned { IsManned (role_of scene.now.post.now) station.old }
+    ensures manned { OnOk result (IsManned (role_of scene.now.post.now) station.new) }
     ensures same { OnOk result (IsSame station.old station.new) }
     ensures ended { IfOk result (λ o.
-        Stepped post.now (b.AllPorts operation) o station.old state.now station.new state.now) }
+        Stepped scene.now.post.now (b.AllPorts operation) o
+        station.old state.now station.new state.now) }
     ensures within { IfOk result (WaitsWithin station.old.desk.ports) }
 {
     let _state = state;
-    all_ports(rt, gate, post, &mut *station, operation)?;
+    all_ports(scene, &mut *station, operation)?;
     Ok(Outcome::Done)
 }
 

@@ -19,6 +19,7 @@ use crate::held::Held;
 use crate::lasting::Lasting;
 use crate::outcome::Outcome;
 use crate::post::Post;
+use crate::scene::Scene;
 use crate::station::{State, Station};
 use std::alloc::Global;
 use std::sync::Wait;
@@ -187,35 +188,34 @@ pub(crate) fn redirect(post: &Post<'_>, state: &mut State, receiving: &Receiving
 ///
 /// 50 `Memory` only where an allocation was refused.
 pub(crate) fn receive<R: Wait, G: Gate>(
-    rt: &R,
-    gate: &G,
-    post: &Post<'_>,
+    scene: &Scene<'_, R, G>,
     station: &mut Station,
     state: &mut State,
     receiving: &Receiving,
     lasting: &Option<MsgTemplate>,
 ) -> Result<Outcome, Memory>
-    requires manned { IsManned (role_of post.now) station.old }
-    requires held { HoldsAsDeclared post.now state.old }
-    requires can { CanReceive (stage_at post.now) (depth_of state.old) receiving.now }
+    requires manned { IsManned (role_of scene.now.post.now) station.old }
+    requires held { HoldsAsDeclared scene.now.post.now state.old }
+    requires can { CanReceive (stage_at scene.now.post.now) (depth_of state.old) receiving.now }
     requires lasting { Lasts receiving.now.wanted lasting.now }
-    ensures manned { OnOk result (IsManned (role_of post.now) station.new) }
+    ensures manned { OnOk result (IsManned (role_of scene.now.post.now) station.new) }
     ensures same { OnOk result (IsSame station.old station.new) }
-    ensures held { OnOk result (HoldsAsDeclared post.now state.new) }
+    ensures held { OnOk result (HoldsAsDeclared scene.now.post.now state.new) }
     ensures turns { OnOk result (state.new.turns.items ≡ state.old.turns.items) }
     ensures ended { IfOk result (λ o.
-        Stepped post.now (b.Receive receiving.now) o station.old state.old station.new state.new) }
+        Stepped scene.now.post.now (b.Receive receiving.now) o
+        station.old state.old station.new state.new) }
     ensures within { IfOk result (WaitsWithin station.old.desk.ports) }
 {
-    let view = view_guard(post, &*state, receiving, lasting)?;
-    match choose(rt, gate, post, &mut *station, &[view], false)? {
+    let view = view_guard(scene.post, &*state, receiving, lasting)?;
+    match choose(scene, &mut *station, &[view], false)? {
         Choice::Branch(_, env) => {
-            redirect(post, &mut *state, receiving, env);
+            redirect(scene.post, &mut *state, receiving, env);
             Ok(Outcome::Done)
         }
         Choice::Waits => {
-            let guard = fill_guard(post, &*state, receiving)?;
-            let mut guards = Vec::with_capacity(post.alloc, 1)?;
+            let guard = fill_guard(scene.post, &*state, receiving)?;
+            let mut guards = Vec::with_capacity(scene.post.alloc, 1)?;
             guards.push_reserved(guard);
             Ok(Outcome::Waiting(guards))
         }

@@ -12,8 +12,10 @@ ghost use Rattle.tp_behaviour.specs.Seen.{Adds, Grew};
 ghost use Rattle.tp_behaviour.specs.Sends.{CanName, SendsAt, next_sent};
 ghost use Rattle.tp_behaviour.specs.Stations.{IsManned, IsSame, role_of, values_of};
 
+use crate::gate::Gate;
 use crate::looking::note;
 use crate::post::Post;
+use crate::scene::Scene;
 use crate::station::{State, Station};
 use crate::values::{message_of, named_of};
 use std::sync::Wait;
@@ -51,23 +53,22 @@ fn fail(
 ///
 /// 50 `Memory` where an allocation was refused; and where the route has taken all that it takes, or
 /// no stamp is left, neither of which a test case of at most 100,000 statements reaches.
-fn send_on<R: Wait>(
-    rt: &R,
-    post: &Post<'_>,
+fn send_on<R: Wait, G: Gate>(
+    scene: &Scene<'_, R, G>,
     station: &mut Station,
     route: RouteId,
     message: &Message,
 ) -> Result<(), Memory>
-    requires manned { IsManned (role_of post.now) station.old }
+    requires manned { IsManned (role_of scene.now.post.now) station.old }
     requires known { Contains (routes_of station.old.outbox) route }
-    ensures manned { OnOk result (IsManned (role_of post.now) station.new) }
+    ensures manned { OnOk result (IsManned (role_of scene.now.post.now) station.new) }
     ensures same { OnOk result (IsSame station.old station.new) }
     ensures log { OnOk result (station.new.desk.log
         ≡ station.old.desk.log ++ next_sent route message.now station.old.desk.log ∷ []) }
     ensures trace { OnOk result (Adds station.old.desk
         (next_sent route message.now station.old.desk.log) station.new.desk) }
 {
-    let _post = post;
+    let rt = scene.rt;
     let Ok(()) = station.outbox.send(rt, &mut station.desk, route, message) else {
         return Err(Memory);
     };
@@ -88,56 +89,56 @@ fn route_code(fault: RouteFault) -> u8
 /// is no such route, the behaviour ends by the refusal of the number that is answered.
 ///
 /// 50 `Memory` as [`send_on`].
-fn send_to<R: Wait>(
-    rt: &R,
-    post: &Post<'_>,
+fn send_to<R: Wait, G: Gate>(
+    scene: &Scene<'_, R, G>,
     station: &mut Station,
     state: &State,
     sending: &SendOperation,
     message: &Message,
     named: Option<CompId>,
 ) -> Result<Option<u8>, Memory>
-    requires manned { IsManned (role_of post.now) station.old }
+    requires manned { IsManned (role_of scene.now.post.now) station.old }
     requires started { IsStarted station.old.desk.log sending.now.port }
     requires sent { IsSentAs (values_of state.now) sending.now.sent message.now }
-    requires named { IsNamed (role_of post.now) (values_of state.now) sending.now.to named }
-    ensures manned { OnOk result (IsManned (role_of post.now) station.new) }
+    requires named { IsNamed
+        (role_of scene.now.post.now) (values_of state.now) sending.now.to named }
+    ensures manned { OnOk result (IsManned (role_of scene.now.post.now) station.new) }
     ensures same { OnOk result (IsSame station.old station.new) }
-    ensures sends { IfOk result (SendsAt post.now state.now sending.now station.old station.new) }
+    ensures sends { IfOk result
+        (SendsAt scene.now.post.now state.now sending.now station.old station.new) }
 {
     let port = PortRef {
-        comp: post.comp,
+        comp: scene.post.comp,
         port: sending.port,
     };
-    match post.config.route(port, named) {
+    match scene.post.config.route(port, named) {
         Ok(route) => {
-            send_on(rt, post, &mut *station, route, message)?;
+            send_on(scene, &mut *station, route, message)?;
             Ok(None)
         }
-        Err(fault) => fail(post, &mut *station, state, sending, route_code(fault)),
+        Err(fault) => fail(scene.post, &mut *station, state, sending, route_code(fault)),
     }
 }
 
 /// Sends a message on each of these routes, in their order.
 ///
 /// 50 `Memory` as [`send_on`].
-fn send_on_each<R: Wait>(
-    rt: &R,
-    post: &Post<'_>,
+fn send_on_each<R: Wait, G: Gate>(
+    scene: &Scene<'_, R, G>,
     station: &mut Station,
     routes: &[RouteId],
     message: &Message,
 ) -> Result<(), Memory>
-    requires manned { IsManned (role_of post.now) station.old }
+    requires manned { IsManned (role_of scene.now.post.now) station.old }
     requires known { All (Contains (routes_of station.old.outbox)) routes.now }
-    ensures manned { OnOk result (IsManned (role_of post.now) station.new) }
+    ensures manned { OnOk result (IsManned (role_of scene.now.post.now) station.new) }
     ensures same { OnOk result (IsSame station.old station.new) }
     ensures each { OnOk result ((port : ℕ) → IsStarted station.old.desk.log port
         → Grew (AllZip (IsSentOn port message.now) routes.now)
         station.old.desk.log station.new.desk.log) }
 {
     for route in routes {
-        send_on(rt, post, &mut *station, *route, message)?;
+        send_on(scene, &mut *station, *route, message)?;
     }
     Ok(())
 }
@@ -146,84 +147,84 @@ fn send_on_each<R: Wait>(
 /// component`); where there is none, the behaviour ends by the refusal 41, which is answered.
 ///
 /// 50 `Memory` as [`send_on`].
-fn send_to_all<R: Wait>(
-    rt: &R,
-    post: &Post<'_>,
+fn send_to_all<R: Wait, G: Gate>(
+    scene: &Scene<'_, R, G>,
     station: &mut Station,
     state: &State,
     sending: &SendOperation,
     message: &Message,
 ) -> Result<Option<u8>, Memory>
-    requires manned { IsManned (role_of post.now) station.old }
+    requires manned { IsManned (role_of scene.now.post.now) station.old }
     requires started { IsStarted station.old.desk.log sending.now.port }
     requires sent { IsSentAs (values_of state.now) sending.now.sent message.now }
     requires all { sending.now.to ≡ to.All }
-    ensures manned { OnOk result (IsManned (role_of post.now) station.new) }
+    ensures manned { OnOk result (IsManned (role_of scene.now.post.now) station.new) }
     ensures same { OnOk result (IsSame station.old station.new) }
-    ensures sends { IfOk result (SendsAt post.now state.now sending.now station.old station.new) }
+    ensures sends { IfOk result
+        (SendsAt scene.now.post.now state.now sending.now station.old station.new) }
 {
     let port = PortRef {
-        comp: post.comp,
+        comp: scene.post.comp,
         port: sending.port,
     };
-    let routes = post.config.routes_from(port)?;
+    let routes = scene.post.config.routes_from(port)?;
     if routes.is_empty() {
-        return fail(post, &mut *station, state, sending, 41);
+        return fail(scene.post, &mut *station, state, sending, 41);
     }
-    send_on_each(rt, post, &mut *station, routes.as_slice(), message)?;
+    send_on_each(scene, &mut *station, routes.as_slice(), message)?;
     Ok(None)
 }
 
 /// Sends a message to the component that is named, or to the one that its port has a route to.
 ///
 /// 50 `Memory` as [`send_on`].
-fn send_to_one<R: Wait>(
-    rt: &R,
-    post: &Post<'_>,
+fn send_to_one<R: Wait, G: Gate>(
+    scene: &Scene<'_, R, G>,
     station: &mut Station,
     state: &State,
     sending: &SendOperation,
     message: &Message,
 ) -> Result<Option<u8>, Memory>
-    requires manned { IsManned (role_of post.now) station.old }
+    requires manned { IsManned (role_of scene.now.post.now) station.old }
     requires started { IsStarted station.old.desk.log sending.now.port }
     requires sent { IsSentAs (values_of state.now) sending.now.sent message.now }
     requires names { CanName state.now.variables.items
-        (length post.now.conduct.references.now) sending.now.to }
-    ensures manned { OnOk result (IsManned (role_of post.now) station.new) }
+        (length scene.now.post.now.conduct.references.now) sending.now.to }
+    ensures manned { OnOk result (IsManned (role_of scene.now.post.now) station.new) }
     ensures same { OnOk result (IsSame station.old station.new) }
-    ensures sends { IfOk result (SendsAt post.now state.now sending.now station.old station.new) }
+    ensures sends { IfOk result
+        (SendsAt scene.now.post.now state.now sending.now station.old station.new) }
 {
-    match named_of(post, state, sending.to) {
-        Some(named) => send_to(rt, post, &mut *station, state, sending, message, named),
-        None => fail(post, &mut *station, state, sending, 43),
+    match named_of(scene.post, state, sending.to) {
+        Some(named) => send_to(scene, &mut *station, state, sending, message, named),
+        None => fail(scene.post, &mut *station, state, sending, 43),
     }
 }
 
 /// Sends what is to be sent, where the port is started.
 ///
 /// 50 `Memory` as [`send_on`].
-fn send_started<R: Wait>(
-    rt: &R,
-    post: &Post<'_>,
+fn send_started<R: Wait, G: Gate>(
+    scene: &Scene<'_, R, G>,
     station: &mut Station,
     state: &State,
     sending: &SendOperation,
 ) -> Result<Option<u8>, Memory>
-    requires manned { IsManned (role_of post.now) station.old }
+    requires manned { IsManned (role_of scene.now.post.now) station.old }
     requires started { IsStarted station.old.desk.log sending.now.port }
-    requires held { HoldsAsDeclared post.now state.now }
-    requires can { CanSend (stage_at post.now) (depth_of state.now) sending.now }
-    ensures manned { OnOk result (IsManned (role_of post.now) station.new) }
+    requires held { HoldsAsDeclared scene.now.post.now state.now }
+    requires can { CanSend (stage_at scene.now.post.now) (depth_of state.now) sending.now }
+    ensures manned { OnOk result (IsManned (role_of scene.now.post.now) station.new) }
     ensures same { OnOk result (IsSame station.old station.new) }
-    ensures sends { IfOk result (SendsAt post.now state.now sending.now station.old station.new) }
+    ensures sends { IfOk result
+        (SendsAt scene.now.post.now state.now sending.now station.old station.new) }
 {
-    let Some(message) = message_of(post.alloc, state, &sending.sent)? else {
-        return fail(post, &mut *station, state, sending, 43);
+    let Some(message) = message_of(scene.post.alloc, state, &sending.sent)? else {
+        return fail(scene.post, &mut *station, state, sending, 43);
     };
     match sending.to {
-        Receiver::All => send_to_all(rt, post, &mut *station, state, sending, &message),
-        _ => send_to_one(rt, post, &mut *station, state, sending, &message),
+        Receiver::All => send_to_all(scene, &mut *station, state, sending, &message),
+        _ => send_to_one(scene, &mut *station, state, sending, &message),
     }
 }
 
@@ -233,23 +234,23 @@ fn send_started<R: Wait>(
 /// named, or 42 where there are several and no component is named.
 ///
 /// 50 `Memory` as [`send_on`].
-pub(crate) fn send<R: Wait>(
-    rt: &R,
-    post: &Post<'_>,
+pub(crate) fn send<R: Wait, G: Gate>(
+    scene: &Scene<'_, R, G>,
     station: &mut Station,
     state: &State,
     sending: &SendOperation,
 ) -> Result<Option<u8>, Memory>
-    requires manned { IsManned (role_of post.now) station.old }
-    requires held { HoldsAsDeclared post.now state.now }
-    requires can { CanSend (stage_at post.now) (depth_of state.now) sending.now }
-    ensures manned { OnOk result (IsManned (role_of post.now) station.new) }
+    requires manned { IsManned (role_of scene.now.post.now) station.old }
+    requires held { HoldsAsDeclared scene.now.post.now state.now }
+    requires can { CanSend (stage_at scene.now.post.now) (depth_of state.now) sending.now }
+    ensures manned { OnOk result (IsManned (role_of scene.now.post.now) station.new) }
     ensures same { OnOk result (IsSame station.old station.new) }
-    ensures sends { IfOk result (SendsAt post.now state.now sending.now station.old station.new) }
+    ensures sends { IfOk result
+        (SendsAt scene.now.post.now state.now sending.now station.old station.new) }
 {
     if station.desk.queue(sending.port).may_send() {
-        send_started(rt, post, &mut *station, state, sending)
+        send_started(scene, &mut *station, state, sending)
     } else {
-        fail(post, &mut *station, state, sending, 40)
+        fail(scene.post, &mut *station, state, sending, 40)
     }
 }

@@ -9,14 +9,15 @@ ghost use Rattle.tp_behaviour.specs.Stations.{IsManned, IsSame, role_of};
 
 use crate::deciding::{Way, decide};
 use crate::gate::Gate;
-use crate::lasting::Lasting;
+use crate::lasting::{Alt, Block, Lasting};
 use crate::outcome::Outcome;
 use crate::playing::{play_all_ports, play_control, play_send, play_set_verdict};
-use crate::post::Post;
 use crate::receiving::receive;
+use crate::scene::Scene;
 use crate::station::{State, Station};
+use std::ops::Range;
 use std::sync::Wait;
-use tp_body::body::{Branch, Statement};
+use tp_body::body::Statement;
 use tp_refusal::memory::Memory;
 
 /// Carries out the statements of a block, one after the other (ES 201 873-1, 19 to 24).
@@ -24,38 +25,30 @@ use tp_refusal::memory::Memory;
 /// 50 `Memory` only where an allocation was refused.
 #[cycle(statements)]
 pub(crate) fn execute<R: Wait, G: Gate>(
-    rt: &R,
-    gate: &G,
-    post: &Post<'_>,
+    scene: &Scene<'_, R, G>,
     station: &mut Station,
     state: &mut State,
-    block: &[Statement],
-    lasting: &[Lasting],
+    block: Block<'_>,
 ) -> Result<Outcome, Memory>
-    requires manned { IsManned (role_of post.now) station.old }
-    requires held { HoldsAsDeclared post.now state.old }
-    requires can { CanPlayAll (stage_at post.now) (depth_of state.old) block.now }
-    requires lasting { AreLasting block.now lasting.now }
-    ensures manned { OnOk result (IsManned (role_of post.now) station.new) }
+    requires manned { IsManned (role_of scene.now.post.now) station.old }
+    requires held { HoldsAsDeclared scene.now.post.now state.old }
+    requires can { CanPlayAll
+        (stage_at scene.now.post.now) (depth_of state.old) block.statements.now }
+    requires lasting { AreLasting block.statements.now block.lasting.now }
+    ensures manned { OnOk result (IsManned (role_of scene.now.post.now) station.new) }
     ensures same { OnOk result (IsSame station.old station.new) }
-    ensures held { OnOk result (HoldsAsDeclared post.now state.new) }
+    ensures held { OnOk result (HoldsAsDeclared scene.now.post.now state.new) }
     ensures turns { OnOk result (state.new.turns.items ≡ state.old.turns.items) }
     ensures ended { IfOk result (λ o.
-        Executed post.now block.now o station.old state.old station.new state.new) }
+        Executed scene.now.post.now block.entry.statements.now o
+        station.old state.old station.new state.new) }
     ensures within { IfOk result (WaitsWithin station.old.desk.ports) }
 {
-    for (place, statement) in block.iter().enumerate() {
-        gate.before(post.comp, state.steps);
+    for (place, statement) in block.statements.iter().enumerate() {
+        scene.gate.before(scene.post.comp, state.steps);
         state.steps = state.steps.wrapping_add(1);
-        match step(
-            rt,
-            gate,
-            post,
-            &mut *station,
-            &mut *state,
-            statement,
-            &lasting[place],
-        )? {
+        let lasting = &block.lasting[place];
+        match step(scene, &mut *station, &mut *state, statement, lasting)? {
             Outcome::Done => {}
             stop => return Ok(stop),
         }
@@ -68,51 +61,49 @@ pub(crate) fn execute<R: Wait, G: Gate>(
 /// 50 `Memory` only where an allocation was refused.
 #[cycle(statements)]
 fn step<R: Wait, G: Gate>(
-    rt: &R,
-    gate: &G,
-    post: &Post<'_>,
+    scene: &Scene<'_, R, G>,
     station: &mut Station,
     state: &mut State,
     statement: &Statement,
     lasting: &Lasting,
 ) -> Result<Outcome, Memory>
-    requires manned { IsManned (role_of post.now) station.old }
-    requires held { HoldsAsDeclared post.now state.old }
-    requires can { CanPlay (stage_at post.now) (depth_of state.old) statement.now }
+    requires manned { IsManned (role_of scene.now.post.now) station.old }
+    requires held { HoldsAsDeclared scene.now.post.now state.old }
+    requires can { CanPlay (stage_at scene.now.post.now) (depth_of state.old) statement.now }
     requires lasting { IsLasting statement.now lasting.now }
-    ensures manned { OnOk result (IsManned (role_of post.now) station.new) }
+    ensures manned { OnOk result (IsManned (role_of scene.now.post.now) station.new) }
     ensures same { OnOk result (IsSame station.old station.new) }
-    ensures held { OnOk result (HoldsAsDeclared post.now state.new) }
+    ensures held { OnOk result (HoldsAsDeclared scene.now.post.now state.new) }
     ensures turns { OnOk result (state.new.turns.items ≡ state.old.turns.items) }
     ensures ended { IfOk result (λ o.
-        Stepped post.now statement.now o station.old state.old station.new state.new) }
+        Stepped scene.now.post.now statement.now o station.old state.old station.new state.new) }
     ensures within { IfOk result (WaitsWithin station.old.desk.ports) }
 {
     match statement {
-        Statement::Send(sending) => play_send(rt, post, station, state, sending),
+        Statement::Send(sending) => play_send(scene, station, state, sending),
         Statement::Receive(receiving) => {
-            receive(rt, gate, post, station, state, receiving, &lasting.wanted)
+            receive(scene, station, state, receiving, &lasting.wanted)
         }
         Statement::Control(port, operation) => {
-            play_control(rt, gate, post, station, state, *port, *operation)
+            play_control(scene, station, state, *port, *operation)
         }
-        Statement::AllPorts(operation) => play_all_ports(
-            rt, gate, post, station, state, *operation,
-        ),
-        Statement::SetVerdict(verdict) => play_set_verdict(post, station, state, *verdict),
+        Statement::AllPorts(operation) => play_all_ports(scene, station, state, *operation),
+        Statement::SetVerdict(verdict) => { play_set_verdict(scene.post, station, state, *verdict) }
         Statement::Alt(branches, otherwise) => {
-            let branches = branches.as_slice();
-            let kept = lasting.branches.as_slice();
-            let has_else = otherwise.is_some();
-            match decide(rt, gate, post, station, state, branches, kept, has_else)? {
-                Way::Branch(place) => {
-                    branch(rt, gate, post, station, state, branches, kept, place)
-                }
+            let alt = Alt {
+                branches: branches.as_slice(),
+                has_else: otherwise.is_some(),
+                lasting: lasting.branches.as_slice(),
+            };
+            match decide(scene, station, state, alt)? {
+                Way::Branch(place) => branch(scene, station, state, alt, place),
                 Way::Else => match otherwise {
                     Some(block) => {
-                        let block = block.as_slice();
-                        let kept = lasting.block.as_slice();
-                        execute(rt, gate, post, station, state, block, kept)
+                        let block = Block {
+                            statements: block.as_slice(),
+                            lasting: lasting.block.as_slice(),
+                        };
+                        execute(scene, station, state, block)
                     }
                     None => unreachable!(),
                 },
@@ -120,9 +111,11 @@ fn step<R: Wait, G: Gate>(
             }
         }
         Statement::For(first, bound, block) => {
-            let block = block.as_slice();
-            let kept = lasting.block.as_slice();
-            turns(rt, gate, post, station, state, *first, *bound, block, kept)
+            let block = Block {
+                statements: block.as_slice(),
+                lasting: lasting.block.as_slice(),
+            };
+            turns(scene, station, state, *first..*bound, block)
         }
     }
 }
@@ -132,31 +125,31 @@ fn step<R: Wait, G: Gate>(
 /// 50 `Memory` only where an allocation was refused.
 #[cycle(statements)]
 fn branch<R: Wait, G: Gate>(
-    rt: &R,
-    gate: &G,
-    post: &Post<'_>,
+    scene: &Scene<'_, R, G>,
     station: &mut Station,
     state: &mut State,
-    branches: &[Branch],
-    lasting: &[Lasting],
+    alt: Alt<'_>,
     place: usize,
 ) -> Result<Outcome, Memory>
-    requires within { place < length branches.now }
-    requires manned { IsManned (role_of post.now) station.old }
-    requires held { HoldsAsDeclared post.now state.old }
-    requires can { CanEnterAll (stage_at post.now) (depth_of state.old) branches.now }
-    requires lasting { AreLastingBranches branches.now lasting.now }
-    ensures manned { OnOk result (IsManned (role_of post.now) station.new) }
+    requires within { place < length alt.branches.now }
+    requires manned { IsManned (role_of scene.now.post.now) station.old }
+    requires held { HoldsAsDeclared scene.now.post.now state.old }
+    requires can { CanEnterAll (stage_at scene.now.post.now) (depth_of state.old) alt.branches.now }
+    requires lasting { AreLastingBranches alt.branches.now alt.lasting.now }
+    ensures manned { OnOk result (IsManned (role_of scene.now.post.now) station.new) }
     ensures same { OnOk result (IsSame station.old station.new) }
-    ensures held { OnOk result (HoldsAsDeclared post.now state.new) }
+    ensures held { OnOk result (HoldsAsDeclared scene.now.post.now state.new) }
     ensures turns { OnOk result (state.new.turns.items ≡ state.old.turns.items) }
     ensures ended { IfOk result (λ o.
-        ExecutedAt post.now branches.now place o station.old state.old station.new state.new) }
+        ExecutedAt scene.now.post.now alt.entry.branches.now place o
+        station.old state.old station.new state.new) }
     ensures within { IfOk result (WaitsWithin station.old.desk.ports) }
 {
-    let block = branches[place].block.as_slice();
-    let kept = lasting[place].block.as_slice();
-    execute(rt, gate, post, station, state, block, kept)
+    let block = Block {
+        statements: alt.branches[place].block.as_slice(),
+        lasting: alt.lasting[place].block.as_slice(),
+    };
+    execute(scene, station, state, block)
 }
 
 /// Carries out a block once for each value of a loop variable, from the first on, below the bound
@@ -165,44 +158,32 @@ fn branch<R: Wait, G: Gate>(
 /// 50 `Memory` only where an allocation was refused.
 #[cycle(statements)]
 fn turns<R: Wait, G: Gate>(
-    rt: &R,
-    gate: &G,
-    post: &Post<'_>,
+    scene: &Scene<'_, R, G>,
     station: &mut Station,
     state: &mut State,
-    first: i64,
-    bound: i64,
-    block: &[Statement],
-    lasting: &[Lasting],
+    values: Range<i64>,
+    block: Block<'_>,
 ) -> Result<Outcome, Memory>
-    requires manned { IsManned (role_of post.now) station.old }
-    requires held { HoldsAsDeclared post.now state.old }
-    requires can { CanPlayAll (stage_at post.now) (depth_of state.old + 1) block.now }
-    requires lasting { AreLasting block.now lasting.now }
-    ensures manned { OnOk result (IsManned (role_of post.now) station.new) }
+    requires manned { IsManned (role_of scene.now.post.now) station.old }
+    requires held { HoldsAsDeclared scene.now.post.now state.old }
+    requires can { CanPlayAll
+        (stage_at scene.now.post.now) (depth_of state.old + 1) block.statements.now }
+    requires lasting { AreLasting block.statements.now block.lasting.now }
+    ensures manned { OnOk result (IsManned (role_of scene.now.post.now) station.new) }
     ensures same { OnOk result (IsSame station.old station.new) }
-    ensures held { OnOk result (HoldsAsDeclared post.now state.new) }
+    ensures held { OnOk result (HoldsAsDeclared scene.now.post.now state.new) }
     ensures turns { OnOk result (state.new.turns.items ≡ state.old.turns.items) }
     ensures ended { IfOk result (λ o.
-        Turned post.now first block.now (turns_between first bound) o
-        station.old state.old station.new state.new) }
+        Turned scene.now.post.now values.start block.entry.statements.now
+        (turns_between values.start values.end) o station.old state.old station.new state.new) }
     ensures within { IfOk result (WaitsWithin station.old.desk.ports) }
 {
     // There may be more turns of nothing than can be made.
-    if block.is_empty() {
+    if block.statements.is_empty() {
         return Ok(Outcome::Done);
     }
-    for value in first..bound {
-        match turn(
-            rt,
-            gate,
-            post,
-            &mut *station,
-            &mut *state,
-            value,
-            block,
-            lasting,
-        )? {
+    for value in values.start..values.end {
+        match turn(scene, &mut *station, &mut *state, value, block)? {
             Outcome::Done => {}
             outcome => return Ok(outcome),
         }
@@ -215,30 +196,28 @@ fn turns<R: Wait, G: Gate>(
 /// 50 `Memory` only where an allocation was refused.
 #[cycle(statements)]
 fn turn<R: Wait, G: Gate>(
-    rt: &R,
-    gate: &G,
-    post: &Post<'_>,
+    scene: &Scene<'_, R, G>,
     station: &mut Station,
     state: &mut State,
     value: i64,
-    block: &[Statement],
-    lasting: &[Lasting],
+    block: Block<'_>,
 ) -> Result<Outcome, Memory>
-    requires manned { IsManned (role_of post.now) station.old }
-    requires held { HoldsAsDeclared post.now state.old }
-    requires can { CanPlayAll (stage_at post.now) (depth_of state.old + 1) block.now }
-    requires lasting { AreLasting block.now lasting.now }
-    ensures manned { OnOk result (IsManned (role_of post.now) station.new) }
+    requires manned { IsManned (role_of scene.now.post.now) station.old }
+    requires held { HoldsAsDeclared scene.now.post.now state.old }
+    requires can { CanPlayAll
+        (stage_at scene.now.post.now) (depth_of state.old + 1) block.statements.now }
+    requires lasting { AreLasting block.statements.now block.lasting.now }
+    ensures manned { OnOk result (IsManned (role_of scene.now.post.now) station.new) }
     ensures same { OnOk result (IsSame station.old station.new) }
-    ensures held { OnOk result (HoldsAsDeclared post.now state.new) }
+    ensures held { OnOk result (HoldsAsDeclared scene.now.post.now state.new) }
     ensures turns { OnOk result (state.new.turns.items ≡ state.old.turns.items) }
     ensures ended { IfOk result (λ o.
-        ExecutedIn post.now (state.old.turns.items ++ value ∷ []) block.now o
-        station.old state.old station.new state.new) }
+        ExecutedIn scene.now.post.now (state.old.turns.items ++ value ∷ [])
+        block.entry.statements.now o station.old state.old station.new state.new) }
     ensures within { IfOk result (WaitsWithin station.old.desk.ports) }
 {
     state.turns.push(value)?;
-    let outcome = execute(rt, gate, post, station, &mut *state, block, lasting)?;
+    let outcome = execute(scene, station, &mut *state, block)?;
     state.turns.pop();
     Ok(outcome)
 }

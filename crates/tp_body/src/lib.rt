@@ -2,6 +2,7 @@
 #![tactic(auto)]
 
 pub mod body;
+mod context;
 pub mod fill;
 mod lookup;
 mod messages;

@@ -4,10 +4,11 @@ ghost use Rattle.tp_name.specs.Named.{IsAbsent, IsPlace, texts};
 ghost use Rattle.tp_body.specs.Scoping.{IsPort, IsReference, IsType, IsVariable, port_names, receives, sends};
 
 use crate::body::VariableType;
+use crate::context::Context;
 use crate::scope::{Behaviour, Scope, Variables};
 use tp_config::port_type::{CompType, PortType};
 use tp_config::type_list::TypeList;
-use tp_name::name::{Name, find};
+use tp_name::name::find;
 use tp_syntax::tree::{ComponentName, TypeName};
 use tp_value::types::{Ty, Types};
 
@@ -102,26 +103,23 @@ fn find_component(scope: &Scope, name: &str) -> Option<usize>
 
 /// The place of a component among the references. Takes no memory.
 #[tactic(auto, using(crate::proofs::Rules::cases))]
-pub fn find_reference(
-    scope: &Scope,
-    variables: &Variables,
-    turns: &[Name],
-    component: &ComponentName,
-) -> Option<usize>
-    ensures { IfSome result (IsReference scope.now variables.now (texts turns.now) component.now) }
+pub fn find_reference(context: &Context, component: &ComponentName) -> Option<usize>
+    ensures { IfSome result (IsReference
+        context.now.scope.now context.now.variables.now (texts context.now.turns.now)
+        component.now) }
 {
     match component {
         ComponentName::Mtc => Some(0),
         ComponentName::SelfComponent => Some(1),
         ComponentName::Named(name) => {
             let name = name.as_str();
-            let None = find(turns, name) else {
+            let None = find(context.turns, name) else {
                 return None;
             };
-            let None = variables.names.find(name) else {
+            let None = context.variables.names.find(name) else {
                 return None;
             };
-            let place = find_component(scope, name)?;
+            let place = find_component(context.scope, name)?;
             if place > usize::MAX - 2 {
                 return None;
             }

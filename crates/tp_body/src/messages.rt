@@ -5,46 +5,15 @@ ghost use Rattle.tp_name.specs.Named.{texts};
 ghost use Rattle.tp_body.specs.Messages.{AreElements, AreFields, AreNamed, IsValue};
 
 use crate::body::SendValue;
+use crate::context::Context;
 use crate::placing::field_places;
 use std::alloc::Global;
-use tp_name::fault::refused;
 use tp_name::name::{Name, find};
-use tp_name::name_set::NameSet;
-use tp_refusal::refusal::Refusal;
 use tp_syntax::tree::{Value, ValueField};
 use tp_token::fault::ScriptFault;
 use tp_value::items::Items;
 use tp_value::shared::Shared;
-use tp_value::types::{Field, Ty, TypeDef, Types};
-
-/// Where a value or a template stands: what its names may mean, and the line for its refusals.
-#[derive(Clone, Copy)]
-pub struct Context<'a, 'm> {
-    /// The records and lists of the module.
-    pub types: &'a Types,
-    /// The names of the body's variables, none of which may stand in a value.
-    pub variables: &'a NameSet<'m>,
-    /// The loop variables around it, outermost first.
-    pub turns: &'a [Name<'m>],
-    /// The line of its statement.
-    pub line: u32,
-}
-
-impl<'a, 'm> Context<'a, 'm> {
-    /// 13 `WrongType`.
-    pub fn wrong_type(&self) -> ScriptFault {
-        refused(Refusal::WrongType, self.line)
-    }
-
-    /// What a name is refused with that is no loop variable: 13 `WrongType` for a variable of the
-    /// body, otherwise 11 `Unknown`.
-    pub fn no_turn(&self, name: &str) -> ScriptFault {
-        match self.variables.find(name) {
-            Some(_) => refused(Refusal::WrongType, self.line),
-            None => refused(Refusal::Unknown, self.line),
-        }
-    }
-}
+use tp_value::types::{Field, Ty, TypeDef};
 
 /// Whether all are the characters 32 to 126.
 pub fn are_printable(text: &[u8]) -> bool
@@ -73,7 +42,7 @@ pub fn resolve_value(
     value: &Value,
 ) -> Result<SendValue, ScriptFault>
     ensures { IfOk result
-        (IsValue context.now.types.now (texts context.now.turns.now) ty value.now) }
+        (IsValue context.now.scope.now.types.now (texts context.now.turns.now) ty value.now) }
 {
     match value {
         Value::Int(number) => {
@@ -100,7 +69,7 @@ pub fn resolve_value(
             },
             None => Err(context.no_turn(name.as_str())),
         },
-        Value::List(values) => match context.types.definition(ty) {
+        Value::List(values) => match context.scope.types.definition(ty) {
             Some(TypeDef::ListOf(element)) => {
                 let made = resolve_elements(alloc, context, *element, values)?;
                 Ok(SendValue::List(made))
@@ -111,7 +80,7 @@ pub fn resolve_value(
             }
             None => Err(context.wrong_type()),
         },
-        Value::Record(entries) => match context.types.definition(ty) {
+        Value::Record(entries) => match context.scope.types.definition(ty) {
             Some(TypeDef::Record(fields)) => {
                 let made = resolve_named(alloc, context, fields.as_slice(), entries)?;
                 Ok(SendValue::Record(made))
@@ -131,7 +100,7 @@ fn resolve_elements(
     values: &[Value],
 ) -> Result<Items<SendValue>, ScriptFault>
     ensures { IfOk result
-        (AreElements context.now.types.now (texts context.now.turns.now) ty values.now) }
+        (AreElements context.now.scope.now.types.now (texts context.now.turns.now) ty values.now) }
 {
     let mut made = Items::new(alloc);
     for value in values {
@@ -151,7 +120,8 @@ fn resolve_fields(
     values: &[Value],
 ) -> Result<Items<SendValue>, ScriptFault>
     ensures { IfOk result
-        (AreFields context.now.types.now (texts context.now.turns.now) fields.now values.now) }
+        (AreFields context.now.scope.now.types.now (texts context.now.turns.now)
+        fields.now values.now) }
 {
     if fields.len() != values.len() {
         return Err(context.wrong_type());
@@ -178,17 +148,6 @@ fn entry_names<'v>(alloc: Global, entries: &'v [ValueField]) -> Result<Vec<Name<
     Ok(names)
 }
 
-/// As many values as are needed.
-fn room(alloc: Global, count: usize) -> Result<Vec<SendValue>, ScriptFault>
-    ensures { IfOk result (λ made. length made.items ≡ count) }
-{
-    let mut made = Vec::new(alloc);
-    for _ in 0..count {
-        made.push(SendValue::Bool(false))?;
-    }
-    Ok(made)
-}
-
 /// What the fields of a record stand for, which are given by their names: in declared order.
 #[cycle(value)]
 #[tactic(auto, using(crate::proofs::ValueRules::cases))]
@@ -199,12 +158,13 @@ fn resolve_named(
     entries: &[ValueField],
 ) -> Result<Items<SendValue>, ScriptFault>
     ensures named { IfOk result (λ made. AreNamed
-        context.now.types.now (texts context.now.turns.now) entries.now fields.now made) }
+        context.now.scope.now.types.now (texts context.now.turns.now) entries.now fields.now made) }
     ensures count { IfOk result (λ _. length entries.now ≡ length fields.now) }
 {
     let names = entry_names(alloc, entries)?;
     let places = field_places(alloc, fields, &names, context.line)?;
-    let mut made = room(alloc, fields.len())?;
+    let mut made = Vec::new(alloc);
+    made.resize_with(fields.len(), || SendValue::Bool(false))?;
     for (index, entry) in entries.iter().enumerate() {
         let place = places[index];
         let Some(field) = fields.get(place) else {

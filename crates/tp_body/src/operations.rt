@@ -8,31 +8,21 @@ ghost use Rattle.tp_body.specs.Bodies.{IsReceive, IsReceiver, IsSend, IsSender, 
 use crate::body::{
     Receiver, Receiving, RecvMsg, SendMsg, SendOperation, SendValue, Sent, VariableType,
 };
+use crate::context::Context;
 use crate::lookup::{
     find_port, find_reference, find_type, find_variable, lists, receivable, sendable,
 };
-use crate::messages::{Context, resolve_value};
-use crate::scope::{Scope, Variables};
+use crate::messages::resolve_value;
 use crate::templates::resolve_template;
 use std::alloc::Global;
 use tp_config::type_list::TypeList;
-use tp_name::fault::refused;
-use tp_name::name::{Name, find};
+use tp_name::name::find;
 use tp_refusal::refusal::Refusal;
 use tp_syntax::tree;
 use tp_syntax::tree::{ComponentName, Destination, Message, MessageTemplate, VerdictName};
 use tp_token::fault::ScriptFault;
 use tp_value::types::Ty;
 use tp_value::verdict::Verdict;
-
-/// What a name is refused with where a variable has to stand, and that is neither a variable nor a
-/// loop variable: 13 `WrongType` for a parameter or a component variable, otherwise 11 `Unknown`.
-fn no_variable(scope: &Scope, name: &str, line: u32) -> ScriptFault {
-    if scope.parameters.find(name).is_some() || scope.components.find(name).is_some() {
-        return refused(Refusal::WrongType, line);
-    }
-    refused(Refusal::Unknown, line)
-}
 
 /// What a message that is written out stands for: 11 `Unknown` for its type, 14 `Direction` where
 /// it isn't among those that can be sent, then the refusals of the value.
@@ -43,27 +33,31 @@ fn resolve_written(
     message: &Message,
 ) -> Result<SendMsg, ScriptFault>
     ensures message { IfOk result
-        (IsMessage context.now.types.now (texts context.now.turns.now) message.now) }
+        (IsMessage context.now.scope.now.types.now (texts context.now.turns.now) message.now) }
     ensures listed { IfOk result (λ m. Contains sendable.now m.ty) }
 {
-    let Some(ty) = find_type(context.types, &message.type_name) else {
-        return Err(refused(Refusal::Unknown, context.line));
+    let Some(ty) = find_type(context.scope.types, &message.type_name) else {
+        return Err(context.unknown());
     };
     if !lists(sendable, ty) {
-        return Err(refused(Refusal::Direction, context.line));
+        return Err(context.direction());
     }
     let value = resolve_value(alloc, context, ty, &message.value)?;
     Ok(SendMsg { ty, value })
 }
 
 /// What a loop variable sends, as an integer: 14 `Direction` where no integer can be sent.
-fn resolve_counter(sendable: &TypeList, place: usize, line: u32) -> Result<SendMsg, ScriptFault>
+fn resolve_counter(
+    context: &Context,
+    sendable: &TypeList,
+    place: usize,
+) -> Result<SendMsg, ScriptFault>
     ensures value { IfOk result (λ m.
         m ≡ record { ty = Ty.Integer; value = SendValue.Turn place }) }
     ensures listed { IfOk result (λ _. Contains sendable.now Ty.Integer) }
 {
     if !lists(sendable, Ty::Integer) {
-        return Err(refused(Refusal::Direction, line));
+        return Err(context.direction());
     }
     Ok(SendMsg {
         ty: Ty::Integer,
@@ -73,50 +67,38 @@ fn resolve_counter(sendable: &TypeList, place: usize, line: u32) -> Result<SendM
 
 /// The variable of messages that has this name: its place, and its type. 11 `Unknown` for an
 /// unknown name, 13 `WrongType` for a name of anything else.
-fn message_variable(
-    scope: &Scope,
-    variables: &Variables,
-    turns: &[Name],
-    line: u32,
-    name: &str,
-) -> Result<(usize, Ty), ScriptFault>
-    ensures no_turn { IfOk result (λ _. IsAbsent (texts turns.now) name.now) }
+fn message_variable(context: &Context, name: &str) -> Result<(usize, Ty), ScriptFault>
+    ensures no_turn { IfOk result (λ _. IsAbsent (texts context.now.turns.now) name.now) }
     ensures held { IfOk result (λ found.
-        IsVariable variables.now name.now found.0 (VariableType.Message found.1)) }
+        IsVariable context.now.variables.now name.now found.0 (VariableType.Message found.1)) }
 {
-    let None = find(turns, name) else {
-        return Err(refused(Refusal::WrongType, line));
+    let None = find(context.turns, name) else {
+        return Err(context.wrong_type());
     };
-    let Some((place, held)) = find_variable(variables, name) else {
-        return Err(no_variable(scope, name, line));
+    let Some((place, held)) = find_variable(context.variables, name) else {
+        return Err(context.no_variable(name));
     };
     match held {
         VariableType::Message(ty) => Ok((place, ty)),
-        VariableType::Component => Err(refused(Refusal::WrongType, line)),
+        VariableType::Component => Err(context.wrong_type()),
     }
 }
 
 /// The place of the variable of components that has this name. 11 `Unknown` for an unknown name, 13
 /// `WrongType` for a name of anything else.
-fn component_variable(
-    scope: &Scope,
-    variables: &Variables,
-    turns: &[Name],
-    line: u32,
-    name: &str,
-) -> Result<usize, ScriptFault>
-    ensures no_turn { IfOk result (λ _. IsAbsent (texts turns.now) name.now) }
+fn component_variable(context: &Context, name: &str) -> Result<usize, ScriptFault>
+    ensures no_turn { IfOk result (λ _. IsAbsent (texts context.now.turns.now) name.now) }
     ensures held { IfOk result (λ place.
-        IsVariable variables.now name.now place VariableType.Component) }
+        IsVariable context.now.variables.now name.now place VariableType.Component) }
 {
-    let None = find(turns, name) else {
-        return Err(refused(Refusal::WrongType, line));
+    let None = find(context.turns, name) else {
+        return Err(context.wrong_type());
     };
-    let Some((place, held)) = find_variable(variables, name) else {
-        return Err(no_variable(scope, name, line));
+    let Some((place, held)) = find_variable(context.variables, name) else {
+        return Err(context.no_variable(name));
     };
     match held {
-        VariableType::Message(_) => Err(refused(Refusal::WrongType, line)),
+        VariableType::Message(_) => Err(context.wrong_type()),
         VariableType::Component => Ok(place),
     }
 }
@@ -126,35 +108,28 @@ fn component_variable(
 #[tactic(auto, using(crate::proofs::OperationRules::cases))]
 fn resolve_sent(
     alloc: Global,
-    scope: &Scope,
-    variables: &Variables,
-    turns: &[Name],
+    context: &Context,
     sendable: &TypeList,
-    line: u32,
     sent: &tree::Sent,
 ) -> Result<Sent, ScriptFault>
-    ensures { IfOk result (IsSent scope.now variables.now (texts turns.now) sendable.now sent.now) }
+    ensures { IfOk result (IsSent
+        context.now.scope.now context.now.variables.now (texts context.now.turns.now)
+        sendable.now sent.now) }
 {
     match sent {
         tree::Sent::Message(message) => {
-            let context = Context {
-                types: scope.types,
-                variables: &variables.names,
-                turns,
-                line,
-            };
-            let written = resolve_written(alloc, &context, sendable, message)?;
+            let written = resolve_written(alloc, context, sendable, message)?;
             Ok(Sent::Written(written))
         }
         tree::Sent::Variable(name) => {
             let name = name.as_str();
-            if let Some(place) = find(turns, name) {
-                let counter = resolve_counter(sendable, place, line)?;
+            if let Some(place) = find(context.turns, name) {
+                let counter = resolve_counter(context, sendable, place)?;
                 return Ok(Sent::Written(counter));
             }
-            let (place, ty) = message_variable(scope, variables, turns, line, name)?;
+            let (place, ty) = message_variable(context, name)?;
             if !lists(sendable, ty) {
-                return Err(refused(Refusal::Direction, line));
+                return Err(context.direction());
             }
             Ok(Sent::Variable(place))
         }
@@ -164,45 +139,35 @@ fn resolve_sent(
 /// The component behind `to`: a variable's, or a reference. 13 `WrongType` for a variable of
 /// messages, 11 `Unknown` for any other name that is no component.
 #[tactic(auto, using(crate::proofs::OperationRules::cases))]
-fn resolve_component(
-    scope: &Scope,
-    variables: &Variables,
-    turns: &[Name],
-    line: u32,
-    component: &ComponentName,
-) -> Result<Receiver, ScriptFault>
-    ensures { IfOk result (IsReceiver scope.now variables.now (texts turns.now)
+fn resolve_component(context: &Context, component: &ComponentName) -> Result<Receiver, ScriptFault>
+    ensures { IfOk result (IsReceiver
+        context.now.scope.now context.now.variables.now (texts context.now.turns.now)
         (Some (Destination.Component component.now))) }
 {
     if let ComponentName::Named(name) = component {
         let name = name.as_str();
-        if find(turns, name).is_none() && variables.names.find(name).is_some() {
-            let place = component_variable(scope, variables, turns, line, name)?;
+        if find(context.turns, name).is_none() && context.variables.names.find(name).is_some() {
+            let place = component_variable(context, name)?;
             return Ok(Receiver::Variable(place));
         }
     }
-    let Some(place) = find_reference(scope, variables, turns, component) else {
-        return Err(refused(Refusal::Unknown, line));
+    let Some(place) = find_reference(context, component) else {
+        return Err(context.unknown());
     };
     Ok(Receiver::Reference(place))
 }
 
 /// To whom is sent.
 #[tactic(auto, using(crate::proofs::OperationRules::cases))]
-fn resolve_receiver(
-    scope: &Scope,
-    variables: &Variables,
-    turns: &[Name],
-    line: u32,
-    to: &Option<Destination>,
-) -> Result<Receiver, ScriptFault>
-    ensures { IfOk result (IsReceiver scope.now variables.now (texts turns.now) to.now) }
+fn resolve_receiver(context: &Context, to: &Option<Destination>) -> Result<Receiver, ScriptFault>
+    ensures { IfOk result (IsReceiver
+        context.now.scope.now context.now.variables.now (texts context.now.turns.now) to.now) }
 {
     match to {
         None => Ok(Receiver::Nobody),
         Some(Destination::AllComponents) => Ok(Receiver::All),
         Some(Destination::Component(component)) => {
-            let receiver = resolve_component(scope, variables, turns, line, component)?;
+            let receiver = resolve_component(context, component)?;
             Ok(receiver)
         }
     }
@@ -215,20 +180,18 @@ fn resolve_receiver(
 /// then the receiver (11, 13); 50.
 pub fn resolve_send(
     alloc: Global,
-    scope: &Scope,
-    variables: &Variables,
-    turns: &[Name],
-    line: u32,
+    context: &Context,
     send: &tree::Send,
 ) -> Result<SendOperation, ScriptFault>
-    ensures { IfOk result (IsSend scope.now variables.now (texts turns.now) send.now) }
+    ensures { IfOk result (IsSend
+        context.now.scope.now context.now.variables.now (texts context.now.turns.now) send.now) }
 {
-    let Some((place, port)) = find_port(scope.ports, send.port.as_str()) else {
-        return Err(refused(Refusal::Unknown, line));
+    let Some((place, port)) = find_port(context.scope.ports, send.port.as_str()) else {
+        return Err(context.unknown());
     };
-    let sendable = sendable(scope.behaviour, port);
-    let sent = resolve_sent(alloc, scope, variables, turns, sendable, line, &send.sent)?;
-    let to = resolve_receiver(scope, variables, turns, line, &send.to)?;
+    let sendable = sendable(context.scope.behaviour, port);
+    let sent = resolve_sent(alloc, context, sendable, &send.sent)?;
+    let to = resolve_receiver(context, &send.to)?;
     Ok(SendOperation {
         port: place,
         sent,
@@ -241,31 +204,23 @@ pub fn resolve_send(
 #[tactic(auto, using(crate::proofs::OperationRules::cases))]
 fn resolve_wanted(
     alloc: Global,
-    scope: &Scope,
-    variables: &Variables,
-    turns: &[Name],
+    context: &Context,
     receivable: &TypeList,
-    line: u32,
     template: &Option<MessageTemplate>,
 ) -> Result<RecvMsg, ScriptFault>
-    ensures { IfOk result (IsWanted scope.now (texts turns.now) receivable.now template.now) }
+    ensures { IfOk result (IsWanted
+        context.now.scope.now (texts context.now.turns.now) receivable.now template.now) }
 {
     let Some(template) = template else {
         return Ok(RecvMsg::Any);
     };
-    let Some(ty) = find_type(scope.types, &template.type_name) else {
-        return Err(refused(Refusal::Unknown, line));
+    let Some(ty) = find_type(context.scope.types, &template.type_name) else {
+        return Err(context.unknown());
     };
     if !lists(receivable, ty) {
-        return Err(refused(Refusal::Direction, line));
+        return Err(context.direction());
     }
-    let context = Context {
-        types: scope.types,
-        variables: &variables.names,
-        turns,
-        line,
-    };
-    let made = resolve_template(alloc, &context, ty, &template.template)?;
+    let made = resolve_template(alloc, context, ty, &template.template)?;
     Ok(RecvMsg::Of(ty, made))
 }
 
@@ -273,56 +228,41 @@ fn resolve_wanted(
 /// any other name that is no component.
 #[tactic(auto, using(crate::proofs::OperationRules::cases))]
 fn resolve_sender(
-    scope: &Scope,
-    variables: &Variables,
-    turns: &[Name],
-    line: u32,
+    context: &Context,
     sender: &Option<ComponentName>,
 ) -> Result<Option<usize>, ScriptFault>
-    ensures { IfOk result (IsSender scope.now variables.now (texts turns.now) sender.now) }
+    ensures { IfOk result (IsSender
+        context.now.scope.now context.now.variables.now (texts context.now.turns.now) sender.now) }
 {
     let Some(component) = sender else {
         return Ok(None);
     };
-    let Some(place) = find_reference(scope, variables, turns, component) else {
-        return Err(no_reference(variables, component, line));
+    let Some(place) = find_reference(context, component) else {
+        return Err(context.no_reference(component));
     };
     Ok(Some(place))
-}
-
-/// What a name behind `from` is refused with that is no reference: 13 `WrongType` for a variable,
-/// otherwise 11 `Unknown`.
-fn no_reference(variables: &Variables, component: &ComponentName, line: u32) -> ScriptFault {
-    if let ComponentName::Named(name) = component
-        && variables.names.find(name.as_str()).is_some()
-    {
-        return refused(Refusal::WrongType, line);
-    }
-    refused(Refusal::Unknown, line)
 }
 
 /// The variable behind `value`, if there is one: 11 `Unknown` for an unknown name, 13 `WrongType`
 /// for anything but a variable of the template's type, and without a template.
 #[tactic(auto, using(crate::proofs::OperationRules::cases))]
 fn resolve_value_target(
-    scope: &Scope,
-    variables: &Variables,
-    turns: &[Name],
-    line: u32,
+    context: &Context,
     wanted: &RecvMsg,
     target: &Option<String>,
 ) -> Result<Option<usize>, ScriptFault>
-    ensures { IfOk result (IsValueTarget variables.now (texts turns.now) wanted.now target.now) }
+    ensures { IfOk result (IsValueTarget
+        context.now.variables.now (texts context.now.turns.now) wanted.now target.now) }
 {
     let Some(name) = target else {
         return Ok(None);
     };
-    let (place, held) = message_variable(scope, variables, turns, line, name.as_str())?;
+    let (place, held) = message_variable(context, name.as_str())?;
     match wanted {
-        RecvMsg::Any => Err(refused(Refusal::WrongType, line)),
+        RecvMsg::Any => Err(context.wrong_type()),
         RecvMsg::Of(ty, _) => {
             if *ty != held {
-                return Err(refused(Refusal::WrongType, line));
+                return Err(context.wrong_type());
             }
             Ok(Some(place))
         }
@@ -333,18 +273,16 @@ fn resolve_value_target(
 /// for anything but a variable of components.
 #[tactic(auto, using(crate::proofs::OperationRules::cases))]
 fn resolve_sender_target(
-    scope: &Scope,
-    variables: &Variables,
-    turns: &[Name],
-    line: u32,
+    context: &Context,
     target: &Option<String>,
 ) -> Result<Option<usize>, ScriptFault>
-    ensures { IfOk result (IsSenderTarget variables.now (texts turns.now) target.now) }
+    ensures { IfOk result (IsSenderTarget
+        context.now.variables.now (texts context.now.turns.now) target.now) }
 {
     let Some(name) = target else {
         return Ok(None);
     };
-    let place = component_variable(scope, variables, turns, line, name.as_str())?;
+    let place = component_variable(context, name.as_str())?;
     Ok(Some(place))
 }
 
@@ -355,24 +293,22 @@ fn resolve_sender_target(
 /// behind `value`, then the one behind `sender` (11, 13); 50.
 pub fn resolve_receive(
     alloc: Global,
-    scope: &Scope,
-    variables: &Variables,
-    turns: &[Name],
-    line: u32,
+    context: &Context,
     receive: &tree::Receive,
 ) -> Result<Receiving, ScriptFault>
-    ensures { IfOk result (IsReceive scope.now variables.now (texts turns.now) receive.now) }
+    ensures { IfOk result (IsReceive
+        context.now.scope.now context.now.variables.now (texts context.now.turns.now) receive.now) }
 {
-    let Some((place, port)) = find_port(scope.ports, receive.port.as_str()) else {
-        return Err(refused(Refusal::Unknown, line));
+    let Some((place, port)) = find_port(context.scope.ports, receive.port.as_str()) else {
+        return Err(context.unknown());
     };
-    let receivable = receivable(scope.behaviour, port);
+    let receivable = receivable(context.scope.behaviour, port);
     let template = &receive.template;
-    let wanted = resolve_wanted(alloc, scope, variables, turns, receivable, line, template)?;
-    let sender = resolve_sender(scope, variables, turns, line, &receive.sender)?;
+    let wanted = resolve_wanted(alloc, context, receivable, template)?;
+    let sender = resolve_sender(context, &receive.sender)?;
     let redirect = &receive.redirect;
-    let value_to = resolve_value_target(scope, variables, turns, line, &wanted, &redirect.value)?;
-    let sender_to = resolve_sender_target(scope, variables, turns, line, &redirect.sender)?;
+    let value_to = resolve_value_target(context, &wanted, &redirect.value)?;
+    let sender_to = resolve_sender_target(context, &redirect.sender)?;
     Ok(Receiving {
         port: place,
         kind: receive.kind,
@@ -385,15 +321,16 @@ pub fn resolve_receive(
 
 /// The verdict that a statement names: 13 `WrongType` for `error`.
 #[tactic(auto, using(crate::proofs::OperationRules::cases))]
-pub fn resolve_verdict(name: VerdictName, line: u32) -> Result<Verdict, ScriptFault>
+pub fn resolve_verdict(context: &Context, name: VerdictName) -> Result<Verdict, ScriptFault>
     ensures verdict { IfOk result (IsVerdict name) }
-    ensures error { IfErr result (λ fault. fault ≡ ScriptFault.Refused Refusal.WrongType line) }
+    ensures error { IfErr result (λ fault.
+        fault ≡ ScriptFault.Refused Refusal.WrongType context.now.line) }
 {
     match name {
         VerdictName::NoVerdict => Ok(Verdict::None),
         VerdictName::Pass => Ok(Verdict::Pass),
         VerdictName::Inconc => Ok(Verdict::Inconc),
         VerdictName::Fail => Ok(Verdict::Fail),
-        VerdictName::Error => Err(refused(Refusal::WrongType, line)),
+        VerdictName::Error => Err(context.wrong_type()),
     }
 }

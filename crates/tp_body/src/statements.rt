@@ -6,9 +6,10 @@ ghost use Rattle.tp_body.specs.Closed.{needed_around_all};
 ghost use Rattle.tp_body.specs.Playable.{IsPlayable, reference_count};
 
 use crate::body::{Body, Branch, Statement};
+use crate::context::Context;
 use crate::lookup::find_port;
 use crate::operations::{resolve_receive, resolve_send, resolve_verdict};
-use crate::scope::{Behaviour, Scope, Variables};
+use crate::scope::{Behaviour, Scope};
 use crate::variables::{are_no_ports, is_new, resolve_variables};
 use std::alloc::Global;
 use tp_name::fault::refused;
@@ -43,39 +44,29 @@ fn counted(turns: &Turns, block: Items<Statement>) -> Statement
 /// What an operation on one port stands for: 16 `NotInSut` in the system under test, then
 /// 11 `Unknown` for the port.
 #[tactic(auto, using(crate::proofs::StatementRules::cases))]
-fn resolve_control(
-    scope: &Scope,
-    variables: &Variables,
-    turns: &[Name],
-    line: u32,
-    control: &Control,
-) -> Result<Statement, ScriptFault>
-    ensures { IfOk result
-        (IsStatement scope.now variables.now (texts turns.now) (Action.Control control.now)) }
+fn resolve_control(context: &Context, control: &Control) -> Result<Statement, ScriptFault>
+    ensures { IfOk result (IsStatement
+        context.now.scope.now context.now.variables.now (texts context.now.turns.now)
+        (Action.Control control.now)) }
 {
-    if scope.behaviour == Behaviour::SystemUnderTest {
-        return Err(refused(Refusal::NotInSut, line));
+    if context.scope.behaviour == Behaviour::SystemUnderTest {
+        return Err(context.not_in_sut());
     }
-    let Some((place, _)) = find_port(scope.ports, control.port.as_str()) else {
-        return Err(refused(Refusal::Unknown, line));
+    let Some((place, _)) = find_port(context.scope.ports, control.port.as_str()) else {
+        return Err(context.unknown());
     };
     Ok(Statement::Control(place, control.operation))
 }
 
 /// What an operation on all ports stands for: 16 `NotInSut` in the system under test.
 #[tactic(auto, using(crate::proofs::StatementRules::cases))]
-fn resolve_all_ports(
-    scope: &Scope,
-    variables: &Variables,
-    turns: &[Name],
-    line: u32,
-    operation: PortOperation,
-) -> Result<Statement, ScriptFault>
-    ensures { IfOk result
-        (IsStatement scope.now variables.now (texts turns.now) (Action.AllPorts operation)) }
+fn resolve_all_ports(context: &Context, operation: PortOperation) -> Result<Statement, ScriptFault>
+    ensures { IfOk result (IsStatement
+        context.now.scope.now context.now.variables.now (texts context.now.turns.now)
+        (Action.AllPorts operation)) }
 {
-    if scope.behaviour == Behaviour::SystemUnderTest {
-        return Err(refused(Refusal::NotInSut, line));
+    if context.scope.behaviour == Behaviour::SystemUnderTest {
+        return Err(context.not_in_sut());
     }
     Ok(Statement::AllPorts(operation))
 }
@@ -83,20 +74,15 @@ fn resolve_all_ports(
 /// What `setverdict` stands for: 16 `NotInSut` in the system under test, then 13 `WrongType` for
 /// `error`.
 #[tactic(auto, using(crate::proofs::StatementRules::cases))]
-fn resolve_set_verdict(
-    scope: &Scope,
-    variables: &Variables,
-    turns: &[Name],
-    line: u32,
-    name: VerdictName,
-) -> Result<Statement, ScriptFault>
-    ensures { IfOk result
-        (IsStatement scope.now variables.now (texts turns.now) (Action.SetVerdict name)) }
+fn resolve_set_verdict(context: &Context, name: VerdictName) -> Result<Statement, ScriptFault>
+    ensures { IfOk result (IsStatement
+        context.now.scope.now context.now.variables.now (texts context.now.turns.now)
+        (Action.SetVerdict name)) }
 {
-    if scope.behaviour == Behaviour::SystemUnderTest {
-        return Err(refused(Refusal::NotInSut, line));
+    if context.scope.behaviour == Behaviour::SystemUnderTest {
+        return Err(context.not_in_sut());
     }
-    let verdict = resolve_verdict(name, line)?;
+    let verdict = resolve_verdict(context, name)?;
     Ok(Statement::SetVerdict(verdict))
 }
 
@@ -110,50 +96,52 @@ fn resolve_set_verdict(
 #[tactic(auto, using(crate::proofs::StatementRules::cases))]
 fn resolve_statement<'m>(
     alloc: Global,
-    scope: &Scope,
-    variables: &Variables,
-    turns: &[Name<'m>],
-    line: u32,
+    context: &Context<'_, '_, 'm>,
     action: &'m Action,
 ) -> Result<Statement, ScriptFault>
-    ensures { IfOk result (IsStatement scope.now variables.now (texts turns.now) action.now) }
+    ensures { IfOk result (IsStatement
+        context.now.scope.now context.now.variables.now (texts context.now.turns.now) action.now) }
 {
     match action {
         Action::Send(send) => {
-            let sending = resolve_send(alloc, scope, variables, turns, line, send)?;
+            let sending = resolve_send(alloc, context, send)?;
             Ok(Statement::Send(sending))
         }
         Action::Receive(receive) => {
-            let receiving = resolve_receive(alloc, scope, variables, turns, line, receive)?;
+            let receiving = resolve_receive(alloc, context, receive)?;
             Ok(Statement::Receive(receiving))
         }
         Action::Control(control) => {
-            let made = resolve_control(scope, variables, turns, line, control)?;
+            let made = resolve_control(context, control)?;
             Ok(made)
         }
         Action::AllPorts(operation) => {
-            let made = resolve_all_ports(scope, variables, turns, line, *operation)?;
+            let made = resolve_all_ports(context, *operation)?;
             Ok(made)
         }
         Action::SetVerdict(name) => {
-            let made = resolve_set_verdict(scope, variables, turns, line, *name)?;
+            let made = resolve_set_verdict(context, *name)?;
             Ok(made)
         }
         Action::Alt(branches, otherwise) => {
-            let made = resolve_branches(alloc, scope, variables, turns, branches)?;
+            let made = resolve_branches(alloc, context, branches)?;
             let Some(otherwise) = otherwise else {
                 return Ok(Statement::Alt(made, None));
             };
-            let block = resolve_block(alloc, scope, variables, turns, &otherwise.block)?;
+            let block = resolve_block(alloc, context, &otherwise.block)?;
             Ok(Statement::Alt(made, Some(block)))
         }
         Action::For(looped) => {
             let name = looped.turns.name.as_str();
-            if !is_new(scope, variables, turns, name) {
-                return Err(refused(Refusal::Duplicate, line));
+            if !is_new(context, name) {
+                return Err(context.duplicate());
             }
-            let inside = turns_inside(alloc, turns, name)?;
-            let block = resolve_block(alloc, scope, variables, &inside, &looped.block)?;
+            let inside = turns_inside(alloc, context.turns, name)?;
+            let around = Context {
+                turns: &inside,
+                ..*context
+            };
+            let block = resolve_block(alloc, &around, &looped.block)?;
             Ok(counted(&looped.turns, block))
         }
     }
@@ -164,17 +152,19 @@ fn resolve_statement<'m>(
 #[tactic(auto, using(crate::proofs::StatementRules::cases))]
 fn resolve_block<'m>(
     alloc: Global,
-    scope: &Scope,
-    variables: &Variables,
-    turns: &[Name<'m>],
+    context: &Context<'_, '_, 'm>,
     block: &'m [tree::Statement],
 ) -> Result<Items<Statement>, ScriptFault>
-    ensures { IfOk result (IsBlock scope.now variables.now (texts turns.now) block.now) }
+    ensures { IfOk result (IsBlock
+        context.now.scope.now context.now.variables.now (texts context.now.turns.now) block.now) }
 {
     let mut made = Items::new(alloc);
     for statement in block {
-        let line = statement.line;
-        let one = resolve_statement(alloc, scope, variables, turns, line, &statement.action)?;
+        let here = Context {
+            line: statement.line,
+            ..*context
+        };
+        let one = resolve_statement(alloc, &here, &statement.action)?;
         made.push(one)?;
     }
     Ok(made)
@@ -185,17 +175,16 @@ fn resolve_block<'m>(
 #[tactic(auto, using(crate::proofs::StatementRules::cases))]
 fn resolve_after<'m>(
     alloc: Global,
-    scope: &Scope,
-    variables: &Variables,
-    turns: &[Name<'m>],
+    context: &Context<'_, '_, 'm>,
     body: &'m BranchBody,
 ) -> Result<Items<Statement>, ScriptFault>
-    ensures { IfOk result (IsAfter scope.now variables.now (texts turns.now) body.now) }
+    ensures { IfOk result (IsAfter
+        context.now.scope.now context.now.variables.now (texts context.now.turns.now) body.now) }
 {
     match body {
         BranchBody::Nothing => Ok(Items::new(alloc)),
         BranchBody::Block(statements) => {
-            let block = resolve_block(alloc, scope, variables, turns, statements)?;
+            let block = resolve_block(alloc, context, statements)?;
             Ok(block)
         }
     }
@@ -206,16 +195,18 @@ fn resolve_after<'m>(
 #[tactic(auto, using(crate::proofs::StatementRules::cases))]
 fn resolve_branch<'m>(
     alloc: Global,
-    scope: &Scope,
-    variables: &Variables,
-    turns: &[Name<'m>],
+    context: &Context<'_, '_, 'm>,
     branch: &'m tree::Branch,
 ) -> Result<Branch, ScriptFault>
-    ensures { IfOk result (IsBranch scope.now variables.now (texts turns.now) branch.now) }
+    ensures { IfOk result (IsBranch
+        context.now.scope.now context.now.variables.now (texts context.now.turns.now) branch.now) }
 {
-    let line = branch.line;
-    let receiving = resolve_receive(alloc, scope, variables, turns, line, &branch.receive)?;
-    let block = resolve_after(alloc, scope, variables, turns, &branch.body)?;
+    let here = Context {
+        line: branch.line,
+        ..*context
+    };
+    let receiving = resolve_receive(alloc, &here, &branch.receive)?;
+    let block = resolve_after(alloc, context, &branch.body)?;
     Ok(Branch { receiving, block })
 }
 
@@ -224,16 +215,16 @@ fn resolve_branch<'m>(
 #[tactic(auto, using(crate::proofs::StatementRules::cases))]
 fn resolve_branches<'m>(
     alloc: Global,
-    scope: &Scope,
-    variables: &Variables,
-    turns: &[Name<'m>],
+    context: &Context<'_, '_, 'm>,
     branches: &'m [tree::Branch],
 ) -> Result<Items<Branch>, ScriptFault>
-    ensures { IfOk result (AreBranches scope.now variables.now (texts turns.now) branches.now) }
+    ensures { IfOk result (AreBranches
+        context.now.scope.now context.now.variables.now (texts context.now.turns.now)
+        branches.now) }
 {
     let mut made = Items::new(alloc);
     for branch in branches {
-        let one = resolve_branch(alloc, scope, variables, turns, branch)?;
+        let one = resolve_branch(alloc, context, branch)?;
         made.push(one)?;
     }
     Ok(made)
@@ -262,7 +253,13 @@ pub fn resolve_body(
         return Err(refused(Refusal::Duplicate, line));
     }
     let variables = resolve_variables(alloc, scope, declared)?;
-    let statements = resolve_block(alloc, scope, &variables, &[], statements)?;
+    let context = Context {
+        scope,
+        variables: &variables,
+        turns: &[],
+        line,
+    };
+    let statements = resolve_block(alloc, &context, statements)?;
     Ok(Body {
         variables: variables.types,
         statements,

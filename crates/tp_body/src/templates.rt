@@ -5,7 +5,8 @@ ghost use Rattle.tp_name.specs.Named.{texts};
 ghost use Rattle.tp_body.specs.Messages.{AreElementTemplates, AreFieldTemplates, AreMembers, AreNamedTemplates, IsElementTemplate, IsTemplate, part_of};
 
 use crate::body::{RecvTemplate, SendValue};
-use crate::messages::{Context, are_printable};
+use crate::context::Context;
+use crate::messages::are_printable;
 use crate::placing::field_places;
 use std::alloc::Global;
 use tp_name::name::{Name, find};
@@ -69,7 +70,7 @@ pub fn resolve_template(
     template: &Template,
 ) -> Result<RecvTemplate, ScriptFault>
     ensures { IfOk result
-        (IsTemplate context.now.types.now (texts context.now.turns.now) ty template.now) }
+        (IsTemplate context.now.scope.now.types.now (texts context.now.turns.now) ty template.now) }
 {
     match template {
         Template::Int(number) => {
@@ -120,7 +121,7 @@ pub fn resolve_template(
             let made = parts(alloc, text)?;
             Ok(RecvTemplate::Pattern(made))
         }
-        Template::List(members) => match context.types.definition(ty) {
+        Template::List(members) => match context.scope.types.definition(ty) {
             Some(TypeDef::ListOf(element)) => {
                 let made = resolve_element_templates(alloc, context, *element, members)?;
                 Ok(RecvTemplate::List(made))
@@ -131,7 +132,7 @@ pub fn resolve_template(
             }
             None => Err(context.wrong_type()),
         },
-        Template::Record(entries) => match context.types.definition(ty) {
+        Template::Record(entries) => match context.scope.types.definition(ty) {
             Some(TypeDef::Record(fields)) => {
                 let made = resolve_named_templates(alloc, context, fields.as_slice(), entries)?;
                 Ok(RecvTemplate::Record(made))
@@ -151,7 +152,7 @@ fn resolve_members(
     members: &[Template],
 ) -> Result<Items<RecvTemplate>, ScriptFault>
     ensures { IfOk result
-        (AreMembers context.now.types.now (texts context.now.turns.now) ty members.now) }
+        (AreMembers context.now.scope.now.types.now (texts context.now.turns.now) ty members.now) }
 {
     let mut made = Items::new(alloc);
     for member in members {
@@ -171,7 +172,8 @@ fn resolve_element_template(
     member: &Template,
 ) -> Result<RecvTemplate, ScriptFault>
     ensures { IfOk result
-        (IsElementTemplate context.now.types.now (texts context.now.turns.now) ty member.now) }
+        (IsElementTemplate context.now.scope.now.types.now (texts context.now.turns.now)
+        ty member.now) }
 {
     if let Template::AnyOrNone = member {
         return Ok(RecvTemplate::AnyOrNone);
@@ -190,7 +192,8 @@ fn resolve_element_templates(
     members: &[Template],
 ) -> Result<Items<RecvTemplate>, ScriptFault>
     ensures { IfOk result
-        (AreElementTemplates context.now.types.now (texts context.now.turns.now) ty members.now) }
+        (AreElementTemplates context.now.scope.now.types.now (texts context.now.turns.now)
+        ty members.now) }
 {
     let mut made = Items::new(alloc);
     for member in members {
@@ -209,7 +212,8 @@ fn resolve_field_templates(
     fields: &[Field],
     members: &[Template],
 ) -> Result<Items<RecvTemplate>, ScriptFault>
-    ensures { IfOk result (AreFieldTemplates context.now.types.now (texts context.now.turns.now)
+    ensures { IfOk result (AreFieldTemplates
+        context.now.scope.now.types.now (texts context.now.turns.now)
         fields.now members.now) }
 {
     if fields.len() != members.len() {
@@ -240,17 +244,6 @@ fn entry_names<'v>(
     Ok(names)
 }
 
-/// As many templates as are needed.
-fn room(alloc: Global, count: usize) -> Result<Vec<RecvTemplate>, ScriptFault>
-    ensures { IfOk result (λ made. length made.items ≡ count) }
-{
-    let mut made = Vec::new(alloc);
-    for _ in 0..count {
-        made.push(RecvTemplate::Any)?;
-    }
-    Ok(made)
-}
-
 /// What the templates of the fields of a record stand for, which are given by their names: in
 /// declared order.
 #[cycle(template)]
@@ -262,12 +255,13 @@ fn resolve_named_templates(
     entries: &[TemplateField],
 ) -> Result<Items<RecvTemplate>, ScriptFault>
     ensures named { IfOk result (λ made. AreNamedTemplates
-        context.now.types.now (texts context.now.turns.now) entries.now fields.now made) }
+        context.now.scope.now.types.now (texts context.now.turns.now) entries.now fields.now made) }
     ensures count { IfOk result (λ _. length entries.now ≡ length fields.now) }
 {
     let names = entry_names(alloc, entries)?;
     let places = field_places(alloc, fields, &names, context.line)?;
-    let mut made = room(alloc, fields.len())?;
+    let mut made = Vec::new(alloc);
+    made.resize_with(fields.len(), || RecvTemplate::Any)?;
     for (index, entry) in entries.iter().enumerate() {
         let place = places[index];
         let Some(field) = fields.get(place) else {

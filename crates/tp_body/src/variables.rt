@@ -5,32 +5,34 @@ ghost use Rattle.tp_body.specs.Scoping.{IsNew, port_names};
 ghost use Rattle.tp_body.specs.Bodies.{AreVariables, IsHeld};
 
 use crate::body::VariableType;
+use crate::context::Context;
 use crate::lookup::{find_type, place_of_port};
 use crate::scope::{Behaviour, Scope, Variables};
 use std::alloc::Global;
-use tp_name::fault::refused;
-use tp_name::name::{Name, find};
+use tp_name::name::find;
 use tp_name::name_set::NameSet;
-use tp_refusal::refusal::Refusal;
 use tp_syntax::tree::{TypeName, Variable};
 use tp_token::fault::ScriptFault;
 use tp_value::items::Items;
 
 /// Whether the name is new: no port, parameter, variable or loop variable has it, and in the test
 /// case no component variable. Takes no memory.
-pub fn is_new(scope: &Scope, variables: &Variables, turns: &[Name], name: &str) -> bool
-    ensures { IsTrue result → IsNew scope.now variables.now (texts turns.now) name.now }
+pub fn is_new(context: &Context, name: &str) -> bool
+    ensures { IsTrue result →
+        IsNew context.now.scope.now context.now.variables.now (texts context.now.turns.now)
+        name.now }
 {
+    let scope = context.scope;
     let None = place_of_port(scope.ports, name) else {
         return false;
     };
     let None = scope.parameters.find(name) else {
         return false;
     };
-    let None = variables.names.find(name) else {
+    let None = context.variables.names.find(name) else {
         return false;
     };
-    let None = find(turns, name) else {
+    let None = find(context.turns, name) else {
         return false;
     };
     if scope.behaviour != Behaviour::TestCase {
@@ -94,12 +96,19 @@ pub fn resolve_variables<'m>(
         types: Items::new(alloc),
     };
     for variable in declared {
+        let context = Context {
+            // Lent again, since the variables are lent for one round of the loop only.
+            scope: &*scope,
+            variables: &variables,
+            turns: &[],
+            line: variable.line,
+        };
         let Some(held) = find_held(scope, &variable.type_name) else {
-            return Err(refused(Refusal::Unknown, variable.line));
+            return Err(context.unknown());
         };
         let name = variable.name.as_str();
-        if !is_new(scope, &variables, &[], name) {
-            return Err(refused(Refusal::Duplicate, variable.line));
+        if !is_new(&context, name) {
+            return Err(context.duplicate());
         }
         declare(&mut variables, name, held, variable.line)?;
     }

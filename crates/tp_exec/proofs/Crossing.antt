@@ -1,22 +1,19 @@
--- A station may go into a thread, and come back from it with how its behaviour ended.
+-- A station may go into a thread, and come back from it with how its behaviour ended; a hall may be shared with it.
 -- A guard holds templates, which are of recursive types, so `search` has to be told of each type in turn, the innermost first.
-use mir.Syntax.{Lifetime, Sym}
-use denote.RattleType.{RattleType}
-use denote.Struct.Struct.{Struct}
-use denote.Param.Send.{IsSend, struct_send, sendable}
-use Rattle.std.specs.Prelude.{List, [], ◌∷◌}
+use denote.Param.Send.{IsSend, IsSync, sendable}
 use Rattle.std.proofs.Crossing.{crosses}
 use Rattle.indexmap.proofs.map.IndexMap.TheSendSync.{the_send as map_send}
 use Rattle.tp_value.proofs.value.Value.TheLaws.TheKnot.{crosses_both as value_knot}
 use Rattle.tp_value.proofs.template.Template.TheLaws.TheKnot.{crosses as template_knot}
 use Rattle.tp_config.proofs.port_type.RouteId.TheSendSync.{the_send as route_send}
-use Rattle.tp_inbox.proofs.Crossing.{owner_send, desk_send, sender_send}
+use Rattle.tp_inbox.proofs.Crossing.{closer_sync, desk_send, floor_send, floor_sync, owner_send, sender_send}
 use Rattle.tp_behaviour.specs.contracts.choice.Guard as guard
 use Rattle.tp_behaviour.specs.contracts.outbox.Outbox as outbox
 use Rattle.tp_behaviour.specs.contracts.outbox.Outbox.TheInside as outbox_inside
 use Rattle.tp_behaviour.specs.contracts.outcome.Outcome as outcome
 use Rattle.tp_behaviour.specs.contracts.station.Station as station
 use Rattle.tp_exec.specs.contracts.played.Played as played
+use Rattle.tp_exec.specs.contracts.threads.Hall as hall
 
 outbox_inside_send : IsSend outbox_inside.the_row
 outbox_inside_send = search (sendable, crosses, sender_send, map_send, route_send) depth 30
@@ -41,8 +38,6 @@ outcome_field_send = search (sendable, crosses, guard_send) depth 30
 pub played_send : IsSend played.the_row
 played_send = search (sendable, crosses, station_field_send, outcome_field_send) depth 30
 
--- what captures these seven may go into a thread where each of them may
-pub seven_send : (name : Sym) (args : List Lifetime) (types : List RattleType) (a b c d e f g : RattleType)
-    → IsSend a → IsSend b → IsSend c → IsSend d → IsSend e → IsSend f → IsSend g
-    → IsSend (Struct (record { name = name; args = args; types = types; fields = a ∷ b ∷ c ∷ d ∷ e ∷ f ∷ g ∷ [] }))
-seven_send name args types a b c d e f g ha hb hc hd he hf hg = struct_send (record { name = name; args = args; types = types; fields = a ∷ b ∷ c ∷ d ∷ e ∷ f ∷ g ∷ [] }) (ha, (hb, (hc, (hd, (he, (hf, (hg, tt)))))))
+-- what all behaviours of a run share may be shared with their threads
+pub hall_sync : IsSync hall.the_row
+hall_sync = search (sendable, crosses, floor_send, floor_sync, closer_sync) depth 40

@@ -9,7 +9,7 @@ use crate::fault::RunFault;
 use crate::inboxes::make_stations;
 use crate::reporting::make_report;
 use crate::settling::settle_all;
-use crate::threads::play_all;
+use crate::threads::{Hall, play_all};
 use std::alloc::Global;
 use std::sync::Wait;
 use std::thread::Threads;
@@ -52,15 +52,12 @@ pub fn run<R: Threads + Wait + Sync, G: Gate>(
     let Ok((stations, closers)) = make_stations(alloc, test_case.config(), &floor) else {
         return Err(RunFault::Memory);
     };
-    let played = play_all(
-        rt,
-        gate,
+    let hall = Hall {
         alloc,
-        test_case,
-        &floor,
-        closers.as_slice(),
-        stations,
-    )?;
+        floor,
+        closers,
+    };
+    let played = play_all(rt, gate, test_case, &hall, stations)?;
     let Ok(ended) = settle_all(rt, alloc, test_case.config(), played) else {
         return Err(RunFault::Memory);
     };

@@ -11,7 +11,7 @@ use crate::fault::RunFault;
 use crate::played::Played;
 use std::alloc::Global;
 use std::snapshot::Snapshot;
-use std::sync::Wait;
+use std::sync::{Arc, Wait};
 use std::thread;
 use std::thread::{Promise, PromisedHandle, Scope, Threads};
 use tp_behaviour::behaving::behave;
@@ -24,6 +24,18 @@ use tp_inbox::floor::Floor;
 use tp_inbox::owner::Closer;
 use tp_refusal::memory::Memory;
 use tp_script::TestCase;
+
+/// What a run made for its behaviours, and all of them share. It owns its parts: of a closure that
+/// keeps a struct of references, nothing is known where it is called.
+#[derive(Drop)]
+pub(crate) struct Hall {
+    /// Where memory is taken from.
+    pub(crate) alloc: Global,
+    /// What counts those that live and those that rest.
+    pub(crate) floor: Arc<Floor, Global>,
+    /// What closes the inboxes of all components.
+    pub(crate) closers: Vec<Closer>,
+}
 
 /// What a component went into its thread with.
 #[derive(Drop)]
@@ -52,21 +64,16 @@ enum Seat {
 
 /// One behaviour has ended: where all others rest, nothing will wake them, and all inboxes are
 /// closed.
-fn leave<R: Wait>(rt: &R, floor: &Floor, closers: &[Closer]) {
-    if floor.leave(rt) {
-        for closer in closers {
+fn leave<R: Wait>(rt: &R, hall: &Hall) {
+    if hall.floor.leave(rt) {
+        for closer in &hall.closers {
             closer.close(rt);
         }
     }
 }
 
 /// The post of a component that has something to do.
-fn post_of<'t>(
-    alloc: Global,
-    test_case: &'t TestCase,
-    closers: &'t [Closer],
-    comp: CompId,
-) -> Post<'t>
+fn post_of<'t>(test_case: &'t TestCase, hall: &'t Hall, comp: CompId) -> Post<'t>
     requires { duty_at test_case.now comp.0 ≢ None }
     ensures { IsPostOf test_case.now comp result }
 {
@@ -74,12 +81,12 @@ fn post_of<'t>(
         unreachable!();
     };
     Post {
-        alloc,
+        alloc: hall.alloc,
         config: test_case.config(),
         types: test_case.types(),
         comp,
         conduct,
-        closers,
+        closers: hall.closers.as_slice(),
     }
 }
 
@@ -103,19 +110,17 @@ fn play<R: Wait, G: Gate>(
 fn live<R: Wait, G: Gate>(
     rt: &R,
     gate: &G,
-    alloc: Global,
     test_case: &TestCase,
-    floor: &Floor,
-    closers: &[Closer],
+    hall: &Hall,
     station: Station,
 ) -> Result<Played, Memory>
     requires waiting { IsWaiting test_case.now station }
     requires busy { IsBusy test_case.now station }
     ensures { IfOk result (IsBack test_case.now station) }
 {
-    let post = post_of(alloc, test_case, closers, station.desk.comp());
+    let post = post_of(test_case, hall, station.desk.comp());
     let played = play(rt, gate, &post, station);
-    leave(rt, floor, closers);
+    leave(rt, hall);
     played
 }
 
@@ -138,10 +143,8 @@ fn set_out<'s, E, R: Wait + Sync, G: Gate>(
     rt: &'s R,
     scope: &Scope<'s, E>,
     gate: &'s G,
-    alloc: Global,
     test_case: &'s TestCase,
-    floor: &'s Floor,
-    closers: &'s [Closer],
+    hall: &'s Hall,
     station: Station,
 ) -> Option<Seat>
     requires { IsWaiting test_case.now station }
@@ -158,9 +161,9 @@ fn set_out<'s, E, R: Wait + Sync, G: Gate>(
     let play = move || -> Result<Played, Memory>
         requires { IsWaiting test_case.now station × IsBusy test_case.now station }
         ensures { IfOk result (IsBack test_case.entry.now station) }
-    { live(rt, gate, alloc, test_case, floor, closers, station) };
+    { live(rt, gate, test_case, hall, station) };
     let Ok(child) = scope.spawn_with(was, play) else {
-        leave(rt, floor, closers);
+        leave(rt, hall);
         return None;
     };
     Some(Seat::Away(child))
@@ -214,10 +217,8 @@ fn join_all<R: Threads>(
 fn play_each<R: Threads + Wait + Sync, G: Gate>(
     rt: &R,
     gate: &G,
-    alloc: Global,
     test_case: &TestCase,
-    floor: &Floor,
-    closers: &[Closer],
+    hall: &Hall,
     stations: Vec<Station>,
 ) -> Result<Vec<Played>, RunFault>
     requires { All (IsWaiting test_case.now) stations.items }
@@ -236,17 +237,16 @@ fn play_each<R: Threads + Wait + Sync, G: Gate>(
         {
             let count = stations.len();
             let (Ok(back), Ok(mut seats)) = (
-                Vec::with_capacity(alloc, count),
-                Vec::with_capacity(alloc, count),
+                Vec::with_capacity(hall.alloc, count),
+                Vec::with_capacity(hall.alloc, count),
             ) else {
                 return Err(RunFault::Memory);
             };
             let mut refused = false;
             for station in stations {
                 // A thread keeps what it is lent, so each is lent copies of these references.
-                let (rt, gate, test_case) = (rt, gate, test_case);
-                let (floor, closers) = (floor, closers);
-                match set_out(rt, scope, gate, alloc, test_case, floor, closers, station) {
+                let (rt, gate, test_case, hall) = (rt, gate, test_case, hall);
+                match set_out(rt, scope, gate, test_case, hall, station) {
                     Some(seat) => seats.push_reserved(seat),
                     None => refused = true,
                 }
@@ -269,10 +269,8 @@ fn play_each<R: Threads + Wait + Sync, G: Gate>(
 pub(crate) fn play_all<R: Threads + Wait + Sync, G: Gate>(
     rt: &R,
     gate: &G,
-    alloc: Global,
     test_case: &TestCase,
-    floor: &Floor,
-    closers: &[Closer],
+    hall: &Hall,
     stations: Vec<Station>,
 ) -> Result<Vec<Played>, RunFault>
     requires stations { AreStations test_case.now.config stations.items }
@@ -281,5 +279,5 @@ pub(crate) fn play_all<R: Threads + Wait + Sync, G: Gate>(
         AreStations test_case.now.config (stations_of played.items)) }
     ensures played { IfOk result (λ played. ArePlayed test_case.now played.items) }
 {
-    play_each(rt, gate, alloc, test_case, floor, closers, stations)
+    play_each(rt, gate, test_case, hall, stations)
 }

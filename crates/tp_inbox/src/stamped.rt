@@ -1,5 +1,4 @@
 //! Messages with the stamps of their sendings.
-ghost use Rattle.std.specs.Prelude.{◌≡◌};
 
 use std::alloc::Global;
 use tp_queue::payload::Payload;

@@ -226,7 +226,7 @@ impl Ends {
     }
 
     /// The desk, where nothing more is asked of the inbox.
-    fn into_desk(self) -> Desk {
+    pub(crate) fn into_desk(self) -> Desk {
         let Ends {
             post,
             senders: _,

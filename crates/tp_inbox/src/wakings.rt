@@ -239,23 +239,29 @@ where
     })
 }
 
+/// Where behaviours begin.
+#[derive(Drop)]
+struct Site {
+    alloc: Global,
+    config: Config,
+    floor: Arc<Floor, Global>,
+}
+
 /// Starts a behaviour that answers for each sender: the components after the first.
 fn start_all<R>(
     rt: R,
-    alloc: Global,
-    config: &Config,
-    floor: &Arc<Floor, Global>,
+    site: &Site,
     answers: Vec<Sender>,
     answered: &Arc<Closer, Global>,
 ) -> Result<Vec<Answerer>, Memory>
 where
     R: Threads + Wait + Copy + Send + 'static,
 {
-    let mut all = Vec::new(alloc);
+    let mut all = Vec::new(site.alloc);
     let mut comp = 0u32;
     for answer in answers {
         comp = comp.wrapping_add(1);
-        let ends = ends_of(alloc, config, CompId(comp), floor)?;
+        let ends = ends_of(site.alloc, &site.config, CompId(comp), &site.floor)?;
         all.push(start_answerer(rt, ends, answer, Arc::try_clone(answered)?)?)?;
     }
     Ok(all)
@@ -274,17 +280,20 @@ fn start_three<R>(rt: R, alloc: Global) -> Result<Three, Memory>
 where
     R: Threads + Wait + Copy + Send + 'static,
 {
-    let config = star(alloc, ["m", "x", "y"].as_slice())?;
-    let floor = Floor::new(alloc, 3)?;
+    let site = Site {
+        alloc,
+        config: star(alloc, ["m", "x", "y"].as_slice())?,
+        floor: Floor::new(alloc, 3)?,
+    };
     let Ends {
         post,
         senders,
         closer,
-    } = ends_of(alloc, &config, CompId(0), &floor)?;
+    } = ends_of(alloc, &site.config, CompId(0), &site.floor)?;
     let closer = Arc::new(alloc, closer)?;
-    let others = start_all(rt, alloc, &config, &floor, senders, &closer)?;
+    let others = start_all(rt, &site, senders, &closer)?;
     Ok(Three {
-        floor,
+        floor: site.floor,
         post,
         others,
     })

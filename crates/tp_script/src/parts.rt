@@ -1,5 +1,5 @@
 //! What the components of a test case do.
-ghost use Rattle.std.specs.Prelude.{◌≡◌, ◌<◌, ◌≤◌, ◌+◌, ◌++◌, ◌∷◌, [], Some, IfOk, IfSome, IsSome, OnOk, length, map, slice_get};
+ghost use Rattle.std.specs.Prelude.{◌≡◌, ◌<◌, ◌+◌, [], Some, IfOk, IfSome, IsSome, OnOk, length, map, slice_get};
 ghost use Rattle.std.specs.Option.{option_copied};
 ghost use Rattle.tp_script.specs.declared.part.Source.TheVariants as source;
 ghost use Rattle.tp_script.specs.Duties.{AreReferences, Numbers};

@@ -1,58 +1,12 @@
 -- One step of a loop that sorts definitions.
-use Rattle.std.proofs.Common.{◌≡◌, ℕ, ◌+◌, ◌<◌, List, [], ◌∷◌, ◌++◌, Option, None, Some, length, take, get_or, map, sym, ap, ◌∙◌, string_bytes}
+use Rattle.std.proofs.Common.{◌≡◌, ℕ, ◌+◌, ◌<◌, List, [], ◌∷◌, ◌++◌, Option, None, Some, length, take, get_or, map, sym, ap, ◌∙◌}
 use Rattle.std.specs.Option.{option_to_list}
 use Rattle.std.proofs.lemmas.List.{map_push, append-nil}
 use Rattle.tp_syntax.specs.declared.tree.Definition.{Definition}
 use Rattle.tp_syntax.specs.declared.tree.Defined.{Defined}
-use Rattle.tp_syntax.specs.declared.tree.Defined.TheVariants as d
-use Rattle.tp_syntax.specs.declared.tree.PortType.{PortType}
-use Rattle.tp_syntax.specs.declared.tree.ComponentType.{ComponentType}
-use Rattle.tp_syntax.specs.declared.tree.Function.{Function}
-use Rattle.tp_setup.specs.Definitions.{among, name_of, type_of, port_of, component_of, function_of}
+use Rattle.tp_setup.specs.Definitions.{among}
 use Rattle.tp_setup.specs.Sorted.{AreOfKind}
 use Rattle.tp_setup.proofs.Steps.{kept_more}
-
-pub type_name : (x y : Defined) → Some y ≡ type_of x → name_of x ≡ name_of y
-type_name (d.Record r) y e = ap name_of (the_item _ _ (sym e)) where
-  the_item : (a b : Defined) → Some a ≡ Some b → a ≡ b
-  the_item a b e = cc
-type_name (d.List l) y e = ap name_of (the_item _ _ (sym e)) where
-  the_item : (a b : Defined) → Some a ≡ Some b → a ≡ b
-  the_item a b e = cc
-type_name (d.Port p) y e = absurd (cc)
-type_name (d.Component c) y e = absurd (cc)
-type_name (d.Function f) y e = absurd (cc)
-type_name (d.TestCase c) y e = absurd (cc)
-
-pub port_name : (x : Defined) (y : PortType) → Some y ≡ port_of x → name_of x ≡ string_bytes y.name
-port_name (d.Record r) y e = absurd (cc)
-port_name (d.List l) y e = absurd (cc)
-port_name (d.Port p) y e = by p y e where
-  by : (p y : PortType) → Some y ≡ Some p → string_bytes p.name ≡ string_bytes y.name
-  by p y e = cc
-port_name (d.Component c) y e = absurd (cc)
-port_name (d.Function f) y e = absurd (cc)
-port_name (d.TestCase c) y e = absurd (cc)
-
-pub component_name : (x : Defined) (y : ComponentType) → Some y ≡ component_of x → name_of x ≡ string_bytes y.name
-component_name (d.Record r) y e = absurd (cc)
-component_name (d.List l) y e = absurd (cc)
-component_name (d.Port p) y e = absurd (cc)
-component_name (d.Component c) y e = by c y e where
-  by : (p y : ComponentType) → Some y ≡ Some p → string_bytes p.name ≡ string_bytes y.name
-  by p y e = cc
-component_name (d.Function f) y e = absurd (cc)
-component_name (d.TestCase c) y e = absurd (cc)
-
-pub function_name : (x : Defined) (y : Function) → Some y ≡ function_of x → name_of x ≡ string_bytes y.name
-function_name (d.Record r) y e = absurd (cc)
-function_name (d.List l) y e = absurd (cc)
-function_name (d.Port p) y e = absurd (cc)
-function_name (d.Component c) y e = absurd (cc)
-function_name (d.Function f) y e = by f y e where
-  by : (p y : Function) → Some y ≡ Some p → string_bytes p.name ≡ string_bytes y.name
-  by p y e = cc
-function_name (d.TestCase c) y e = absurd (cc)
 
 module _ {T : Type 0} (kind : Defined → Option T) (name : T → List ℕ) (xs : List Definition) (i : ℕ) (x : Definition) (lt : i < length xs)
     (is : x ≡ get_or xs i x) where

@@ -9,7 +9,6 @@ use crate::sorted::Sorted;
 use crate::unique_names::declare_ports;
 use std::alloc::Global;
 use tp_config::config::Config;
-use tp_config::creating::CreateFault;
 use tp_config::port_type::{CompId, Role};
 use tp_name::fault::refused;
 use tp_name::name_set::NameSet;
@@ -18,41 +17,63 @@ use tp_refusal::refusal::Refusal;
 use tp_syntax::tree::{ComponentType, Creation, SetupAction, SetupStatement, TestCase};
 use tp_token::fault::ScriptFault;
 
-/// The refusal of a component, at a line.
-fn create_fault(fault: CreateFault, line: u32) -> ScriptFault {
-    match fault {
-        CreateFault::Memory => ScriptFault::Memory(Memory),
-        CreateFault::Duplicate | CreateFault::Limit => refused(fault.refusal(), line),
+/// The fault of a statement that is refused so, at its line; 50 `Memory` has none.
+pub(crate) fn fault_at(refusal: Refusal, line: u32) -> ScriptFault {
+    match refusal {
+        Refusal::Memory => ScriptFault::Memory(Memory),
+        _ => refused(refusal, line),
     }
 }
 
-/// Adds a component of this name and type, and answers its number. 11 `Unknown` at the line where
-/// the type is unknown.
+/// A component as the text declares it, and the line for its refusals.
+#[derive(Clone, Copy)]
+pub(crate) struct DeclaredComponent<'a> {
+    /// Its name.
+    pub name: &'a str,
+    /// The name of its type.
+    pub type_name: &'a str,
+    /// What it is.
+    pub role: Role,
+    /// The line.
+    pub line: u32,
+}
+
+/// Adds a component, and answers its number. 11 `Unknown` at its line where its type is unknown.
 pub(crate) fn add_component(
     alloc: Global,
     config: &mut Config,
     types: &NameSet,
-    name: &str,
-    type_name: &str,
-    role: Role,
-    line: u32,
+    component: &DeclaredComponent,
 ) -> Result<CompId, ScriptFault>
     ensures added { OnOk result (Adds types.now
-        (record { name = name.now; type_name = type_name.now; role = role })
-        config.old config.new) }
+        (record {
+          name = component.now.name.now;
+          type_name = component.now.type_name.now;
+          role = component.now.role;
+        }) config.old config.new) }
     ensures number { IfOk result (λ comp. comp.0 ≡ length config.old.components) }
 {
-    let Some(kind) = types.find(type_name) else {
-        return Err(refused(Refusal::Unknown, line));
+    let Some(kind) = types.find(component.type_name) else {
+        return Err(refused(Refusal::Unknown, component.line));
     };
     if kind as usize >= config.types().len() {
-        return Err(refused(Refusal::Unknown, line));
+        return Err(refused(Refusal::Unknown, component.line));
     }
-    let text = String::from_str(alloc, name)?;
-    match config.create(text, kind, role) {
-        Ok(comp) => Ok(comp),
-        Err(fault) => Err(create_fault(fault, line)),
-    }
+    let name = String::from_str(alloc, component.name)?;
+    config
+        .create(name, kind, component.role)
+        .map_err(|fault| fault_at(fault.refusal(), component.line))
+}
+
+/// What the component variables of a test case are held against.
+#[derive(Clone, Copy)]
+pub(crate) struct VariableChecks<'a, 'm> {
+    /// The names of the component types.
+    pub types: &'a NameSet<'m>,
+    /// The names of the ports of the main component.
+    pub ports: &'a NameSet<'m>,
+    /// How many component variables there may be.
+    pub most: usize,
 }
 
 /// Looks at a component variable and adds its name: 12 `Duplicate` where another variable or a port
@@ -60,33 +81,32 @@ pub(crate) fn add_component(
 /// two types differ, 15 `Limit` where there are too many components.
 fn check_variable<'m>(
     variables: &mut NameSet<'m>,
-    types: &NameSet,
-    ports: &NameSet,
-    most: usize,
+    checks: &VariableChecks,
     creation: &'m Creation,
     line: u32,
 ) -> Result<(), ScriptFault>
     ensures added { OnOk result (variables.new ≡ variables.old ++ variable creation.now ∷ []) }
     ensures distinct { AreDistinct variables.new }
-    ensures no_port { OnOk result (Contains ports.now (variable creation.now) → ⊥) }
-    ensures known { OnOk result (Contains types.now (string_bytes creation.now.type_name)) }
+    ensures no_port { OnOk result (Contains checks.now.ports.now (variable creation.now) → ⊥) }
+    ensures known { OnOk result (
+        Contains checks.now.types.now (string_bytes creation.now.type_name)) }
     ensures same { OnOk result (
         string_bytes creation.now.type_name ≡ string_bytes creation.now.created) }
-    ensures few { OnOk result (length variables.new ≤ most) }
+    ensures few { OnOk result (length variables.new ≤ checks.now.most) }
 {
     if let Err(fault) = variables.add(creation.name.as_str()) {
         return Err(fault.at(line));
     }
-    if ports.has(creation.name.as_str()) {
+    if checks.ports.has(creation.name.as_str()) {
         return Err(refused(Refusal::Duplicate, line));
     }
-    if !types.has(creation.type_name.as_str()) {
+    if !checks.types.has(creation.type_name.as_str()) {
         return Err(refused(Refusal::Unknown, line));
     }
     if creation.type_name.as_str() != creation.created.as_str() {
         return Err(refused(Refusal::WrongType, line));
     }
-    if variables.len() > most {
+    if variables.len() > checks.most {
         return Err(ScriptFault::limit(line));
     }
     Ok(())
@@ -112,51 +132,62 @@ pub(crate) fn as_creation(setup: &SetupStatement) -> Option<&Creation>
     }
 }
 
-/// Makes the component of a setup statement.
+/// What a `var` of the setup statements says, with the line of its statement.
+#[derive(Clone, Copy)]
+struct CreationAt<'m> {
+    /// The line.
+    line: u32,
+    /// The component variable, and the component that is made.
+    creation: &'m Creation,
+}
+
+/// Makes the component of a `var`, whose variable is looked at first: see [`check_variable`].
 fn create<'m>(
     alloc: Global,
     config: &mut Config,
     variables: &mut NameSet<'m>,
-    types: &NameSet,
-    ports: &NameSet,
-    most: usize,
-    creation: &'m Creation,
-    line: u32,
+    checks: &VariableChecks,
+    at: CreationAt<'m>,
 ) -> Result<(), ScriptFault>
-    ensures added { OnOk result (variables.new ≡ variables.old ++ variable creation.now ∷ []) }
+    ensures added { OnOk result (
+        variables.new ≡ variables.old ++ variable at.entry.creation.now ∷ []) }
     ensures distinct { AreDistinct variables.new }
-    ensures no_port { OnOk result (Contains ports.now (variable creation.now) → ⊥) }
-    ensures known { OnOk result (Contains types.now (string_bytes creation.now.type_name)) }
-    ensures same { OnOk result (
-        string_bytes creation.now.type_name ≡ string_bytes creation.now.created) }
-    ensures few { OnOk result (length variables.new ≤ most) }
-    ensures component { OnOk result (Adds types.now (created creation.now) config.old config.new) }
+    ensures no_port { OnOk result (
+        Contains checks.now.ports.now (variable at.entry.creation.now) → ⊥) }
+    ensures known { OnOk result (
+        Contains checks.now.types.now (string_bytes at.entry.creation.now.type_name)) }
+    ensures same { OnOk result (string_bytes at.entry.creation.now.type_name
+        ≡ string_bytes at.entry.creation.now.created) }
+    ensures few { OnOk result (length variables.new ≤ checks.now.most) }
+    ensures component { OnOk result (
+        Adds checks.now.types.now (created at.entry.creation.now) config.old config.new) }
 {
-    check_variable(variables, types, ports, most, creation, line)?;
-    let name = creation.name.as_str();
-    let type_name = creation.type_name.as_str();
-    add_component(alloc, config, types, name, type_name, Role::Test, line)?;
+    check_variable(variables, checks, at.creation, at.line)?;
+    let component = DeclaredComponent {
+        name: at.creation.name.as_str(),
+        type_name: at.creation.type_name.as_str(),
+        role: Role::Test,
+        line: at.line,
+    };
+    add_component(alloc, config, checks.types, &component)?;
     Ok(())
 }
 
-/// Makes the components of the setup statements, in the order of the text, where the component
-/// types and the ports of the main component have these names, and at most so many component
-/// variables may be.
+/// Makes the components of the setup statements, in the order of the text, where their variables
+/// are held against this.
 ///
 /// The first statement that makes a component and breaks a rule stops it: 12 `Duplicate`, 11
 /// `Unknown`, 13 `WrongType` or 15 `Limit`, at its line, or 50 `Memory`.
-pub fn create_components<'m>(
+pub(crate) fn create_components<'m>(
     alloc: Global,
     config: &mut Config,
-    types: &NameSet,
-    ports: &NameSet,
-    most: usize,
+    checks: &VariableChecks,
     setups: &'m [SetupStatement],
 ) -> Result<(), Stopped<'m>>
-    ensures sound { OnOk result (
-        HasSoundVariables types.now ports.now most (creations setups.now)) }
-    ensures added { OnOk result (
-        AddsAll types.now (map created (creations setups.now)) config.old config.new) }
+    ensures sound { OnOk result (HasSoundVariables checks.now.types.now checks.now.ports.now
+        checks.now.most (creations setups.now)) }
+    ensures added { OnOk result (AddsAll checks.now.types.now
+        (map created (creations setups.now)) config.old config.new) }
 {
     let mut variables = NameSet::new(alloc);
     for (i, setup) in setups.iter().enumerate() {
@@ -164,20 +195,10 @@ pub fn create_components<'m>(
             continue;
         };
         let line = setup.line;
-        if let Err(fault) = create(
-            alloc,
-            config,
-            &mut variables,
-            types,
-            ports,
-            most,
-            creation,
-            line,
-        ) {
-            return Err(Stopped {
-                before: &setups[..i],
-                fault,
-            });
+        let at = CreationAt { line, creation };
+        if let Err(fault) = create(alloc, config, &mut variables, checks, at) {
+            let before = &setups[..i];
+            return Err(Stopped { before, fault });
         }
     }
     Ok(())
@@ -229,15 +250,12 @@ pub(crate) fn add_interface(
     let Some(system) = &case.system else {
         return Ok(None);
     };
-    let type_name = system.as_str();
-    let number = add_component(
-        alloc,
-        config,
-        types,
-        "system",
-        type_name,
-        Role::System,
+    let component = DeclaredComponent {
+        name: "system",
+        type_name: system.as_str(),
+        role: Role::System,
         line,
-    )?;
+    };
+    let number = add_component(alloc, config, types, &component)?;
     Ok(Some(number))
 }

@@ -5,19 +5,19 @@ ghost use Rattle.tp_config.specs.Shape.{ports_of};
 ghost use Rattle.tp_setup.specs.Sorted.{AreComponentsNamed, component_types_in};
 ghost use Rattle.std.specs.Option.{option_map, option_to_list};
 ghost use Rattle.tp_setup.specs.Components.{AddsAll, HasSoundVariables, created, creation_of, creations, main_component, number_of, variable, variables};
-ghost use Rattle.tp_setup.specs.Configuring.{AreSoundVariables, Connects, IsEnd, IsSetUp, IsStep, Makes, Maps, component_at, most_variables};
+ghost use Rattle.tp_setup.specs.Configuring.{AreSoundVariables, IsEnd, IsSetUp, IsStep, Makes, component_at, most_variables};
 
-use crate::components::{Stopped, add_component, add_interface, create_components, ports_of_type};
+use crate::components::{
+    DeclaredComponent, Stopped, VariableChecks, add_component, add_interface, create_components,
+    fault_at, ports_of_type,
+};
 use crate::sorted::Sorted;
 use crate::unique_names::CaseAt;
 use std::alloc::Global;
 use tp_config::config::Config;
-use tp_config::connecting::ConnectFault;
-use tp_config::mapping::MapFault;
 use tp_config::port_type::{COMPONENT_LIMIT, CompId, CompType, PortRef, Role};
 use tp_name::fault::refused;
 use tp_name::name_set::NameSet;
-use tp_refusal::memory::Memory;
 use tp_refusal::refusal::Refusal;
 use tp_syntax::tree::{EndComponent, PairEnd, SetupAction, SetupStatement, TestCase};
 use tp_token::fault::ScriptFault;
@@ -66,65 +66,27 @@ fn find_end(
     Ok(port)
 }
 
-/// The refusal of a connection, at a line.
-fn connect_fault(fault: ConnectFault, line: u32) -> ScriptFault {
-    match fault {
-        ConnectFault::Memory => ScriptFault::Memory(Memory),
-        _ => refused(fault.refusal(), line),
-    }
-}
-
-/// The refusal of a mapping, at a line.
-fn map_fault(fault: MapFault, line: u32) -> ScriptFault {
-    match fault {
-        MapFault::Memory => ScriptFault::Memory(Memory),
-        _ => refused(fault.refusal(), line),
-    }
-}
-
-/// Connects two ports: 11 `Unknown` where one is unknown, and the refusals of [`Config::connect`],
-/// at the line.
-fn connect(
-    config: &mut Config,
+/// The two ports that are named. 11 `Unknown` at the line where a component or a port is unknown.
+fn find_ends(
+    config: &Config,
     known: &NameSet,
     system: Option<CompId>,
-    first: &PairEnd,
-    second: &PairEnd,
+    ends: (&PairEnd, &PairEnd),
     line: u32,
-) -> Result<(), ScriptFault>
-    ensures { OnOk result (
-        Connects config.old known.now (number_of system) first.now second.now config.new) }
+) -> Result<(PortRef, PortRef), ScriptFault>
+    ensures first { IfOk result (λ ports.
+        IsEnd config.now known.now (number_of system) ends.entry.0.now ports.0) }
+    ensures second { IfOk result (λ ports.
+        IsEnd config.now known.now (number_of system) ends.entry.1.now ports.1) }
 {
-    let p = find_end(config, known, system, first, line)?;
-    let q = find_end(config, known, system, second, line)?;
-    match config.connect(p, q) {
-        Ok(()) => Ok(()),
-        Err(fault) => Err(connect_fault(fault, line)),
-    }
+    let p = find_end(config, known, system, ends.0, line)?;
+    let q = find_end(config, known, system, ends.1, line)?;
+    Ok((p, q))
 }
 
-/// Maps two ports: 11 `Unknown` where one is unknown, and the refusals of [`Config::map`], at the
-/// line.
-fn map(
-    config: &mut Config,
-    known: &NameSet,
-    system: Option<CompId>,
-    first: &PairEnd,
-    second: &PairEnd,
-    line: u32,
-) -> Result<(), ScriptFault>
-    ensures { OnOk result (
-        Maps config.old known.now (number_of system) first.now second.now config.new) }
-{
-    let p = find_end(config, known, system, first, line)?;
-    let q = find_end(config, known, system, second, line)?;
-    match config.map(p, q) {
-        Ok(()) => Ok(()),
-        Err(fault) => Err(map_fault(fault, line)),
-    }
-}
-
-/// Does what one setup statement says, in a configuration whose components are all there.
+/// Does what one setup statement says, in a configuration whose components are all there: adds a
+/// component variable, or connects or maps two ports. 11 `Unknown` where one is unknown, and then
+/// the refusals of [`Config::connect`] or [`Config::map`], at its line.
 fn step<'m>(
     config: &mut Config,
     known: &mut NameSet<'m>,
@@ -142,8 +104,18 @@ fn step<'m>(
             Ok(()) => Ok(()),
             Err(fault) => Err(fault.at(line)),
         },
-        SetupAction::Connect(p, q) => connect(config, known, system, p, q, line),
-        SetupAction::Map(p, q) => map(config, known, system, p, q, line),
+        SetupAction::Connect(first, second) => {
+            let (p, q) = find_ends(config, known, system, (first, second), line)?;
+            config
+                .connect(p, q)
+                .map_err(|fault| fault_at(fault.refusal(), line))
+        }
+        SetupAction::Map(first, second) => {
+            let (p, q) = find_ends(config, known, system, (first, second), line)?;
+            config
+                .map(p, q)
+                .map_err(|fault| fault_at(fault.refusal(), line))
+        }
     }
 }
 
@@ -224,9 +196,12 @@ fn create_beside(
     ensures added { OnOk result (AddsAll types.now
         (map created (creations case.entry.case.now.setups.items)) config.old config.new) }
 {
-    let most = most_variables(case.case);
-    let setups = case.case.setups.as_slice();
-    match create_components(alloc, &mut *config, types, ports, most, setups) {
+    let checks = VariableChecks {
+        types,
+        ports,
+        most: most_variables(case.case),
+    };
+    match create_components(alloc, &mut *config, &checks, &case.case.setups) {
         Ok(()) => Ok(()),
         Err(stopped) => Err(first_fault(alloc, config, types, case, stopped)),
     }
@@ -265,10 +240,13 @@ fn add_components(
     ensures sound { OnOk result (AreSoundVariables sorted.now.component_names
         (component_types_in sorted.now) case.entry.case.now) }
 {
-    let types = &sorted.component_names;
-    let runs_on = case.case.runs_on.as_str();
-    let role = Role::Test;
-    add_component(alloc, &mut *config, types, "mtc", runs_on, role, case.line)?;
+    let main = DeclaredComponent {
+        name: "mtc",
+        type_name: case.case.runs_on.as_str(),
+        role: Role::Test,
+        line: case.line,
+    };
+    add_component(alloc, &mut *config, &sorted.component_names, &main)?;
     create_all(alloc, config, sorted, case)?;
     Ok(())
 }

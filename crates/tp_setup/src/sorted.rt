@@ -1,8 +1,9 @@
 //! The definitions of a module, sorted by their kinds.
-ghost use Rattle.std.specs.Prelude.{◌≡◌, IfOk, map};
+ghost use Rattle.std.specs.Prelude.{◌≡◌, ℕ, List, Option, IfOk, map, string_bytes};
 ghost use Rattle.std.specs.Option.{option_copied};
-ghost use Rattle.tp_setup.specs.Definitions.{component_of, function_of, port_of, type_of};
-ghost use Rattle.tp_setup.specs.Sorted.{AreSorted, ComponentTypes, Functions, PortTypes, TypeDefinitions};
+ghost use Rattle.tp_syntax.specs.declared.tree.Defined.{Defined};
+ghost use Rattle.tp_setup.specs.Definitions.{component_of, function_of, name_of, port_of, type_of};
+ghost use Rattle.tp_setup.specs.Sorted.{AreOfKind, AreSorted};
 
 use crate::unique_names::defined_name;
 use std::alloc::Global;
@@ -32,33 +33,71 @@ pub struct Sorted<'m> {
     pub functions: Vec<&'m Function>,
 }
 
-/// The definition of a record or record-of type.
-fn as_type(definition: &Definition) -> Option<&Defined>
-    ensures { option_copied result ≡ type_of definition.now.defined }
-{
-    match &definition.defined {
-        Defined::Record(_) | Defined::List(_) => Some(&definition.defined),
-        _ => None,
+/// A kind of definition: the record and record-of types, the port types, the component types, or
+/// the functions.
+trait DefinitionKind {
+    /// The definition of this kind that stands in a definition, if one does.
+    ghost as_kind: { Defined → Option Self };
+    /// Its name.
+    ghost name: { Self → List ℕ };
+
+    /// The definition of this kind, or `None` where it is of another. Takes no memory.
+    fn as_kind(definition: &Definition) -> Option<&Self>
+        ensures { option_copied result ≡ as_kind definition.now.defined };
+
+    /// Its name. Takes no memory.
+    fn name(&self) -> &str
+        ensures { result.now ≡ name self.now };
+}
+
+impl DefinitionKind for Defined {
+    ghost as_kind = { type_of };
+
+    ghost name = { name_of };
+
+    fn as_kind(definition: &Definition) -> Option<&Defined> {
+        match &definition.defined {
+            Defined::Record(_) | Defined::List(_) => Some(&definition.defined),
+            _ => None,
+        }
+    }
+
+    fn name(&self) -> &str {
+        defined_name(self)
     }
 }
 
-/// The port type that is defined.
-fn as_port(definition: &Definition) -> Option<&PortType>
-    ensures { option_copied result ≡ port_of definition.now.defined }
-{
-    match &definition.defined {
-        Defined::Port(port) => Some(port),
-        _ => None,
+impl DefinitionKind for PortType {
+    ghost as_kind = { port_of };
+
+    ghost name = { λ p. string_bytes p.name };
+
+    fn as_kind(definition: &Definition) -> Option<&PortType> {
+        match &definition.defined {
+            Defined::Port(port) => Some(port),
+            _ => None,
+        }
+    }
+
+    fn name(&self) -> &str {
+        self.name.as_str()
     }
 }
 
-/// The component type that is defined.
-fn as_component(definition: &Definition) -> Option<&ComponentType>
-    ensures { option_copied result ≡ component_of definition.now.defined }
-{
-    match &definition.defined {
-        Defined::Component(component) => Some(component),
-        _ => None,
+impl DefinitionKind for ComponentType {
+    ghost as_kind = { component_of };
+
+    ghost name = { λ c. string_bytes c.name };
+
+    fn as_kind(definition: &Definition) -> Option<&ComponentType> {
+        match &definition.defined {
+            Defined::Component(component) => Some(component),
+            _ => None,
+        }
+    }
+
+    fn name(&self) -> &str {
+        self.name.as_str()
     }
 }
 
@@ -72,88 +111,40 @@ pub fn as_function(definition: &Definition) -> Option<&Function>
     }
 }
 
-/// The record and record-of types, with their names.
-fn sort_types<'m>(
-    alloc: Global,
-    definitions: &'m [Definition],
-) -> Result<(NameSet<'m>, Vec<&'m Defined>), ScriptFault>
-    ensures { IfOk result (λ r. TypeDefinitions definitions.now r.0 (map (λ x. x.now) r.1.items)) }
-{
-    let mut names = NameSet::new(alloc);
-    let mut types = Vec::new(alloc);
-    for definition in definitions {
-        let Some(defined) = as_type(definition) else {
-            continue;
-        };
-        if let Err(fault) = names.add(defined_name(&definition.defined)) {
-            return Err(fault.at(definition.line));
-        }
-        types.push(defined)?;
+impl DefinitionKind for Function {
+    ghost as_kind = { function_of };
+
+    ghost name = { λ f. string_bytes f.name };
+
+    fn as_kind(definition: &Definition) -> Option<&Function> {
+        as_function(definition)
     }
-    Ok((names, types))
+
+    fn name(&self) -> &str {
+        self.name.as_str()
+    }
 }
 
-/// The port types, with their names.
-fn sort_ports<'m>(
+/// The definitions of one kind, with their names.
+fn sort_kind<'m, K: DefinitionKind>(
     alloc: Global,
     definitions: &'m [Definition],
-) -> Result<(NameSet<'m>, Vec<&'m PortType>), ScriptFault>
-    ensures { IfOk result (λ r. PortTypes definitions.now r.0 (map (λ x. x.now) r.1.items)) }
+) -> Result<(NameSet<'m>, Vec<&'m K>), ScriptFault>
+    ensures { IfOk result (λ r.
+        AreOfKind K.as_kind K.name definitions.now r.0 (map (λ x. x.now) r.1.items)) }
 {
     let mut names = NameSet::new(alloc);
-    let mut ports = Vec::new(alloc);
+    let mut sorted = Vec::new(alloc);
     for definition in definitions {
-        let Some(port) = as_port(definition) else {
+        let Some(one) = K::as_kind(definition) else {
             continue;
         };
-        if let Err(fault) = names.add(defined_name(&definition.defined)) {
+        if let Err(fault) = names.add(one.name()) {
             return Err(fault.at(definition.line));
         }
-        ports.push(port)?;
+        sorted.push(one)?;
     }
-    Ok((names, ports))
-}
-
-/// The component types, with their names.
-fn sort_components<'m>(
-    alloc: Global,
-    definitions: &'m [Definition],
-) -> Result<(NameSet<'m>, Vec<&'m ComponentType>), ScriptFault>
-    ensures { IfOk result (λ r. ComponentTypes definitions.now r.0 (map (λ x. x.now) r.1.items)) }
-{
-    let mut names = NameSet::new(alloc);
-    let mut components = Vec::new(alloc);
-    for definition in definitions {
-        let Some(component) = as_component(definition) else {
-            continue;
-        };
-        if let Err(fault) = names.add(defined_name(&definition.defined)) {
-            return Err(fault.at(definition.line));
-        }
-        components.push(component)?;
-    }
-    Ok((names, components))
-}
-
-/// The functions, with their names.
-fn sort_functions<'m>(
-    alloc: Global,
-    definitions: &'m [Definition],
-) -> Result<(NameSet<'m>, Vec<&'m Function>), ScriptFault>
-    ensures { IfOk result (λ r. Functions definitions.now r.0 (map (λ x. x.now) r.1.items)) }
-{
-    let mut names = NameSet::new(alloc);
-    let mut functions = Vec::new(alloc);
-    for definition in definitions {
-        let Some(function) = as_function(definition) else {
-            continue;
-        };
-        if let Err(fault) = names.add(defined_name(&definition.defined)) {
-            return Err(fault.at(definition.line));
-        }
-        functions.push(function)?;
-    }
-    Ok((names, functions))
+    Ok((names, sorted))
 }
 
 /// Sorts the definitions of a module, whose names are different.
@@ -163,18 +154,19 @@ fn sort_functions<'m>(
 pub fn sort(alloc: Global, parsed: &Module) -> Result<Sorted<'_>, ScriptFault>
     ensures { IfOk result (AreSorted parsed.now) }
 {
-    let types = sort_types(alloc, &parsed.definitions)?;
-    let ports = sort_ports(alloc, &parsed.definitions)?;
-    let components = sort_components(alloc, &parsed.definitions)?;
-    let functions = sort_functions(alloc, &parsed.definitions)?;
+    let definitions = parsed.definitions.as_slice();
+    let (type_names, types) = sort_kind(alloc, definitions)?;
+    let (port_names, ports) = sort_kind(alloc, definitions)?;
+    let (component_names, components) = sort_kind(alloc, definitions)?;
+    let (function_names, functions) = sort_kind(alloc, definitions)?;
     Ok(Sorted {
-        type_names: types.0,
-        types: types.1,
-        port_names: ports.0,
-        ports: ports.1,
-        component_names: components.0,
-        components: components.1,
-        function_names: functions.0,
-        functions: functions.1,
+        type_names,
+        types,
+        port_names,
+        ports,
+        component_names,
+        components,
+        function_names,
+        functions,
     })
 }

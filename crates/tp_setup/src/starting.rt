@@ -219,26 +219,6 @@ fn check_done(case: &TestCase, places: &[u32], line: u32) -> Result<(), ScriptFa
     Err(refused(Refusal::NoDone, line))
 }
 
-/// What one start starts, whose component is added to those that are started.
-fn check_next<'m>(
-    alloc: Global,
-    sorted: &Sorted,
-    variables: &NameSet,
-    types: &[&str],
-    names: &mut NameSet<'m>,
-    start: &'m ComponentStart,
-) -> Result<Started, ScriptFault>
-    requires { AreFunctionsNamed sorted.now }
-    ensures started { IfOk result (IsStarted (functions_in sorted.now) variables.now
-        (map (λ t. t.now) types.now) start.now) }
-    ensures added { OnOk result (names.new ≡ names.old ++ string_bytes start.now.component ∷ []) }
-    ensures distinct { OnOk result (AreDistinct names.new) }
-{
-    add_started(variables, names, start)?;
-    let one = check_start(alloc, sorted, variables, types, start)?;
-    Ok(one)
-}
-
 /// What the starts start, one after the other, and the components that they start.
 fn check_each<'m>(
     alloc: Global,
@@ -257,7 +237,8 @@ fn check_each<'m>(
     let mut names = NameSet::new(alloc);
     let mut started = Vec::new(alloc);
     for start in starts {
-        let one = check_next(alloc, sorted, variables, types, &mut names, start)?;
+        add_started(variables, &mut names, start)?;
+        let one = check_start(alloc, sorted, variables, types, start)?;
         started.push(one)?;
     }
     Ok((names, started))

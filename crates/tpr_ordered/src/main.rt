@@ -11,7 +11,7 @@ mod tests;
 
 use fault::FileFault;
 use order_gate::PATIENCE;
-use ordering::write_orders;
+use ordering::{Trial, write_orders};
 use orders::{Order, read_orders};
 use std::env::Env;
 use std::fs::File;
@@ -98,7 +98,13 @@ where
     let Ok(mut writer) = BufWriter::new(rt.alloc(), io::writer(rt)) else {
         return tell_script(rt, FileFault::from(Memory));
     };
-    match write_orders(rt, rt.alloc(), test_case, orders, PATIENCE, &mut writer) {
+    let trial = Trial {
+        rt,
+        alloc: rt.alloc(),
+        test_case,
+        patience: PATIENCE,
+    };
+    match write_orders(&trial, orders, &mut writer) {
         Ok(()) => ANSWERED,
         Err(_) => FAULTED,
     }

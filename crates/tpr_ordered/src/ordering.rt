@@ -15,28 +15,39 @@ use tp_exec::run::run;
 use tp_exec::writing::write_report;
 use tp_script::TestCase;
 
+/// What the runs in all orders have in common.
+#[derive(Drop)]
+pub struct Trial<'t, R> {
+    /// The runtime, by which they wait and their threads are started.
+    pub rt: &'t R,
+    /// Where memory is taken from.
+    pub alloc: Global,
+    /// What is run.
+    pub test_case: &'t TestCase,
+    /// After so many turns that yield, the gate of a run gives up.
+    pub patience: u32,
+}
+
 /// Runs the test case in the order of these steps, and writes its report; or `not held`, where the
 /// gate gave up; or the line of the fault by which the run has no report.
-fn write_run<T: Threads + Wait + Sync, W: Write>(
-    rt: &T,
-    alloc: Global,
-    test_case: &TestCase,
+fn write_run<R: Threads + Wait + Sync, W: Write>(
+    trial: &Trial<'_, R>,
     steps: &[CompId],
-    patience: u32,
     writer: &mut W,
 ) -> io::Result<()>
-    ensures { OnOk result (IsRunWritten test_case.now
+    ensures { OnOk result (IsRunWritten trial.now.test_case.now
         (W.contents writer.old) (W.contents writer.new)) }
 {
-    let Ok(gate) = OrderGate::new(alloc, test_case.components(), steps, patience) else {
+    let components = trial.test_case.components();
+    let Ok(gate) = OrderGate::new(trial.alloc, components, steps, trial.patience) else {
         return write_run_fault(writer, RunFault::Memory);
     };
-    let outcome = run(rt, alloc, test_case, &gate);
+    let outcome = run(trial.rt, trial.alloc, trial.test_case, &gate);
     if !gate.is_held() {
         return writer.write_all(b"not held\n");
     }
     match outcome {
-        Ok(report) => match write_report(test_case, &report, writer) {
+        Ok(report) => match write_report(trial.test_case, &report, writer) {
             Ok(()) => Ok(()),
             Err(_) => Err(io::Error::from(ErrorKind::WriteZero)),
         },
@@ -45,50 +56,37 @@ fn write_run<T: Threads + Wait + Sync, W: Write>(
 }
 
 /// Writes the line of an order, what came of its run, and an empty line.
-fn write_order<T: Threads + Wait + Sync, W: Write>(
-    rt: &T,
-    alloc: Global,
-    test_case: &TestCase,
+fn write_order<R: Threads + Wait + Sync, W: Write>(
+    trial: &Trial<'_, R>,
     order: &Order,
-    patience: u32,
     writer: &mut W,
 ) -> io::Result<()>
-    ensures { OnOk result (IsOrderWritten test_case.now order.now
+    ensures { OnOk result (IsOrderWritten trial.now.test_case.now order.now
         (W.contents writer.old) (W.contents writer.new)) }
 {
     let line = order.line.as_str();
     write!(writer, "order {line}\n")?;
-    write_run(
-        rt,
-        alloc,
-        test_case,
-        order.steps.as_slice(),
-        patience,
-        writer,
-    )?;
+    write_run(trial, order.steps.as_slice(), writer)?;
     writer.write_all(b"\n")?;
     writer.flush()
 }
 
 /// Runs the test case once in each of these orders, one run after the other, and writes for each
 /// the line `order NAMES`, the report as mode `run` of `tpr` prints it, and an empty line. In place
-/// of the report stands `not held`, where the gate gave up after so many turns that yield, or the
-/// line of the fault by which there is none.
+/// of the report stands `not held`, where the gate gave up after `patience` turns that yield, or
+/// the line of the fault by which there is none.
 ///
 /// An error where the writer failed. It may wait for good.
-pub fn write_orders<T: Threads + Wait + Sync, W: Write>(
-    rt: &T,
-    alloc: Global,
-    test_case: &TestCase,
+pub fn write_orders<R: Threads + Wait + Sync, W: Write>(
+    trial: &Trial<'_, R>,
     orders: &[Order],
-    patience: u32,
     writer: &mut W,
 ) -> io::Result<()>
-    ensures { OnOk result (AreOrdersWritten test_case.now (W.contents writer.old) orders.now
-        (W.contents writer.new)) }
+    ensures { OnOk result (AreOrdersWritten trial.now.test_case.now (W.contents writer.old)
+        orders.now (W.contents writer.new)) }
 {
     for order in orders {
-        write_order(rt, alloc, test_case, order, patience, writer)?;
+        write_order(trial, order, writer)?;
     }
     Ok(())
 }

@@ -1,5 +1,5 @@
 //! Runs with gates, and runs that end by themselves.
-use crate::ordering::write_orders;
+use crate::ordering::{Trial, write_orders};
 use crate::orders::read_orders;
 use std::alloc::Global;
 use std::sync::Wait;
@@ -46,13 +46,12 @@ fn answers_of<R: Threads + Wait + Sync>(
     let test_case = test_case_of(alloc, script)?;
     let orders = read_orders(alloc, test_case.config(), lines.as_bytes())?;
     let mut text = Vec::new(alloc);
-    write_orders(
+    let trial = Trial {
         rt,
         alloc,
-        &test_case,
-        orders.as_slice(),
+        test_case: &test_case,
         patience,
-        &mut text,
-    )?;
+    };
+    write_orders(&trial, orders.as_slice(), &mut text)?;
     Ok(text)
 }

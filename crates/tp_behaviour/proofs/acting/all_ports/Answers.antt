@@ -16,10 +16,11 @@ loop-port-init g c =
 -- a component of a configuration has few ports
 pub overflow_cast-port : goal.overflow_cast-port
 overflow_cast-port g c =
-    let s = c.args.post.now.config.now in
-    let few = few_ports s.types s.components c.args.post.now.comp c.len-lawful.ensures.lawful.few_ports in
+    let s = c.args.scene.now.post.now.config.now in
+    let few = few_ports s.types s.components c.args.scene.now.post.now.comp c.len-lawful.ensures.lawful.few_ports in
     let m = c.in_ok-look_in.ensures.manned in
-    let count : c.port_count-port-end.result ≡ length (ports_at s.types s.components c.args.post.now.comp) = c.port_count-port-end.ensures ∙ m.desk.1 ∙ m.posted.ports in
+    let count : c.port_count-port-end.result ≡ length (ports_at s.types s.components c.args.scene.now.post.now.comp) = c.port_count-port-end.ensures ∙
+    m.desk.1 ∙ m.posted.ports in
     omega (arith, few, count)
 
 pub loop-port-preserved : goal.loop-port-preserved
@@ -40,9 +41,9 @@ loop-port-preserved g c =
 
 pub returns-clause-stepped : goal.returns-clause-stepped
 returns-clause-stepped g c =
-    let s = c.args.post.now.config.now in
+    let s = c.args.scene.now.post.now.config.now in
     let l = c.in_ok-look_in.ensures in
     let n = c.loop-port.port in
     let all : n ≡ c.port_count-port-end.result = (let below = c.loop-port.auto.port-end in let past = c.loop-port-test.false in omega (arith, below, past)) in
-    stepped_all (role_of c.args.post.now) c.args.operation n c.args.station.now.desk.log c.look_in.new.station.desk.log c.loop-port.station.desk.log
+    stepped_all (role_of c.args.scene.now.post.now) c.args.operation n c.args.station.now.desk.log c.look_in.new.station.desk.log c.loop-port.station.desk.log
     (all ∙ c.port_count-port-end.ensures ∙ l.manned.desk.1 ∙ l.manned.posted.ports) l.trace c.loop-port.invariant.done

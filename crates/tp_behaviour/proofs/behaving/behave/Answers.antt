@@ -14,18 +14,18 @@ execute-requires-clause-held g c κs within = held_unset c.args.post.now.conduct
 -- no loop variable is around the statements of a body
 pub execute-requires-clause-can : goal.execute-requires-clause-can
 execute-requires-clause-can g c κs within =
-    subst (λ n. CanPlayAll (stage_at c.args.post.now) n c.as_slice-block.result.now) (sym (ap length c.in_ok-state.ensures.turns))
-    (subst (CanPlayAll (stage_at c.args.post.now) 0) (sym c.as_slice-block.ensures) c.requires.can.statements)
+    subst (λ n. CanPlayAll (stage_at c.args.post.now) n c.as_slice-statements.result.now) (sym (ap length c.in_ok-state.ensures.turns))
+    (subst (CanPlayAll (stage_at c.args.post.now) 0) (sym c.as_slice-statements.ensures) c.requires.can.statements)
 
 -- what lasts of the body was made at its beginning
 pub execute-requires-clause-lasting : goal.execute-requires-clause-lasting
-execute-requires-clause-lasting g c κs within = subst (AreLasting c.as_slice-block.result.now) (sym c.as_slice-kept.ensures) c.in_ok-lasting.ensures
+execute-requires-clause-lasting g c κs within = subst (AreLasting c.as_slice-statements.result.now) (sym c.as_slice.ensures) c.in_ok-lasting.ensures
 
 pub returns-clause-ended : goal.returns-clause-ended
 returns-clause-ended g c =
     has_ended (role_of c.args.post.now) c.args.post.now.conduct.body.now c.in_ok-outcome.outcome c.in_ok-state.state.turns.items c.in_ok-state.state.variables.items
-    c.as_slice-block.result.now c.execute.new.state.variables.items c.args.station.now.desk.log c.execute.new.station.desk.log
-    c.in_ok-state.ensures.turns c.in_ok-state.ensures.variables c.as_slice-block.ensures c.requires.begun c.in_ok-outcome.ensures.ended
+    c.as_slice-statements.result.now c.execute.new.state.variables.items c.args.station.now.desk.log c.execute.new.station.desk.log
+    c.in_ok-state.ensures.turns c.in_ok-state.ensures.variables c.as_slice-statements.ensures c.requires.begun c.in_ok-outcome.ensures.ended
 
 pub returns-clause-within : goal.returns-clause-within
 returns-clause-within g c =

@@ -10,7 +10,7 @@ use Rattle.tp_behaviour.proofs.choosing.choose.Given as goal
 -- so far a `trigger` discarded messages, and nothing else was done
 abbrev pub invariant-loop : goal.invariant-loop
 invariant-loop g l = record {
-  manned : IsManned (role_of l.post) l.station;
+  manned : IsManned (role_of l.scene.post.now) l.station;
   same : IsSame l.initial.station l.station;
   ports : l.station.desk.ports ≡ l.initial.station.desk.ports;
   drops : Grew (All (IsDrop (all_viewed l.guards))) l.initial.station.desk.log l.station.desk.log;

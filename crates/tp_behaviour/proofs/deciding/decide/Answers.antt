@@ -10,18 +10,21 @@ use Rattle.tp_behaviour.proofs.deciding.decide.Goals as goal
 pub choose-requires-clause-within : goal.choose-requires-clause-within
 choose-requires-clause-within g c κs within =
     viewed_within c.args.station.now.desk.ports c.as_slice.result.now
-    (guards_within c.args.post.now c.args.station.now (depth_of c.args.state.now) (values_of c.args.state.now) c.args.branches.now (all_viewed c.as_slice.result.now)
+    (guards_within c.args.scene.now.post.now c.args.station.now (depth_of c.args.state.now) (values_of c.args.state.now) c.args.alt.branches.now
+    (all_viewed c.as_slice.result.now)
     c.requires.manned c.requires.can (ap all_viewed c.as_slice.ensures.value ∙ c.in_ok-views.ensures))
 
 -- the branch that is chosen is one of these
 pub enter-requires-clause-there : goal.enter-requires-clause-there
 enter-requires-clause-there g c =
-    chose_within (role_of c.args.post.now) (values_of c.args.state.now) c.args.branches.now (all_viewed c.as_slice.result.now) c.args.has_else c.in-Branch.place c.in-Branch.env
+    chose_within (role_of c.args.scene.now.post.now) (values_of c.args.state.now) c.args.alt.branches.now (all_viewed c.as_slice.result.now)
+    c.args.alt.has_else c.in-Branch.place c.in-Branch.env
     c.args.station.now.desk.log c.choose.new.station.desk.log (ap all_viewed c.as_slice.ensures.value ∙ c.in_ok-views.ensures) (rw c.in-Branch.is at c.in_ok-place.ensures.chose)
 
 pub returns-in-Branch-clause-decided : goal.returns-in-Branch-clause-decided
 returns-in-Branch-clause-decided g c =
-    entered (role_of c.args.post.now) (values_of c.args.state.now) c.args.branches.now (all_viewed c.as_slice.result.now) c.args.has_else c.in-Branch.place c.in-Branch.env
+    entered (role_of c.args.scene.now.post.now) (values_of c.args.state.now) c.args.alt.branches.now (all_viewed c.as_slice.result.now) c.args.alt.has_else
+    c.in-Branch.place c.in-Branch.env
     c.enter.new.state.variables.items c.args.station.now.desk.log c.choose.new.station.desk.log (ap all_viewed c.as_slice.ensures.value ∙ c.in_ok-views.ensures)
     (rw c.in-Branch.is at c.in_ok-place.ensures.chose) c.enter.ensures.set
 
@@ -31,5 +34,6 @@ returns-in-Branch-clause-there g c = (c.enter.ensures.set.branch, c.enter.ensure
 -- what it waits for is within the ports
 pub returns-clause-within : goal.returns-clause-within
 returns-clause-within g c =
-    guards_within c.args.post.now c.args.station.now (depth_of c.args.state.now) (values_of c.args.state.now) c.args.branches.now c.in_ok-guards-in-Waits.guards.items
+    guards_within c.args.scene.now.post.now c.args.station.now (depth_of c.args.state.now) (values_of c.args.state.now) c.args.alt.branches.now
+    c.in_ok-guards-in-Waits.guards.items
     c.requires.manned c.requires.can c.in_ok-guards-in-Waits.ensures

@@ -15,7 +15,7 @@ use Rattle.tp_behaviour.proofs.receiving.receive.Goals as goal
 
 pub returns-in-Branch-clause-ended : goal.returns-in-Branch-clause-ended
 returns-in-Branch-clause-ended g c =
-    let r = role_of c.args.post.now in
+    let r = role_of c.args.scene.now.post.now in
     let turns = c.args.state.now.turns.items in
     let vs = c.args.state.now.variables.items in
     let x = c.args.receiving.now in
@@ -27,7 +27,7 @@ returns-in-Branch-clause-ended g c =
 
 pub returns-in-Waits-clause-ended : goal.returns-in-Waits-clause-ended
 returns-in-Waits-clause-ended g c =
-    let r = role_of c.args.post.now in
+    let r = role_of c.args.scene.now.post.now in
     let turns = c.args.state.now.turns.items in
     let vs = c.args.state.now.variables.items in
     let x = c.args.receiving.now in

@@ -15,7 +15,7 @@ returns-clause-manned g c =
     let s = c.args.station.now in
     let x = next_of s.desk.log c.args.message.now in
     let e = c.in-Ok.ensures.ok in
-    (has_sent (role_of c.args.post.now) s c.send.new.desk c.send.new.self c.args.route e.0 x c.requires.manned c.requires.known e.1 e.2).2
+    (has_sent (role_of c.args.scene.now.post.now) s c.send.new.desk c.send.new.self c.args.route e.0 x c.requires.manned c.requires.known e.1 e.2).2
 
 -- the number is that of the next message
 pub returns-clause-log : goal.returns-clause-log
@@ -23,7 +23,7 @@ returns-clause-log g c =
     let s = c.args.station.now in
     let x = next_of s.desk.log c.args.message.now in
     let e = c.in-Ok.ensures.ok in
-    let all = has_sent (role_of c.args.post.now) s c.send.new.desk c.send.new.self c.args.route e.0 x c.requires.manned c.requires.known e.1 e.2 in
+    let all = has_sent (role_of c.args.scene.now.post.now) s c.send.new.desk c.send.new.self c.args.route e.0 x c.requires.manned c.requires.known e.1 e.2 in
     ap (λ (j : Journal). j.log) e.2 ∙ ap (λ n. s.desk.log ++ entry.Sent c.args.route n x ∷ []) all.0
 
 pub returns-clause-trace : goal.returns-clause-trace
@@ -31,7 +31,7 @@ returns-clause-trace g c =
     let s = c.args.station.now in
     let x = next_of s.desk.log c.args.message.now in
     let e = c.in-Ok.ensures.ok in
-    let all = has_sent (role_of c.args.post.now) s c.send.new.desk c.send.new.self c.args.route e.0 x c.requires.manned c.requires.known e.1 e.2 in
+    let all = has_sent (role_of c.args.scene.now.post.now) s c.send.new.desk c.send.new.self c.args.route e.0 x c.requires.manned c.requires.known e.1 e.2 in
     all.1 ∙ ap (λ n. moments s.desk.log ++ moment s.desk (entry.Sent c.args.route n x) ∷ []) all.0
 
 -- only what was put changes

@@ -7,7 +7,7 @@ use Rattle.tp_behaviour.proofs.sending.send_on_each.Goals as goal
 
 -- the senders are on the same routes as at the start
 pub send_on-requires-clause-known : goal.send_on-requires-clause-known
-send_on-requires-clause-known g c =
+send_on-requires-clause-known g c κs within =
     let q = get_or c.args.routes.now c.loop-route.route-index no_route in
     subst (λ l. Contains l q) (sym (routes_stay c.args.station.now c.loop-route.station c.loop-route.invariant.same))
     (c.requires.known c.loop-route.route-index no_route c.loop-route-test.true)

@@ -8,7 +8,8 @@ use Rattle.tp_behaviour.proofs.sending.send_started.Goals as goal
 
 pub message_of-requires : goal.message_of-requires
 message_of-requires g c =
-    can_fill (stage_at c.args.post.now) (depth_of c.args.state.now) c.args.state.now.variables.items c.args.sending.now.sent c.requires.held c.requires.can.sent
+    can_fill (stage_at c.args.scene.now.post.now) (depth_of c.args.state.now) c.args.state.now.variables.items c.args.sending.now.sent c.requires.held
+    c.requires.can.sent
 
 unset : {X : Type 0} (o : Option X) (U : Type 0) (P : X → Type 0) → MatchOption o U P → ((x : X) → o ≡ Some x → ⊥) → U
 unset None U P h none = h
@@ -18,5 +19,6 @@ pub fail-requires-clause-cause : goal.fail-requires-clause-cause
 fail-requires-clause-cause g c = IsFailure.not_set c.requires.started (inl (unset c.in_ok-message.field-0 _ _ c.in_ok-message.ensures c.in_default.not-Some))
 
 pub send_to_one-requires-clause-names : goal.send_to_one-requires-clause-names
-send_to_one-requires-clause-names g c =
-    can_name (stage_at c.args.post.now) c.args.state.now.variables.items c.args.sending.now.to c.requires.held c.requires.can.to c.in_default-to.not-All
+send_to_one-requires-clause-names g c κs within =
+    can_name (stage_at c.args.scene.now.post.now) c.args.state.now.variables.items c.args.sending.now.to c.requires.held c.requires.can.to
+    c.in_default-to.not-All

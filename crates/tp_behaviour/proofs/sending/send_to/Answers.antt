@@ -5,14 +5,16 @@ use Rattle.tp_behaviour.proofs.sending.send_to.Goals as goal
 
 -- a route from a port of the component has a sender
 pub send_on-requires-clause-known : goal.send_on-requires-clause-known
-send_on-requires-clause-known g c = c.requires.manned.posted.ways c.args.sending.now.port c.in-Ok.route c.in-Ok.ensures.among
+send_on-requires-clause-known g c κs within = c.requires.manned.posted.ways c.args.sending.now.port c.in-Ok.route c.in-Ok.ensures.among
 
 pub fail-requires-clause-cause : goal.fail-requires-clause-cause
 fail-requires-clause-cause g c =
-    cause_route (role_of c.args.post.now) (values_of c.args.state.now) c.args.sending.now c.args.message.now c.args.named c.in-Err.fault c.route_code.result c.args.station.now.desk.log
+    cause_route (role_of c.args.scene.now.post.now) (values_of c.args.state.now) c.args.sending.now c.args.message.now c.args.named c.in-Err.fault
+    c.route_code.result c.args.station.now.desk.log
     c.requires.started c.requires.sent c.requires.named c.in-Err.ensures.route c.route_code.ensures
 
 pub returns-in_ok-send_on-in-Ok-clause-sends : goal.returns-in_ok-send_on-in-Ok-clause-sends
 returns-in_ok-send_on-in-Ok-clause-sends g c =
-    sends_one (role_of c.args.post.now) (values_of c.args.state.now) c.args.sending.now c.args.message.now c.args.named c.in-Ok.route c.args.station.now.desk c.send_on.new.station.desk.log
+    sends_one (role_of c.args.scene.now.post.now) (values_of c.args.state.now) c.args.sending.now c.args.message.now c.args.named c.in-Ok.route
+    c.args.station.now.desk c.send_on.new.station.desk.log
     c.requires.started c.requires.sent c.requires.named c.in-Ok.ensures.route c.in_ok-send_on-in-Ok.ensures.trace

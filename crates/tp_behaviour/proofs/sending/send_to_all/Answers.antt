@@ -13,13 +13,13 @@ pub fail-requires-clause-cause : goal.fail-requires-clause-cause
 fail-requires-clause-cause g c =
     let routes = c.in_ok-routes.routes in
     let long : length routes.items ≡ vec_len routes = omega (arith, routes.ok.0) in
-    cause_none (role_of c.args.post.now) (values_of c.args.state.now) c.args.sending.now c.args.message.now routes.items c.args.station.now.desk.log
+    cause_none (role_of c.args.scene.now.post.now) (values_of c.args.state.now) c.args.sending.now c.args.message.now routes.items c.args.station.now.desk.log
     c.requires.started c.requires.sent c.requires.all c.in_ok-routes.ensures.routes
     (no_items routes.items (vec_len routes) long (sym c.is_empty.ensures ∙ c.if-is_empty.true))
 
 -- each route from a port of the component has a sender
 pub send_on_each-requires-clause-known : goal.send_on_each-requires-clause-known
-send_on_each-requires-clause-known g c k d below =
+send_on_each-requires-clause-known g c κs within k d below =
     let xs = c.as_slice.result.now in
     let q = get_or xs k d in
     c.requires.manned.posted.ways c.args.sending.now.port q
@@ -34,5 +34,6 @@ returns-clause-sends g c =
     let after = c.send_on_each.new.station.desk.log in
     let long : length routes.items ≡ vec_len routes = omega (arith, routes.ok.0) in
     let each = subst (λ l. Grew (AllZip (IsSentOn x.port m) l) before after) c.as_slice.ensures.value (c.in_ok-send_on_each.ensures.each x.port c.requires.started) in
-    sends_all (role_of c.args.post.now) (values_of c.args.state.now) x m routes.items before after c.requires.sent c.requires.all c.in_ok-routes.ensures.routes
+    sends_all (role_of c.args.scene.now.post.now) (values_of c.args.state.now) x m routes.items before after c.requires.sent c.requires.all
+    c.in_ok-routes.ensures.routes
     (some_items routes.items (vec_len routes) long (sym c.is_empty.ensures ∙ c.if-is_empty.false)) each

@@ -31,186 +31,206 @@ execute-loop-place-init g t c = record {
   same = record { inbox = refl; ends = refl };
   held = c.requires.held;
   turns = refl;
-  passed = passed_start c.args.post.now c.args.block.now c.args.station.now c.args.state.now;
+  passed = passed_start c.args.scene.now.post.now c.args.block.statements.now c.args.station.now c.args.state.now;
 }
 
 pub execute-step-requires-clause-can : goal.execute-step-requires-clause-can
 execute-step-requires-clause-can g t c κs within =
-    plays_at (stage_at c.args.post.now) (depth_of c.loop-place.state) (depth_of c.args.state.now) c.args.block.now c.loop-place.place c.index-block-place.result
-    (ap length c.loop-place.invariant.turns) c.loop-place-test.true c.index-block-place.is c.requires.can
+    plays_at (stage_at c.args.scene.now.post.now) (depth_of c.loop-place.state) (depth_of c.args.state.now) c.args.block.statements.now c.loop-place.place
+    c.statement-item.result
+    (ap length c.loop-place.invariant.turns) c.loop-place-test.true c.statement-item.is c.requires.can
 
 pub execute-loop-place-preserved : goal.execute-loop-place-preserved
 execute-loop-place-preserved g t c =
     let step = c.in_ok-stop.ensures in
-    let done : Stepped c.args.post.now c.index-block-place.result outcome.Done c.loop-place.station c.loop-place.state c.step.new.station c.step.new.state = rw c.in-Done.is at step.ended in
+    let done : Stepped c.args.scene.now.post.now c.statement-item.result outcome.Done c.loop-place.station c.loop-place.state c.step.new.station
+    c.step.new.state = rw c.in-Done.is at step.ended in
     record {
       manned = step.manned;
       same = same_then c.args.station.now c.loop-place.station c.step.new.station c.loop-place.invariant.same step.same;
       held = step.held;
       turns = step.turns ∙ c.loop-place.invariant.turns;
       passed =
-          passed_more c.args.post.now c.args.block.now c.loop-place.place c.index-block-place.result c.args.station.now c.args.state.now c.loop-place.station c.loop-place.state
-          c.step.new.station c.step.new.state c.loop-place.invariant.turns c.loop-place-test.true c.index-block-place.is c.loop-place.invariant.passed done;
+          passed_more c.args.scene.now.post.now c.args.block.statements.now c.loop-place.place c.statement-item.result c.args.station.now c.args.state.now
+          c.loop-place.station c.loop-place.state
+          c.step.new.station c.step.new.state c.loop-place.invariant.turns c.loop-place-test.true c.statement-item.is c.loop-place.invariant.passed done;
     }
 
 pub execute-returns-in_default-clause-ended : goal.execute-returns-in_default-clause-ended
 execute-returns-in_default-clause-ended g t c =
-    passed_stop c.args.post.now c.args.block.now c.loop-place.place c.index-block-place.result c.in_ok-stop.stop c.args.station.now c.args.state.now
+    passed_stop c.args.scene.now.post.now c.args.block.statements.now c.loop-place.place c.statement-item.result c.in_ok-stop.stop c.args.station.now
+    c.args.state.now
     c.loop-place.station c.loop-place.state c.step.new.station c.step.new.state c.in_default.not-Done
-    c.loop-place.invariant.turns c.loop-place-test.true c.index-block-place.is c.loop-place.invariant.passed c.in_ok-stop.ensures.ended
+    c.loop-place.invariant.turns c.loop-place-test.true c.statement-item.is c.loop-place.invariant.passed c.in_ok-stop.ensures.ended
 
 pub execute-returns-clause-ended : goal.execute-returns-clause-ended
 execute-returns-clause-ended g t c =
-    passed_all c.args.post.now c.args.block.now c.loop-place.place c.args.station.now c.args.state.now c.loop-place.station c.loop-place.state
+    passed_all c.args.scene.now.post.now c.args.block.statements.now c.loop-place.place c.args.station.now c.args.state.now c.loop-place.station
+    c.loop-place.state
     c.loop-place-test.false c.loop-place.invariant.passed
 
 -- the ports are the same throughout
 pub execute-returns-in_default-clause-within : goal.execute-returns-in_default-clause-within
 execute-returns-in_default-clause-within g t c =
-    waits_from c.args.post.now c.args.station.now c.loop-place.station c.in_ok-stop.stop c.requires.manned c.loop-place.invariant.manned c.in_ok-stop.ensures.within
+    waits_from c.args.scene.now.post.now c.args.station.now c.loop-place.station c.in_ok-stop.stop c.requires.manned c.loop-place.invariant.manned
+    c.in_ok-stop.ensures.within
 
 -- the block of a branch
 pub branch-execute-requires-clause-can : goal.branch-execute-requires-clause-can
 branch-execute-requires-clause-can g t c κs within =
-    subst (CanPlayAll (stage_at c.args.post.now) (depth_of c.args.state.now)) (sym c.as_slice-block.ensures)
-    (plays_block (stage_at c.args.post.now) (depth_of c.args.state.now) c.args.branches.now c.args.place c.index-branches-place.result c.requires.can c.requires.within)
+    subst (CanPlayAll (stage_at c.args.scene.now.post.now) (depth_of c.args.state.now)) (sym c.as_slice.ensures)
+    (plays_block (stage_at c.args.scene.now.post.now) (depth_of c.args.state.now) c.args.alt.branches.now c.args.place c.index-alt-place.result c.requires.can
+    c.requires.within)
 
 pub branch-returns-clause-ended : goal.branch-returns-clause-ended
 branch-returns-clause-ended g t c =
-    let x = get_or c.args.branches.now c.args.place c.index-branches-place.result in
+    let x = get_or c.args.alt.branches.now c.args.place c.index-alt-place.result in
     IfOk-weaker c.execute.result _ _
     (λ o h. (
       x,
-      slice_get-get_or c.args.branches.now c.args.place c.index-branches-place.result c.requires.within,
-      subst (λ (l : List Statement). Executed c.args.post.now l o c.args.station.now c.args.state.now c.execute.new.station c.execute.new.state) c.as_slice-block.ensures h,
+      slice_get-get_or c.args.alt.branches.now c.args.place c.index-alt-place.result c.requires.within,
+      subst (λ (l : List Statement). Executed c.args.scene.now.post.now l o c.args.station.now c.args.state.now c.execute.new.station c.execute.new.state)
+          c.as_slice.ensures h,
     ))
     c.execute.ensures.ended
 
 -- each statement
 pub step-play_send-requires-clause-can : goal.step-play_send-requires-clause-can
-step-play_send-requires-clause-can g t c =
-    plays_send (stage_at c.args.post.now) (depth_of c.args.state.now) c.args.statement.now c.in-Send.sending c.in-Send.is c.requires.can
+step-play_send-requires-clause-can g t c κs within =
+    plays_send (stage_at c.args.scene.now.post.now) (depth_of c.args.state.now) c.args.statement.now c.in-Send.sending c.in-Send.is c.requires.can
 
 pub step-receive-requires-clause-can : goal.step-receive-requires-clause-can
 step-receive-requires-clause-can g t c κs within =
-    plays_receive (stage_at c.args.post.now) (depth_of c.args.state.now) c.args.statement.now c.in-Receive.receiving c.in-Receive.is c.requires.can
+    plays_receive (stage_at c.args.scene.now.post.now) (depth_of c.args.state.now) c.args.statement.now c.in-Receive.receiving c.in-Receive.is c.requires.can
 
 pub step-play_control-requires-clause-within : goal.step-play_control-requires-clause-within
 step-play_control-requires-clause-within g t c κs within =
-    plays_control (stage_at c.args.post.now) (depth_of c.args.state.now) c.args.statement.now c.in-Control.port c.in-Control.operation c.in-Control.is c.requires.can
+    plays_control (stage_at c.args.scene.now.post.now) (depth_of c.args.state.now) c.args.statement.now c.in-Control.port c.in-Control.operation
+    c.in-Control.is c.requires.can
 
 pub step-decide-requires-clause-can : goal.step-decide-requires-clause-can
 step-decide-requires-clause-can g t c κs within =
-    subst (CanEnterAll (stage_at c.args.post.now) (depth_of c.args.state.now)) (sym c.as_slice-branches.ensures)
-    (plays_alt (stage_at c.args.post.now) (depth_of c.args.state.now) c.args.statement.now c.in-Alt.branches c.in-Alt.otherwise c.in-Alt.is c.requires.can)
+    subst (CanEnterAll (stage_at c.args.scene.now.post.now) (depth_of c.args.state.now)) (sym c.as_slice.ensures)
+    (plays_alt (stage_at c.args.scene.now.post.now) (depth_of c.args.state.now) c.args.statement.now c.in-Alt.branches c.in-Alt.otherwise c.in-Alt.is
+    c.requires.can)
 
-pub step-branch-rt-requires-clause-within : goal.step-branch-rt-requires-clause-within
-step-branch-rt-requires-clause-within g t c κs within =
-    let there : IsWayOf c.as_slice-branches.result.now (way.Branch c.in-Branch.place) = rw c.in-Branch.is at c.in_ok-place-in-Alt.ensures.there in
-    slice_get_within c.as_slice-branches.result.now c.in-Branch.place there.0 there.1
+pub step-branch-scene-requires-clause-within : goal.step-branch-scene-requires-clause-within
+step-branch-scene-requires-clause-within g t c κs within =
+    let there : IsWayOf c.as_slice.result.now (way.Branch c.in-Branch.place) = rw c.in-Branch.is at c.in_ok-place-in-Alt.ensures.there in
+    slice_get_within c.as_slice.result.now c.in-Branch.place there.0 there.1
 
-pub step-branch-rt-requires-clause-can : goal.step-branch-rt-requires-clause-can
-step-branch-rt-requires-clause-can g t c κs within =
-    subst (λ n. CanEnterAll (stage_at c.args.post.now) n c.as_slice-branches.result.now) (sym (ap length c.in_ok-place-in-Alt.ensures.turns))
-    (subst (CanEnterAll (stage_at c.args.post.now) (depth_of c.args.state.now)) (sym c.as_slice-branches.ensures)
-    (plays_alt (stage_at c.args.post.now) (depth_of c.args.state.now) c.args.statement.now c.in-Alt.branches c.in-Alt.otherwise c.in-Alt.is c.requires.can))
+pub step-branch-scene-requires-clause-can : goal.step-branch-scene-requires-clause-can
+step-branch-scene-requires-clause-can g t c κs within =
+    subst (λ n. CanEnterAll (stage_at c.args.scene.now.post.now) n c.as_slice.result.now) (sym (ap length c.in_ok-place-in-Alt.ensures.turns))
+    (subst (CanEnterAll (stage_at c.args.scene.now.post.now) (depth_of c.args.state.now)) (sym c.as_slice.ensures)
+    (plays_alt (stage_at c.args.scene.now.post.now) (depth_of c.args.state.now) c.args.statement.now c.in-Alt.branches c.in-Alt.otherwise c.in-Alt.is
+    c.requires.can))
 
 pub step-execute-requires-clause-can : goal.step-execute-requires-clause-can
 step-execute-requires-clause-can g t c κs within =
     let whole = c.in-Alt.is ∙ ap (λ o. b.Alt c.in-Alt.branches o) c.in-Some.is in
-    subst (λ n. CanPlayAll (stage_at c.args.post.now) n c.as_slice-block.result.now) (sym (ap length c.in_ok-place-in-Alt.ensures.turns))
-    (subst (CanPlayAll (stage_at c.args.post.now) (depth_of c.args.state.now)) (sym c.as_slice-block.ensures)
-    (plays_else (stage_at c.args.post.now) (depth_of c.args.state.now) c.args.statement.now c.in-Alt.branches c.in-Some.block whole c.requires.can))
+    subst (λ n. CanPlayAll (stage_at c.args.scene.now.post.now) n c.as_slice-in-Some.result.now) (sym (ap length c.in_ok-place-in-Alt.ensures.turns))
+    (subst (CanPlayAll (stage_at c.args.scene.now.post.now) (depth_of c.args.state.now)) (sym c.as_slice-in-Some.ensures)
+    (plays_else (stage_at c.args.scene.now.post.now) (depth_of c.args.state.now) c.args.statement.now c.in-Alt.branches c.in-Some.block whole c.requires.can))
 
 pub step-turns-requires-clause-can : goal.step-turns-requires-clause-can
 step-turns-requires-clause-can g t c κs within =
-    subst (CanPlayAll (stage_at c.args.post.now) (depth_of c.args.state.now + 1)) (sym c.as_slice-block-in-For.ensures)
-    (plays_for (stage_at c.args.post.now) (depth_of c.args.state.now) c.args.statement.now c.in-For.first c.in-For.bound c.in-For.block c.in-For.is c.requires.can)
+    subst (CanPlayAll (stage_at c.args.scene.now.post.now) (depth_of c.args.state.now + 1)) (sym c.as_slice-in-For.ensures)
+    (plays_for (stage_at c.args.scene.now.post.now) (depth_of c.args.state.now) c.args.statement.now c.in-For.first c.in-For.bound c.in-For.block c.in-For.is
+    c.requires.can)
 
 -- what lasts of each statement, and of what it is made of
-pub execute-bounds-lasting-place : goal.execute-bounds-lasting-place
-execute-bounds-lasting-place g t c = omega (arith, zipped_long IsLasting c.args.block.now c.args.lasting.now c.requires.lasting, c.loop-place-test.true)
+pub execute-bounds-block-place : goal.execute-bounds-block-place
+execute-bounds-block-place g t c =
+    omega (arith, zipped_long IsLasting c.args.block.statements.now c.args.block.lasting.now c.requires.lasting, c.loop-place-test.true)
 
 pub execute-step-requires-clause-lasting : goal.execute-step-requires-clause-lasting
 execute-step-requires-clause-lasting g t c κs within =
-    let ls = c.args.lasting.now in
+    let ls = c.args.block.lasting.now in
     let i = c.loop-place.place in
-    let x = c.index-block-place.result in
-    let l = c.index-lasting-place.result in
-    subst (IsLasting x) (sym c.index-lasting-place.is)
-    (subst (λ (y : Statement). IsLasting y (get_or ls i l)) (sym c.index-block-place.is)
-    (zipped_get IsLasting c.args.block.now ls i x l c.requires.lasting c.loop-place-test.true))
+    let x = c.statement-item.result in
+    let l = c.index-block-place.result in
+    subst (λ (y : Statement). IsLasting y (get_or ls i l)) (sym c.statement-item.is)
+    (zipped_get IsLasting c.args.block.statements.now ls i x l c.requires.lasting c.loop-place-test.true)
 
-pub branch-bounds-lasting-place : goal.branch-bounds-lasting-place
-branch-bounds-lasting-place g t c = omega (arith, zipped_long IsLastingBranch c.args.branches.now c.args.lasting.now c.requires.lasting, c.requires.within)
+pub branch-bounds-alt-place-2 : goal.branch-bounds-alt-place-2
+branch-bounds-alt-place-2 g t c =
+    omega (arith, zipped_long IsLastingBranch c.args.alt.branches.now c.args.alt.lasting.now c.requires.lasting, c.requires.within)
 
 pub branch-execute-requires-clause-lasting : goal.branch-execute-requires-clause-lasting
 branch-execute-requires-clause-lasting g t c κs within =
-    let x = get_or c.args.branches.now c.args.place c.index-branches-place.result in
-    let l = get_or c.args.lasting.now c.args.place c.index-lasting-place.result in
-    subst (λ ls. AreLasting c.as_slice-block.result.now ls) (sym c.as_slice-kept.ensures)
-    (subst (λ xs. AreLasting xs (out-Lasting l).block) (sym c.as_slice-block.ensures)
+    let x = get_or c.args.alt.branches.now c.args.place c.index-alt-place.result in
+    let l = get_or c.args.alt.lasting.now c.args.place c.index-alt-place-2.result in
+    subst (λ ls. AreLasting c.as_slice.result.now ls) (sym c.as_slice-2.ensures)
+    (subst (λ xs. AreLasting xs (out-Lasting l).block) (sym c.as_slice.ensures)
     (lasts_block x l
-    (zipped_get IsLastingBranch c.args.branches.now c.args.lasting.now c.args.place c.index-branches-place.result c.index-lasting-place.result c.requires.lasting c.requires.within)))
+    (zipped_get IsLastingBranch c.args.alt.branches.now c.args.alt.lasting.now c.args.place c.index-alt-place.result c.index-alt-place-2.result
+    c.requires.lasting c.requires.within)))
 
 pub step-receive-requires-clause-lasting : goal.step-receive-requires-clause-lasting
-step-receive-requires-clause-lasting g t c κs within = lasts_receive c.args.statement.now c.args.lasting.now c.in-Receive.receiving c.in-Receive.is c.requires.lasting
+step-receive-requires-clause-lasting g t c κs within =
+    lasts_receive c.args.statement.now c.args.lasting.now c.in-Receive.receiving c.in-Receive.is c.requires.lasting
 
 pub step-decide-requires-clause-lasting : goal.step-decide-requires-clause-lasting
 step-decide-requires-clause-lasting g t c κs within =
-    subst (λ ls. AreLastingBranches c.as_slice-branches.result.now ls) (sym c.as_slice-kept.ensures)
-    (subst (λ xs. AreLastingBranches xs (out-Lasting c.args.lasting.now).branches) (sym c.as_slice-branches.ensures)
+    subst (λ ls. AreLastingBranches c.as_slice.result.now ls) (sym c.as_slice-in-Alt.ensures)
+    (subst (λ xs. AreLastingBranches xs (out-Lasting c.args.lasting.now).branches) (sym c.as_slice.ensures)
     (lasts_alt c.args.statement.now c.args.lasting.now c.in-Alt.branches c.in-Alt.otherwise c.in-Alt.is c.requires.lasting))
 
-pub step-branch-rt-requires-clause-lasting : goal.step-branch-rt-requires-clause-lasting
-step-branch-rt-requires-clause-lasting g t c κs within =
-    subst (λ ls. AreLastingBranches c.as_slice-branches.result.now ls) (sym c.as_slice-kept.ensures)
-    (subst (λ xs. AreLastingBranches xs (out-Lasting c.args.lasting.now).branches) (sym c.as_slice-branches.ensures)
+pub step-branch-scene-requires-clause-lasting : goal.step-branch-scene-requires-clause-lasting
+step-branch-scene-requires-clause-lasting g t c κs within =
+    subst (λ ls. AreLastingBranches c.as_slice.result.now ls) (sym c.as_slice-in-Alt.ensures)
+    (subst (λ xs. AreLastingBranches xs (out-Lasting c.args.lasting.now).branches) (sym c.as_slice.ensures)
     (lasts_alt c.args.statement.now c.args.lasting.now c.in-Alt.branches c.in-Alt.otherwise c.in-Alt.is c.requires.lasting))
 
 pub step-execute-requires-clause-lasting : goal.step-execute-requires-clause-lasting
 step-execute-requires-clause-lasting g t c κs within =
     let whole = c.in-Alt.is ∙ ap (λ o. b.Alt c.in-Alt.branches o) c.in-Some.is in
-    subst (λ ls. AreLasting c.as_slice-block.result.now ls) (sym c.as_slice-kept-in-Some.ensures)
-    (subst (λ xs. AreLasting xs (out-Lasting c.args.lasting.now).block) (sym c.as_slice-block.ensures)
+    subst (λ ls. AreLasting c.as_slice-in-Some.result.now ls) (sym c.as_slice-in-Some-2.ensures)
+    (subst (λ xs. AreLasting xs (out-Lasting c.args.lasting.now).block) (sym c.as_slice-in-Some.ensures)
     (lasts_else c.args.statement.now c.args.lasting.now c.in-Alt.branches c.in-Some.block whole c.requires.lasting))
 
 pub step-turns-requires-clause-lasting : goal.step-turns-requires-clause-lasting
 step-turns-requires-clause-lasting g t c κs within =
-    subst (λ ls. AreLasting c.as_slice-block-in-For.result.now ls) (sym c.as_slice-kept-in-For.ensures)
-    (subst (λ xs. AreLasting xs (out-Lasting c.args.lasting.now).block) (sym c.as_slice-block-in-For.ensures)
+    subst (λ ls. AreLasting c.as_slice-in-For.result.now ls) (sym c.as_slice-in-For-2.ensures)
+    (subst (λ xs. AreLasting xs (out-Lasting c.args.lasting.now).block) (sym c.as_slice-in-For.ensures)
     (lasts_for c.args.statement.now c.args.lasting.now c.in-For.first c.in-For.bound c.in-For.block c.in-For.is c.requires.lasting))
 
 -- what each statement comes to
 pub step-returns-in-Branch-clause-ended : goal.step-returns-in-Branch-clause-ended
 step-returns-in-Branch-clause-ended g t c =
     let decide = c.in_ok-place-in-Alt.ensures in
-    let decided : Decided c.args.post.now c.as_slice-branches.result.now c.is_some-has_else.result (way.Branch c.in-Branch.place) c.args.station.now c.args.state.now c.decide.new.station c.decide.new.state
+    let decided : Decided c.args.scene.now.post.now c.as_slice.result.now c.is_some.result (way.Branch c.in-Branch.place) c.args.station.now c.args.state.now
+    c.decide.new.station c.decide.new.state
     = rw c.in-Branch.is at decide.decided in
-    IfOk-weaker c.branch-rt.result _ _
-    (λ o h. step_branch c.args.post.now c.args.statement.now c.in-Alt.branches c.as_slice-branches.result.now c.in-Alt.otherwise c.is_some-has_else.result c.in-Branch.place o
-    c.args.station.now c.args.state.now c.decide.new.station c.decide.new.state c.branch-rt.new.station c.branch-rt.new.state
-    c.in-Alt.is c.as_slice-branches.ensures decide.turns decided h)
-    c.branch-rt.ensures.ended
+    IfOk-weaker c.branch-scene.result _ _
+    (λ o h. step_branch c.args.scene.now.post.now c.args.statement.now c.in-Alt.branches c.as_slice.result.now c.in-Alt.otherwise c.is_some.result
+    c.in-Branch.place o
+    c.args.station.now c.args.state.now c.decide.new.station c.decide.new.state c.branch-scene.new.station c.branch-scene.new.state
+    c.in-Alt.is c.as_slice.ensures decide.turns decided h)
+    c.branch-scene.ensures.ended
 
 pub step-returns-in-Some-clause-ended : goal.step-returns-in-Some-clause-ended
 step-returns-in-Some-clause-ended g t c =
     let decide = c.in_ok-place-in-Alt.ensures in
-    let decided : Decided c.args.post.now c.as_slice-branches.result.now c.is_some-has_else.result way.Else c.args.station.now c.args.state.now c.decide.new.station c.decide.new.state
+    let decided : Decided c.args.scene.now.post.now c.as_slice.result.now c.is_some.result way.Else c.args.station.now c.args.state.now c.decide.new.station
+    c.decide.new.state
     = rw c.in-Else.is at decide.decided in
     IfOk-weaker c.execute.result _ _
-    (λ o h. step_else c.args.post.now c.args.statement.now c.in-Alt.branches c.as_slice-branches.result.now c.in-Alt.otherwise c.in-Some.block c.as_slice-block.result.now c.is_some-has_else.result o
+    (λ o h. step_else c.args.scene.now.post.now c.args.statement.now c.in-Alt.branches c.as_slice.result.now c.in-Alt.otherwise c.in-Some.block
+    c.as_slice-in-Some.result.now c.is_some.result o
     c.args.station.now c.args.state.now c.decide.new.station c.decide.new.state c.execute.new.station c.execute.new.state
-    c.in-Alt.is c.in-Some.is c.as_slice-branches.ensures c.as_slice-block.ensures decide.turns decided h)
+    c.in-Alt.is c.in-Some.is c.as_slice.ensures c.as_slice-in-Some.ensures decide.turns decided h)
     c.execute.ensures.ended
 
 pub step-returns-in-Waits-clause-ended : goal.step-returns-in-Waits-clause-ended
 step-returns-in-Waits-clause-ended g t c =
     let decide = c.in_ok-place-in-Alt.ensures in
-    let decided : Decided c.args.post.now c.as_slice-branches.result.now c.is_some-has_else.result (way.Waits c.in-Waits.guards) c.args.station.now c.args.state.now c.decide.new.station c.decide.new.state
+    let decided : Decided c.args.scene.now.post.now c.as_slice.result.now c.is_some.result (way.Waits c.in-Waits.guards) c.args.station.now c.args.state.now
+    c.decide.new.station c.decide.new.state
     = rw c.in-Waits.is at decide.decided in
-    step_waits c.args.post.now c.args.statement.now c.in-Alt.branches c.as_slice-branches.result.now c.in-Alt.otherwise c.is_some-has_else.result c.in-Waits.guards
-    c.args.station.now c.args.state.now c.decide.new.station c.decide.new.state c.in-Alt.is c.as_slice-branches.ensures c.is_some-has_else.ensures decided
+    step_waits c.args.scene.now.post.now c.args.statement.now c.in-Alt.branches c.as_slice.result.now c.in-Alt.otherwise c.is_some.result c.in-Waits.guards
+    c.args.station.now c.args.state.now c.decide.new.station c.decide.new.state c.in-Alt.is c.as_slice.ensures c.is_some.ensures decided
 
 pub step-returns-in-For-clause-ended : goal.step-returns-in-For-clause-ended
 step-returns-in-For-clause-ended g t c =
@@ -219,16 +239,19 @@ step-returns-in-For-clause-ended g t c =
     let first = to_z w64 (of_z w64 c.in-For.first) in
     let bound = to_z w64 (of_z w64 c.in-For.bound) in
     IfOk-weaker c.turns.result
-    (λ o. Turned c.args.post.now first c.as_slice-block-in-For.result.now (turns_between first bound) o c.args.station.now c.args.state.now c.turns.new.station c.turns.new.state)
-    (λ o. Stepped c.args.post.now c.args.statement.now o c.args.station.now c.args.state.now c.turns.new.station c.turns.new.state)
-    (λ o h. step_for c.args.post.now c.args.statement.now c.in-For.first c.in-For.bound first bound c.in-For.block c.as_slice-block-in-For.result.now o
-    c.args.station.now c.args.state.now c.turns.new.station c.turns.new.state c.in-For.is (to_z-of_z w64 c.in-For.first low) (to_z-of_z w64 c.in-For.bound high) c.as_slice-block-in-For.ensures h)
+    (λ o. Turned c.args.scene.now.post.now first c.as_slice-in-For.result.now (turns_between first bound) o c.args.station.now c.args.state.now
+    c.turns.new.station c.turns.new.state)
+    (λ o. Stepped c.args.scene.now.post.now c.args.statement.now o c.args.station.now c.args.state.now c.turns.new.station c.turns.new.state)
+    (λ o h. step_for c.args.scene.now.post.now c.args.statement.now c.in-For.first c.in-For.bound first bound c.in-For.block c.as_slice-in-For.result.now o
+    c.args.station.now c.args.state.now c.turns.new.station c.turns.new.state c.in-For.is (to_z-of_z w64 c.in-For.first low)
+    (to_z-of_z w64 c.in-For.bound high) c.as_slice-in-For.ensures h)
     c.turns.ensures.ended
 
 -- the turns of a `for`
 pub turns-returns-then-is_empty-clause-ended : goal.turns-returns-then-is_empty-clause-ended
 turns-returns-then-is_empty-clause-ended g t c =
-    turned_empty c.args.post.now c.args.first c.args.block.now (turns_between c.args.first c.args.bound) c.args.station.now c.args.state.now (none_there c.args.block.now c.if-is_empty.ensures)
+    turned_empty c.args.scene.now.post.now c.args.values.start c.args.block.statements.now (turns_between c.args.values.start c.args.values.end)
+    c.args.station.now c.args.state.now (none_there c.args.block.statements.now c.if-is_empty.ensures)
 
 pub turns-loop-value-init : goal.turns-loop-value-init
 turns-loop-value-init g t c = record {
@@ -236,19 +259,20 @@ turns-loop-value-init g t c = record {
   same = record { inbox = refl; ends = refl };
   held = c.requires.held;
   turns = refl;
-  made = made_start c.args.post.now _ _ c.args.block.now c.args.station.now c.args.state.now;
+  made = made_start c.args.scene.now.post.now _ _ c.args.block.statements.now c.args.station.now c.args.state.now;
 }
 
 pub turns-loop-value-preserved : goal.turns-loop-value-preserved
 turns-loop-value-preserved g t c =
     let turn = c.in_ok-outcome.ensures in
-    let first = to_z w64 (of_z w64 c.args.first) in
-    let bound = to_z w64 (of_z w64 c.args.bound) in
+    let first = to_z w64 (of_z w64 c.args.values.start) in
+    let bound = to_z w64 (of_z w64 c.args.values.end) in
     let value = to_z w64 c.loop-value.value-bits in
     let next = to_z w64 (of_z w64 (value +ℤ pos 1)) in
     let below : value <ℤ bound = grind (arith, ints) in
     let is : next ≡ value +ℤ pos 1 = omega (arith, ints) in
-    let done : ExecutedIn c.args.post.now (c.loop-value.state.turns.items ++ value ∷ []) c.args.block.now outcome.Done c.loop-value.station c.loop-value.state c.turn.new.station c.turn.new.state
+    let done : ExecutedIn c.args.scene.now.post.now (c.loop-value.state.turns.items ++ value ∷ []) c.args.block.statements.now outcome.Done
+    c.loop-value.station c.loop-value.state c.turn.new.station c.turn.new.state
     = rw c.in-Done.is at turn.ended in
     record {
       manned = turn.manned;
@@ -256,7 +280,8 @@ turns-loop-value-preserved g t c =
       held = turn.held;
       turns = turn.turns ∙ c.loop-value.invariant.turns;
       made =
-          made_more c.args.post.now first value bound next c.args.block.now c.args.station.now c.args.state.now c.loop-value.station c.loop-value.state c.turn.new.station c.turn.new.state
+          made_more c.args.scene.now.post.now first value bound next c.args.block.statements.now c.args.station.now c.args.state.now c.loop-value.station
+          c.loop-value.state c.turn.new.station c.turn.new.state
           c.loop-value.invariant.turns below is c.loop-value.invariant.made done;
     }
 
@@ -269,25 +294,34 @@ turns-returns-in_default-clause-turns g t c = c.in_ok-outcome.ensures.turns ∙ 
 
 pub turns-returns-in_default-clause-ended : goal.turns-returns-in_default-clause-ended
 turns-returns-in_default-clause-ended g t c =
-    let first = to_z w64 (of_z w64 c.args.first) in
-    let bound = to_z w64 (of_z w64 c.args.bound) in
+    let first = to_z w64 (of_z w64 c.args.values.start) in
+    let bound = to_z w64 (of_z w64 c.args.values.end) in
+    let low : SFits w64 c.args.values.start = search rules in
+    let high : SFits w64 c.args.values.end = search rules in
     let value = to_z w64 c.loop-value.value-bits in
     let below : value <ℤ bound = grind (arith, ints) in
-    turned_as c.args.post.now c.in_ok-outcome.outcome c.args.block.now first c.args.first bound c.args.bound c.args.station.now c.args.state.now c.turn.new.station c.turn.new.state
-    (to_z-of_z w64 c.args.first c.ranges.first) (to_z-of_z w64 c.args.bound c.ranges.bound)
-    (made_stop c.args.post.now first value bound c.args.block.now c.in_ok-outcome.outcome c.args.station.now c.args.state.now c.loop-value.station c.loop-value.state
+    turned_as c.args.scene.now.post.now c.in_ok-outcome.outcome c.args.block.statements.now first c.args.values.start bound c.args.values.end
+    c.args.station.now c.args.state.now c.turn.new.station c.turn.new.state
+    (to_z-of_z w64 c.args.values.start low) (to_z-of_z w64 c.args.values.end high)
+    (made_stop c.args.scene.now.post.now first value bound c.args.block.statements.now c.in_ok-outcome.outcome c.args.station.now c.args.state.now
+    c.loop-value.station c.loop-value.state
     c.turn.new.station c.turn.new.state c.in_default.not-Done c.loop-value.invariant.turns below c.loop-value.invariant.made c.in_ok-outcome.ensures.ended)
 
 pub turns-returns-in_default-clause-within : goal.turns-returns-in_default-clause-within
 turns-returns-in_default-clause-within g t c =
-    waits_from c.args.post.now c.args.station.now c.loop-value.station c.in_ok-outcome.outcome c.requires.manned c.loop-value.invariant.manned c.in_ok-outcome.ensures.within
+    waits_from c.args.scene.now.post.now c.args.station.now c.loop-value.station c.in_ok-outcome.outcome c.requires.manned c.loop-value.invariant.manned
+    c.in_ok-outcome.ensures.within
 
 pub turns-returns-clause-ended : goal.turns-returns-clause-ended
 turns-returns-clause-ended g t c =
-    let first = to_z w64 (of_z w64 c.args.first) in
-    let bound = to_z w64 (of_z w64 c.args.bound) in
+    let first = to_z w64 (of_z w64 c.args.values.start) in
+    let bound = to_z w64 (of_z w64 c.args.values.end) in
+    let low : SFits w64 c.args.values.start = search rules in
+    let high : SFits w64 c.args.values.end = search rules in
     let value = to_z w64 c.loop-value.value-bits in
     let above : bound ≤ℤ value = grind (arith, ints) in
-    turned_as c.args.post.now outcome.Done c.args.block.now first c.args.first bound c.args.bound c.args.station.now c.args.state.now c.loop-value.station c.loop-value.state
-    (to_z-of_z w64 c.args.first c.ranges.first) (to_z-of_z w64 c.args.bound c.ranges.bound)
-    (made_all c.args.post.now first value bound c.args.block.now c.args.station.now c.args.state.now c.loop-value.station c.loop-value.state above c.loop-value.invariant.made)
+    turned_as c.args.scene.now.post.now outcome.Done c.args.block.statements.now first c.args.values.start bound c.args.values.end c.args.station.now
+    c.args.state.now c.loop-value.station c.loop-value.state
+    (to_z-of_z w64 c.args.values.start low) (to_z-of_z w64 c.args.values.end high)
+    (made_all c.args.scene.now.post.now first value bound c.args.block.statements.now c.args.station.now c.args.state.now c.loop-value.station
+    c.loop-value.state above c.loop-value.invariant.made)

@@ -1,27 +1,47 @@
--- How far a block, and the turns of a `for`, have come.
-use Rattle.std.proofs.Common.{◌≡◌}
+-- How far a block, and the turns of a `for`, have come, and how much of a body is left.
+use Rattle.std.proofs.Common.{◌≡◌, ◌+◌, ◌*◌, of_z, to_z, w64}
+use denote.Param.Weighed.{most}
+use Rattle.tp_body.proofs.body.Branch.TheLaws.{the_size as branch_size}
+use Rattle.tp_body.proofs.body.Statement.TheLaws.{the_size}
 use Rattle.tp_behaviour.specs.Outcomes.{HoldsAsDeclared}
 use Rattle.tp_behaviour.specs.Stations.{IsManned, IsSame, role_of}
 use Rattle.tp_behaviour.proofs.Executed.{Passed}
 use Rattle.tp_behaviour.proofs.Turned.{TurnsMade}
 use Rattle.tp_behaviour.proofs.statements.+statements.Given as goal
 
+-- how deep what is left goes, and of several with the same block which calls the other
+abbrev pub decreases-execute : goal.decreases-execute
+decreases-execute g l = 4 * most the_size l.block.statements.now + 1
+
+abbrev pub decreases-turn : goal.decreases-turn
+decreases-turn g l = 4 * most the_size l.block.statements.now + 2
+
+abbrev pub decreases-turns : goal.decreases-turns
+decreases-turns g l = 4 * most the_size l.block.statements.now + 3
+
+abbrev pub decreases-step : goal.decreases-step
+decreases-step g l = 4 * goal.size-step g l
+
+abbrev pub decreases-branch : goal.decreases-branch
+decreases-branch g l = 4 * most branch_size l.alt.branches.now
+
 -- the statements so far were carried out
 abbrev pub invariant-execute-loop-place : goal.invariant-execute-loop-place
 invariant-execute-loop-place g l = record {
-  manned : IsManned (role_of l.post) l.station;
+  manned : IsManned (role_of l.scene.post.now) l.station;
   same : IsSame l.initial.station l.station;
-  held : HoldsAsDeclared l.post l.state;
+  held : HoldsAsDeclared l.scene.post.now l.state;
   turns : l.state.turns.items ≡ l.initial.state.turns.items;
-  passed : Passed l.post l.block l.place l.initial.station l.initial.state l.station l.state;
+  passed : Passed l.scene.post.now l.block.statements.now l.place l.initial.station l.initial.state l.station l.state;
 }
 
 -- the turns so far were made
 abbrev pub invariant-turns-loop-value : goal.invariant-turns-loop-value
 invariant-turns-loop-value g l = record {
-  manned : IsManned (role_of l.post) l.station;
+  manned : IsManned (role_of l.scene.post.now) l.station;
   same : IsSame l.initial.station l.station;
-  held : HoldsAsDeclared l.post l.state;
+  held : HoldsAsDeclared l.scene.post.now l.state;
   turns : l.state.turns.items ≡ l.initial.state.turns.items;
-  made : TurnsMade l.post l.first l.value l.bound l.block l.initial.station l.initial.state l.station l.state;
+  made : TurnsMade l.scene.post.now (to_z w64 (of_z w64 l.fn.values.start)) l.value (to_z w64 (of_z w64 l.fn.values.end)) l.block.statements.now
+      l.initial.station l.initial.state l.station l.state;
 }

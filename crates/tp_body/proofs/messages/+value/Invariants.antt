@@ -6,14 +6,15 @@ use Rattle.tp_body.proofs.Entries.{Filled}
 use Rattle.tp_body.proofs.messages.+value.Given as goal
 
 abbrev pub invariant-resolve_elements-loop-value : goal.invariant-resolve_elements-loop-value
-invariant-resolve_elements-loop-value l = AreElements l.context.types.now (texts l.context.turns.now) l.ty (take l.value-index l.values) l.made
+invariant-resolve_elements-loop-value l = AreElements l.context.scope.now.types.now (texts l.context.turns.now) l.ty (take l.value-index l.values) l.made
 
 abbrev pub invariant-resolve_fields-loop-index : goal.invariant-resolve_fields-loop-index
-invariant-resolve_fields-loop-index l = AreFields l.context.types.now (texts l.context.turns.now) (take l.index l.fields) (take l.index l.values) l.made
+invariant-resolve_fields-loop-index l =
+    AreFields l.context.scope.now.types.now (texts l.context.turns.now) (take l.index l.fields) (take l.index l.values) l.made
 
 abbrev pub invariant-resolve_named-loop-index : goal.invariant-resolve_named-loop-index
 invariant-resolve_named-loop-index l = record {
   as_many : length l.made.items ≡ length l.fields;
-  filled : Filled (λ x. string_bytes x.name) (λ f x. IsValue l.context.types.now (texts l.context.turns.now) f.ty x.value)
+  filled : Filled (λ x. string_bytes x.name) (λ f x. IsValue l.context.scope.now.types.now (texts l.context.turns.now) f.ty x.value)
       l.entries l.fields l.places.items l.index l.made.items;
 }

@@ -8,7 +8,7 @@ use Rattle.tp_body.proofs.StatementRules.{block_more, branches_more, statement_f
 use Rattle.tp_body.proofs.statements.+statement.Goals as goal
 
 pub resolve_block-loop-statement-init : goal.resolve_block-loop-statement-init
-resolve_block-loop-statement-init t c = rw c.new-made.ensures (no_statement (texts c.args.turns.now))
+resolve_block-loop-statement-init t c = rw c.new-made.ensures (no_statement (texts c.args.context.now.turns.now))
 
 pub resolve_block-loop-statement-preserved : goal.resolve_block-loop-statement-preserved
 resolve_block-loop-statement-preserved t c =
@@ -16,7 +16,7 @@ resolve_block-loop-statement-preserved t c =
     (omega arith) c.statement-item.is c.loop-statement.invariant c.in_ok-one.ensures)
 
 pub resolve_branches-loop-branch-init : goal.resolve_branches-loop-branch-init
-resolve_branches-loop-branch-init t c = rw c.new-made.ensures (no_branch (texts c.args.turns.now))
+resolve_branches-loop-branch-init t c = rw c.new-made.ensures (no_branch (texts c.args.context.now.turns.now))
 
 pub resolve_branches-loop-branch-preserved : goal.resolve_branches-loop-branch-preserved
 resolve_branches-loop-branch-preserved t c =
@@ -24,17 +24,17 @@ resolve_branches-loop-branch-preserved t c =
     (omega arith) c.branch-item.is c.loop-branch.invariant c.in_ok-one.ensures)
 
 pub resolve_branch-returns : goal.resolve_branch-returns
-resolve_branch-returns t c = branch (texts c.args.turns.now) c.args.branch.now _ c.in_ok-receiving.ensures c.in_ok-block.ensures
+resolve_branch-returns t c = branch (texts c.args.context.now.turns.now) c.args.branch.now _ c.in_ok-receiving.ensures c.in_ok-block.ensures
 
 pub resolve_statement-returns-in_ok-block-in-For : goal.resolve_statement-returns-in_ok-block-in-For
 resolve_statement-returns-in_ok-block-in-For t c =
     let looped = out-Counted c.in-For.looped in
-    let new : IsNew c.args.scope.now c.args.variables.now (texts c.args.turns.now) (string_bytes looped.turns.name) =
-    rw c.as_str-name.ensures.value at c.is_new.ensures c.if-not-is_new.false in
-    let row : texts c.deref-in-For.result.now ≡ texts c.args.turns.now ++ string_bytes looped.turns.name ∷ [] =
-    ap texts c.deref-in-For.ensures.value ∙ c.in_ok-inside-in-For.ensures ∙ ap (λ x. texts c.args.turns.now ++ x ∷ []) c.as_str-name.ensures.value in
-    let inside : IsBlock c.args.scope.now c.args.variables.now (texts c.args.turns.now ++ string_bytes looped.turns.name ∷ [])
-    looped.block.items c.in_ok-block-in-For.block =
+    let scope = c.args.context.now.scope.now in
+    let variables = c.args.context.now.variables.now in
+    let turns = texts c.args.context.now.turns.now in
+    let new : IsNew scope variables turns (string_bytes looped.turns.name) = rw c.as_str-name.ensures.value at c.is_new.ensures c.if-not-is_new.false in
+    let row : texts c.deref-in-For.result.now ≡ turns ++ string_bytes looped.turns.name ∷ [] =
+    ap texts c.deref-in-For.ensures.value ∙ c.in_ok-inside-in-For.ensures ∙ ap (λ x. turns ++ x ∷ []) c.as_str-name.ensures.value in
+    let inside : IsBlock scope variables (turns ++ string_bytes looped.turns.name ∷ []) looped.block.items c.in_ok-block-in-For.block =
     rw (sym row, sym c.deref-in-For-2.ensures.value) c.in_ok-block-in-For.ensures in
-    rw c.counted.ensures (statement_for c.args.scope.now c.args.variables.now (texts c.args.turns.now) c.args.action.now c.in-For.looped
-    c.in_ok-block-in-For.block c.in-For.is new inside)
+    rw c.counted.ensures (statement_for scope variables turns c.args.action.now c.in-For.looped c.in_ok-block-in-For.block c.in-For.is new inside)

@@ -5,7 +5,9 @@ use Rattle.tp_body.specs.Bodies.{IsBlock, AreBranches}
 use Rattle.tp_body.proofs.statements.+statement.Given as goal
 
 abbrev pub invariant-resolve_block-loop-statement : goal.invariant-resolve_block-loop-statement
-invariant-resolve_block-loop-statement l = IsBlock l.scope l.variables (texts l.turns) (take l.statement-index l.block) l.made
+invariant-resolve_block-loop-statement l =
+    IsBlock l.context.scope.now l.context.variables.now (texts l.context.turns.now) (take l.statement-index l.block) l.made
 
 abbrev pub invariant-resolve_branches-loop-branch : goal.invariant-resolve_branches-loop-branch
-invariant-resolve_branches-loop-branch l = AreBranches l.scope l.variables (texts l.turns) (take l.branch-index l.branches) l.made
+invariant-resolve_branches-loop-branch l =
+    AreBranches l.context.scope.now l.context.variables.now (texts l.context.turns.now) (take l.branch-index l.branches) l.made

@@ -1,5 +1,5 @@
 -- The next template stands for what is made of it, and at the end each field has one.
-use Rattle.std.proofs.Common.{◌≡◌, ◌≤◌, length, arith, ap, ◌∙◌, refl, map, slice_get, Some, string_bytes, get_or}
+use Rattle.std.proofs.Common.{◌≡◌, ◌≤◌, length, arith, ap, ◌∙◌, refl, map, slice_get, Some, string_bytes, get_or, rules}
 use Rattle.std.proofs.lemmas.Option.{slice_get_read}
 use Rattle.std.proofs.lemmas.List.{length-set, length-map}
 use Rattle.tp_name.specs.Named.{texts}
@@ -31,7 +31,7 @@ pub resolve_named_templates-index_mut-requires : goal.resolve_named_templates-in
 resolve_named_templates-index_mut-requires t c = omega (arith, c.in-Some.ensures.lookup.3.0, c.loop-index.invariant.as_many, c.loop-index.made.ok.0)
 
 pub resolve_named_templates-loop-index-init : goal.resolve_named_templates-loop-index-init
-resolve_named_templates-loop-index-init t c = record { as_many = c.in_ok-made.ensures; filled = λ i k below there. absurd (omega (arith, below)) }
+resolve_named_templates-loop-index-init t c = record { as_many = search rules; filled = λ i k below there. absurd (omega (arith, below)) }
 
 pub resolve_named_templates-loop-index-preserved : goal.resolve_named_templates-loop-index-preserved
 resolve_named_templates-loop-index-preserved t c =
@@ -50,7 +50,7 @@ resolve_named_templates-loop-index-preserved t c =
     record {
       as_many = length-set c.loop-index.made.items c.index-place.result.now c.in_ok-one.one ∙ i.as_many;
       filled =
-          filled_more (λ x. string_bytes x.name) (λ f x. IsTemplate c.args.context.now.types.now (texts c.args.context.now.turns.now) f.ty x.template)
+          filled_more (λ x. string_bytes x.name) (λ f x. IsTemplate c.args.context.now.scope.now.types.now (texts c.args.context.now.turns.now) f.ty x.template)
           c.args.entries.now c.args.fields.now
           c.in_ok-places.places.items c.loop-index.index c.loop-index.made.items c.index-place.result.now c.in_ok-one.one c.in-Some.field.now
           c.index-entries-index.result placing i.as_many is_place is_field is_entry c.in_ok-one.ensures i.filled;
@@ -63,7 +63,7 @@ resolve_named_templates-returns-clause-named t c =
     rw (ap texts c.deref.ensures.value ∙ c.in_ok-names.ensures) at c.in_ok-places.ensures in
     let end : length c.in_ok-places.places.items ≤ c.loop-index.index =
     omega (arith, placing.as_many, length-map c.args.entries.now (λ x. string_bytes x.name)) in
-    let types = c.args.context.now.types.now in
+    let types = c.args.context.now.scope.now.types.now in
     let turns = texts c.args.context.now.turns.now in
     rw c.from_vec.ensures (in_order (λ x. string_bytes x.name) (λ f x. IsTemplate types turns f.ty x.template) c.args.entries.now c.args.fields.now
     (AreNamedTemplates types turns c.args.entries.now) (no_name_template c.args.entries.now)

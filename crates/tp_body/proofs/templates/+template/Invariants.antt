@@ -7,18 +7,18 @@ use Rattle.tp_body.proofs.templates.+template.Given as goal
 
 abbrev pub invariant-resolve_element_templates-loop-member : goal.invariant-resolve_element_templates-loop-member
 invariant-resolve_element_templates-loop-member l =
-    AreElementTemplates l.context.types.now (texts l.context.turns.now) l.ty (take l.member-index l.members) l.made
+    AreElementTemplates l.context.scope.now.types.now (texts l.context.turns.now) l.ty (take l.member-index l.members) l.made
 
 abbrev pub invariant-resolve_field_templates-loop-index : goal.invariant-resolve_field_templates-loop-index
 invariant-resolve_field_templates-loop-index l =
-    AreFieldTemplates l.context.types.now (texts l.context.turns.now) (take l.index l.fields) (take l.index l.members) l.made
+    AreFieldTemplates l.context.scope.now.types.now (texts l.context.turns.now) (take l.index l.fields) (take l.index l.members) l.made
 
 abbrev pub invariant-resolve_named_templates-loop-index : goal.invariant-resolve_named_templates-loop-index
 invariant-resolve_named_templates-loop-index l = record {
   as_many : length l.made.items ≡ length l.fields;
-  filled : Filled (λ x. string_bytes x.name) (λ f x. IsTemplate l.context.types.now (texts l.context.turns.now) f.ty x.template)
+  filled : Filled (λ x. string_bytes x.name) (λ f x. IsTemplate l.context.scope.now.types.now (texts l.context.turns.now) f.ty x.template)
       l.entries l.fields l.places.items l.index l.made.items;
 }
 
 abbrev pub invariant-resolve_members-loop-member : goal.invariant-resolve_members-loop-member
-invariant-resolve_members-loop-member l = AreMembers l.context.types.now (texts l.context.turns.now) l.ty (take l.member-index l.members) l.made
+invariant-resolve_members-loop-member l = AreMembers l.context.scope.now.types.now (texts l.context.turns.now) l.ty (take l.member-index l.members) l.made

@@ -1,9 +1,8 @@
 -- The component has nothing to do, or goes into its thread with all that it needs there.
 use denote.Param.Send.{sendable}
 use Rattle.std.proofs.Crossing.{crosses}
-use Rattle.tp_inbox.proofs.Crossing.{floor_sync, closer_sync}
 use Rattle.tp_script.proofs.Crossing.{test_case_sync}
-use Rattle.tp_exec.proofs.Crossing.{seven_send, station_send, played_send}
+use Rattle.tp_exec.proofs.Crossing.{hall_sync, station_send, played_send}
 use Rattle.tp_exec.proofs.Returned.{busy_where_some, idle_where_none}
 use Rattle.tp_exec.proofs.threads.set_out.Goals as goal
 
@@ -13,7 +12,7 @@ returns-then-is_none-clause-seat g c =
     c.idle.ensures.returned made c.requires (idle_where_none made c.args.station c.comp.result c.body.result c.requires c.comp.ensures c.body.ensures.duty c.if-is_none.ensures)
 
 pub spawn_with-requires-send-F : goal.spawn_with-requires-send-F
-spawn_with-requires-send-F g c κs within = search (seven_send, sendable, crosses, station_send, test_case_sync, floor_sync, closer_sync) depth 30 fits 20000
+spawn_with-requires-send-F g c κs within = search (sendable, crosses, station_send, test_case_sync, hall_sync) depth 30 fits 20000
 
 pub spawn_with-requires-send-T : goal.spawn_with-requires-send-T
 spawn_with-requires-send-T g c κs within = search (sendable, crosses, played_send) depth 30 fits 20000

@@ -7,4 +7,4 @@ pub returns-clause-added : goal.returns-clause-added
 returns-clause-added c =
     rw c.in-Some.is
     (adds_more c.args.types.now [] _ c.args.config.now c.args.config.now c.add_component.new.config (adds_none c.args.types.now c.args.config.now)
-    (rw c.as_str-type_name.ensures.value at c.in_ok-number.ensures.added))
+    (rw c.as_str.ensures.value at c.in_ok-number.ensures.added))

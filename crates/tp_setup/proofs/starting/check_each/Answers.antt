@@ -17,8 +17,9 @@ loop-start-preserved c =
     (record {
       started = zip_more (IsStarted (functions_in c.args.sorted.now) c.args.variables.now (map (λ t. t.now) c.args.types.now)) xs c.loop-start.started.items i x
           c.in_ok-one.one (omega arith) c.start-item.is
-          c.loop-start.invariant.started c.in_ok-one.ensures.started;
-      names = c.in_ok-one.ensures.added ∙ ap (λ l. l ++ string_bytes x.component ∷ []) c.loop-start.invariant.names ∙ sym (map_push name (take i xs) x)
+          c.loop-start.invariant.started c.in_ok-one.ensures;
+      names = c.in_ok-add_started.ensures.added ∙ ap (λ l. l ++ string_bytes x.component ∷ []) c.loop-start.invariant.names
+          ∙ sym (map_push name (take i xs) x)
           ∙ ap (map name) (pushed xs i x (omega arith) c.start-item.is);
-      distinct = c.in_ok-one.ensures.distinct;
+      distinct = c.in_ok-add_started.ensures.distinct;
     })

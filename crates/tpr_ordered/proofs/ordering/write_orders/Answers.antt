@@ -9,5 +9,5 @@ loop-order-init g c = none
 
 pub loop-order-preserved : goal.loop-order-preserved
 loop-order-preserved g c =
-    written_more c.args.test_case.now _ _ _ c.args.orders.now c.loop-order.order-index c.order-item.result (omega arith) c.order-item.is
+    written_more c.args.trial.now.test_case.now _ _ _ c.args.orders.now c.loop-order.order-index c.order-item.result (omega arith) c.order-item.is
     c.loop-order.invariant c.in_ok-write_order.ensures

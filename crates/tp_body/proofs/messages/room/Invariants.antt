@@ -1,6 +1,0 @@
--- There are as many values as were counted so far.
-use Rattle.std.proofs.Common.{◌≡◌, length}
-use Rattle.tp_body.proofs.messages.room.Given as goal
-
-abbrev pub invariant-loop : goal.invariant-loop
-invariant-loop l = length l.made.items ≡ l.counter

@@ -1,7 +1,0 @@
--- The functions so far are sorted out, with their names.
-use Rattle.std.proofs.Common.{map, take}
-use Rattle.tp_setup.specs.Sorted.{Functions}
-use Rattle.tp_setup.proofs.sorted.sort_functions.Given as goal
-
-abbrev pub invariant-loop-definition : goal.invariant-loop-definition
-invariant-loop-definition l = Functions (take l.definition-index l.definitions) l.names (map (λ x. x.now) l.functions.items)
