@@ -2,14 +2,18 @@
 # it was asked for. `observe`, `judge`, `count`, `at_least` and `set_up` are those of ./test, `must` is that
 # of tests/command_line.sh.
 
-# The toolchain's command of these tests. The program that it makes prints its words and ends with 7.
+# The toolchain's command of these tests. The program that it makes prints its words and ends with 7. Files
+# beside the crates make it refuse a crate, fail once it has made the program, or edit a source meanwhile.
 write_rt() { # FILE
     cat >"$1" <<'RT'
 #!/bin/sh
-echo "rt was asked: $*"
+crate=${PWD##*/}
+echo "rt was asked in $crate: $*"
+if [ -e "../refused in $crate" ]; then exit 2; fi
 mkdir -p out/rlib && touch out/rlib/stamp
-if [ -e ../fails ]; then exit 2; fi
+if [ -e ../edits ]; then rm ../edits && sleep 0.1 && touch ../low/src/lib.rt; fi
 if [ "$1" = run ]; then printf '#!/bin/sh\nprintf "%%s;" "$@"\nexit 7\n' >out/tpr && chmod +x out/tpr; fi
+if [ -e "../fails in $crate" ]; then exit 2; fi
 RT
     chmod +x "$1"
 }
@@ -18,14 +22,14 @@ RT
 # one of which has no `rt`.
 make_tree() {
     local crate command
-    mkdir -p tree commands/without_rt commands/rt || return
-    cp -- "$root/tpr" "$root/build" tree/ || return
-    printf 'low: thiserror\nbeside: low\ntpr may_wait=5: low\n' >tree/crates.txt
+    mkdir -p "a tree" commands/without_rt commands/rt || return
+    cp -- "$root/tpr" "$root/build" "a tree/" || return
+    printf 'low: thiserror\nbeside: low\ntpr may_wait=5: low\n' >"a tree/crates.txt"
     for crate in low beside tpr; do
-        mkdir -p "tree/crates/$crate/"{src,specs,proofs}
-        touch "tree/crates/$crate/"{src/lib.rt,src/more.rt,specs/Lib.antt,proofs/Lib.antt}
+        mkdir -p "a tree/crates/$crate/"{src,specs,proofs} || return
+        touch "a tree/crates/$crate/"{src/lib.rt,src/more.rt,specs/Lib.antt,proofs/Lib.antt} || return
     done
-    for command in bash chmod date env find mkdir readlink sh tail touch; do
+    for command in bash chmod env find flock mkdir mv readlink rm sh sleep tail touch; do
         ln -s -- "$(command -v "$command")" "commands/without_rt/$command" || return
     done
     write_rt commands/rt/rt
@@ -44,52 +48,63 @@ builds() { # NAME PROGRAM SAID..
     must "$name" 7 'run;a file;' "$said"
 }
 
-# The program could not be built, and nothing was printed.
+# The program was not built, and didn't run.
 fails_to_build() { # NAME FOLDER OF rt, SAID..
     local said
-    call_tpr "$2" tree/tpr
+    call_tpr "$2" "a tree/tpr"
     printf -v said '%s\n' "${@:3}"
     must "$1" 1 '' "$said"
 }
 
 builds_what_is_newer() {
-    local log="what the build says is written to $PWD/tree/out/build.log"
+    local log="what the build says is written to $PWD/a tree/out/build.log"
     local first="building the program. A first build proves it too and takes about 25 minutes"
-    local again="a source is newer than the program, which is built again"
+    local again="a source is newer than the last build of the program, which is built again"
     local low="crate 1 of 2, low; 0 minutes so far" last="crate 2 of 2, tpr; 0 minutes so far"
+    local asked_low="rt was asked in low: lib" asked_last="rt was asked in tpr: run -- queue"
+    local ended="tpr: the build failed; all that it said is in $PWD/a tree/out/build.log"
+    local crates="a tree/crates" tpr="a tree/tpr"
     set_up "there is a tree of three crates" make_tree || return
-
     fails_to_build "a first build without the toolchain" without_rt \
         "tpr: the program has to be built, and the toolchain's command rt is not on PATH"
-    builds "a first build" tree/tpr "$first" "$log" "$low" "$last"
-    builds "nothing is newer" tree/tpr
-    ln -s -- "$PWD/tree/tpr" link
+    builds "a first build" "$tpr" "$first" "$log" "$low" "$last"
+    observe cat "a tree/out/build.log"
+    must "what rt was asked" 0 "$asked_low"$'\n'"$asked_last"$'\n' ''
+    builds "nothing is newer" "$tpr"
+    ln -s -- "$PWD/a tree/tpr" link
     builds "the program by a link" ./link
-    touch tree/crates/low/proofs/Lib.antt
-    builds "a newer proof" tree/tpr
-    touch tree/crates/beside/src/lib.rt
-    builds "a newer crate on which tpr doesn't stand" tree/tpr
-    touch tree/crates/tpr/specs/Lib.antt
-    builds "a newer definition of tpr" tree/tpr "$again" "$log" "$last"
-    touch tree/crates/low/src/lib.rt
-    builds "a newer source below tpr" tree/tpr "$again" "$log" "$low" "$last"
-    rm tree/crates/low/src/more.rt
-    builds "a source taken away" tree/tpr "$again" "$log" "$low" "$last"
-    touch tree/crates.txt
-    builds "a newer list of crates" tree/tpr "$again" "$log" "$low" "$last"
-    touch tree/crates/fails tree/crates/tpr/src/lib.rt
-    fails_to_build "a build that fails" rt "tpr: $again" "tpr: $log" "tpr: $last" \
-        "rt was asked: run -- queue" \
-        "tpr: the build failed; all that it said is in $PWD/tree/out/build.log"
-    fails_to_build "and fails again" rt "tpr: $again" "tpr: $log" "tpr: $last" \
-        "rt was asked: run -- queue" \
-        "tpr: the build failed; all that it said is in $PWD/tree/out/build.log"
-    rm tree/crates/fails
-    builds "once it fails no longer" tree/tpr "$again" "$log" "$last"
+    touch "$crates/low/proofs/Lib.antt"
+    builds "a newer proof" "$tpr"
+    touch "$crates/tpr/specs/Lib.antt"
+    builds "a newer definition of tpr" "$tpr" "$again" "$log" "$last"
+    touch "$crates/low/src/lib.rt"
+    builds "a newer source below tpr" "$tpr" "$again" "$log" "$low" "$last"
+    rm "$crates/low/src/more.rt"
+    builds "a source taken away" "$tpr" "$again" "$log" "$low" "$last"
+    touch "a tree/crates.txt"
+    builds "a newer list of crates" "$tpr" "$again" "$log" "$low" "$last"
+    touch "$crates/edits" "$crates/tpr/src/lib.rt"
+    builds "a source below tpr is edited while tpr is built" "$tpr" "$again" "$log" "$last"
+    builds "and counts as newer" "$tpr" "$again" "$log" "$low" "$last"
+    touch "$crates/refused in low" "$crates/low/src/lib.rt"
+    fails_to_build "a crate below tpr is refused" rt "tpr: $again" "tpr: $log" "tpr: $low" "$asked_low" "$ended"
+    rm "$crates/refused in low"
+    builds "once it is no longer" "$tpr" "$again" "$log" "$low" "$last"
+    touch "$crates/fails in tpr" "$crates/tpr/src/lib.rt"
+    fails_to_build "the program is made, and its first run fails" rt \
+        "tpr: $again" "tpr: $log" "tpr: $last" "$asked_last" "$ended"
+    fails_to_build "and fails again" rt "tpr: $again" "tpr: $log" "tpr: $last" "$asked_last" "$ended"
+    rm "$crates/fails in tpr"
+    builds "once it fails no longer" "$tpr" "$again" "$log" "$last"
+    touch "$crates/beside/src/lib.rt"
+    builds "a newer crate on which tpr doesn't stand" "$tpr"
+    mv "a tree/crates.txt" "a tree/list"
+    fails_to_build "no list of crates" rt \
+        "tpr: there is no crate tpr in $PWD/a tree/crates.txt"
 }
 
 building() {
     mkdir "$room/building" && cd -- "$room/building" || exit 1
-    at_least 13 builds_what_is_newer
+    at_least 19 builds_what_is_newer
     cd -- "$root" || exit 1
 }
