@@ -90,14 +90,14 @@ refuse_each_of_test() { # TESTS NAME
 # How many tests of each crate are right under refused memory, at least. They are found by their names,
 # so that one which is given another name is missed here.
 declare -A least_refusing=(
-    [tp_inbox]=2
+    [tp_inbox]=3
     [tp_tests]=6
 )
 
 refused_memory_in_tests_of() { # CRATE
     local tests=$root/crates/$1/out/${1}_tests name
     set_up "the tests of $1 are built (rt ci builds them)" [ -x "$tests" ] || return
-    for name in $("$tests" --list | sed -n 's/: test$//p' | grep -E 'refused_memory|the_calls_of_a_desk'); do
+    for name in $("$tests" --list | sed -n 's/: test$//p' | grep refused_memory); do
         refuse_each_of_test "$tests" "$name"
         count $?
     done

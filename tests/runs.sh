@@ -63,7 +63,6 @@ run_each_beside_a_load() {
 # Runs an example where the process may map so many KiB: the program itself, since ./tpr needs some too.
 run_within() { # KIB EXAMPLE
     local program=$tpr
-    ((runs_of_all += 1))
     if [[ -z ${TPR-} ]]; then program=$root/crates/tpr/out/tpr; fi
     (ulimit -v "$1" && exec timeout 20 "$program" run "$root/examples/$2.ttcn") >"$room/printed" 2>"$room/said" </dev/null
     status=$?
@@ -81,6 +80,7 @@ run_in_little_memory() { # EXAMPLE
     done
     for ((kib = high - 800; kib < high + 800; kib += 32)); do
         run_within "$kib" "$1"
+        ((runs_of_all += 1))
         if ! judge_refused "$1"; then
             fail_refused "$1 where $kib KiB may be mapped"
             return 1

@@ -43,17 +43,23 @@ arrived_more q k es = filter_map-append (arrival_on q) k es
 pub own_more : (c : CompId) (k : List Entry) (e : Entry) → IsPlain e → HasOwn c k → HasOwn c (k ++ e ∷ [])
 own_more c k e plain own q from to =
     let h = quiet e plain in
-    let came : arrived_on q (k ++ e ∷ []) ≡ arrived_on q k = arrived_more q k (e ∷ []) ∙ ap (λ l. arrived_on q k ++ l) (arrived_alone q e (no_arrival q e h.here)) ∙ append-nil (arrived_on q k) in
+    let came : arrived_on q (k ++ e ∷ []) ≡ arrived_on q k =
+    arrived_more q k (e ∷ []) ∙ ap (λ l. arrived_on q k ++ l) (arrived_alone q e (no_arrival q e h.here)) ∙ append-nil (arrived_on q k) in
     ap length came ∙ own q from to ∙ ap length (sym (sent_same q k e (h.unsent q)))
 
 pub stepped_verdict : (r : Actor) (v : Verdict) (k n : List Entry) → moments n ≡ moments k ++ record { before = k; entry = entry.Verdict v } ∷ []
     → (turns : List ℤ) (vs : List (Option Held)) → Grew (λ ts. IsStep r turns vs (b.SetVerdict v) ts vs) k n
 stepped_verdict r v k n more turns vs = (record { before = k; entry = entry.Verdict v } ∷ [], more, IsStep.set_verdict turns vs v k)
 
-pub stepped_control : (r : Actor) (o : PortOperation) (port : ℕ) (k l n : List Entry) → moments l ≡ moments k → moments n ≡ moments l ++ record { before = l; entry = operated o port } ∷ []
+pub stepped_control : (r : Actor) (o : PortOperation) (port : ℕ) (k l n : List Entry) → moments l ≡ moments k → moments n ≡ moments l
+    ++ record { before = l; entry = operated o port } ∷ []
     → (turns : List ℤ) (vs : List (Option Held)) → Grew (λ ts. IsStep r turns vs (b.Control port o) ts vs) k n
-stepped_control r o port k l n same more turns vs =
-    (record { before = l; entry = operated o port } ∷ [], more ∙ ap (λ ts. ts ++ record { before = l; entry = operated o port } ∷ []) same, IsStep.control turns vs port o l)
+stepped_control r o port k l n same more turns vs = (
+  record { before = l; entry = operated o port } ∷ [],
+  more
+      ∙ ap (λ ts. ts ++ record { before = l; entry = operated o port } ∷ []) same,
+  IsStep.control turns vs port o l,
+)
 
 -- the moments of the operations on the first ports, and the history after them
 pub data AreSoFar (o : PortOperation) : ℕ → List Entry → List Moment → Type 0 where
@@ -61,11 +67,13 @@ pub data AreSoFar (o : PortOperation) : ℕ → List Entry → List Moment → T
   up_to : (n : ℕ) (k : List Entry) (ts : List Moment) → AreOperated o (suc n) (ts ++ record { before = k; entry = operated o n } ∷ [])
       → AreSoFar o (suc n) (k ++ operated o n ∷ []) (ts ++ record { before = k; entry = operated o n } ∷ [])
 
-one_further : (o : PortOperation) (n : ℕ) (k : List Entry) (ts : List Moment) → AreSoFar o n k ts → AreSoFar o (suc n) (k ++ operated o n ∷ []) (ts ++ record { before = k; entry = operated o n } ∷ [])
+one_further : (o : PortOperation) (n : ℕ) (k : List Entry) (ts : List Moment) → AreSoFar o n k ts → AreSoFar o (suc n) (k ++ operated o n ∷ [])
+    (ts ++ record { before = k; entry = operated o n } ∷ [])
 one_further o _ k _ (AreSoFar.none_yet _) = AreSoFar.up_to 0 k [] (AreOperated.first_port k)
 one_further o _ _ _ (AreSoFar.up_to n k ts are) =
     AreSoFar.up_to (suc n) (k ++ operated o n ∷ []) (ts ++ record { before = k; entry = operated o n } ∷ [])
-    (subst (AreOperated o (suc (suc n))) (sym (append_assoc ts (record { before = k; entry = operated o n } ∷ []) (record { before = k ++ operated o n ∷ []; entry = operated o (suc n) } ∷ [])))
+    (subst (AreOperated o (suc (suc n)))
+    (sym (append_assoc ts (record { before = k; entry = operated o n } ∷ []) (record { before = k ++ operated o n ∷ []; entry = operated o (suc n) } ∷ [])))
     (AreOperated.one_port_more n k ts are))
 
 all_of : (o : PortOperation) (n : ℕ) (k : List Entry) (ts : List Moment) → AreSoFar o n k ts → AreOperated o n ts
@@ -73,14 +81,20 @@ all_of o _ _ _ (AreSoFar.none_yet k) = AreOperated.no_port
 all_of o _ _ _ (AreSoFar.up_to n k ts are) = are
 
 -- the next port
-pub grew_further : (o : PortOperation) (n : ℕ) (k l m : List Entry) → Grew (AreSoFar o n l) k l → m ≡ l ++ operated o n ∷ [] → moments m ≡ moments l ++ record { before = l; entry = operated o n } ∷ []
+pub grew_further : (o : PortOperation) (n : ℕ) (k l m : List Entry) → Grew (AreSoFar o n l) k l → m ≡ l ++ operated o n ∷ [] → moments m ≡ moments l
+    ++ record { before = l; entry = operated o n } ∷ []
     → Grew (AreSoFar o (suc n) m) k m
 grew_further o n k l m (ts, grown, so) log more =
-    let t : Moment = record { before = l; entry = operated o n } in
-    (ts ++ t ∷ [], more ∙ ap (λ xs. xs ++ t ∷ []) grown ∙ append_assoc (moments k) ts (t ∷ []), subst (λ x. AreSoFar o (suc n) x (ts ++ t ∷ [])) (sym log) (one_further o n l ts so))
+    let t : Moment = record { before = l; entry = operated o n } in (
+      ts ++ t ∷ [],
+      more ∙ ap (λ xs. xs ++ t ∷ []) grown ∙ append_assoc (moments k) ts (t ∷ []),
+      subst (λ x. AreSoFar o (suc n) x (ts ++ t ∷ [])) (sym log)
+          (one_further o n l ts so),
+    )
 
 -- all ports
-pub stepped_all : (r : Actor) (o : PortOperation) (n : ℕ) (k l m : List Entry) → n ≡ length (ports_at r.config.types r.config.components r.comp) → moments l ≡ moments k → Grew (AreSoFar o n m) l m
+pub stepped_all : (r : Actor) (o : PortOperation) (n : ℕ) (k l m : List Entry) → n ≡ length (ports_at r.config.types r.config.components r.comp)
+    → moments l ≡ moments k → Grew (AreSoFar o n m) l m
     → (turns : List ℤ) (vs : List (Option Held)) → Grew (λ ts. IsStep r turns vs (b.AllPorts o) ts vs) k m
 stepped_all r o n k l m count same (ts, grown, so) turns vs =
     (ts, grown ∙ ap (λ xs. xs ++ ts) same, IsStep.all_ports turns vs o ts (subst (λ j. AreOperated o j ts) count (all_of o n m ts so)))
@@ -96,7 +110,8 @@ few_of types None few = omega arith
 few_of types (Some m) few = few_at types m.kind few
 
 -- a component has few ports
-pub few_ports : (types : List (List PortDecl)) (components : List Member) (c : CompId) → All (λ (ports : List PortDecl). length ports ≤ 64) types → length (ports_at types components c) ≤ 64
+pub few_ports : (types : List (List PortDecl)) (components : List Member) (c : CompId) → All (λ (ports : List PortDecl). length ports ≤ 64) types
+    → length (ports_at types components c) ≤ 64
 unfolding ports_at
 few_ports types components c few = few_of types (slice_get components c.0) few
 

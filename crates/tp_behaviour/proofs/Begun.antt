@@ -31,7 +31,8 @@ abbrev no_value : VariableType → Option Held
 no_value _ = None
 
 -- one variable more
-pub none_more : (types : List VariableType) (i : ℕ) (before after : List (Option Held)) → i < length types → before ≡ map (λ _. None) (take i types) → after ≡ before ++ None ∷ []
+pub none_more : (types : List VariableType) (i : ℕ) (before after : List (Option Held)) → i < length types → before ≡ map (λ _. None) (take i types)
+    → after ≡ before ++ None ∷ []
     → after ≡ map (λ _. None) (take (i + 1) types)
 none_more types i before after below none more =
     let one = ap (map no_value) (take_more types i kind.Component below) ∙ map-append no_value (take i types) (get_or types i kind.Component ∷ []) in
@@ -48,7 +49,8 @@ followed r body (outcome.Waiting guards) ts ws n trace ends =
     λ whole same none. Follows.waiting (subst (Stops r whole ending.Waiting [] (unset body) body.statements) (sym (same ∙ trace)) (ends whole none))
 
 -- a body that was carried out from the beginning
-pub has_ended : (r : Actor) (body : Body) (o : Outcome) (turns : List ℤ) (vs : List (Option Held)) (block : List Statement) (ws : List (Option Held)) (k n : List Entry)
+pub has_ended : (r : Actor) (body : Body) (o : Outcome) (turns : List ℤ) (vs : List (Option Held)) (block : List Statement) (ws : List (Option Held))
+    (k n : List Entry)
     → turns ≡ [] → vs ≡ unset body → block ≡ body.statements → moments k ≡ [] → Grew (λ ts. Ends r o turns vs block ts ws) k n → HasEnded r body o n
 has_ended r body o turns vs block ws k n no_turn not_set whole begun h =
     followed r body o h.0 ws n (h.1 ∙ ap (λ ts. ts ++ h.0) begun)

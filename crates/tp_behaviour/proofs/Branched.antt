@@ -11,7 +11,7 @@ use Rattle.tp_inbox.specs.declared.entry.Entry.{Entry}
 use Rattle.tp_report.specs.declared.ending.End.{End}
 use Rattle.tp_report.specs.declared.ending.End.TheVariants as ending
 use Rattle.tp_behaviour.specs.declared.choice.Guard.{Guard}
-use Rattle.tp_behaviour.specs.declared.deciding.Way.TheVariants as way
+use Rattle.tp_behaviour.specs.declared.deciding.Decision.TheVariants as decision
 use Rattle.tp_behaviour.specs.declared.held.Held.{Held}
 use Rattle.tp_behaviour.specs.declared.outcome.Outcome.{Outcome}
 use Rattle.tp_behaviour.specs.declared.outcome.Outcome.TheVariants as outcome
@@ -34,7 +34,8 @@ behind : (drops ts more : List Moment) (t : Moment) → ts ≡ drops ++ t ∷ []
 behind drops ts more t is = sym (ap (λ xs. xs ++ more) is ∙ append_assoc drops (t ∷ []) more)
 
 module _ (r : Actor) (turns : List ℤ) (vs us ws : List (Option Held)) (xs : List Branch) (otherwise : Option (List Statement)) where
-  set_by : (i : ℕ) (x : Branch) (ts : List Moment) (h : Enters xs (guards_of r (record { turns = turns; variables = vs }) xs) i vs us ts) → slice_get xs i ≡ Some x
+  set_by : (i : ℕ) (x : Branch) (ts : List Moment) (h : Enters xs (guards_of r (record { turns = turns; variables = vs }) xs) i vs us ts)
+      → slice_get xs i ≡ Some x
       → us ≡ redirected x.receiving h.env vs
   set_by i x ts h at = h.entered.set ∙ ap (λ (y : Branch). redirected y.receiving h.env vs) (same_Some h.entered.branch x (sym h.entered.there ∙ at))
 
@@ -44,7 +45,8 @@ module _ (r : Actor) (turns : List ℤ) (vs us ws : List (Option Held)) (xs : Li
   of_branch outcome.Done i x ts more h at block =
       let set = set_by i x ts h at in
       subst (λ us'. IsStep r turns vs (b.Alt xs otherwise) us' ws) (behind h.chosen.0 ts more h.chosen.1 h.chosen.2)
-      (IsStep.branch turns vs xs otherwise true h.chosen.0 h.chosen.1 i h.env x more ws h.chosen.3 (h.chosen.4 true) at (subst (λ us'. IsPath r turns us' x.block more ws) set block))
+      (IsStep.branch turns vs xs otherwise true h.chosen.0 h.chosen.1 i h.env x more ws h.chosen.3 (h.chosen.4 true) at
+      (subst (λ us'. IsPath r turns us' x.block more ws) set block))
   of_branch (outcome.Error code) i x ts more h at block = λ whole.
       let set = set_by i x ts h at in
       subst (StopsWithin r whole (ending.Error code) turns vs (b.Alt xs otherwise)) (behind h.chosen.0 ts more h.chosen.1 h.chosen.2)
@@ -74,8 +76,9 @@ module _ (r : Actor) (turns : List ℤ) (vs us ws : List (Option Held)) (xs : Li
 
 -- an `alt` of which a branch was chosen
 pub step_branch : (p : Post) (x : Statement) (xs ys : List Branch) (otherwise : Option (List Statement)) (has_else : Bool) (i : ℕ) (o : Outcome)
-    (here : Station) (before : State) (mid : Station) (now : State) (there : Station) (after : State) → x ≡ b.Alt xs otherwise → ys ≡ xs → now.turns.items ≡ before.turns.items
-    → Decided p ys has_else (way.Branch i) here before mid now → ExecutedAt p ys i o mid now there after → Stepped p x o here before there after
+    (here : Station) (before : State) (mid : Station) (now : State) (there : Station) (after : State) → x ≡ b.Alt xs otherwise → ys ≡ xs
+    → now.turns.items ≡ before.turns.items
+    → Decided p ys has_else (decision.Branch i) here before mid now → ExecutedAt p ys i o mid now there after → Stepped p x o here before there after
 step_branch p x xs ys otherwise has_else i o here before mid now there after is are same decided done =
     let r = role_of p in
     let turns = before.turns.items in
@@ -90,10 +93,12 @@ step_branch p x xs ys otherwise has_else i o here before mid now there after is 
     (λ ts more h e. of_branch r turns vs us ws ys otherwise o i done.0 ts more h done.1 e) decided block)
 
 -- an `alt` of which `[else]` was chosen
-pub step_else : (p : Post) (x : Statement) (xs ys : List Branch) (otherwise : Option (List Statement)) (items list : List Statement) (has_else : Bool) (o : Outcome)
-    (here : Station) (before : State) (mid : Station) (now : State) (there : Station) (after : State) → x ≡ b.Alt xs otherwise → otherwise ≡ Some items → ys ≡ xs → list ≡ items
+pub step_else : (p : Post) (x : Statement) (xs ys : List Branch) (otherwise : Option (List Statement)) (items list : List Statement) (has_else : Bool)
+    (o : Outcome)
+    (here : Station) (before : State) (mid : Station) (now : State) (there : Station) (after : State) → x ≡ b.Alt xs otherwise → otherwise ≡ Some items
+    → ys ≡ xs → list ≡ items
     → now.turns.items ≡ before.turns.items
-    → Decided p ys has_else way.Else here before mid now → Executed p list o mid now there after → Stepped p x o here before there after
+    → Decided p ys has_else decision.Else here before mid now → Executed p list o mid now there after → Stepped p x o here before there after
 step_else p x xs ys otherwise items list has_else o here before mid now there after is some are these same decided done =
     let r = role_of p in
     let turns = before.turns.items in
@@ -103,7 +108,8 @@ step_else p x xs ys otherwise items list has_else o here before mid now there af
     let block : Grew (λ ts. Ends r o turns us list ts ws) mid.desk.log there.desk.log =
     subst (λ (l : List ℤ). Grew (λ ts. Ends r o l us list ts ws) mid.desk.log there.desk.log) same done in
     let whole : b.Alt ys (Some list) ≡ x =
-    ap (λ (l : List Branch). b.Alt l (Some list)) are ∙ ap (λ (l : List Statement). b.Alt xs (Some l)) these ∙ ap (λ (l : Option (List Statement)). b.Alt xs l) (sym some) ∙ sym is in
+    ap (λ (l : List Branch). b.Alt l (Some list)) are ∙ ap (λ (l : List Statement). b.Alt xs (Some l)) these ∙ ap (λ (l : Option (List Statement)). b.Alt xs l)
+    (sym some) ∙ sym is in
     subst (λ (y : Statement). Stepped p y o here before there after) whole
     (grew_on (EntersElse (guards_of r (record { turns = turns; variables = vs }) ys) has_else vs us) (λ ts. Ends r o turns us list ts ws)
     (λ ts. EndsStep r o turns vs (b.Alt ys (Some list)) ts ws) here.desk.log mid.desk.log there.desk.log
@@ -117,7 +123,7 @@ no_else (Some block) is = absurd (cc)
 -- an `alt` that waits
 pub step_waits : (p : Post) (x : Statement) (xs ys : List Branch) (otherwise : Option (List Statement)) (has_else : Bool) (waiting : Vec Guard Global)
     (here : Station) (before : State) (there : Station) (after : State) → x ≡ b.Alt xs otherwise → ys ≡ xs → has_else ≡ is_some otherwise
-    → Decided p ys has_else (way.Waits waiting) here before there after → Stepped p x (outcome.Waiting waiting) here before there after
+    → Decided p ys has_else (decision.Waits waiting) here before there after → Stepped p x (outcome.Waiting waiting) here before there after
 step_waits p x xs ys otherwise has_else waiting here before there after is are there_is decided =
     let r = role_of p in
     let turns = before.turns.items in
@@ -137,13 +143,16 @@ module _ (r : Actor) (turns : List ℤ) (vs ws : List (Option Held)) (first boun
       subst (StopsWithin r whole end turns vs (b.For first bound block)) (sym h.4)
       (StopsWithin.within_for end turns vs h.1 first bound block h.0 h.2 h.3 h.6 h.5 h.7)
 
-  of_turns : (o : Outcome) (ts : List Moment) → EndsTurns r o turns vs first block (turns_between first bound) ts ws → EndsStep r o turns vs (b.For first bound block) ts ws
+  of_turns : (o : Outcome) (ts : List Moment) → EndsTurns r o turns vs first block (turns_between first bound) ts ws
+      → EndsStep r o turns vs (b.For first bound block) ts ws
   of_turns outcome.Done ts h = IsStep.counted turns vs first bound block ts ws h
   of_turns (outcome.Error code) ts h = λ whole. of_turn whole (ending.Error code) ts (h whole)
   of_turns (outcome.Waiting waiting) ts h = λ whole none. of_turn whole ending.Waiting ts (h whole none)
 
-pub step_for : (p : Post) (x : Statement) (first bound low high : ℤ) (items list : List Statement) (o : Outcome) (here : Station) (before : State) (there : Station) (after : State)
-    → x ≡ b.For first bound items → low ≡ first → high ≡ bound → list ≡ items → Turned p low list (turns_between low high) o here before there after → Stepped p x o here before there after
+pub step_for : (p : Post) (x : Statement) (first bound low high : ℤ) (items list : List Statement) (o : Outcome) (here : Station) (before : State)
+    (there : Station) (after : State)
+    → x ≡ b.For first bound items → low ≡ first → high ≡ bound → list ≡ items → Turned p low list (turns_between low high) o here before there after
+    → Stepped p x o here before there after
 step_for p x first bound low high items list o here before there after is low_is high_is are h =
     let r = role_of p in
     let whole : b.For low high list ≡ x =

@@ -26,7 +26,8 @@ chosen_below gs any _ _ (IsChoice.branch k i g e there finds none) = slice_get_w
 chosen_below gs any _ _ (IsChoice.otherwise k has none) = tt
 
 -- `[else]`, where no branch is open
-pub chose_else : (gs : List Guard) (has_else : Bool) (k l n : List Entry) (d : Journal) → has_else ≡ true → Grew (All (IsDrop gs)) k l → moments d.log ≡ moments l
+pub chose_else : (gs : List Guard) (has_else : Bool) (k l n : List Entry) (d : Journal) → has_else ≡ true → Grew (All (IsDrop gs)) k l
+    → moments d.log ≡ moments l
     → NoneOpen d.log gs → moments n ≡ moments d.log ++ moment d entry.Else ∷ [] → Grew (Chose gs has_else choice.Else) k n
 chose_else gs has_else k l n d there (drops, grown, are) same none more = (
   drops ++ moment d entry.Else ∷ [],

@@ -44,8 +44,10 @@ chose_within r vs xs gs has_else i e k n is grew =
     omega (arith, ap length is, length-map xs (λ (x : Branch). guard_of r vs x.receiving))
 
 -- a branch was chosen, and its variables set
-pub entered : (r : Actor) (vs : Values) (xs : List Branch) (gs : List Guard) (has_else : Bool) (i : ℕ) (e : Env Message) (ws : List (Option Held)) (k n : List Entry)
-    → gs ≡ guards_of r vs xs → Grew (Chose gs has_else (choice.Branch i e)) k n → IsEntered xs i e vs.variables ws → Grew (Enters xs (guards_of r vs xs) i vs.variables ws) k n
+pub entered : (r : Actor) (vs : Values) (xs : List Branch) (gs : List Guard) (has_else : Bool) (i : ℕ) (e : Env Message) (ws : List (Option Held))
+    (k n : List Entry)
+    → gs ≡ guards_of r vs xs → Grew (Chose gs has_else (choice.Branch i e)) k n → IsEntered xs i e vs.variables ws
+    → Grew (Enters xs (guards_of r vs xs) i vs.variables ws) k n
 entered r vs xs gs has_else i e ws k n is grew set =
     let h = subst (λ (ys : List Guard). Grew (Chose ys has_else (choice.Branch i e)) k n) is grew in
     (h.0, h.1, record { env = e; chosen = h.2; entered = set })

@@ -81,7 +81,8 @@ no_sending q out (entry.Failed c) not by = refl
 no_coming : (c : CompId) (q : RouteId) (routes : List RouteId) (e : Entry) → q.to.comp ≡ c → All (λ (x : RouteId). x.to.comp ≡ c) routes
     → ((x : RouteId) → Contains routes x → x ≡ q → ⊥) → IsArrivalOn routes e → arrival_on q e ≡ None
 no_coming c q routes (entry.Arrive p env stamp) to here not h = at ((q.to.port == p) && (q.source.0 == env.sender)) refl where
-  at : (b : Bool) → ((q.to.port == p) && (q.source.0 == env.sender)) ≡ b → cond {A = Option (ℕ × Stamped)} b (Some (env.number, record { stamp = stamp; message = env.msg })) None ≡ None
+  at : (b : Bool) → ((q.to.port == p) && (q.source.0 == env.sender)) ≡ b
+      → cond {A = Option (ℕ × Stamped)} b (Some (env.number, record { stamp = stamp; message = env.msg })) None ≡ None
   at true e =
       let g = and_parts (eqb q.to.port p) (eqb q.source.0 env.sender) e in
       let port : h.0.to.port ≡ q.to.port = h.2 ∙ sym (eqb-true q.to.port p g.0) in

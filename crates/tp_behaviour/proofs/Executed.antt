@@ -34,7 +34,8 @@ as_before : (r : Actor) (o : Outcome) (turns us : List ℤ) (vs ws : List (Optio
 as_before r o turns us vs ws x k n same h = subst (λ (l : List ℤ). Grew (λ ts. EndsStep r o l vs x ts ws) k n) same h
 
 -- one statement more
-pub passed_more : (p : Post) (block : List Statement) (i : ℕ) (x : Statement) (here : Station) (before : State) (mid : Station) (now : State) (there : Station) (after : State)
+pub passed_more : (p : Post) (block : List Statement) (i : ℕ) (x : Statement) (here : Station) (before : State) (mid : Station) (now : State) (there : Station)
+    (after : State)
     → now.turns.items ≡ before.turns.items → i < length block → x ≡ get_or block i x → Passed p block i here before mid now
     → Stepped p x outcome.Done mid now there after → Passed p block (i + 1) here before there after
 passed_more p block i x here before mid now there after same below is passed step =
@@ -54,10 +55,12 @@ passed_more p block i x here before mid now there after same below is passed ste
 pub passed_all : (p : Post) (block : List Statement) (i : ℕ) (here : Station) (before : State) (there : Station) (after : State)
     → length block ≤ i → Passed p block i here before there after → Executed p block outcome.Done here before there after
 passed_all p block i here before there after all passed =
-    subst (λ (xs : List Statement). Grew (λ ts. IsPath (role_of p) before.turns.items before.variables.items xs ts after.variables.items) here.desk.log there.desk.log)
+    subst (λ (xs : List Statement). Grew (λ ts. IsPath (role_of p) before.turns.items before.variables.items xs ts after.variables.items) here.desk.log
+    there.desk.log)
     (take_all i block all) passed
 
-module _ (r : Actor) (turns : List ℤ) (vs ws us : List (Option Held)) (block : List Statement) (i : ℕ) (x : Statement) (below : i < length block) (is : x ≡ get_or block i x) where
+module _ (r : Actor) (turns : List ℤ) (vs ws us : List (Option Held)) (block : List Statement) (i : ℕ) (x : Statement) (below : i < length block)
+    (is : x ≡ get_or block i x) where
   stops_at : (whole : List Entry) (end : End) (ts more : List Moment) → IsPath r turns vs (take i block) ts ws
       → StopsWithin r whole end turns ws x more → Stops r whole end turns vs block (ts ++ more)
   stops_at whole end ts more path stop =
@@ -73,7 +76,8 @@ module _ (r : Actor) (turns : List ℤ) (vs ws us : List (Option Held)) (block :
   ends_at (outcome.Waiting guards) other ts more path one = λ whole none. stops_at whole ending.Waiting ts more path (one whole none)
 
 -- the next one ends otherwise: the block does
-pub passed_stop : (p : Post) (block : List Statement) (i : ℕ) (x : Statement) (o : Outcome) (here : Station) (before : State) (mid : Station) (now : State) (there : Station) (after : State)
+pub passed_stop : (p : Post) (block : List Statement) (i : ℕ) (x : Statement) (o : Outcome) (here : Station) (before : State) (mid : Station) (now : State)
+    (there : Station) (after : State)
     → (o ≡ outcome.Done → ⊥) → now.turns.items ≡ before.turns.items → i < length block → x ≡ get_or block i x → Passed p block i here before mid now
     → Stepped p x o mid now there after → Executed p block o here before there after
 passed_stop p block i x o here before mid now there after other same below is passed step =

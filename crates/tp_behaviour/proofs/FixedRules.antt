@@ -133,5 +133,6 @@ fixed_elements ts h = (
 pub fixed_needs : (y : RecvMsg) (u : Ty) (z : RecvTemplate) → y ≡ wanted.Of u z → IsFixed z → needed_by_wanted y ≤ 0
 fixed_needs y u z e h = subst (λ a. needed_by_wanted a ≤ 0) (sym e) h.0
 
-pub fixed_lasts : (y : RecvMsg) (u : Ty) (z : RecvTemplate) (made : MsgTemplate) (turns : List ℤ) → y ≡ wanted.Of u z → IsFixed z → made ≡ filled_wanted turns y → Lasts y (Some made)
+pub fixed_lasts : (y : RecvMsg) (u : Ty) (z : RecvTemplate) (made : MsgTemplate) (turns : List ℤ) → y ≡ wanted.Of u z → IsFixed z → made ≡ filled_wanted turns y
+    → Lasts y (Some made)
 fixed_lasts y u z made turns e h is others = is ∙ ap (filled_wanted turns) e ∙ ap (λ a. m.Of u a) (h.1 turns others) ∙ ap (filled_wanted others) (sym e)

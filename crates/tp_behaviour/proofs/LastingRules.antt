@@ -26,14 +26,16 @@ module _ {X Y : Type 0} (g : X → Y) (k : Y → Lasting → Type 0) where
   zipped-map (x ∷ xs) (l ∷ ls) = λ i. k (g x) l × zipped-map xs ls i
 
 natural : (X Y : Type 0) (g : X → Statement) (h : Y → Branch) (k : Statement → Lasting → Type 0) (l : Branch → Lasting → Type 0) (x : o.Statement-F X Y)
-    → statement_lasts X Y g h (λ p. k (g p)) (λ p. l (h p)) x ≡ statement_lasts Statement Branch (λ y. y) (λ y. y) k l (map-Statement X Y Statement Branch g h x)
+    → statement_lasts X Y g h (λ p. k (g p)) (λ p. l (h p)) x ≡ statement_lasts Statement Branch (λ y. y) (λ y. y) k l
+    (map-Statement X Y Statement Branch g h x)
 natural X Y g h k l (o.Send x) = refl
 natural X Y g h k l (o.Receive x) = refl
 natural X Y g h k l (o.Control p x) = refl
 natural X Y g h k l (o.AllPorts x) = refl
 natural X Y g h k l (o.SetVerdict x) = refl
 natural X Y g h k l (o.Alt branches None) = λ i kept. zipped-map h l branches (out-Lasting kept).branches i × Unit {0}
-natural X Y g h k l (o.Alt branches (Some block)) = λ i kept. zipped-map h l branches (out-Lasting kept).branches i × zipped-map g k block (out-Lasting kept).block i
+natural X Y g h k l (o.Alt branches (Some block)) = λ i kept. zipped-map h l branches (out-Lasting kept).branches i
+    × zipped-map g k block (out-Lasting kept).block i
 natural X Y g h k l (o.For first bound block) = λ i kept. zipped-map g k block (out-Lasting kept).block i
 
 natural_branch : (X Y : Type 0) (g : X → Statement) (h : Y → Branch) (k : Statement → Lasting → Type 0) (l : Branch → Lasting → Type 0) (x : o.Branch-F X Y)
@@ -42,15 +44,18 @@ natural_branch X Y g h k l x = λ i kept. Lasts x.receiving.wanted (out-Lasting 
 
 module _ (kept : Lasting) where
   -- one layer
-  lasting_roll : (x : o.Statement-F Statement Branch) → IsLasting (roll-Statement x) kept ≡ statement_lasts Statement Branch (λ y. y) (λ y. y) IsLasting IsLastingBranch x kept
+  lasting_roll : (x : o.Statement-F Statement Branch) → IsLasting (roll-Statement x) kept ≡ statement_lasts Statement Branch (λ y. y)
+      (λ y. y) IsLasting IsLastingBranch x kept
   unfolding IsLasting IsLastingBranch
   lasting_roll x = λ i. rec-roll-Statement (Lasting → Type 0) (Lasting → Type 0) statement_lasts branch_lasts natural x i kept
 
-  branch_roll : (x : o.Branch-F Statement Branch) → IsLastingBranch (roll-Branch x) kept ≡ branch_lasts Statement Branch (λ y. y) (λ y. y) IsLasting IsLastingBranch x kept
+  branch_roll : (x : o.Branch-F Statement Branch) → IsLastingBranch (roll-Branch x) kept ≡ branch_lasts Statement Branch (λ y. y)
+      (λ y. y) IsLasting IsLastingBranch x kept
   unfolding IsLasting IsLastingBranch
   branch_roll x = λ i. rec-roll-Branch (Lasting → Type 0) (Lasting → Type 0) statement_lasts branch_lasts natural_branch x i kept
 
-  at : (x : Statement) (y : o.Statement-F Statement Branch) → roll-Statement y ≡ x → IsLasting x kept ≡ statement_lasts Statement Branch (λ z. z) (λ z. z) IsLasting IsLastingBranch y kept
+  at : (x : Statement) (y : o.Statement-F Statement Branch) → roll-Statement y ≡ x → IsLasting x kept ≡ statement_lasts Statement Branch (λ z. z)
+      (λ z. z) IsLasting IsLastingBranch y kept
   at x y e = ap (λ z. IsLasting z kept) (sym e) ∙ lasting_roll y
 
   pub lasting_send : (x : SendOperation) → IsLasting (b.Send x) kept ≡ Unit {0}
@@ -68,18 +73,21 @@ module _ (kept : Lasting) where
   pub lasting_set_verdict : (x : Verdict) → IsLasting (b.SetVerdict x) kept ≡ Unit {0}
   lasting_set_verdict x = at (b.SetVerdict x) (o.SetVerdict x) (b.rolls-SetVerdict x)
 
-  pub lasting_alt : (xs : List Branch) (otherwise : Option (List Statement)) → IsLasting (b.Alt xs otherwise) kept ≡ (AreLastingBranches xs (out-Lasting kept).branches × IsLastingElse otherwise (out-Lasting kept).block)
+  pub lasting_alt : (xs : List Branch) (otherwise : Option (List Statement))
+      → IsLasting (b.Alt xs otherwise) kept ≡ (AreLastingBranches xs (out-Lasting kept).branches × IsLastingElse otherwise (out-Lasting kept).block)
   lasting_alt xs otherwise = at (b.Alt xs otherwise) (o.Alt xs otherwise) (b.rolls-Alt xs otherwise)
 
   pub lasting_for : (first bound : ℤ) (block : List Statement) → IsLasting (b.For first bound block) kept ≡ AreLasting block (out-Lasting kept).block
   lasting_for first bound block = at (b.For first bound block) (o.For first bound block) (b.rolls-For first bound block)
 
-  pub lasting_branch : (x : Branch) → IsLastingBranch x kept ≡ (Lasts x.receiving.wanted (out-Lasting kept).wanted × AreLasting x.block (out-Lasting kept).block)
+  pub lasting_branch : (x : Branch)
+      → IsLastingBranch x kept ≡ (Lasts x.receiving.wanted (out-Lasting kept).wanted × AreLasting x.block (out-Lasting kept).block)
   lasting_branch x = ap (λ y. IsLastingBranch y kept) (sym (roll-out-Branch x)) ∙ branch_roll (out-Branch x)
 
 -- one more
 module _ {X : Type 0} (p : X → Lasting → Type 0) (xs : List X) where
-  pub zipped_more : (i : ℕ) (x : X) (ls : List Lasting) (l : Lasting) → i < length xs → x ≡ get_or xs i x → AllZip p (take i xs) ls → p x l → AllZip p (take (i + 1) xs) (ls ++ l ∷ [])
+  pub zipped_more : (i : ℕ) (x : X) (ls : List Lasting) (l : Lasting) → i < length xs → x ≡ get_or xs i x → AllZip p (take i xs) ls → p x l
+      → AllZip p (take (i + 1) xs) (ls ++ l ∷ [])
   zipped_more i x ls l below is h one =
       subst (λ ys. AllZip p ys (ls ++ l ∷ [])) (ap (λ y. take i xs ++ y ∷ []) is ∙ sym (take_more xs i x below)) (all_zipped_more p (take i xs) ls x l h one)
 
@@ -87,7 +95,8 @@ module _ {X : Type 0} (p : X → Lasting → Type 0) (xs : List X) where
   zipped_all i ls past h = subst (λ ys. AllZip p ys ls) (take_all i xs past) h
 
 -- the one at a place
-pub zipped_get : {X : Type 0} (p : X → Lasting → Type 0) (xs : List X) (ls : List Lasting) (i : ℕ) (d : X) (e : Lasting) → AllZip p xs ls → i < length xs → p (get_or xs i d) (get_or ls i e)
+pub zipped_get : {X : Type 0} (p : X → Lasting → Type 0) (xs : List X) (ls : List Lasting) (i : ℕ) (d : X) (e : Lasting) → AllZip p xs ls → i < length xs
+    → p (get_or xs i d) (get_or ls i e)
 zipped_get p [] ls i d e h below = absurd (omega (arith, below))
 zipped_get p (x ∷ xs) [] i d e h below = absurd h
 zipped_get p (x ∷ xs) (l ∷ ls) zero d e h below = h.0
@@ -107,7 +116,9 @@ module _ (w : Option MsgTemplate) (bs ls : List Lasting) where
 
   pub make_branch : (x : Branch) → Lasts x.receiving.wanted w → AreLasting x.block ls → IsLastingBranch x (made_lasting w bs ls)
   make_branch x first block =
-      subst (λ (P : Type 0). P) (sym (lasting_branch (made_lasting w bs ls) x ∙ (λ i. Lasts x.receiving.wanted (inside i).wanted × AreLasting x.block (inside i).block))) (first, block)
+      subst (λ (P : Type 0). P)
+      (sym (lasting_branch (made_lasting w bs ls) x ∙ (λ i. Lasts x.receiving.wanted (inside i).wanted × AreLasting x.block (inside i).block)))
+      (first, block)
 
 -- of a statement, by what it is
 module _ (x : Statement) (w : Option MsgTemplate) (bs ls : List Lasting) where
@@ -117,15 +128,18 @@ module _ (x : Statement) (w : Option MsgTemplate) (bs ls : List Lasting) where
   pub make_receive : (y : Receiving) → x ≡ b.Receive y → Lasts y.wanted w → IsLasting x (made_lasting w bs ls)
   make_receive y e h = kind_of (Lasts y.wanted w) (b.Receive y) e (lasting_receive (made_lasting w bs ls) y ∙ (λ i. Lasts y.wanted (inside w bs ls i).wanted)) h
 
-  pub make_alt : (branches : List Branch) (otherwise : Option (List Statement)) → x ≡ b.Alt branches otherwise → AreLastingBranches branches bs → IsLastingElse otherwise ls
+  pub make_alt : (branches : List Branch) (otherwise : Option (List Statement)) → x ≡ b.Alt branches otherwise → AreLastingBranches branches bs
+      → IsLastingElse otherwise ls
       → IsLasting x (made_lasting w bs ls)
   make_alt branches otherwise e each block =
       kind_of (AreLastingBranches branches bs × IsLastingElse otherwise ls) (b.Alt branches otherwise) e
-      (lasting_alt (made_lasting w bs ls) branches otherwise ∙ (λ i. AreLastingBranches branches (inside w bs ls i).branches × IsLastingElse otherwise (inside w bs ls i).block)) (each, block)
+      (lasting_alt (made_lasting w bs ls) branches otherwise
+      ∙ (λ i. AreLastingBranches branches (inside w bs ls i).branches × IsLastingElse otherwise (inside w bs ls i).block)) (each, block)
 
   pub make_for : (first bound : ℤ) (block : List Statement) → x ≡ b.For first bound block → AreLasting block ls → IsLasting x (made_lasting w bs ls)
   make_for first bound block e h =
-      kind_of (AreLasting block ls) (b.For first bound block) e (lasting_for (made_lasting w bs ls) first bound block ∙ (λ i. AreLasting block (inside w bs ls i).block)) h
+      kind_of (AreLasting block ls) (b.For first bound block) e
+      (lasting_for (made_lasting w bs ls) first bound block ∙ (λ i. AreLasting block (inside w bs ls i).block)) h
 
 -- whatever lasts of a statement in which none is received
 module _ (x : Statement) (kept : Lasting) where
@@ -153,10 +167,12 @@ module _ (x : Statement) (kept : Lasting) where
   pub lasts_receive : (y : Receiving) → x ≡ b.Receive y → IsLasting x kept → Lasts y.wanted (out-Lasting kept).wanted
   lasts_receive y e h = rw (e, lasting_receive) at h
 
-  pub lasts_alt : (branches : List Branch) (otherwise : Option (List Statement)) → x ≡ b.Alt branches otherwise → IsLasting x kept → AreLastingBranches branches (out-Lasting kept).branches
+  pub lasts_alt : (branches : List Branch) (otherwise : Option (List Statement)) → x ≡ b.Alt branches otherwise → IsLasting x kept
+      → AreLastingBranches branches (out-Lasting kept).branches
   lasts_alt branches otherwise e h = (rw (e, lasting_alt) at h).0
 
-  pub lasts_else : (branches : List Branch) (block : List Statement) → x ≡ b.Alt branches (Some block) → IsLasting x kept → AreLasting block (out-Lasting kept).block
+  pub lasts_else : (branches : List Branch) (block : List Statement) → x ≡ b.Alt branches (Some block) → IsLasting x kept
+      → AreLasting block (out-Lasting kept).block
   lasts_else branches block e h = (rw (e, lasting_alt) at h).1
 
   pub lasts_for : (first bound : ℤ) (block : List Statement) → x ≡ b.For first bound block → IsLasting x kept → AreLasting block (out-Lasting kept).block

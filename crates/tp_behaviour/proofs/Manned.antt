@@ -46,7 +46,8 @@ drained r s o d more m same grown longer arrived routed = (
     arrived = arrived;
     noted = all_as (IsNoted s.desk.log) (IsNoted d.log) s.outbox (λ x h. as_sent x.route ∙ h) m.noted;
     home = subst (λ (i : Inbox). All (IsHome i) s.outbox) (sym same) m.home;
-    sent = subst (All (IsSentBy out)) (sym log) (All-append (IsSentBy out) s.desk.log more m.sent (all_as (λ e. is_arrival e ≡ true) (IsSentBy out) more (unsent out) are));
+    sent = subst (All (IsSentBy out)) (sym log)
+        (All-append (IsSentBy out) s.desk.log more m.sent (all_as (λ e. is_arrival e ≡ true) (IsSentBy out) more (unsent out) are));
     fresh = subst (All (λ (t : Moment). LooksAtPorts t.entry → HasOwn r.comp t.before)) (sym trace) m.fresh;
   },
 )
@@ -58,13 +59,15 @@ drained r s o d more m same grown longer arrived routed = (
     log = ap (λ (j : Journal). j.log) grown
 
     are : All (λ e. is_arrival e ≡ true) more
-    are = all_as (IsArrivalOn o.inbox.routes) (λ e. is_arrival e ≡ true) more (arrives o.inbox.routes) (all_behind (IsArrivalOn o.inbox.routes) s.owner.drained more (subst (All (IsArrivalOn o.inbox.routes)) longer routed))
+    are = all_as (IsArrivalOn o.inbox.routes) (λ e. is_arrival e ≡ true) more (arrives o.inbox.routes)
+        (all_behind (IsArrivalOn o.inbox.routes) s.owner.drained more (subst (All (IsArrivalOn o.inbox.routes)) longer routed))
 
     trace : moments d.log ≡ moments s.desk.log
     trace = ap moments log ∙ moments-arrivals s.desk.log more (λ e h. All-contains (λ x. is_arrival x ≡ true) more e are h)
 
     none : (q : RouteId) (es : List Entry) → All (λ e. is_arrival e ≡ true) es → sent_on q es ≡ []
-    none q es h = none_sent q [] es (λ c. (let no : c.0 < 0 = c.1 in absurd (omega (arith, no)))) (all_as (λ e. is_arrival e ≡ true) (IsSentBy []) es (unsent []) h)
+    none q es h = none_sent q [] es (λ c. (let no : c.0 < 0 = c.1 in absurd (omega (arith, no))))
+        (all_as (λ e. is_arrival e ≡ true) (IsSentBy []) es (unsent []) h)
 
     as_sent : (q : RouteId) → sent_on q d.log ≡ sent_on q s.desk.log
     as_sent q = ap (sent_on q) log ∙ sent_more q s.desk.log more ∙ ap (λ l. sent_on q s.desk.log ++ l) (none q more are) ∙ append-nil (sent_on q s.desk.log)
@@ -93,15 +96,22 @@ has_own r s m routed level q from to = by (on_route q s.outbox) where
   came : arrived_on q s.desk.log ≡ arrived_on q s.owner.drained
   came = sym (arrived_in q s.desk.log) ∙ ap (arrived_on q) m.arrived
 
-  by : ((k : ℕ) × (x : Sending) × (slice_get s.outbox k ≡ Some x) × (x.route ≡ q)) ⊎ (Contains out q → ⊥) → length (arrived_on q s.desk.log) ≡ length (sent_on q s.desk.log)
+  by : ((k : ℕ) × (x : Sending) × (slice_get s.outbox k ≡ Some x) × (x.route ≡ q)) ⊎ (Contains out q → ⊥) → length (arrived_on q s.desk.log) ≡ length
+      (sent_on q s.desk.log)
   by (inl (k, x, at, on)) =
       let here : Contains s.outbox x = contained s.outbox k x at in
       let back : LeadsBack x = subst (λ (p : RouteId). p.to.comp ≡ p.source) (sym on) (to ∙ sym from) in
-      let note : sent_on q s.desk.log ≡ numbered 0 x.ledger = subst (λ p. sent_on p s.desk.log ≡ numbered 0 x.ledger) on (All-contains (IsNoted s.desk.log) s.outbox x m.noted here) in
-      let same : length (arrived_on q s.owner.drained) ≡ length x.ledger = subst (λ p. length (arrived_on p s.owner.drained) ≡ length x.ledger) on (level x here back) in
+      let note : sent_on q s.desk.log ≡ numbered 0 x.ledger =
+      subst (λ p. sent_on p s.desk.log ≡ numbered 0 x.ledger) on (All-contains (IsNoted s.desk.log) s.outbox x m.noted here) in
+      let same : length (arrived_on q s.owner.drained) ≡ length x.ledger = subst (λ p. length (arrived_on p s.owner.drained) ≡ length x.ledger) on
+      (level x here back) in
       ap length came ∙ same ∙ sym (length-numbered 0 x.ledger) ∙ ap length (sym note)
   by (inr not) =
-      let no : (p : RouteId) → Contains s.owner.inbox.routes p → p ≡ q → ⊥ = λ p c e. not (subst (Contains out) e (All-contains (λ (x : RouteId). x.source ≡ r.comp → Contains out x) s.owner.inbox.routes p m.posted.loops c (ap (λ (x : RouteId). x.source) e ∙ from))) in
+      let no : (p : RouteId) → Contains s.owner.inbox.routes p → p ≡ q → ⊥ =
+      λ p c e. not
+      (subst (Contains out) e
+      (All-contains (λ (x : RouteId). x.source ≡ r.comp → Contains out x) s.owner.inbox.routes p m.posted.loops c
+      (ap (λ (x : RouteId). x.source) e ∙ from))) in
       let nothing : arrived_on q s.owner.drained ≡ [] = none_came r.comp q s.owner.inbox.routes s.owner.drained to m.posted.here no routed in
       ap length (came ∙ nothing) ∙ ap length (sym (none_sent q out s.desk.log not m.sent))
 

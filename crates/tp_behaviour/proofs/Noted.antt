@@ -79,7 +79,8 @@ pub sent_same : (q : RouteId) (k : List Entry) (e : Entry) → sending_on q e �
 sent_same q k e none = sent_more q k (e ∷ []) ∙ ap (λ l. sent_on q k ++ l) (sent_alone q e none) ∙ append-nil (sent_on q k)
 
 -- the trace, with one moment more, of which this holds as it does of those before
-pub fresh_more : (r : Actor) (k : List Entry) (e : Entry) → is_arrival e ≡ false → Fresh r.comp k → (LooksAtPorts e → HasOwn r.comp k) → Fresh r.comp (k ++ e ∷ [])
+pub fresh_more : (r : Actor) (k : List Entry) (e : Entry) → is_arrival e ≡ false → Fresh r.comp k → (LooksAtPorts e → HasOwn r.comp k)
+    → Fresh r.comp (k ++ e ∷ [])
 fresh_more r k e is fresh own =
     subst (All (λ (t : Moment). LooksAtPorts t.entry → HasOwn r.comp t.before)) (sym (moments-own k e is))
     (All-push (λ (t : Moment). LooksAtPorts t.entry → HasOwn r.comp t.before) (moments k) (record { before = k; entry = e }) fresh own)
@@ -93,9 +94,11 @@ noted r s d e m grown plain own = (
     posted = m.posted;
     desk = subst (IsDeskOf s.owner.inbox) (sym grown) m.desk;
     arrived = ap arrivals log ∙ arrivals_same s.desk.log e q.here ∙ m.arrived;
-    noted = all_as (IsNoted s.desk.log) (IsNoted d.log) s.outbox (λ x h. ap (sent_on x.route) log ∙ sent_same x.route s.desk.log e (q.unsent x.route) ∙ h) m.noted;
+    noted = all_as (IsNoted s.desk.log) (IsNoted d.log) s.outbox (λ x h. ap (sent_on x.route) log ∙ sent_same x.route s.desk.log e (q.unsent x.route) ∙ h)
+        m.noted;
     home = m.home;
-    sent = subst (All (IsSentBy (routes_of s.outbox))) (sym log) (All-push (IsSentBy (routes_of s.outbox)) s.desk.log e m.sent (q.by_none (routes_of s.outbox)));
+    sent = subst (All (IsSentBy (routes_of s.outbox))) (sym log)
+        (All-push (IsSentBy (routes_of s.outbox)) s.desk.log e m.sent (q.by_none (routes_of s.outbox)));
     fresh = subst (Fresh r.comp) (sym log) (fresh_more r s.desk.log e q.here m.fresh own);
   },
 )

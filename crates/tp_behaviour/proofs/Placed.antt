@@ -13,7 +13,8 @@ each_at can n (y ∷ ys) zero x is h = subst (λ z. can z n) (ap (λ o. unwrap_o
 each_at can n (y ∷ ys) (suc i) x is h = each_at can n ys i x is h.1
 
 -- a statement, also where the depth is written otherwise
-pub plays_at : (s : Stage) (m n : ℕ) (xs : List Statement) (i : ℕ) (x : Statement) → m ≡ n → i < length xs → x ≡ get_or xs i x → CanPlayAll s n xs → CanPlay s m x
+pub plays_at : (s : Stage) (m n : ℕ) (xs : List Statement) (i : ℕ) (x : Statement) → m ≡ n → i < length xs → x ≡ get_or xs i x → CanPlayAll s n xs
+    → CanPlay s m x
 plays_at s m n xs i x depth below is can =
     subst (λ k. CanPlay s k x) (sym depth) (each_at (λ y k. CanPlay s k y) n xs i x (slice_get-get_or xs i x below ∙ ap Some (sym is)) can)
 

@@ -43,13 +43,20 @@ is_named r vs _ _ (IsNamed.reference k c at) unset = absurd unset
 is_named r vs _ _ (IsNamed.variable k c holds) unset = let no_ = sym holds ∙ unset in absurd (cc)
 
 -- a message that went out
-pub sends_one : (r : Actor) (vs : Values) (x : SendOperation) (m : Message) (named : Option CompId) (q : RouteId) (d : Journal) (n : List Entry) → IsStarted d.log x.port → IsSentAs vs x.sent m
-    → IsNamed r vs x.to named → IsRoute r.config (port_of r x.port) named q → moments n ≡ moments d.log ++ moment d (entry.Sent q (length (sent_on q d.log)) (next_of d.log m)) ∷ [] → Sends r vs x None d.log n
-sends_one r vs x m named q d n started sent to route more =
-    (moment d (entry.Sent q (length (sent_on q d.log)) (next_of d.log m)) ∷ [], more, IsStep.send vs.turns vs.variables x m named q (moment d (entry.Sent q (length (sent_on q d.log)) (next_of d.log m))) sent to route (started, (next_of d.log m, refl, refl)))
+pub sends_one : (r : Actor) (vs : Values) (x : SendOperation) (m : Message) (named : Option CompId) (q : RouteId) (d : Journal) (n : List Entry)
+    → IsStarted d.log x.port → IsSentAs vs x.sent m
+    → IsNamed r vs x.to named → IsRoute r.config (port_of r x.port) named q → moments n ≡ moments d.log
+    ++ moment d (entry.Sent q (length (sent_on q d.log)) (next_of d.log m)) ∷ [] → Sends r vs x None d.log n
+sends_one r vs x m named q d n started sent to route more = (
+  moment d (entry.Sent q (length (sent_on q d.log)) (next_of d.log m)) ∷ [],
+  more,
+  IsStep.send vs.turns vs.variables x m named q
+      (moment d (entry.Sent q (length (sent_on q d.log)) (next_of d.log m))) sent to route (started, (next_of d.log m, refl, refl)),
+)
 
 -- and one that has no way
-pub cause_route : (r : Actor) (vs : Values) (x : SendOperation) (m : Message) (named : Option CompId) (f : RouteFault) (code : ℕ) (k : List Entry) → IsStarted k x.port → IsSentAs vs x.sent m
+pub cause_route : (r : Actor) (vs : Values) (x : SendOperation) (m : Message) (named : Option CompId) (f : RouteFault) (code : ℕ) (k : List Entry)
+    → IsStarted k x.port → IsSentAs vs x.sent m
     → IsNamed r vs x.to named → RouteCause r.config (port_of r x.port) named f → code ≡ route_number f → IsFailure r vs x k code
 cause_route r vs x m named f code k started sent to cause is = subst (IsFailure r vs x k) (sym is) (IsFailure.no_single_route named f started set to cause)
   where
@@ -73,7 +80,8 @@ pub some_items : {X : Type 0} (xs : List X) (n : ℕ) → length xs ≡ n → (n
 some_items xs n is e none = let zero : n ≡ 0 = sym is ∙ ap length none in true≢false (sym (eq-eqb n 0 zero) ∙ e)
 
 -- one to all that has no way at all
-pub cause_none : (r : Actor) (vs : Values) (x : SendOperation) (m : Message) (routes : List RouteId) (k : List Entry) → IsStarted k x.port → IsSentAs vs x.sent m → x.to ≡ to.All
+pub cause_none : (r : Actor) (vs : Values) (x : SendOperation) (m : Message) (routes : List RouteId) (k : List Entry) → IsStarted k x.port
+    → IsSentAs vs x.sent m → x.to ≡ to.All
     → routes ≡ routes_from r.config (port_of r x.port) → routes ≡ [] → IsFailure r vs x k 41
 cause_none r vs x m routes k started sent all are none = IsFailure.no_route_at_all started set all (sym are ∙ none)
   where
@@ -98,8 +106,10 @@ pub sent_on_none : (port : ℕ) (m : Message) (k : List Entry) → IsStarted k p
 sent_on_none port m k started = record { started = started; grew = ([], sym (append-nil (moments k)), tt) }
 
 -- and on one more
-pub sent_on_more : (port : ℕ) (m : Message) (routes : List RouteId) (i : ℕ) (d q : RouteId) (k l n : List Entry) → IsSentOnEach port m (take i routes) k l → i < length routes → q ≡ get_or routes i d
-    → n ≡ l ++ entry.Sent q (length (sent_on q l)) (next_of l m) ∷ [] → moments n ≡ moments l ++ record { before = l; entry = entry.Sent q (length (sent_on q l)) (next_of l m) } ∷ []
+pub sent_on_more : (port : ℕ) (m : Message) (routes : List RouteId) (i : ℕ) (d q : RouteId) (k l n : List Entry) → IsSentOnEach port m (take i routes) k l
+    → i < length routes → q ≡ get_or routes i d
+    → n ≡ l ++ entry.Sent q (length (sent_on q l)) (next_of l m) ∷ [] → moments n ≡ moments l
+    ++ record { before = l; entry = entry.Sent q (length (sent_on q l)) (next_of l m) } ∷ []
     → IsSentOnEach port m (take (i + 1) routes) k n
 sent_on_more port m routes i d q k l n so_far below is log more =
     let e = entry.Sent q (length (sent_on q l)) (next_of l m) in
@@ -123,5 +133,9 @@ some_moment port m (q ∷ qs) (t ∷ ts) zip some none = absurd (cc)
 -- a message that went out on each route of the port
 pub sends_all : (r : Actor) (vs : Values) (x : SendOperation) (m : Message) (routes : List RouteId) (k n : List Entry) → IsSentAs vs x.sent m → x.to ≡ to.All
     → routes ≡ routes_from r.config (port_of r x.port) → (routes ≡ [] → ⊥) → Grew (AllZip (IsSentOn x.port m) routes) k n → Sends r vs x None k n
-sends_all r vs x m routes k n sent all are some (ts, grown, zip) =
-    (ts, grown, IsStep.send_to_all vs.turns vs.variables x m ts sent all (some_moment x.port m routes ts zip some) (subst (λ l. AllZip (IsSentOn x.port m) l ts) are zip))
+sends_all r vs x m routes k n sent all are some (ts, grown, zip) = (
+  ts,
+  grown,
+  IsStep.send_to_all vs.turns vs.variables x m ts sent all (some_moment x.port m routes ts zip some)
+      (subst (λ l. AllZip (IsSentOn x.port m) l ts) are zip),
+)

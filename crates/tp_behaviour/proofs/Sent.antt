@@ -49,7 +49,8 @@ home_one inbox m s false h = h
 home_all : (inbox : Inbox) (q : RouteId) (m : Stamped) (ss : List Sending) → All (IsHome inbox) ss → All (IsHome inbox) (map (put_on q m) ss)
 home_all inbox q m [] all = All-nil (IsHome inbox)
 home_all inbox q m (s ∷ ss) all =
-    All-cons (IsHome inbox) (put_on q m s) (map (put_on q m) ss) (home_one inbox m s (same_route q s.route) (All-head (IsHome inbox) s ss all)) (home_all inbox q m ss (All-tail (IsHome inbox) s ss all))
+    All-cons (IsHome inbox) (put_on q m s) (map (put_on q m) ss) (home_one inbox m s (same_route q s.route) (All-head (IsHome inbox) s ss all))
+    (home_all inbox q m ss (All-tail (IsHome inbox) s ss all))
 
 sent_here : (p q : RouteId) (n : ℕ) (m : Stamped) → same_route p q ≡ true → sent_on p (entry.Sent q n m ∷ []) ≡ (n, m) ∷ []
 unfolding sent_on
@@ -70,7 +71,8 @@ pub as_many : (k : List Entry) (s : Sending) → IsNoted k s → length s.ledger
 as_many k s noted = sym (length-numbered 0 s.ledger) ∙ ap length (sym noted)
 
 -- what a sender has put is what was sent on its route, also after one more was put
-noted_one : (k : List Entry) (q : RouteId) (n : ℕ) (m : Stamped) (s : Sending) → n ≡ length (sent_on q k) → IsNoted k s → IsNoted (k ++ entry.Sent q n m ∷ []) (put_on q m s)
+noted_one : (k : List Entry) (q : RouteId) (n : ℕ) (m : Stamped) (s : Sending) → n ≡ length (sent_on q k) → IsNoted k s
+    → IsNoted (k ++ entry.Sent q n m ∷ []) (put_on q m s)
 noted_one k q n m s number noted = by (same_route q s.route) refl where
   more : sent_on s.route (k ++ entry.Sent q n m ∷ []) ≡ sent_on s.route k ++ sent_on s.route (entry.Sent q n m ∷ [])
   more = sent_more s.route k (entry.Sent q n m ∷ [])
@@ -84,15 +86,19 @@ noted_one k q n m s number noted = by (same_route q s.route) refl where
       more ∙ (λ i. noted i ++ here i) ∙ ap (λ j. numbered 0 s.ledger ++ (j, m) ∷ []) last ∙ sym (numbered-snoc 0 s.ledger m)
   by false e = more ∙ ap (λ l. sent_on s.route k ++ l) (sent_elsewhere s.route q n m (other_way q s.route e)) ∙ append-nil (sent_on s.route k) ∙ noted
 
-noted_all : (k : List Entry) (q : RouteId) (n : ℕ) (m : Stamped) (ss : List Sending) → n ≡ length (sent_on q k) → All (IsNoted k) ss → All (IsNoted (k ++ entry.Sent q n m ∷ [])) (map (put_on q m) ss)
+noted_all : (k : List Entry) (q : RouteId) (n : ℕ) (m : Stamped) (ss : List Sending) → n ≡ length (sent_on q k) → All (IsNoted k) ss
+    → All (IsNoted (k ++ entry.Sent q n m ∷ [])) (map (put_on q m) ss)
 noted_all k q n m [] number all = All-nil (IsNoted (k ++ entry.Sent q n m ∷ []))
 noted_all k q n m (s ∷ ss) number all =
-    All-cons (IsNoted (k ++ entry.Sent q n m ∷ [])) (put_on q m s) (map (put_on q m) ss) (noted_one k q n m s number (All-head (IsNoted k) s ss all)) (noted_all k q n m ss number (All-tail (IsNoted k) s ss all))
+    All-cons (IsNoted (k ++ entry.Sent q n m ∷ [])) (put_on q m s) (map (put_on q m) ss) (noted_one k q n m s number (All-head (IsNoted k) s ss all))
+    (noted_all k q n m ss number (All-tail (IsNoted k) s ss all))
 
 -- the station, once a message was put on a route and this was noted
-pub has_sent : (r : Actor) (s : Station) (d : Journal) (out : List Sending) (q : RouteId) (n : ℕ) (m : Stamped) → IsManned r s → Contains (routes_of s.outbox) q → HasPut q m n s.outbox out
+pub has_sent : (r : Actor) (s : Station) (d : Journal) (out : List Sending) (q : RouteId) (n : ℕ) (m : Stamped) → IsManned r s → Contains (routes_of s.outbox) q
+    → HasPut q m n s.outbox out
     → d ≡ adding s.desk (entry.Sent q n m)
-    → (n ≡ length (sent_on q s.desk.log)) × (moments d.log ≡ moments s.desk.log ++ moment s.desk (entry.Sent q n m) ∷ []) × IsManned r (record { owner = s.owner; desk = d; outbox = out })
+    → (n ≡ length (sent_on q s.desk.log)) × (moments d.log ≡ moments s.desk.log ++ moment s.desk (entry.Sent q n m) ∷ [])
+    × IsManned r (record { owner = s.owner; desk = d; outbox = out })
 has_sent r s d out q n m manned known (one, after) grown = (
   number,
   ap moments log ∙ moments-own s.desk.log (entry.Sent q n m) refl,
@@ -100,9 +106,11 @@ has_sent r s d out q n m manned known (one, after) grown = (
     posted = subst (IsPosted r s.owner.inbox) (sym routes) manned.posted;
     desk = subst (IsDeskOf s.owner.inbox) (sym grown) manned.desk;
     arrived = ap arrivals log ∙ arrivals_same s.desk.log (entry.Sent q n m) refl ∙ manned.arrived;
-    noted = subst (All (IsNoted d.log)) (sym after) (subst (λ k. All (IsNoted k) (map (put_on q m) s.outbox)) (sym log) (noted_all s.desk.log q n m s.outbox number manned.noted));
+    noted = subst (All (IsNoted d.log)) (sym after)
+        (subst (λ k. All (IsNoted k) (map (put_on q m) s.outbox)) (sym log) (noted_all s.desk.log q n m s.outbox number manned.noted));
     home = subst (All (IsHome s.owner.inbox)) (sym after) (home_all s.owner.inbox q m s.outbox manned.home);
-    sent = subst (λ l. All (IsSentBy l) d.log) (sym routes) (subst (All (IsSentBy (routes_of s.outbox))) (sym log) (All-push (IsSentBy (routes_of s.outbox)) s.desk.log (entry.Sent q n m) manned.sent known));
+    sent = subst (λ l. All (IsSentBy l) d.log) (sym routes)
+        (subst (All (IsSentBy (routes_of s.outbox))) (sym log) (All-push (IsSentBy (routes_of s.outbox)) s.desk.log (entry.Sent q n m) manned.sent known));
     fresh = subst (Fresh r.comp) (sym log) (fresh_more r s.desk.log (entry.Sent q n m) refl manned.fresh (λ h. absurd h));
   },
 )
@@ -114,4 +122,5 @@ has_sent r s d out q n m manned known (one, after) grown = (
     routes = ap routes_of after ∙ same_routes q m s.outbox
 
     number : n ≡ length (sent_on q s.desk.log)
-    number = one.3 ∙ as_many s.desk.log one.0 (All-contains (IsNoted s.desk.log) s.outbox one.0 manned.noted one.1) ∙ ap (λ x. length (sent_on x s.desk.log)) one.2
+    number = one.3 ∙ as_many s.desk.log one.0 (All-contains (IsNoted s.desk.log) s.outbox one.0 manned.noted one.1)
+        ∙ ap (λ x. length (sent_on x s.desk.log)) one.2

@@ -11,5 +11,6 @@ pub ports_there : (p : Post) (s : Station) → IsManned (role_of p) s → s.desk
 ports_there p s m = m.desk.1 ∙ m.posted.ports
 
 -- what it waits for, seen from another station
-pub waits_from : (p : Post) (s t : Station) (o : Outcome) → IsManned (role_of p) s → IsManned (role_of p) t → WaitsWithin t.desk.ports o → WaitsWithin s.desk.ports o
+pub waits_from : (p : Post) (s t : Station) (o : Outcome) → IsManned (role_of p) s → IsManned (role_of p) t → WaitsWithin t.desk.ports o
+    → WaitsWithin s.desk.ports o
 waits_from p s t o here there h = subst (λ (n : ℕ). WaitsWithin n o) (ports_there p t there ∙ sym (ports_there p s here)) h

@@ -19,8 +19,12 @@ pub failed : (r : Actor) (vs : Values) (x : SendOperation) (code : ℕ) (k n : L
 failed r vs x code k n grew =
     let t = grew.2.0 in
     let u : Moment = record { before = t.before; entry = entry.Failed code } in
-    let same : t ≡ u = λ i. record { before = t.before; entry = grew.2.2.1 i } in
-    (u ∷ [], grew.1 ∙ ap (λ ts. moments k ++ ts) (grew.2.1 ∙ ap (λ v. v ∷ []) same), λ whole. StopsWithin.fails vs.turns vs.variables x t.before code grew.2.2.0)
+    let same : t ≡ u = λ i. record { before = t.before; entry = grew.2.2.1 i } in (
+      u ∷ [],
+      grew.1 ∙ ap (λ ts. moments k ++ ts) (grew.2.1 ∙ ap (λ v. v ∷ []) same),
+      λ whole. StopsWithin.fails vs.turns vs.variables x t.before code
+          grew.2.2.0,
+    )
 
 -- what grew twice
 pub grew_on : (p q w : List Moment → Type 0) (k l n : List Entry) → ((ts us : List Moment) → p ts → q us → w (ts ++ us)) → Grew p k l → Grew q l n → Grew w k n

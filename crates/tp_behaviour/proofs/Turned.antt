@@ -38,7 +38,8 @@ pub none_there : {X : Type 0} (xs : List X) → true ≡ (length xs == 0) → xs
 none_there [] is = refl
 none_there (x ∷ xs) is = absurd (grind (arith, nat_tests))
 
-pub turned_empty : (p : Post) (first : ℤ) (block : List Statement) (n : ℕ) (here : Station) (before : State) → block ≡ [] → Turned p first block n outcome.Done here before here before
+pub turned_empty : (p : Post) (first : ℤ) (block : List Statement) (n : ℕ) (here : Station) (before : State) → block ≡ []
+    → Turned p first block n outcome.Done here before here before
 turned_empty p first block n here before none = (
   [],
   sym (append-nil (moments here.desk.log)),
@@ -47,13 +48,15 @@ turned_empty p first block n here before none = (
 )
 
 -- the turns up to this value of the loop variable were made
-pub record TurnsMade (p : Post) (first value bound : ℤ) (block : List Statement) (here : Station) (before : State) (there : Station) (after : State) : Type 0 where
+pub record TurnsMade (p : Post) (first value bound : ℤ) (block : List Statement) (here : Station) (before : State) (there : Station)
+    (after : State) : Type 0 where
   pub count : ℕ
   pub at : value ≡ first +ℤ pos count
   pub within : count ≤ turns_between first bound
   pub grew : Grew (λ ts. AreTurns (role_of p) before.turns.items before.variables.items first block count ts after.variables.items) here.desk.log there.desk.log
 
-pub made_start : (p : Post) (first bound : ℤ) (block : List Statement) (here : Station) (before : State) → TurnsMade p first first bound block here before here before
+pub made_start : (p : Post) (first bound : ℤ) (block : List Statement) (here : Station) (before : State)
+    → TurnsMade p first first bound block here before here before
 made_start p first bound block here before = record {
   count = 0;
   at = omega (arith, ints);
@@ -68,14 +71,17 @@ fewer first value bound n at below =
     omega (arith, ints)
 
 -- what a turn came to, as the definitions write it
-as_counted : (p : Post) (o : Outcome) (turns us : List ℤ) (first value : ℤ) (n : ℕ) (block : List Statement) (mid : Station) (now : State) (there : Station) (after : State)
-    → us ≡ turns → value ≡ first +ℤ pos n → ExecutedIn p (us ++ value ∷ []) block o mid now there after → ExecutedIn p (turns ++ (first +ℤ pos n) ∷ []) block o mid now there after
+as_counted : (p : Post) (o : Outcome) (turns us : List ℤ) (first value : ℤ) (n : ℕ) (block : List Statement) (mid : Station) (now : State) (there : Station)
+    (after : State)
+    → us ≡ turns → value ≡ first +ℤ pos n → ExecutedIn p (us ++ value ∷ []) block o mid now there after
+    → ExecutedIn p (turns ++ (first +ℤ pos n) ∷ []) block o mid now there after
 as_counted p o turns us first value n block mid now there after same at h =
     subst (λ (l : List ℤ). ExecutedIn p (l ++ (first +ℤ pos n) ∷ []) block o mid now there after) same
     (subst (λ (v : ℤ). ExecutedIn p (us ++ v ∷ []) block o mid now there after) at h)
 
 -- one turn more
-pub made_more : (p : Post) (first value bound next : ℤ) (block : List Statement) (here : Station) (before : State) (mid : Station) (now : State) (there : Station) (after : State)
+pub made_more : (p : Post) (first value bound next : ℤ) (block : List Statement) (here : Station) (before : State) (mid : Station) (now : State)
+    (there : Station) (after : State)
     → now.turns.items ≡ before.turns.items → value <ℤ bound → next ≡ value +ℤ pos 1 → TurnsMade p first value bound block here before mid now
     → ExecutedIn p (now.turns.items ++ value ∷ []) block outcome.Done mid now there after → TurnsMade p first next bound block here before there after
 made_more p first value bound next block here before mid now there after same below is made turn =
@@ -89,7 +95,8 @@ made_more p first value bound next block here before mid now there after same be
       at = omega (arith, ints, made.at);
       within = omega (arith, less);
       grew =
-          grew_on (λ ts. AreTurns r turns vs first block n ts now.variables.items) (λ ts. IsPath r (turns ++ (first +ℤ pos n) ∷ []) now.variables.items block ts after.variables.items)
+          grew_on (λ ts. AreTurns r turns vs first block n ts now.variables.items)
+          (λ ts. IsPath r (turns ++ (first +ℤ pos n) ∷ []) now.variables.items block ts after.variables.items)
           (λ ts. AreTurns r turns vs first block (suc n) ts after.variables.items) here.desk.log mid.desk.log there.desk.log
           (λ ts more so one. AreTurns.one_turn_more turns vs now.variables.items after.variables.items first block n ts more so one)
           made.grew (as_counted p outcome.Done turns now.turns.items first value n block mid now there after same made.at turn);
@@ -97,13 +104,15 @@ made_more p first value bound next block here before mid now there after same be
 
 -- all of them
 pub made_all : (p : Post) (first value bound : ℤ) (block : List Statement) (here : Station) (before : State) (there : Station) (after : State)
-    → bound ≤ℤ value → TurnsMade p first value bound block here before there after → Turned p first block (turns_between first bound) outcome.Done here before there after
+    → bound ≤ℤ value → TurnsMade p first value bound block here before there after
+    → Turned p first block (turns_between first bound) outcome.Done here before there after
 made_all p first value bound block here before there after above made =
     subst (λ (n : ℕ). Turned p first block n outcome.Done here before there after) (all_made first value bound made.count above made.at made.within) made.grew
   where
     all_made : (first value bound : ℤ) (n : ℕ) → bound ≤ℤ value → value ≡ first +ℤ pos n → n ≤ turns_between first bound → n ≡ turns_between first bound
     all_made first value bound zero above at within = sym (none_between first bound (omega (arith, ints)))
-    all_made first value bound (suc n) above at within = by_lt_z first bound (λ low. let whole = some_between first bound low in omega (arith, ints)) (λ high. let none = none_between first bound high in omega (arith, ints))
+    all_made first value bound (suc n) above at within = by_lt_z first bound (λ low. let whole = some_between first bound low in omega (arith, ints))
+        (λ high. let none = none_between first bound high in omega (arith, ints))
 
 module _ (r : Actor) (turns : List ℤ) (vs ws us : List (Option Held)) (first : ℤ) (block : List Statement) (count n : ℕ) (less : n < count) where
   ends_in : (o : Outcome) → (o ≡ outcome.Done → ⊥) → (ts more : List Moment) → AreTurns r turns vs first block n ts ws
@@ -113,7 +122,8 @@ module _ (r : Actor) (turns : List ℤ) (vs ws us : List (Option Held)) (first :
   ends_in (outcome.Waiting guards) other ts more so one = λ whole none. (n, ws, ts, more, refl, less, so, one whole none)
 
 -- the next one ends otherwise: the `for` does
-pub made_stop : (p : Post) (first value bound : ℤ) (block : List Statement) (o : Outcome) (here : Station) (before : State) (mid : Station) (now : State) (there : Station) (after : State)
+pub made_stop : (p : Post) (first value bound : ℤ) (block : List Statement) (o : Outcome) (here : Station) (before : State) (mid : Station) (now : State)
+    (there : Station) (after : State)
     → (o ≡ outcome.Done → ⊥) → now.turns.items ≡ before.turns.items → value <ℤ bound → TurnsMade p first value bound block here before mid now
     → ExecutedIn p (now.turns.items ++ value ∷ []) block o mid now there after → Turned p first block (turns_between first bound) o here before there after
 made_stop p first value bound block o here before mid now there after other same below made turn =
@@ -121,14 +131,16 @@ made_stop p first value bound block o here before mid now there after other same
     let turns = before.turns.items in
     let vs = before.variables.items in
     let n = made.count in
-    grew_on (λ ts. AreTurns r turns vs first block n ts now.variables.items) (λ ts. Ends r o (turns ++ (first +ℤ pos n) ∷ []) now.variables.items block ts after.variables.items)
+    grew_on (λ ts. AreTurns r turns vs first block n ts now.variables.items)
+    (λ ts. Ends r o (turns ++ (first +ℤ pos n) ∷ []) now.variables.items block ts after.variables.items)
     (λ ts. EndsTurns r o turns vs first block (turns_between first bound) ts after.variables.items) here.desk.log mid.desk.log there.desk.log
     (ends_in r turns vs now.variables.items after.variables.items first block (turns_between first bound) n (fewer first value bound n made.at below) o other)
     made.grew (as_counted p o turns now.turns.items first value n block mid now there after same made.at turn)
 
 -- the same numbers, as a clause writes them
 pub turned_as : (p : Post) (o : Outcome) (block : List Statement) (low first high bound : ℤ) (here : Station) (before : State) (there : Station) (after : State)
-    → low ≡ first → high ≡ bound → Turned p low block (turns_between low high) o here before there after → Turned p first block (turns_between first bound) o here before there after
+    → low ≡ first → high ≡ bound → Turned p low block (turns_between low high) o here before there after
+    → Turned p first block (turns_between first bound) o here before there after
 turned_as p o block low first high bound here before there after low_is high_is h =
     subst (λ (n : ℤ). Turned p n block (turns_between n bound) o here before there after) low_is
     (subst (λ (n : ℤ). Turned p low block (turns_between low n) o here before there after) high_is h)

@@ -35,7 +35,8 @@ pub referred : (cs : List CompId) (k : ℕ) (d : CompId) → k < length cs → s
 referred cs k d below = slice_get-map (λ (c : CompId). c.0) cs k ∙ ap (option_map (λ (c : CompId). c.0)) (slice_get-get_or cs k d below)
 
 -- what is at this place holds what the type says
-held_at : (types : List VariableType) (vs : List (Option Held)) (k : ℕ) (t : VariableType) → AreHeld types vs → slice_get types k ≡ Some t → (x : Option Held) × (slice_get vs k ≡ Some x) × IsHeldAs t x
+held_at : (types : List VariableType) (vs : List (Option Held)) (k : ℕ) (t : VariableType) → AreHeld types vs → slice_get types k ≡ Some t → (x : Option Held)
+    × (slice_get vs k ≡ Some x) × IsHeldAs t x
 held_at [] vs k t held at = absurd (cc)
 held_at (u ∷ types) [] k t held at = absurd held
 held_at (u ∷ types) (v ∷ vs) zero t held at = (v, refl, subst (λ (w : VariableType). IsHeldAs w v) (same_Some u t at) held.0)
@@ -52,10 +53,12 @@ no_message (Some (held.Value n)) m is e = is
 no_message (Some (held.Component d)) m is e = absurd (cc)
 
 -- a variable of messages holds no component, and one of components no message
-pub holds_messages : (types : List VariableType) (vs : List (Option Held)) (k : ℕ) (u : Ty) → AreHeld types vs → slice_get types k ≡ Some (kind.Message u) → HoldsMessages vs k
+pub holds_messages : (types : List VariableType) (vs : List (Option Held)) (k : ℕ) (u : Ty) → AreHeld types vs → slice_get types k ≡ Some (kind.Message u)
+    → HoldsMessages vs k
 holds_messages types vs k u held at = let h = held_at types vs k (kind.Message u) held at in (h.0, h.1, λ c e. no_component u h.0 c h.2 e)
 
-pub holds_components : (types : List VariableType) (vs : List (Option Held)) (k : ℕ) → AreHeld types vs → slice_get types k ≡ Some kind.Component → HoldsComponents vs k
+pub holds_components : (types : List VariableType) (vs : List (Option Held)) (k : ℕ) → AreHeld types vs → slice_get types k ≡ Some kind.Component
+    → HoldsComponents vs k
 holds_components types vs k held at = let h = held_at types vs k kind.Component held at in (h.0, h.1, λ m e. no_message h.0 m h.2 e)
 
 -- so what is sent can be made

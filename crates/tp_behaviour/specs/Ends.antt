@@ -3,13 +3,13 @@ use Rattle.std.specs.Prelude.{◌≡◌, ◌<◌, ◌⊎◌, ◌+ℤ◌, ℕ, �
 use Rattle.tp_queue.specs.declared.event.Env.{Env}
 use Rattle.tp_config.specs.declared.port_type.CompId.{CompId}
 use Rattle.tp_config.specs.declared.routes.RouteFault.{RouteFault}
-use Rattle.tp_config.specs.declared.routes.RouteFault.TheVariants as fault
+use Rattle.tp_config.specs.declared.routes.RouteFault.TheVariants as route_fault
 use Rattle.tp_config.specs.Routes.{RouteCause, routes_from}
 use Rattle.tp_body.specs.declared.body.SendOperation.{SendOperation}
-use Rattle.tp_body.specs.declared.body.Receiver.TheVariants as to
+use Rattle.tp_body.specs.declared.body.Receiver.TheVariants as receiver
 use Rattle.tp_body.specs.declared.body.Receiving.{Receiving}
 use Rattle.tp_body.specs.declared.body.Statement.{Statement}
-use Rattle.tp_body.specs.declared.body.Statement.TheVariants as b
+use Rattle.tp_body.specs.declared.body.Statement.TheVariants as statement
 use Rattle.tp_body.specs.declared.body.Branch.{Branch}
 use Rattle.tp_body.specs.declared.body.Body.{Body}
 use Rattle.tp_body.specs.Sizes.{turns_between}
@@ -39,62 +39,74 @@ unset_variable = 43
 
 -- why there is no route to send on, by its number
 abbrev pub route_number : RouteFault → ℕ
-route_number fault.NoRoute = no_route
-route_number fault.NeedsTo = needs_to
+route_number route_fault.NoRoute = no_route
+route_number route_fault.NeedsTo = needs_to
 
--- a send ends the behaviour by this number, the first whose cause holds: the port isn't started; a variable that it speaks of isn't set; and
--- there is no route, or none to the component named, or there are several and none is named
+-- a send ends the behaviour by this number, the first whose cause holds: the port isn't started; a variable that it
+-- speaks of isn't set; and there is no route, or none to the component named, or there are several and none is named
 pub data IsFailure (r : Actor) (vs : Values) (x : SendOperation) (k : List Entry) : ℕ → Type 0 where
   not_started : ¬ IsStarted k x.port → IsFailure r vs x k not_sending
   not_set : IsStarted k x.port → SendsUnset vs x.sent ⊎ NamesUnset vs x.to → IsFailure r vs x k unset_variable
-  no_single_route : (named : Option CompId) (f : RouteFault) → IsStarted k x.port → ¬ (SendsUnset vs x.sent ⊎ NamesUnset vs x.to)
+  no_single_route : (named : Option CompId) (f : RouteFault) → IsStarted k x.port
+      → ¬ (SendsUnset vs x.sent ⊎ NamesUnset vs x.to)
       → IsNamed r vs x.to named → RouteCause r.config (port_of r x.port) named f → IsFailure r vs x k (route_number f)
-  no_route_at_all : IsStarted k x.port → ¬ (SendsUnset vs x.sent ⊎ NamesUnset vs x.to) → x.to ≡ to.All
+  no_route_at_all : IsStarted k x.port → ¬ (SendsUnset vs x.sent ⊎ NamesUnset vs x.to) → x.to ≡ receiver.All
       → routes_from r.config (port_of r x.port) ≡ [] → IsFailure r vs x k no_route
 
 mutual
-  -- the moments lead to a statement within this one, or to itself, and the behaviour stops there with this end, the component's whole history
-  -- being `whole`
-  pub data StopsWithin (r : Actor) (whole : List Entry) : End → List ℤ → List (Option Held) → Statement → List Moment → Type 0 where
+  -- the moments lead to a statement within this one, or to itself, and the behaviour stops there with this end, the
+  -- component's whole history being `whole`
+  pub data StopsWithin (r : Actor) (whole : List Entry) : End → List ℤ → List (Option Held) → Statement → List Moment
+      → Type 0 where
     -- at a send that fails
     fails : (turns : List ℤ) (vs : List (Option Held)) (x : SendOperation) (k : List Entry) (code : ℕ)
         → IsFailure r (record { turns = turns; variables = vs }) x k code
-        → StopsWithin r whole (ending.Error code) turns vs (b.Send x) (record { before = k; entry = entry.Failed code } ∷ [])
+        → StopsWithin r whole (ending.Error code) turns vs (statement.Send x)
+        (record { before = k; entry = entry.Failed code } ∷ [])
     -- at a receiving operation that isn't open in the whole history
     waits : (turns : List ℤ) (vs : List (Option Held)) (x : Receiving) (drops : List Moment)
         → All (IsDrop (guard_of r (record { turns = turns; variables = vs }) x ∷ [])) drops
         → NoneOpen whole (guard_of r (record { turns = turns; variables = vs }) x ∷ [])
-        → StopsWithin r whole ending.Waiting turns vs (b.Receive x) drops
+        → StopsWithin r whole ending.Waiting turns vs (statement.Receive x) drops
     -- at an `alt` without `[else]` of which no branch is open in the whole history
     waits_at_alt : (turns : List ℤ) (vs : List (Option Held)) (branches : List Branch) (drops : List Moment)
         → All (IsDrop (guards_of r (record { turns = turns; variables = vs }) branches)) drops
         → NoneOpen whole (guards_of r (record { turns = turns; variables = vs }) branches)
-        → StopsWithin r whole ending.Waiting turns vs (b.Alt branches None) drops
+        → StopsWithin r whole ending.Waiting turns vs (statement.Alt branches None) drops
     -- within the block of the branch that was chosen
-    within_branch : (end : End) (turns : List ℤ) (vs : List (Option Held)) (branches : List Branch) (otherwise : Option (List Statement)) (has_else : Bool)
+    within_branch : (end : End) (turns : List ℤ) (vs : List (Option Held)) (branches : List Branch)
+        (otherwise : Option (List Statement)) (has_else : Bool)
         (drops : List Moment) (t : Moment) (i : ℕ) (e : Env Message) (x : Branch) (ts : List Moment)
         → All (IsDrop (guards_of r (record { turns = turns; variables = vs }) branches)) drops
         → IsChoice (guards_of r (record { turns = turns; variables = vs }) branches) has_else t (Some (i, e))
         → slice_get branches i ≡ Some x → Stops r whole end turns (redirected x.receiving e vs) x.block ts
-        → StopsWithin r whole end turns vs (b.Alt branches otherwise) (drops ++ t ∷ ts)
-    within_else : (end : End) (turns : List ℤ) (vs : List (Option Held)) (branches : List Branch) (block : List Statement)
+        → StopsWithin r whole end turns vs (statement.Alt branches otherwise) (drops ++ t ∷ ts)
+    within_else : (end : End) (turns : List ℤ) (vs : List (Option Held)) (branches : List Branch)
+        (block : List Statement)
         (drops : List Moment) (t : Moment) (ts : List Moment)
         → All (IsDrop (guards_of r (record { turns = turns; variables = vs }) branches)) drops
         → IsChoice (guards_of r (record { turns = turns; variables = vs }) branches) true t None
         → Stops r whole end turns vs block ts
-        → StopsWithin r whole end turns vs (b.Alt branches (Some block)) (drops ++ t ∷ ts)
+        → StopsWithin r whole end turns vs (statement.Alt branches (Some block)) (drops ++ t ∷ ts)
     -- within a turn of a `for`, after n whole ones
-    within_for : (end : End) (turns : List ℤ) (vs ws : List (Option Held)) (first bound : ℤ) (block : List Statement) (n : ℕ) (ts more : List Moment)
-        → AreTurns r turns vs first block n ts ws → n < turns_between first bound → Stops r whole end (turns ++ (first +ℤ pos n) ∷ []) ws block more
-        → StopsWithin r whole end turns vs (b.For first bound block) (ts ++ more)
+    within_for : (end : End) (turns : List ℤ) (vs ws : List (Option Held)) (first bound : ℤ) (block : List Statement)
+        (n : ℕ) (ts more : List Moment)
+        → AreTurns r turns vs first block n ts ws → n < turns_between first bound
+        → Stops r whole end (turns ++ (first +ℤ pos n) ∷ []) ws block more
+        → StopsWithin r whole end turns vs (statement.For first bound block) (ts ++ more)
 
   -- the moments are a path of the first of these statements, and then lead to a stop within the one behind them
-  pub data Stops (r : Actor) (whole : List Entry) : End → List ℤ → List (Option Held) → List Statement → List Moment → Type 0 where
-    stops : (end : End) (turns : List ℤ) (vs ws : List (Option Held)) (xs : List Statement) (x : Statement) (rest : List Statement) (ts more : List Moment)
-        → IsPath r turns vs xs ts ws → StopsWithin r whole end turns ws x more → Stops r whole end turns vs (xs ++ x ∷ rest) (ts ++ more)
+  pub data Stops (r : Actor) (whole : List Entry) : End → List ℤ → List (Option Held) → List Statement → List Moment
+      → Type 0 where
+    stops : (end : End) (turns : List ℤ) (vs ws : List (Option Held)) (xs : List Statement) (x : Statement)
+        (rest : List Statement) (ts more : List Moment)
+        → IsPath r turns vs xs ts ws → StopsWithin r whole end turns ws x more
+        → Stops r whole end turns vs (xs ++ x ∷ rest) (ts ++ more)
 
 -- the history follows the behaviour to this end
 pub data Follows (r : Actor) (body : Body) (k : List Entry) : End → Type 0 where
-  done : (vs : List (Option Held)) → IsPath r [] (unset body) body.statements (moments k) vs → Follows r body k ending.Done
-  error : (code : ℕ) → Stops r k (ending.Error code) [] (unset body) body.statements (moments k) → Follows r body k (ending.Error code)
+  done : (vs : List (Option Held)) → IsPath r [] (unset body) body.statements (moments k) vs
+      → Follows r body k ending.Done
+  error : (code : ℕ) → Stops r k (ending.Error code) [] (unset body) body.statements (moments k)
+      → Follows r body k (ending.Error code)
   waiting : Stops r k ending.Waiting [] (unset body) body.statements (moments k) → Follows r body k ending.Waiting

@@ -9,7 +9,7 @@ use Rattle.tp_config.specs.Setup.{Setup}
 use Rattle.tp_body.specs.declared.body.Sent.{Sent}
 use Rattle.tp_body.specs.declared.body.Sent.TheVariants as sent
 use Rattle.tp_body.specs.declared.body.Receiver.{Receiver}
-use Rattle.tp_body.specs.declared.body.Receiver.TheVariants as to
+use Rattle.tp_body.specs.declared.body.Receiver.TheVariants as receiver
 use Rattle.tp_body.specs.declared.body.SendMsg.{SendMsg}
 use Rattle.tp_body.specs.declared.body.Receiving.{Receiving}
 use Rattle.tp_body.specs.declared.body.Body.{Body}
@@ -24,7 +24,8 @@ pub record Actor : Type 0 where
   pub comp : CompId
   pub references : List ℕ
 
--- what the loop variables around a statement hold, the outermost first, and what the body's variables hold, if they are set
+-- what the loop variables around a statement hold, the outermost first, and what the body's variables hold, if they are
+-- set
 pub record Values : Type 0 where
   pub turns : List ℤ
   pub variables : List (Option Held)
@@ -48,9 +49,9 @@ pub data IsSentAs (vs : Values) : Sent → Message → Type 0 where
 
 -- the component that is named as the receiver of one message, if one is
 pub data IsNamed (r : Actor) (vs : Values) : Receiver → Option CompId → Type 0 where
-  nobody : IsNamed r vs to.Nobody None
-  reference : (k : ℕ) (c : CompId) → slice_get r.references k ≡ Some c.0 → IsNamed r vs (to.Reference k) (Some c)
-  variable : (k : ℕ) (c : CompId) → Holds vs k (held.Component c) → IsNamed r vs (to.Variable k) (Some c)
+  nobody : IsNamed r vs receiver.Nobody None
+  reference : (k : ℕ) (c : CompId) → slice_get r.references k ≡ Some c.0 → IsNamed r vs (receiver.Reference k) (Some c)
+  variable : (k : ℕ) (c : CompId) → Holds vs k (held.Component c) → IsNamed r vs (receiver.Variable k) (Some c)
 
 -- a send speaks of a variable that isn't set
 abbrev pub SendsUnset : Values → Sent → Type 0
@@ -58,7 +59,7 @@ SendsUnset vs (sent.Variable k) = IsUnset vs k
 SendsUnset vs (sent.Written m) = ⊥
 
 abbrev pub NamesUnset : Values → Receiver → Type 0
-NamesUnset vs (to.Variable k) = IsUnset vs k
+NamesUnset vs (receiver.Variable k) = IsUnset vs k
 NamesUnset vs _ = ⊥
 
 -- a receiving operation once loop variables and references have their values
@@ -75,6 +76,8 @@ abbrev pub set_to : Option ℕ → Held → List (Option Held) → List (Option 
 set_to None x vs = vs
 set_to (Some k) x vs = slice_set vs k (Some x)
 
--- what the variables hold once this envelope was taken or found by the operation: the value, and then the sender (22.2.2, `-> value v sender w`)
+-- what the variables hold once this envelope was taken or found by the operation: the value, and then the sender
+-- (22.2.2, `-> value v sender w`)
 abbrev pub redirected : Receiving → Env Message → List (Option Held) → List (Option Held)
-redirected x e vs = set_to x.sender_to (held.Component (record { 0 = e.sender })) (set_to x.value_to (held.Value e.msg) vs)
+redirected x e vs =
+    set_to x.sender_to (held.Component (record { 0 = e.sender })) (set_to x.value_to (held.Value e.msg) vs)

@@ -21,7 +21,8 @@ ElseLasts lasts None kept = Unit {0}
 ElseLasts lasts (Some xs) kept = AllZip lasts xs kept
 
 -- one layer of a statement
-abbrev pub statement_lasts : (X Y : Type 0) → (X → Statement) → (Y → Branch) → (X → Lasting → Type 0) → (Y → Lasting → Type 0)
+abbrev pub statement_lasts : (X Y : Type 0) → (X → Statement) → (Y → Branch) → (X → Lasting → Type 0)
+    → (Y → Lasting → Type 0)
     → o.Statement-F X Y → Lasting → Type 0
 statement_lasts X Y statement branch lasts enters (o.Send x) kept = Unit {0}
 statement_lasts X Y statement branch lasts enters (o.Receive x) kept = Lasts x.wanted (out-Lasting kept).wanted
@@ -30,12 +31,15 @@ statement_lasts X Y statement branch lasts enters (o.AllPorts x) kept = Unit {0}
 statement_lasts X Y statement branch lasts enters (o.SetVerdict x) kept = Unit {0}
 statement_lasts X Y statement branch lasts enters (o.Alt branches otherwise) kept =
     AllZip enters branches (out-Lasting kept).branches × ElseLasts lasts otherwise (out-Lasting kept).block
-statement_lasts X Y statement branch lasts enters (o.For first bound block) kept = AllZip lasts block (out-Lasting kept).block
+statement_lasts X Y statement branch lasts enters (o.For first bound block) kept =
+    AllZip lasts block (out-Lasting kept).block
 
 -- one layer of a branch
-abbrev pub branch_lasts : (X Y : Type 0) → (X → Statement) → (Y → Branch) → (X → Lasting → Type 0) → (Y → Lasting → Type 0)
+abbrev pub branch_lasts : (X Y : Type 0) → (X → Statement) → (Y → Branch) → (X → Lasting → Type 0)
+    → (Y → Lasting → Type 0)
     → o.Branch-F X Y → Lasting → Type 0
-branch_lasts X Y statement branch lasts enters x kept = Lasts x.receiving.wanted (out-Lasting kept).wanted × AllZip lasts x.block (out-Lasting kept).block
+branch_lasts X Y statement branch lasts enters x kept = Lasts x.receiving.wanted (out-Lasting kept).wanted
+    × AllZip lasts x.block (out-Lasting kept).block
 
 -- this is what lasts of the statement
 unfoldable pub IsLasting : Statement → Lasting → Type 0

@@ -5,7 +5,7 @@ use Rattle.tp_queue.specs.History.{top}
 use Rattle.tp_queue.specs.Answers.{Finds, Satisfies}
 use Rattle.tp_value.specs.declared.message.Message.{Message}
 use Rattle.tp_value.specs.Admits.{Admits}
-use Rattle.tp_syntax.specs.declared.tree.ReceiveKind.TheVariants as kind
+use Rattle.tp_syntax.specs.declared.tree.ReceiveKind.TheVariants as receive_kind
 use Rattle.tp_inbox.specs.declared.entry.Entry.{Entry}
 use Rattle.tp_inbox.specs.declared.entry.Entry.TheVariants as entry
 use Rattle.tp_inbox.specs.Desks.{Journal, adding, at_port}
@@ -17,9 +17,11 @@ use Rattle.tp_behaviour.specs.Choices.{IsOpen, NoneOpen, IsChoice, IsDrop, chose
 
 -- what trying the branch at place i came to, and the desk after it
 abbrev pub Tried : Guard → ℕ → Journal → Sight → Journal → Type 0
-Tried g i d (sight.Taken j e) after = (j ≡ i) × Finds (Admits g.wanted) g.sender (at_port d g.port) e × (after ≡ adding d (chosen g.kind g.port e i))
+Tried g i d (sight.Taken j e) after = (j ≡ i) × Finds (Admits g.wanted) g.sender (at_port d g.port) e
+    × (after ≡ adding d (chosen g.kind g.port e i))
 Tried g i d sight.Discarded after =
-    (e : Env Message) × (g.kind ≡ kind.Trigger) × (top (at_port d g.port) ≡ Some e) × ¬ Satisfies (Admits g.wanted) g.sender e
+    (e : Env Message) × (g.kind ≡ receive_kind.Trigger) × (top (at_port d g.port) ≡ Some e)
+    × ¬ Satisfies (Admits g.wanted) g.sender e
     × (after ≡ adding d (entry.Dropped g.port e i))
 Tried g i d sight.Nothing after = (¬ IsOpen d.log g) × (after ≡ d)
 
@@ -27,8 +29,8 @@ Tried g i d sight.Nothing after = (¬ IsOpen d.log g) × (after ≡ d)
 abbrev pub moment : Journal → Entry → Moment
 moment d t = record { before = d.log; entry = t }
 
--- what trying all branches came to, and the desk after it: the choice of a branch, a message that a `trigger` discarded, or nothing, where no
--- branch is open
+-- what trying all branches came to, and the desk after it: the choice of a branch, a message that a `trigger`
+-- discarded, or nothing, where no branch is open
 abbrev pub Looked : List Guard → Journal → Sight → Journal → Type 0
 Looked gs d (sight.Taken i e) after =
     (t : Entry) × ((has_else : Bool) → IsChoice gs has_else (moment d t) (Some (i, e))) × (after ≡ adding d t)

@@ -1,5 +1,5 @@
 -- The senders of a component.
-use Rattle.std.specs.Prelude.{◌≡◌, ◌<◌, ◌==◌, ℕ, Bool, cond, Some, List, [], ◌∷◌, ◌++◌, All, Contains, length, map, slice_get}
+use Rattle.std.specs.Prelude.{◌≡◌, ◌≤◌, ◌<◌, ◌==◌, ℕ, Bool, cond, Some, List, [], ◌∷◌, ◌++◌, All, Contains, length, map, slice_get}
 use Rattle.indexmap.specs.IndexMap.{IndexMap, get}
 use Rattle.tp_config.specs.declared.port_type.RouteId.{RouteId}
 use Rattle.tp_config.specs.contracts.port_type.RouteIdPartialEq.TheImpl.{eq-value}
@@ -19,7 +19,13 @@ put_on route m s = cond (same_route route s.route) (putting s m) s
 -- the message was put on this route, by the sender that there is, with this number
 abbrev pub HasPut : RouteId → Stamped → ℕ → List Sending → List Sending → Type 0
 HasPut route m n before after =
-    ((s : Sending) × Contains before s × (s.route ≡ route) × (n ≡ length s.ledger)) × (after ≡ map (put_on route m) before)
+    ((s : Sending) × Contains before s × (s.route ≡ route) × (n ≡ length s.ledger))
+    × (after ≡ map (put_on route m) before)
+
+-- the sender on this route has put as many messages as a route takes
+abbrev pub IsFull : RouteId → List Sending → Type 0
+IsFull route senders =
+    (s : Sending) × Contains senders s × (s.route ≡ route) × (100000 ≤ length s.ledger)
 
 -- a sender from a component to itself
 abbrev pub LeadsBack : Sending → Type 0
@@ -42,7 +48,8 @@ abbrev pub route_eq : RouteId → RouteId → Bool
 route_eq = eq-value.it
 
 -- each sender is found by its route, and those that lead back are listed, and no others
-pub record AreFiled {S : Type 0} (senders : List Sending) (places : IndexMap RouteId ℕ S) (loops : List ℕ) : Type 0 where
+pub record AreSendersFiled {S : Type 0} (senders : List Sending) (places : IndexMap RouteId ℕ S)
+    (loops : List ℕ) : Type 0 where
   pub found : (k : ℕ) (s : Sending) → slice_get senders k ≡ Some s → get route_eq places s.route ≡ Some k
   pub within : All (λ k. k < length senders) loops
   pub back : All (λ k. (s : Sending) → slice_get senders k ≡ Some s → LeadsBack s) loops

@@ -5,7 +5,7 @@ use Rattle.tp_body.specs.declared.body.Statement.{Statement}
 use Rattle.tp_body.specs.declared.body.Body.{Body}
 use Rattle.tp_body.specs.Playable.{IsPlayable, Stage, stage_of}
 use Rattle.tp_inbox.specs.declared.entry.Entry.{Entry}
-use Rattle.tp_report.specs.declared.ending.End.TheVariants as ending
+use Rattle.tp_report.specs.declared.ending.End.TheVariants as end
 use Rattle.tp_behaviour.specs.declared.choice.Guard.{Guard}
 use Rattle.tp_behaviour.specs.declared.held.Held.{Held}
 use Rattle.tp_behaviour.specs.declared.outcome.Outcome.{Outcome}
@@ -21,39 +21,52 @@ use Rattle.tp_behaviour.specs.Paths.{AreTurns, IsPath, IsStep}
 use Rattle.tp_behaviour.specs.Seen.{Grew}
 use Rattle.tp_behaviour.specs.Stations.{AreHeld, role_of}
 
--- statements that end so: they are carried out, and the variables then hold these values; or they stop, whatever the whole history is in which, at
--- a wait, none of these is open
-abbrev pub Ends : Actor → Outcome → List ℤ → List (Option Held) → List Statement → List Moment → List (Option Held) → Type 0
+-- statements that end so: they are carried out, and the variables then hold these values; or they stop, whatever the
+-- whole history is in which, at a wait, none of these is open
+abbrev pub Ends : Actor → Outcome → List ℤ → List (Option Held) → List Statement → List Moment → List (Option Held)
+    → Type 0
 Ends r outcome.Done turns vs xs ts ws = IsPath r turns vs xs ts ws
-Ends r (outcome.Error code) turns vs xs ts ws = (whole : List Entry) → Stops r whole (ending.Error code) turns vs xs ts
-Ends r (outcome.Waiting guards) turns vs xs ts ws = (whole : List Entry) → NoneOpen whole guards.items → Stops r whole ending.Waiting turns vs xs ts
+Ends r (outcome.Error code) turns vs xs ts ws = (whole : List Entry) → Stops r whole (end.Error code) turns vs xs ts
+Ends r (outcome.Waiting guards) turns vs xs ts ws = (whole : List Entry) → NoneOpen whole guards.items
+    → Stops r whole end.Waiting turns vs xs ts
 
 -- a statement that ends so
-abbrev pub EndsStep : Actor → Outcome → List ℤ → List (Option Held) → Statement → List Moment → List (Option Held) → Type 0
+abbrev pub EndsStep : Actor → Outcome → List ℤ → List (Option Held) → Statement → List Moment → List (Option Held)
+    → Type 0
 EndsStep r outcome.Done turns vs x ts ws = IsStep r turns vs x ts ws
-EndsStep r (outcome.Error code) turns vs x ts ws = (whole : List Entry) → StopsWithin r whole (ending.Error code) turns vs x ts
-EndsStep r (outcome.Waiting guards) turns vs x ts ws = (whole : List Entry) → NoneOpen whole guards.items → StopsWithin r whole ending.Waiting turns vs x ts
+EndsStep r (outcome.Error code) turns vs x ts ws =
+    (whole : List Entry) → StopsWithin r whole (end.Error code) turns vs x ts
+EndsStep r (outcome.Waiting guards) turns vs x ts ws = (whole : List Entry) → NoneOpen whole guards.items
+    → StopsWithin r whole end.Waiting turns vs x ts
 
 -- after n whole turns of a block the next stops
-abbrev pub StopsTurn : Actor → List ℤ → List (Option Held) → ℤ → List Statement → ℕ → (List ℤ → List (Option Held) → List Moment → Type 0) → List Moment → Type 0
+abbrev pub StopsTurn : Actor → List ℤ → List (Option Held) → ℤ → List Statement → ℕ
+    → (List ℤ → List (Option Held) → List Moment → Type 0) → List Moment → Type 0
 StopsTurn r turns vs first block count stops ts =
-    (n : ℕ) × (us : List (Option Held)) × (before : List Moment) × (more : List Moment) × (ts ≡ before ++ more) × (n < count)
+    (n : ℕ) × (us : List (Option Held)) × (before : List Moment) × (more : List Moment) × (ts ≡ before ++ more)
+    × (n < count)
     × AreTurns r turns vs first block n before us × stops (turns ++ (first +ℤ pos n) ∷ []) us more
 
 -- so many turns of a block that end so
-abbrev pub EndsTurns : Actor → Outcome → List ℤ → List (Option Held) → ℤ → List Statement → ℕ → List Moment → List (Option Held) → Type 0
+abbrev pub EndsTurns : Actor → Outcome → List ℤ → List (Option Held) → ℤ → List Statement → ℕ → List Moment
+    → List (Option Held) → Type 0
 EndsTurns r outcome.Done turns vs first block count ts ws = AreTurns r turns vs first block count ts ws
 EndsTurns r (outcome.Error code) turns vs first block count ts ws =
-    (whole : List Entry) → StopsTurn r turns vs first block count (λ inner us more. Stops r whole (ending.Error code) inner us block more) ts
+    (whole : List Entry)
+    → StopsTurn r turns vs first block count
+    (λ inner us more. Stops r whole (end.Error code) inner us block more) ts
 EndsTurns r (outcome.Waiting guards) turns vs first block count ts ws =
-    (whole : List Entry) → NoneOpen whole guards.items → StopsTurn r turns vs first block count (λ inner us more. Stops r whole ending.Waiting inner us block more) ts
+    (whole : List Entry) → NoneOpen whole guards.items
+    → StopsTurn r turns vs first block count (λ inner us more. Stops r whole end.Waiting inner us block more) ts
 
--- a behaviour with this history has ended so: the history, and each that is this one but for arrivals, follows its body to that end, at a wait where
--- none of these is open in it
+-- a behaviour with this history has ended so: the history, and each that is this one but for arrivals, follows its body
+-- to that end, at a wait where none of these is open in it
 abbrev pub HasEnded : Actor → Body → Outcome → List Entry → Type 0
-HasEnded r body outcome.Done k = (whole : List Entry) → moments whole ≡ moments k → Follows r body whole ending.Done
-HasEnded r body (outcome.Error code) k = (whole : List Entry) → moments whole ≡ moments k → Follows r body whole (ending.Error code)
-HasEnded r body (outcome.Waiting guards) k = (whole : List Entry) → moments whole ≡ moments k → NoneOpen whole guards.items → Follows r body whole ending.Waiting
+HasEnded r body outcome.Done k = (whole : List Entry) → moments whole ≡ moments k → Follows r body whole end.Done
+HasEnded r body (outcome.Error code) k = (whole : List Entry) → moments whole ≡ moments k
+    → Follows r body whole (end.Error code)
+HasEnded r body (outcome.Waiting guards) k = (whole : List Entry) → moments whole ≡ moments k
+    → NoneOpen whole guards.items → Follows r body whole end.Waiting
 
 -- what it waits for are operations on the first n ports
 abbrev pub WaitsWithin : ℕ → Outcome → Type 0
@@ -63,16 +76,18 @@ WaitsWithin n _ = Unit {0}
 -- where the body of a behaviour is played
 abbrev pub stage_at : Post → Stage
 stage_at p =
-    stage_of p.types.now (length (ports_at p.config.now.types p.config.now.components p.comp)) (length p.conduct.references.now) p.conduct.body.now
+    stage_of p.types.now (length (ports_at p.config.now.types p.config.now.components p.comp))
+    (length p.behaviour.references.now) p.behaviour.body.now
 
 -- the behaviour can carry its body out: each place of which it speaks is there
 abbrev pub CanBehave : Post → Type 0
 CanBehave p =
-    IsPlayable p.types.now (length (ports_at p.config.now.types p.config.now.components p.comp)) (length p.conduct.references.now) p.conduct.body.now
+    IsPlayable p.types.now (length (ports_at p.config.now.types p.config.now.components p.comp))
+    (length p.behaviour.references.now) p.behaviour.body.now
 
 -- the body's variables hold what they are declared for
 abbrev pub HoldsAsDeclared : Post → State → Type 0
-HoldsAsDeclared p s = AreHeld p.conduct.body.now.variables s.variables.items
+HoldsAsDeclared p s = AreHeld p.behaviour.body.now.variables s.variables.items
 
 -- how many loop variables are around
 abbrev pub depth_of : State → ℕ
@@ -81,9 +96,11 @@ depth_of s = length s.turns.items
 -- a block that was carried out, from here to there, and ended so
 abbrev pub Executed : Post → List Statement → Outcome → Station → State → Station → State → Type 0
 Executed p block o here before there after =
-    Grew (λ ts. Ends (role_of p) o before.turns.items before.variables.items block ts after.variables.items) here.desk.log there.desk.log
+    Grew (λ ts. Ends (role_of p) o before.turns.items before.variables.items block ts after.variables.items)
+    here.desk.log there.desk.log
 
 -- a statement
 abbrev pub Stepped : Post → Statement → Outcome → Station → State → Station → State → Type 0
 Stepped p x o here before there after =
-    Grew (λ ts. EndsStep (role_of p) o before.turns.items before.variables.items x ts after.variables.items) here.desk.log there.desk.log
+    Grew (λ ts. EndsStep (role_of p) o before.turns.items before.variables.items x ts after.variables.items)
+    here.desk.log there.desk.log

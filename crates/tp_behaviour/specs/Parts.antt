@@ -5,8 +5,8 @@ use Rattle.tp_value.specs.declared.message.Message.{Message}
 use Rattle.tp_body.specs.declared.body.Statement.{Statement}
 use Rattle.tp_body.specs.declared.body.Branch.{Branch}
 use Rattle.tp_behaviour.specs.declared.choice.Guard.{Guard}
-use Rattle.tp_behaviour.specs.declared.deciding.Way.{Way}
-use Rattle.tp_behaviour.specs.declared.deciding.Way.TheVariants as way
+use Rattle.tp_behaviour.specs.declared.deciding.Decision.{Decision}
+use Rattle.tp_behaviour.specs.declared.deciding.Decision.TheVariants as decision
 use Rattle.tp_behaviour.specs.declared.held.Held.{Held}
 use Rattle.tp_behaviour.specs.declared.outcome.Outcome.{Outcome}
 use Rattle.tp_behaviour.specs.declared.post.Post.{Post}
@@ -25,19 +25,22 @@ abbrev pub guards_at : Post → State → List Branch → List Guard
 guards_at p s branches = guards_of (role_of p) (values_of s) branches
 
 -- what was taken or found by the branch at this place stands in the variables that it names
-pub record IsEntered (branches : List Branch) (place : ℕ) (env : Env Message) (vs ws : List (Option Held)) : Type 0 where
+pub record IsEntered (branches : List Branch) (place : ℕ) (env : Env Message)
+    (vs ws : List (Option Held)) : Type 0 where
   pub branch : Branch
   pub there : slice_get branches place ≡ Some branch
   pub set : ws ≡ redirected branch.receiving env vs
 
 -- after messages that `trigger` branches discard, the branch at this place was chosen, and its variables set
-pub record Enters (branches : List Branch) (guards : List Guard) (place : ℕ) (vs ws : List (Option Held)) (ts : List Moment) : Type 0 where
+pub record Enters (branches : List Branch) (guards : List Guard) (place : ℕ) (vs ws : List (Option Held))
+    (ts : List Moment) : Type 0 where
   pub env : Env Message
   pub chosen : Ending guards (λ t. (any : Bool) → IsChoice guards any t (Some (place, env))) ts
   pub entered : IsEntered branches place env vs ws
 
 -- `[else]` was chosen, after such messages
-pub record EntersElse (guards : List Guard) (has_else : Bool) (vs ws : List (Option Held)) (ts : List Moment) : Type 0 where
+pub record EntersElse (guards : List Guard) (has_else : Bool) (vs ws : List (Option Held))
+    (ts : List Moment) : Type 0 where
   pub there : has_else ≡ true
   pub chosen : Ending guards (λ t. IsChoice guards true t None) ts
   pub kept : ws ≡ vs
@@ -49,12 +52,14 @@ pub record Rests (guards : List Guard) (has_else : Bool) (waiting : List Guard) 
   pub same : waiting ≡ guards
 
 -- what an `alt` came to, up to the block that it goes on with
-abbrev pub Decided : Post → List Branch → Bool → Way → Station → State → Station → State → Type 0
-Decided p branches has_else (way.Branch place) here before there after =
-    Grew (Enters branches (guards_at p before branches) place before.variables.items after.variables.items) here.desk.log there.desk.log
-Decided p branches has_else way.Else here before there after =
-    Grew (EntersElse (guards_at p before branches) has_else before.variables.items after.variables.items) here.desk.log there.desk.log
-Decided p branches has_else (way.Waits waiting) here before there after =
+abbrev pub Decided : Post → List Branch → Bool → Decision → Station → State → Station → State → Type 0
+Decided p branches has_else (decision.Branch place) here before there after =
+    Grew (Enters branches (guards_at p before branches) place before.variables.items after.variables.items)
+    here.desk.log there.desk.log
+Decided p branches has_else decision.Else here before there after =
+    Grew (EntersElse (guards_at p before branches) has_else before.variables.items after.variables.items) here.desk.log
+    there.desk.log
+Decided p branches has_else (decision.Waits waiting) here before there after =
     Grew (Rests (guards_at p before branches) has_else waiting.items) here.desk.log there.desk.log
 
 -- the block of the branch at this place was carried out, and ended so
@@ -65,19 +70,21 @@ ExecutedAt p branches place o here before there after =
 -- a block was carried out where the loop variables around it hold these values, and ended so
 abbrev pub ExecutedIn : Post → List ℤ → List Statement → Outcome → Station → State → Station → State → Type 0
 ExecutedIn p turns block o here before there after =
-    Grew (λ ts. Ends (role_of p) o turns before.variables.items block ts after.variables.items) here.desk.log there.desk.log
+    Grew (λ ts. Ends (role_of p) o turns before.variables.items block ts after.variables.items) here.desk.log
+    there.desk.log
 
 -- so many turns of a block, the loop variable holding this value at first, and they ended so
 abbrev pub Turned : Post → ℤ → List Statement → ℕ → Outcome → Station → State → Station → State → Type 0
 Turned p first block count o here before there after =
-    Grew (λ ts. EndsTurns (role_of p) o before.turns.items before.variables.items first block count ts after.variables.items) here.desk.log there.desk.log
+    Grew (λ ts. EndsTurns (role_of p) o before.turns.items before.variables.items first block count ts
+    after.variables.items) here.desk.log there.desk.log
 
 -- the branch, if that is what the `alt` goes on with, is one of its branches
-abbrev pub IsWayOf : List Branch → Way → Type 0
-IsWayOf branches (way.Branch place) = (x : Branch) × (slice_get branches place ≡ Some x)
-IsWayOf branches _ = Unit {0}
+abbrev pub IsDecisionOf : List Branch → Decision → Type 0
+IsDecisionOf branches (decision.Branch place) = (x : Branch) × (slice_get branches place ≡ Some x)
+IsDecisionOf branches _ = Unit {0}
 
 -- what it waits for, if it waits, are operations on the first n ports
-abbrev pub RestsWithin : ℕ → Way → Type 0
-RestsWithin n (way.Waits waiting) = All (λ (g : Guard). g.port < n) waiting.items
+abbrev pub RestsWithin : ℕ → Decision → Type 0
+RestsWithin n (decision.Waits waiting) = All (λ (g : Guard). g.port < n) waiting.items
 RestsWithin n _ = Unit {0}

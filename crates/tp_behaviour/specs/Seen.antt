@@ -26,16 +26,18 @@ abbrev pub One : (Moment → Type 0) → List Moment → Type 0
 One p ts = (t : Moment) × (ts ≡ t ∷ []) × p t
 
 -- one moment more: that of this entry
-abbrev pub Adds : Journal → Entry → Journal → Type 0
-Adds before e after = moments after.log ≡ moments before.log ++ moment before e ∷ []
+abbrev pub AddsEntry : Journal → Entry → Journal → Type 0
+AddsEntry before e after = moments after.log ≡ moments before.log ++ moment before e ∷ []
 
 -- a path of the statement, whatever loop variables and variables hold, and they stay as they are
 abbrev pub Carries : Actor → Statement → Journal → Journal → Type 0
-Carries r x before after = (turns : List ℤ) (vs : List (Option Held)) → Grew (λ ts. IsStep r turns vs x ts vs) before.log after.log
+Carries r x before after = (turns : List ℤ) (vs : List (Option Held))
+    → Grew (λ ts. IsStep r turns vs x ts vs) before.log after.log
 
 -- what a look at the branches came to
 abbrev pub Saw : CompId → List Guard → Sight → List Entry → List Entry → Type 0
-Saw c gs (sight.Taken i e) before after = Grew (One (λ t. (has_else : Bool) → IsChoice gs has_else t (Some (i, e)))) before after
+Saw c gs (sight.Taken i e) before after =
+    Grew (One (λ t. (has_else : Bool) → IsChoice gs has_else t (Some (i, e)))) before after
 Saw c gs sight.Discarded before after = Grew (One (IsDrop gs)) before after
 Saw c gs sight.Nothing before after = (moments after ≡ moments before) × NoneOpen after gs × HasOwn c after
 

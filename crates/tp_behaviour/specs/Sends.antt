@@ -5,9 +5,9 @@ use Rattle.tp_config.specs.declared.port_type.RouteId.{RouteId}
 use Rattle.tp_body.specs.declared.body.Sent.{Sent}
 use Rattle.tp_body.specs.declared.body.Sent.TheVariants as sent
 use Rattle.tp_body.specs.declared.body.Receiver.{Receiver}
-use Rattle.tp_body.specs.declared.body.Receiver.TheVariants as to
+use Rattle.tp_body.specs.declared.body.Receiver.TheVariants as receiver
 use Rattle.tp_body.specs.declared.body.SendOperation.{SendOperation}
-use Rattle.tp_body.specs.declared.body.Statement.TheVariants as b
+use Rattle.tp_body.specs.declared.body.Statement.TheVariants as statement
 use Rattle.tp_body.specs.Fills.{needed}
 use Rattle.tp_inbox.specs.declared.entry.Entry.{Entry}
 use Rattle.tp_inbox.specs.declared.entry.Entry.TheVariants as entry
@@ -29,14 +29,15 @@ CanFill variables turns (sent.Variable k) = HoldsMessages variables k
 
 -- the receiver is one of so many references, or a variable for components, and not all
 abbrev pub CanName : List (Option Held) → ℕ → Receiver → Type 0
-CanName variables references to.Nobody = ⊤
-CanName variables references (to.Reference k) = k < references
-CanName variables references (to.Variable k) = HoldsComponents variables k
-CanName variables references to.All = ⊥
+CanName variables references receiver.Nobody = ⊤
+CanName variables references (receiver.Reference k) = k < references
+CanName variables references (receiver.Variable k) = HoldsComponents variables k
+CanName variables references receiver.All = ⊥
 
 -- a send comes to this: it is carried out, or the behaviour ends by the refusal of this number
 abbrev pub Sends : Actor → Values → SendOperation → Option ℕ → List Entry → List Entry → Type 0
-Sends r vs x None before after = Grew (λ ts. IsStep r vs.turns vs.variables (b.Send x) ts vs.variables) before after
+Sends r vs x None before after =
+    Grew (λ ts. IsStep r vs.turns vs.variables (statement.Send x) ts vs.variables) before after
 Sends r vs x (Some code) before after =
     Grew (One (λ t. IsFailure r vs x t.before code × (t.entry ≡ entry.Failed code))) before after
 

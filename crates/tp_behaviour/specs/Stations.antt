@@ -7,7 +7,7 @@ use Rattle.tp_config.specs.declared.port_type.RouteId.{RouteId}
 use Rattle.tp_config.specs.Setup.{ports_at}
 use Rattle.tp_config.specs.Routes.{routes_from}
 use Rattle.tp_body.specs.declared.body.VariableType.{VariableType}
-use Rattle.tp_body.specs.declared.body.VariableType.TheVariants as kind
+use Rattle.tp_body.specs.declared.body.VariableType.TheVariants as variable_type
 use Rattle.tp_inbox.specs.declared.entry.Entry.{Entry}
 use Rattle.tp_inbox.specs.declared.entry.Entry.TheVariants as entry
 use Rattle.tp_inbox.specs.History.{arrivals, numbered, sent_on}
@@ -24,7 +24,7 @@ use Rattle.tp_behaviour.specs.Paths.{port_of}
 
 -- who the behaviour is
 abbrev pub role_of : Post → Actor
-role_of p = record { config = p.config.now; comp = p.comp; references = map (λ c. c.0) p.conduct.references.now }
+role_of p = record { config = p.config.now; comp = p.comp; references = map (λ c. c.0) p.behaviour.references.now }
 
 -- what it keeps in mind
 abbrev pub values_of : State → Values
@@ -78,17 +78,19 @@ pub record IsSame (before after : Station) : Type 0 where
 -- what a variable of this type holds
 abbrev pub IsHeldAs : VariableType → Option Held → Type 0
 IsHeldAs _ None = ⊤
-IsHeldAs (kind.Message u) (Some (held.Value m)) = ⊤
-IsHeldAs kind.Component (Some (held.Component c)) = ⊤
+IsHeldAs (variable_type.Message u) (Some (held.Value m)) = ⊤
+IsHeldAs variable_type.Component (Some (held.Component c)) = ⊤
 IsHeldAs _ _ = ⊥
 
 -- there is a variable at this place, and it holds no component
 abbrev pub HoldsMessages : List (Option Held) → ℕ → Type 0
-HoldsMessages variables k = (x : Option Held) × (slice_get variables k ≡ Some x) × ((c : CompId) → x ≢ Some (held.Component c))
+HoldsMessages variables k = (x : Option Held) × (slice_get variables k ≡ Some x)
+    × ((c : CompId) → x ≢ Some (held.Component c))
 
 -- there is a variable at this place, and it holds no message
 abbrev pub HoldsComponents : List (Option Held) → ℕ → Type 0
-HoldsComponents variables k = (x : Option Held) × (slice_get variables k ≡ Some x) × ((m : Message) → x ≢ Some (held.Value m))
+HoldsComponents variables k = (x : Option Held) × (slice_get variables k ≡ Some x)
+    × ((m : Message) → x ≢ Some (held.Value m))
 
 -- each variable holds what its type says
 abbrev pub AreHeld : List VariableType → List (Option Held) → Type 0

@@ -6,12 +6,12 @@ use Rattle.tp_value.specs.Admits.{Admits}
 use Rattle.tp_behaviour.specs.declared.choice.Guard.{Guard}
 use Rattle.tp_behaviour.specs.declared.choice.GuardView.{GuardView}
 use Rattle.tp_behaviour.specs.declared.choice.TemplateView.{TemplateView}
-use Rattle.tp_behaviour.specs.declared.choice.TemplateView.TheVariants as view
+use Rattle.tp_behaviour.specs.declared.choice.TemplateView.TheVariants as template_view
 
 -- the template, wherever it stands
 abbrev pub template_in : TemplateView → MsgTemplate
-template_in (view.Lasting x) = x.now
-template_in (view.Filled x) = x
+template_in (template_view.Lasting x) = x.now
+template_in (template_view.Filled x) = x
 
 -- the messages that it wants
 abbrev pub Seeks : TemplateView → Message → Type 0

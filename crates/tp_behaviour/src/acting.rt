@@ -1,10 +1,10 @@
 //! What a behaviour does to its ports and its verdict.
 ghost use Rattle.std.specs.Prelude.{◌≡◌, ◌<◌, OnOk};
-ghost use Rattle.tp_body.specs.declared.body.Statement.TheVariants as b;
+ghost use Rattle.tp_body.specs.declared.body.Statement.TheVariants as statement;
 ghost use Rattle.tp_inbox.specs.Desks.{adding};
 ghost use Rattle.tp_behaviour.specs.Fresh.{HasOwn};
 ghost use Rattle.tp_behaviour.specs.Paths.{operated};
-ghost use Rattle.tp_behaviour.specs.Seen.{Adds, Carries};
+ghost use Rattle.tp_behaviour.specs.Seen.{AddsEntry, Carries};
 ghost use Rattle.tp_behaviour.specs.Stations.{IsManned, IsSame, role_of};
 
 use crate::gate::Gate;
@@ -31,7 +31,8 @@ pub(crate) fn set_verdict(
     ensures manned { OnOk result (IsManned (role_of post.now) station.new) }
     ensures same { OnOk result (IsSame station.old station.new) }
     ensures stepped { OnOk result
-        (Carries (role_of post.now) (b.SetVerdict verdict) station.old.desk station.new.desk) }
+        (Carries (role_of post.now) (statement.SetVerdict verdict)
+        station.old.desk station.new.desk) }
 {
     note(post, &mut *station, Entry::Verdict(verdict))?;
     Ok(())
@@ -73,7 +74,8 @@ fn operate_at<G: Gate>(
     ensures own { OnOk result (HasOwn post.now.comp station.new.desk.log) }
     ensures added { OnOk result
         (station.new.desk ≡ adding station.old.desk (operated operation port)) }
-    ensures trace { OnOk result (Adds station.old.desk (operated operation port) station.new.desk) }
+    ensures trace { OnOk result (
+        AddsEntry station.old.desk (operated operation port) station.new.desk) }
 {
     gate.inside(post.comp, port);
     operate(&mut station.desk, port, operation)?;
@@ -94,7 +96,7 @@ pub(crate) fn control<R: Wait, G: Gate>(
     ensures manned { OnOk result (IsManned (role_of scene.now.post.now) station.new) }
     ensures same { OnOk result (IsSame station.old station.new) }
     ensures stepped { OnOk result
-        (Carries (role_of scene.now.post.now) (b.Control port operation)
+        (Carries (role_of scene.now.post.now) (statement.Control port operation)
         station.old.desk station.new.desk) }
 {
     look_in(scene.rt, scene.post, &mut *station)?;
@@ -115,7 +117,7 @@ pub(crate) fn all_ports<R: Wait, G: Gate>(
     ensures manned { OnOk result (IsManned (role_of scene.now.post.now) station.new) }
     ensures same { OnOk result (IsSame station.old station.new) }
     ensures stepped { OnOk result
-        (Carries (role_of scene.now.post.now) (b.AllPorts operation)
+        (Carries (role_of scene.now.post.now) (statement.AllPorts operation)
         station.old.desk station.new.desk) }
 {
     look_in(scene.rt, scene.post, &mut *station)?;

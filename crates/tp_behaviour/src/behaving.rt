@@ -22,11 +22,11 @@ use tp_refusal::memory::Memory;
 fn begin<G: Gate>(gate: &G, post: &Post<'_>) -> Result<State, Memory>
     ensures turns { IfOk result (λ state. state.turns.items ≡ []) }
     ensures variables { IfOk result (λ state.
-        state.variables.items ≡ unset post.now.conduct.body.now) }
+        state.variables.items ≡ unset post.now.behaviour.body.now) }
 {
     let mut variables = Vec::new(post.alloc);
     let mut steps: u64 = 0;
-    for _variable in post.conduct.body.variables.as_slice() {
+    for _variable in post.behaviour.body.variables.as_slice() {
         gate.before(post.comp, steps);
         steps = steps.wrapping_add(1);
         variables.push(None)?;
@@ -53,11 +53,11 @@ pub fn behave<R: Wait, G: Gate>(
     ensures manned { OnOk result (IsManned (role_of post.now) station.new) }
     ensures same { OnOk result (IsSame station.old station.new) }
     ensures ended { IfOk result (λ o.
-        HasEnded (role_of post.now) post.now.conduct.body.now o station.new.desk.log) }
+        HasEnded (role_of post.now) post.now.behaviour.body.now o station.new.desk.log) }
     ensures within { IfOk result (WaitsWithin station.new.desk.ports) }
 {
     let mut state = begin(gate, post)?;
-    let statements = post.conduct.body.statements.as_slice();
+    let statements = post.behaviour.body.statements.as_slice();
     let lasting = lasting_block(post.alloc, statements)?;
     let block = Block {
         statements,

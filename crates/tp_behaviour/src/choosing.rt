@@ -79,5 +79,6 @@ pub(crate) fn choose<R: Wait, G: Gate>(
             }
         }
     }
+    // The loop ends by a return alone.
     unreachable!()
 }

@@ -3,7 +3,7 @@ ghost use Rattle.std.specs.Prelude.{◌≡◌, ◌<◌, IfOk, OnOk, length};
 ghost use Rattle.tp_body.specs.Playable.{CanEnterAll};
 ghost use Rattle.tp_behaviour.specs.Lasting.{AreLastingBranches};
 ghost use Rattle.tp_behaviour.specs.Outcomes.{HoldsAsDeclared, depth_of, stage_at};
-ghost use Rattle.tp_behaviour.specs.Parts.{Decided, IsEntered, IsWayOf, RestsWithin};
+ghost use Rattle.tp_behaviour.specs.Parts.{Decided, IsEntered, IsDecisionOf, RestsWithin};
 ghost use Rattle.tp_behaviour.specs.Stations.{IsManned, IsSame, role_of};
 
 use crate::choice::Guard;
@@ -22,7 +22,7 @@ use tp_value::message::Message;
 
 /// What an `alt` goes on with.
 #[derive(Drop)]
-pub enum Way {
+pub enum Decision {
     /// The block of the branch at this place.
     Branch(usize),
     /// The block of `[else]`.
@@ -53,7 +53,7 @@ pub(crate) fn decide<R: Wait, G: Gate>(
     station: &mut Station,
     state: &mut State,
     alt: Alt<'_>,
-) -> Result<Way, Memory>
+) -> Result<Decision, Memory>
     requires manned { IsManned (role_of scene.now.post.now) station.old }
     requires held { HoldsAsDeclared scene.now.post.now state.old }
     requires can { CanEnterAll (stage_at scene.now.post.now) (depth_of state.old) alt.branches.now }
@@ -62,22 +62,22 @@ pub(crate) fn decide<R: Wait, G: Gate>(
     ensures same { OnOk result (IsSame station.old station.new) }
     ensures held { OnOk result (HoldsAsDeclared scene.now.post.now state.new) }
     ensures turns { OnOk result (state.new.turns.items ≡ state.old.turns.items) }
-    ensures decided { IfOk result (λ way.
-        Decided scene.now.post.now alt.entry.branches.now alt.entry.has_else way
+    ensures decided { IfOk result (λ decision.
+        Decided scene.now.post.now alt.entry.branches.now alt.entry.has_else decision
         station.old state.old station.new state.new) }
-    ensures there { IfOk result (IsWayOf alt.entry.branches.now) }
+    ensures there { IfOk result (IsDecisionOf alt.entry.branches.now) }
     ensures within { IfOk result (RestsWithin station.old.desk.ports) }
 {
     let views = view_guards(scene.post, &*state, alt.branches, alt.lasting)?;
     match choose(scene, &mut *station, views.as_slice(), alt.has_else)? {
         Choice::Branch(place, env) => {
             enter(scene.post, &mut *state, alt.branches, place, env);
-            Ok(Way::Branch(place))
+            Ok(Decision::Branch(place))
         }
-        Choice::Else => Ok(Way::Else),
+        Choice::Else => Ok(Decision::Else),
         Choice::Waits => {
             let guards = fill_guards(scene.post, &*state, alt.branches)?;
-            Ok(Way::Waits(guards))
+            Ok(Decision::Waits(guards))
         }
     }
 }

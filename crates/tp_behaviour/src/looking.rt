@@ -4,7 +4,7 @@ ghost use Rattle.tp_inbox.specs.Desks.{IsNote};
 ghost use Rattle.tp_inbox.specs.Routed.{AreArrivals};
 ghost use Rattle.tp_behaviour.specs.Fresh.{HasOwn, LooksAtPorts};
 ghost use Rattle.tp_behaviour.specs.Moments.{moments};
-ghost use Rattle.tp_behaviour.specs.Seen.{Adds, Saw};
+ghost use Rattle.tp_behaviour.specs.Seen.{AddsEntry, Saw};
 ghost use Rattle.tp_behaviour.specs.Stations.{IsManned, IsPlain, IsSame, role_of};
 ghost use Rattle.tp_behaviour.specs.Views.{all_viewed};
 
@@ -51,6 +51,7 @@ pub(crate) fn look_in<R: Wait>(rt: &R, post: &Post<'_>, station: &mut Station) -
             return Ok(());
         }
     }
+    // The loop ends by a return alone.
     unreachable!()
 }
 
@@ -65,8 +66,9 @@ pub(crate) fn note(post: &Post<'_>, station: &mut Station, entry: Entry) -> Resu
     ensures manned { OnOk result (IsManned (role_of post.now) station.new) }
     ensures same { OnOk result (IsSame station.old station.new) }
     ensures ports { OnOk result (station.new.desk.ports ≡ station.old.desk.ports) }
-    ensures trace { OnOk result (Adds station.old.desk entry station.new.desk) }
+    ensures trace { OnOk result (AddsEntry station.old.desk entry station.new.desk) }
 {
+    // Contracts alone ask where the behaviour is carried out.
     let _post = post;
     let Ok(()) = station.desk.note(entry) else {
         return Err(Memory);

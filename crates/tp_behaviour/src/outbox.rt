@@ -1,10 +1,10 @@
 //! A component's senders.
-ghost use Rattle.std.specs.Prelude.{◌≡◌, ◌≢◌, ◌↔◌, ◌<◌, [], ◌∷◌, ◌++◌, ℕ, All, Contains, IsTrue, OnErr, OnOk, Some, slice_get, vec_capacity, vec_len};
+ghost use Rattle.std.specs.Prelude.{◌≡◌, ◌≢◌, ◌↔◌, ◌<◌, [], ◌∷◌, ◌++◌, ℕ, All, Contains, IfErr, IsTrue, OnErr, OnOk, Some, slice_get, vec_capacity, vec_len};
 ghost use Rattle.tp_inbox.specs.declared.entry.Entry.TheVariants as entry;
 ghost use Rattle.tp_inbox.specs.History.{next_of};
 ghost use Rattle.tp_inbox.specs.Desks.{adding};
 ghost use Rattle.tp_inbox.specs.Ledgers.{Sending};
-ghost use Rattle.tp_behaviour.specs.Outboxes.{HasPut, IsHome, IsLevel, IsListed, LeadsBack, routes_of};
+ghost use Rattle.tp_behaviour.specs.Outboxes.{HasPut, IsFull, IsHome, IsLevel, IsListed, LeadsBack, routes_of};
 
 use indexmap::IndexMap;
 use std::alloc::Global;
@@ -32,7 +32,7 @@ impl Model for Outbox {
     ghost use Rattle.std.specs.Coded.{codes};
     ghost use Rattle.std.specs.Prelude.{List};
     ghost use Rattle.tp_inbox.specs.Ledgers.{Sending};
-    ghost use Rattle.tp_behaviour.specs.Outboxes.{AreFiled};
+    ghost use Rattle.tp_behaviour.specs.Outboxes.{AreSendersFiled};
 
     ghost Value = { List Sending };
 
@@ -40,7 +40,7 @@ impl Model for Outbox {
 
     ghost view = { λ o. o.senders.items };
 
-    ghost invariant = { λ o. AreFiled o.senders.items o.places o.loops.items };
+    ghost invariant = { λ o. AreSendersFiled o.senders.items o.places o.loops.items };
 }
 
 /// Whether this owner has drained as much of the sender's route, which leads to its component, as
@@ -128,6 +128,7 @@ impl Outbox {
     {
         match self.places.get(&route) {
             Some(place) => *place,
+            // Each sender is filed under its route, and there is one on this.
             None => unreachable!(),
         }
     }
@@ -149,6 +150,7 @@ impl Outbox {
             × (desk.new
             ≡ adding desk.old (entry.Sent route n (next_of desk.old.log message.now)))) }
         ensures err { OnErr result ((self.new ≡ self.old) × (desk.new ≡ desk.old)) }
+        ensures limit { IfErr result (λ fault. fault ≡ PutFault.Limit → IsFull route self.old) }
     {
         let place = self.place_of(route);
         desk.send(rt, &mut self.senders[place], message)

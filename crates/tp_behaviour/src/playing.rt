@@ -1,6 +1,6 @@
 //! The statements within which no other stands, each up to its end.
 ghost use Rattle.std.specs.Prelude.{◌<◌, IfOk, OnOk};
-ghost use Rattle.tp_body.specs.declared.body.Statement.TheVariants as b;
+ghost use Rattle.tp_body.specs.declared.body.Statement.TheVariants as statement;
 ghost use Rattle.tp_body.specs.Playable.{CanSend};
 ghost use Rattle.tp_behaviour.specs.Outcomes.{HoldsAsDeclared, Stepped, WaitsWithin, depth_of, stage_at};
 ghost use Rattle.tp_behaviour.specs.Stations.{IsManned, IsSame, role_of};
@@ -32,7 +32,7 @@ pub(crate) fn play_send<R: Wait, G: Gate>(
     ensures manned { OnOk result (IsManned (role_of scene.now.post.now) station.new) }
     ensures same { OnOk result (IsSame station.old station.new) }
     ensures ended { IfOk result (λ o.
-        Stepped scene.now.post.now (b.Send sending.now) o
+        Stepped scene.now.post.now (statement.Send sending.now) o
         station.old state.now station.new state.now) }
     ensures within { IfOk result (WaitsWithin station.old.desk.ports) }
 {
@@ -57,10 +57,11 @@ pub(crate) fn play_control<R: Wait, G: Gate>(
     ensures manned { OnOk result (IsManned (role_of scene.now.post.now) station.new) }
     ensures same { OnOk result (IsSame station.old station.new) }
     ensures ended { IfOk result (λ o.
-        Stepped scene.now.post.now (b.Control port operation) o
+        Stepped scene.now.post.now (statement.Control port operation) o
         station.old state.now station.new state.now) }
     ensures within { IfOk result (WaitsWithin station.old.desk.ports) }
 {
+    // Contracts alone speak of the variables: they stay as they are.
     let _state = state;
     control(scene, &mut *station, port, operation)?;
     Ok(Outcome::Done)
@@ -79,10 +80,11 @@ pub(crate) fn play_all_ports<R: Wait, G: Gate>(
     ensures manned { OnOk result (IsManned (role_of scene.now.post.now) station.new) }
     ensures same { OnOk result (IsSame station.old station.new) }
     ensures ended { IfOk result (λ o.
-        Stepped scene.now.post.now (b.AllPorts operation) o
+        Stepped scene.now.post.now (statement.AllPorts operation) o
         station.old state.now station.new state.now) }
     ensures within { IfOk result (WaitsWithin station.old.desk.ports) }
 {
+    // Contracts alone speak of the variables: they stay as they are.
     let _state = state;
     all_ports(scene, &mut *station, operation)?;
     Ok(Outcome::Done)
@@ -101,9 +103,11 @@ pub(crate) fn play_set_verdict(
     ensures manned { OnOk result (IsManned (role_of post.now) station.new) }
     ensures same { OnOk result (IsSame station.old station.new) }
     ensures ended { IfOk result (λ o.
-        Stepped post.now (b.SetVerdict verdict) o station.old state.now station.new state.now) }
+        Stepped post.now (statement.SetVerdict verdict) o
+        station.old state.now station.new state.now) }
     ensures within { IfOk result (WaitsWithin station.old.desk.ports) }
 {
+    // Contracts alone speak of the variables: they stay as they are.
     let _state = state;
     set_verdict(post, &mut *station, verdict)?;
     Ok(Outcome::Done)

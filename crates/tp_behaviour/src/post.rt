@@ -3,7 +3,7 @@ use std::alloc::Global;
 use tp_config::config::Config;
 use tp_config::port_type::CompId;
 use tp_inbox::owner::Closer;
-use tp_script::Conduct;
+use tp_script::Behaviour;
 use tp_value::types::Types;
 
 /// Where a behaviour is carried out, and what it is: all that stays as it is while it runs.
@@ -19,7 +19,7 @@ pub struct Post<'t> {
     /// The component.
     pub comp: CompId,
     /// Its body, and the components that the references of the body name.
-    pub conduct: Conduct<'t>,
+    pub behaviour: Behaviour<'t>,
     /// What closes the inboxes of all components.
     pub closers: &'t [Closer],
 }

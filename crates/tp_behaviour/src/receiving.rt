@@ -2,7 +2,7 @@
 ghost use Rattle.std.specs.Prelude.{◌≡◌, ◌<◌, ◌≤◌, IfOk, IfSome, OnOk, length};
 ghost use Rattle.std.specs.Option.{option_map};
 ghost use Rattle.std.specs.List.{slice_index_or};
-ghost use Rattle.tp_body.specs.declared.body.Statement.TheVariants as b;
+ghost use Rattle.tp_body.specs.declared.body.Statement.TheVariants as statement;
 ghost use Rattle.tp_body.specs.Playable.{CanEnterAll, CanExpect, CanReceive};
 ghost use Rattle.tp_behaviour.specs.Held.{guard_of, redirected, set_to};
 ghost use Rattle.tp_behaviour.specs.Lasting.{AreLastingBranches, Lasts};
@@ -36,7 +36,7 @@ fn sender_of(post: &Post<'_>, place: Option<usize>) -> Option<u32>
     ensures { result ≡ option_map (λ k. slice_index_or (role_of post.now).references k 0) place }
 {
     match place {
-        Some(place) => Some(post.conduct.references[place].0),
+        Some(place) => Some(post.behaviour.references[place].0),
         None => None,
     }
 }
@@ -203,7 +203,7 @@ pub(crate) fn receive<R: Wait, G: Gate>(
     ensures held { OnOk result (HoldsAsDeclared scene.now.post.now state.new) }
     ensures turns { OnOk result (state.new.turns.items ≡ state.old.turns.items) }
     ensures ended { IfOk result (λ o.
-        Stepped scene.now.post.now (b.Receive receiving.now) o
+        Stepped scene.now.post.now (statement.Receive receiving.now) o
         station.old state.old station.new state.new) }
     ensures within { IfOk result (WaitsWithin station.old.desk.ports) }
 {
@@ -219,6 +219,7 @@ pub(crate) fn receive<R: Wait, G: Gate>(
             guards.push_reserved(guard);
             Ok(Outcome::Waiting(guards))
         }
+        // There is no `[else]` beside it.
         Choice::Else => unreachable!(),
     }
 }

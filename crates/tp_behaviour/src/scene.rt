@@ -1,7 +1,7 @@
-//! What is around a behaviour.
+//! What the functions that carry out a behaviour are handed.
 use crate::post::Post;
 
-/// What is around a behaviour while it is carried out.
+/// What each function that carries out a part of a behaviour is handed.
 #[derive(Drop)]
 pub(crate) struct Scene<'a, R, G> {
     /// What lets it wait.

@@ -1,14 +1,14 @@
 //! What a behaviour sends.
 ghost use Rattle.std.specs.Prelude.{◌≡◌, ◌++◌, ◌∷◌, [], ℕ, All, Contains, IfOk, OnOk, length};
 ghost use Rattle.std.specs.List.{AllZip};
-ghost use Rattle.tp_body.specs.declared.body.Receiver.TheVariants as to;
+ghost use Rattle.tp_body.specs.declared.body.Receiver.TheVariants as receiver;
 ghost use Rattle.tp_body.specs.Playable.{CanSend};
 ghost use Rattle.tp_behaviour.specs.Ends.{IsFailure, route_number};
 ghost use Rattle.tp_behaviour.specs.Held.{IsNamed, IsSentAs};
 ghost use Rattle.tp_behaviour.specs.Outboxes.{routes_of};
 ghost use Rattle.tp_behaviour.specs.Outcomes.{HoldsAsDeclared, depth_of, stage_at};
 ghost use Rattle.tp_behaviour.specs.Paths.{IsSentOn, IsStarted};
-ghost use Rattle.tp_behaviour.specs.Seen.{Adds, Grew};
+ghost use Rattle.tp_behaviour.specs.Seen.{AddsEntry, Grew};
 ghost use Rattle.tp_behaviour.specs.Sends.{CanName, SendsAt, next_sent};
 ghost use Rattle.tp_behaviour.specs.Stations.{IsManned, IsSame, role_of, values_of};
 
@@ -65,7 +65,7 @@ fn send_on<R: Wait, G: Gate>(
     ensures same { OnOk result (IsSame station.old station.new) }
     ensures log { OnOk result (station.new.desk.log
         ≡ station.old.desk.log ++ next_sent route message.now station.old.desk.log ∷ []) }
-    ensures trace { OnOk result (Adds station.old.desk
+    ensures trace { OnOk result (AddsEntry station.old.desk
         (next_sent route message.now station.old.desk.log) station.new.desk) }
 {
     let rt = scene.rt;
@@ -157,7 +157,7 @@ fn send_to_all<R: Wait, G: Gate>(
     requires manned { IsManned (role_of scene.now.post.now) station.old }
     requires started { IsStarted station.old.desk.log sending.now.port }
     requires sent { IsSentAs (values_of state.now) sending.now.sent message.now }
-    requires all { sending.now.to ≡ to.All }
+    requires all { sending.now.to ≡ receiver.All }
     ensures manned { OnOk result (IsManned (role_of scene.now.post.now) station.new) }
     ensures same { OnOk result (IsSame station.old station.new) }
     ensures sends { IfOk result
@@ -189,7 +189,7 @@ fn send_to_one<R: Wait, G: Gate>(
     requires started { IsStarted station.old.desk.log sending.now.port }
     requires sent { IsSentAs (values_of state.now) sending.now.sent message.now }
     requires names { CanName state.now.variables.items
-        (length scene.now.post.now.conduct.references.now) sending.now.to }
+        (length scene.now.post.now.behaviour.references.now) sending.now.to }
     ensures manned { OnOk result (IsManned (role_of scene.now.post.now) station.new) }
     ensures same { OnOk result (IsSame station.old station.new) }
     ensures sends { IfOk result

@@ -7,7 +7,7 @@ ghost use Rattle.tp_behaviour.specs.Outcomes.{Executed, HoldsAsDeclared, Stepped
 ghost use Rattle.tp_behaviour.specs.Parts.{ExecutedAt, ExecutedIn, Turned};
 ghost use Rattle.tp_behaviour.specs.Stations.{IsManned, IsSame, role_of};
 
-use crate::deciding::{Way, decide};
+use crate::deciding::{Decision, decide};
 use crate::gate::Gate;
 use crate::lasting::{Alt, Block, Lasting};
 use crate::outcome::Outcome;
@@ -96,8 +96,8 @@ fn step<R: Wait, G: Gate>(
                 lasting: lasting.branches.as_slice(),
             };
             match decide(scene, station, state, alt)? {
-                Way::Branch(place) => branch(scene, station, state, alt, place),
-                Way::Else => match otherwise {
+                Decision::Branch(place) => branch(scene, station, state, alt, place),
+                Decision::Else => match otherwise {
                     Some(block) => {
                         let block = Block {
                             statements: block.as_slice(),
@@ -105,9 +105,10 @@ fn step<R: Wait, G: Gate>(
                         };
                         execute(scene, station, state, block)
                     }
+                    // It is chosen only where there is one.
                     None => unreachable!(),
                 },
-                Way::Waits(guards) => Ok(Outcome::Waiting(guards)),
+                Decision::Waits(guards) => Ok(Outcome::Waiting(guards)),
             }
         }
         Statement::For(first, bound, block) => {

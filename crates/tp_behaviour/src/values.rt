@@ -25,6 +25,7 @@ fn message_in(state: &State, place: usize) -> Option<&Message>
     match &state.variables[place] {
         Some(held) => match held {
             Held::Value(message) => Some(message),
+            // The variable is one of messages.
             Held::Component(_) => unreachable!(),
         },
         None => None,
@@ -40,6 +41,7 @@ fn component_in(state: &State, place: usize) -> Option<CompId>
     match &state.variables[place] {
         Some(held) => match held {
             Held::Component(comp) => Some(*comp),
+            // The variable is one of components.
             Held::Value(_) => unreachable!(),
         },
         None => None,
@@ -76,17 +78,18 @@ pub(crate) fn message_of(
 /// The component that is named as the receiver of one message, if one is; or `None` where it is a
 /// variable that isn't set. Takes no memory.
 pub(crate) fn named_of(post: &Post<'_>, state: &State, to: Receiver) -> Option<Option<CompId>>
-    requires { CanName state.now.variables.items (length post.now.conduct.references.now) to }
+    requires { CanName state.now.variables.items (length post.now.behaviour.references.now) to }
     ensures { MatchOption result (NamesUnset (values_of state.now) to)
         (IsNamed (role_of post.now) (values_of state.now) to) }
 {
     match to {
         Receiver::Nobody => Some(None),
-        Receiver::Reference(place) => Some(Some(post.conduct.references[place])),
+        Receiver::Reference(place) => Some(Some(post.behaviour.references[place])),
         Receiver::Variable(place) => match component_in(state, place) {
             Some(comp) => Some(Some(comp)),
             None => None,
         },
+        // It names no one component, and the condition leaves it out.
         Receiver::All => unreachable!(),
     }
 }

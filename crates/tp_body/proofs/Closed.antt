@@ -8,12 +8,12 @@ use Rattle.tp_value.specs.declared.types.Types.{Types}
 use Rattle.tp_value.specs.declared.template.PatternPart.{PatternPart}
 use Rattle.tp_value.specs.declared.verdict.Verdict.{Verdict}
 use Rattle.tp_syntax.specs.declared.tree.PortOperation.{PortOperation}
-use Rattle.tp_syntax.specs.declared.tree.Value.{Value}
-use Rattle.tp_syntax.specs.declared.tree.ValueField.{ValueField}
-use Rattle.tp_syntax.specs.declared.tree.Template.{Template}
-use Rattle.tp_syntax.specs.declared.tree.TemplateField.{TemplateField}
+use Rattle.tp_syntax.specs.declared.message.Value.{Value}
+use Rattle.tp_syntax.specs.declared.message.ValueField.{ValueField}
+use Rattle.tp_syntax.specs.declared.message.Template.{Template}
+use Rattle.tp_syntax.specs.declared.message.TemplateField.{TemplateField}
 use Rattle.tp_syntax.specs.declared.tree.Sent.{Sent as SentText}
-use Rattle.tp_syntax.specs.declared.tree.MessageTemplate.{MessageTemplate}
+use Rattle.tp_syntax.specs.declared.message.MessageTemplate.{MessageTemplate}
 use Rattle.tp_syntax.specs.declared.tree.Variable.{Variable}
 use Rattle.tp_syntax.specs.declared.tree.Statement.{Statement as StatementText}
 use Rattle.tp_syntax.specs.declared.tree.Action.{Action}

@@ -7,8 +7,8 @@ use Rattle.tp_value.specs.declared.types.Ty.TheVariants as ty
 use Rattle.tp_value.specs.declared.verdict.Verdict.TheVariants as verdict
 use Rattle.tp_syntax.specs.declared.tree.ComponentName.{ComponentName}
 use Rattle.tp_syntax.specs.declared.tree.ComponentName.TheVariants as c
-use Rattle.tp_syntax.specs.declared.tree.Message.{Message}
-use Rattle.tp_syntax.specs.declared.tree.MessageTemplate.{MessageTemplate}
+use Rattle.tp_syntax.specs.declared.message.Message.{Message}
+use Rattle.tp_syntax.specs.declared.message.MessageTemplate.{MessageTemplate}
 use Rattle.tp_syntax.specs.declared.tree.Sent.{Sent}
 use Rattle.tp_syntax.specs.declared.tree.Sent.TheVariants as sent
 use Rattle.tp_syntax.specs.declared.tree.Destination.{Destination}
@@ -29,7 +29,7 @@ use Rattle.tp_name.specs.Named.{IsPlace, IsAbsent}
 use Rattle.tp_body.specs.Scoping.{IsType, IsVariable, IsReference}
 use Rattle.tp_body.specs.Messages.{IsMessage, IsTemplate}
 use Rattle.tp_body.specs.Bodies as b
-use Rattle.tp_body.specs.Bodies.{IsSent, IsReceiver, IsWanted, IsSender, IsValueTarget, IsSenderTarget, IsVerdict}
+use Rattle.tp_body.specs.Bodies.{IsSent, IsReceiver, IsWanted, IsFrom, IsValueTarget, IsSenderTarget, IsVerdict}
 
 module _ (scope : Scope) (variables : Variables) (turns : List (List ℕ)) where
   pub sent_written : (types : List Ty) (x : Sent) (t : Message) (m : SendMsg) → x ≡ sent.Message t → IsMessage scope.types.now turns t m → Contains types m.ty
@@ -68,11 +68,11 @@ module _ (scope : Scope) (variables : Variables) (turns : List (List ℕ)) where
       → IsTemplate scope.types.now turns u t.template r → IsWanted scope turns types x (wanted.Of u r)
   wanted_of types x t u r e f l h = rw e (b.matching t u r f l h)
 
-  pub sender_whoever : (x : Option ComponentName) → x ≡ None → IsSender scope variables turns x None
+  pub sender_whoever : (x : Option ComponentName) → x ≡ None → IsFrom scope variables turns x None
   sender_whoever x e = rw e b.whoever
 
   pub sender_this : (x : Option ComponentName) (n : ComponentName) (k : ℕ) → x ≡ Some n → IsReference scope variables turns n k
-      → IsSender scope variables turns x (Some k)
+      → IsFrom scope variables turns x (Some k)
   sender_this x n k e h = rw e (b.this_one n k h)
 
 module _ (variables : Variables) (turns : List (List ℕ)) where

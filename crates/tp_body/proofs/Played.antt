@@ -12,7 +12,7 @@ use Rattle.tp_syntax.specs.declared.tree.Sent.{Sent as SentText}
 use Rattle.tp_syntax.specs.declared.tree.Send.{Send}
 use Rattle.tp_syntax.specs.declared.tree.Receive.{Receive}
 use Rattle.tp_syntax.specs.declared.tree.Destination.{Destination}
-use Rattle.tp_syntax.specs.declared.tree.MessageTemplate.{MessageTemplate}
+use Rattle.tp_syntax.specs.declared.message.MessageTemplate.{MessageTemplate}
 use Rattle.tp_syntax.specs.declared.tree.Variable.{Variable}
 use Rattle.tp_syntax.specs.declared.tree.Statement.{Statement as StatementText}
 use Rattle.tp_syntax.specs.declared.tree.Action.{Action}
@@ -30,9 +30,9 @@ use Rattle.tp_body.specs.declared.body.Body.{Body}
 use Rattle.tp_body.specs.declared.scope.Scope.{Scope}
 use Rattle.tp_body.specs.declared.scope.Variables.{Variables}
 use Rattle.tp_body.specs.Scoping as n
-use Rattle.tp_body.specs.Scoping.{IsPort, IsReference, port_names}
+use Rattle.tp_body.specs.Scoping.{IsPortNamed, IsReference, port_names}
 use Rattle.tp_body.specs.Bodies as b
-use Rattle.tp_body.specs.Bodies.{IsSent, IsReceiver, IsSend, IsWanted, IsSender, IsValueTarget, IsSenderTarget, IsReceive, IsStatement, IsBlock, IsBranch, IsAfter, AreBranches, IsBody}
+use Rattle.tp_body.specs.Bodies.{IsSent, IsReceiver, IsSend, IsWanted, IsFrom, IsValueTarget, IsSenderTarget, IsReceive, IsStatement, IsBlock, IsBranch, IsAfter, AreBranches, IsBody}
 use Rattle.tp_body.specs.Playable.{Stage, IsAlwaysFitting, CanSay, CanAddress, CanSend, CanWant, CanExpect, CanKeepValue, CanKeepSender, CanReceive, CanPlay, CanEnter, CanPlayAll, CanEnterAll, reference_count, IsPlayable}
 use Rattle.tp_body.proofs.Filling.{needed_turn, filled_turn}
 use Rattle.tp_body.proofs.Closed.{value_closed, wanted_closed}
@@ -45,7 +45,7 @@ module _ (scope : Scope) (variables : Variables) where
   abbrev stage : Stage
   stage = record { types = scope.types.now; ports = length scope.ports.now.ports.entries; references = reference_count scope; variables = variables.types }
 
-  port_there : (name : List ℕ) (place : ℕ) (port : PortType) → IsPort scope.ports.now name place port → place < length scope.ports.now.ports.entries
+  port_there : (name : List ℕ) (place : ℕ) (port : PortType) → IsPortNamed scope.ports.now name place port → place < length scope.ports.now.ports.entries
   port_there name place port h =
       omega (arith, slice_get_within (port_names scope.ports.now) place name h.named.there, length-map scope.ports.now.ports.entries (λ e. string_bytes e.0))
 
@@ -91,7 +91,7 @@ module _ (scope : Scope) (variables : Variables) where
     wanted_played : (receivable : List Ty) (x : Option MessageTemplate) (y : RecvMsg) → IsWanted scope turns receivable x y → CanWant stage (length turns) y
     wanted_played receivable x y h = record { around = wanted_closed scope variables turns receivable h; fits = wanted_fits receivable x y h }
 
-    sender_played : (x : Option ComponentName) (y : Option ℕ) → IsSender scope variables turns x y → CanExpect stage y
+    sender_played : (x : Option ComponentName) (y : Option ℕ) → IsFrom scope variables turns x y → CanExpect stage y
     sender_played x y b.whoever = tt
     sender_played x y (b.this_one c k h) = reference_there c k h
 

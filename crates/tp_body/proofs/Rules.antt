@@ -2,9 +2,9 @@
 use Rattle.std.proofs.Common.{◌≡◌, ℕ, ◌+◌, List, ◌++◌, Some, sym, subst, string_bytes, String, Global}
 use Rattle.tp_value.specs.declared.types.Ty.TheVariants as ty
 use Rattle.tp_value.specs.declared.types.Types.{Types}
-use Rattle.tp_value.specs.Types.{number_of}
-use Rattle.tp_syntax.specs.declared.tree.TypeName.{TypeName}
-use Rattle.tp_syntax.specs.declared.tree.TypeName.TheVariants as t
+use Rattle.tp_value.specs.Types.{type_number}
+use Rattle.tp_syntax.specs.declared.message.TypeName.{TypeName}
+use Rattle.tp_syntax.specs.declared.message.TypeName.TheVariants as t
 use Rattle.tp_syntax.specs.declared.tree.ComponentName.{ComponentName}
 use Rattle.tp_syntax.specs.declared.tree.ComponentName.TheVariants as c
 use Rattle.tp_body.specs.declared.scope.Scope.{Scope}
@@ -23,7 +23,7 @@ module _ (types : Types) where
   pub type_charstring : (n : TypeName) → n ≡ t.Charstring → IsType types n ty.Charstring
   type_charstring n e = subst (λ x. IsType types x ty.Charstring) (sym e) d.charstring
 
-  pub type_named : (x : TypeName) (n : String Global) (k : ℕ) → x ≡ t.Named n → number_of types (string_bytes n) ≡ Some k → IsType types x (ty.Named k)
+  pub type_named : (x : TypeName) (n : String Global) (k : ℕ) → x ≡ t.Named n → type_number types (string_bytes n) ≡ Some k → IsType types x (ty.Named k)
   type_named x n k e p = subst (λ x. IsType types x (ty.Named k)) (sym e) (d.type_named n k p)
 
 module _ (scope : Scope) (variables : Variables) (turns : List (List ℕ)) where

@@ -21,31 +21,33 @@ use Rattle.tp_body.specs.declared.body.Receiving.{Receiving}
 use Rattle.tp_body.specs.declared.body.Statement.{Statement}
 use Rattle.tp_body.specs.declared.body.Statement.TheVariants as b
 use Rattle.tp_body.specs.declared.body.Branch.{Branch}
-use Rattle.tp_body.specs.declared.scope.Behaviour.TheVariants as behaviour
+use Rattle.tp_body.specs.declared.scope.BehaviourKind.TheVariants as behaviour_kind
 use Rattle.tp_body.specs.declared.scope.Scope.{Scope}
 use Rattle.tp_body.specs.declared.scope.Variables.{Variables}
-use Rattle.tp_body.specs.Scoping.{IsPort, IsNew}
+use Rattle.tp_body.specs.Scoping.{IsPortNamed, IsNew}
 use Rattle.tp_body.specs.Bodies as d
 use Rattle.tp_body.specs.Bodies.{IsSend, IsReceive, IsVerdict, IsStatement, IsBlock, IsBranch, IsAfter, AreBranches}
 use Rattle.tp_body.proofs.ValueRules.{pushed}
 
 module _ (scope : Scope) (variables : Variables) (turns : List (List ℕ)) where
-  pub statement_send : (x : Action) (t : Send) (y : SendOperation) → x ≡ a.Send t → IsSend scope variables turns t y → IsStatement scope variables turns x (b.Send y)
+  pub statement_send : (x : Action) (t : Send) (y : SendOperation) → x ≡ a.Send t → IsSend scope variables turns t y
+      → IsStatement scope variables turns x (b.Send y)
   statement_send x t y e h = rw e (d.send turns t y h)
 
   pub statement_receive : (x : Action) (t : Receive) (y : Receiving) → x ≡ a.Receive t → IsReceive scope variables turns t y
       → IsStatement scope variables turns x (b.Receive y)
   statement_receive x t y e h = rw e (d.receive turns t y h)
 
-  pub statement_control : (x : Control) (k : ℕ) (port : PortType) → scope.behaviour ≢ behaviour.SystemUnderTest
-      → IsPort scope.ports.now (string_bytes x.port) k port
+  pub statement_control : (x : Control) (k : ℕ) (port : PortType) → scope.behaviour ≢ behaviour_kind.SystemUnderTest
+      → IsPortNamed scope.ports.now (string_bytes x.port) k port
       → IsStatement scope variables turns (a.Control x) (b.Control k x.operation)
   statement_control x k port n h = d.control turns x k port n h
 
-  pub statement_all_ports : (x : PortOperation) → scope.behaviour ≢ behaviour.SystemUnderTest → IsStatement scope variables turns (a.AllPorts x) (b.AllPorts x)
+  pub statement_all_ports : (x : PortOperation) → scope.behaviour ≢ behaviour_kind.SystemUnderTest → IsStatement scope variables turns (a.AllPorts x)
+      (b.AllPorts x)
   statement_all_ports x n = d.all_ports turns x n
 
-  pub statement_set_verdict : (x : VerdictName) (y : Verdict) → scope.behaviour ≢ behaviour.SystemUnderTest → IsVerdict x y
+  pub statement_set_verdict : (x : VerdictName) (y : Verdict) → scope.behaviour ≢ behaviour_kind.SystemUnderTest → IsVerdict x y
       → IsStatement scope variables turns (a.SetVerdict x) (b.SetVerdict y)
   statement_set_verdict x y n h = d.set_verdict turns x y n h
 

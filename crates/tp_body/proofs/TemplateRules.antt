@@ -10,9 +10,9 @@ use Rattle.tp_value.specs.declared.types.Types.{Types}
 use Rattle.tp_value.specs.Types.{named}
 use Rattle.tp_value.specs.HasType.{ArePrintable}
 use Rattle.tp_value.specs.Fits.{AreOrdered}
-use Rattle.tp_syntax.specs.declared.tree.Template.{Template}
-use Rattle.tp_syntax.specs.declared.tree.Template.TheVariants as t
-use Rattle.tp_syntax.specs.declared.tree.TemplateField.{TemplateField}
+use Rattle.tp_syntax.specs.declared.message.Template.{Template}
+use Rattle.tp_syntax.specs.declared.message.Template.TheVariants as t
+use Rattle.tp_syntax.specs.declared.message.TemplateField.{TemplateField}
 use Rattle.tp_body.specs.declared.body.SendValue.TheVariants as w
 use Rattle.tp_body.specs.declared.body.RecvTemplate.{RecvTemplate}
 use Rattle.tp_body.specs.declared.body.RecvTemplate.TheVariants as r

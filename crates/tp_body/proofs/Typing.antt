@@ -8,8 +8,8 @@ use Rattle.tp_value.specs.declared.types.Types.{Types}
 use Rattle.tp_value.specs.declared.value.Value.{Value}
 use Rattle.tp_value.specs.HasType.{AllHave, FieldsHave, HasType}
 use Rattle.tp_value.proofs.Typed.{has_int, has_bool, has_text, has_record, has_list}
-use Rattle.tp_syntax.specs.declared.tree.Value.{Value as ValueText}
-use Rattle.tp_syntax.specs.declared.tree.ValueField.{ValueField}
+use Rattle.tp_syntax.specs.declared.message.Value.{Value as ValueText}
+use Rattle.tp_syntax.specs.declared.message.ValueField.{ValueField}
 use Rattle.tp_body.specs.declared.body.SendValue.{SendValue}
 use Rattle.tp_body.specs.Messages.{IsValue, int, bool, text, turn, elements, places, fields, AreElements, no_element, one_element_more, AreFields, no_field, one_field_more, AreNamed, no_name, one_name_more}
 use Rattle.tp_body.specs.Fills.{filled}

@@ -9,36 +9,36 @@ use Rattle.tp_value.specs.declared.types.Ty.TheVariants as ty
 use Rattle.tp_value.specs.declared.verdict.Verdict.{Verdict}
 use Rattle.tp_value.specs.declared.verdict.Verdict.TheVariants as verdict
 use Rattle.tp_config.specs.declared.port_type.PortType.{PortType}
-use Rattle.tp_syntax.specs.declared.tree.TypeName.TheVariants as t
-use Rattle.tp_syntax.specs.declared.tree.TypeName.{TypeName}
+use Rattle.tp_syntax.specs.declared.message.TypeName.TheVariants as type_name
+use Rattle.tp_syntax.specs.declared.message.TypeName.{TypeName}
 use Rattle.tp_syntax.specs.declared.tree.ComponentName.{ComponentName}
-use Rattle.tp_syntax.specs.declared.tree.ComponentName.TheVariants as c
-use Rattle.tp_syntax.specs.declared.tree.Message.{Message}
-use Rattle.tp_syntax.specs.declared.tree.MessageTemplate.{MessageTemplate}
+use Rattle.tp_syntax.specs.declared.tree.ComponentName.TheVariants as component_name
+use Rattle.tp_syntax.specs.declared.message.Message.{Message}
+use Rattle.tp_syntax.specs.declared.message.MessageTemplate.{MessageTemplate}
 use Rattle.tp_syntax.specs.declared.tree.Sent.{Sent as SentText}
 use Rattle.tp_syntax.specs.declared.tree.Sent.TheVariants as sent
 use Rattle.tp_syntax.specs.declared.tree.Destination.{Destination}
-use Rattle.tp_syntax.specs.declared.tree.Destination.TheVariants as d
+use Rattle.tp_syntax.specs.declared.tree.Destination.TheVariants as destination
 use Rattle.tp_syntax.specs.declared.tree.Send.{Send}
 use Rattle.tp_syntax.specs.declared.tree.Receive.{Receive}
 use Rattle.tp_syntax.specs.declared.tree.PortOperation.{PortOperation}
 use Rattle.tp_syntax.specs.declared.tree.Control.{Control}
 use Rattle.tp_syntax.specs.declared.tree.VerdictName.{VerdictName}
-use Rattle.tp_syntax.specs.declared.tree.VerdictName.TheVariants as named_verdict
+use Rattle.tp_syntax.specs.declared.tree.VerdictName.TheVariants as verdict_name
 use Rattle.tp_syntax.specs.declared.tree.Variable.{Variable}
 use Rattle.tp_syntax.specs.declared.tree.Statement.{Statement as StatementText}
 use Rattle.tp_syntax.specs.declared.tree.Action.{Action}
-use Rattle.tp_syntax.specs.declared.tree.Action.TheVariants as a
+use Rattle.tp_syntax.specs.declared.tree.Action.TheVariants as action
 use Rattle.tp_syntax.specs.declared.tree.Branch.{Branch as BranchText}
 use Rattle.tp_syntax.specs.declared.tree.BranchBody.{BranchBody}
-use Rattle.tp_syntax.specs.declared.tree.BranchBody.TheVariants as after
+use Rattle.tp_syntax.specs.declared.tree.BranchBody.TheVariants as branch_body
 use Rattle.tp_syntax.specs.declared.tree.ElseBranch.{ElseBranch, out-ElseBranch}
 use Rattle.tp_syntax.specs.declared.tree.Counted.{Counted, out-Counted}
 use Rattle.tp_body.specs.declared.body.SendMsg.{SendMsg}
-use Rattle.tp_body.specs.declared.body.SendValue.TheVariants as w
+use Rattle.tp_body.specs.declared.body.SendValue.TheVariants as send_value
 use Rattle.tp_body.specs.declared.body.RecvTemplate.{RecvTemplate}
 use Rattle.tp_body.specs.declared.body.RecvMsg.{RecvMsg}
-use Rattle.tp_body.specs.declared.body.RecvMsg.TheVariants as wanted
+use Rattle.tp_body.specs.declared.body.RecvMsg.TheVariants as recv_msg
 use Rattle.tp_body.specs.declared.body.Sent.{Sent}
 use Rattle.tp_body.specs.declared.body.Sent.TheVariants as s
 use Rattle.tp_body.specs.declared.body.Receiver.{Receiver}
@@ -46,16 +46,16 @@ use Rattle.tp_body.specs.declared.body.Receiver.TheVariants as to
 use Rattle.tp_body.specs.declared.body.SendOperation.{SendOperation}
 use Rattle.tp_body.specs.declared.body.Receiving.{Receiving}
 use Rattle.tp_body.specs.declared.body.Statement.{Statement}
-use Rattle.tp_body.specs.declared.body.Statement.TheVariants as b
+use Rattle.tp_body.specs.declared.body.Statement.TheVariants as statement
 use Rattle.tp_body.specs.declared.body.Branch.{Branch}
 use Rattle.tp_body.specs.declared.body.VariableType.{VariableType}
-use Rattle.tp_body.specs.declared.body.VariableType.TheVariants as kind
+use Rattle.tp_body.specs.declared.body.VariableType.TheVariants as variable_type
 use Rattle.tp_body.specs.declared.body.Body.{Body}
-use Rattle.tp_body.specs.declared.scope.Behaviour.TheVariants as behaviour
+use Rattle.tp_body.specs.declared.scope.BehaviourKind.TheVariants as behaviour_kind
 use Rattle.tp_body.specs.declared.scope.Scope.{Scope}
 use Rattle.tp_body.specs.declared.scope.Variables.{Variables}
 use Rattle.tp_name.specs.Named.{IsPlace, IsAbsent}
-use Rattle.tp_body.specs.Scoping.{IsPort, sends, receives, IsType, IsVariable, IsReference, IsNew, port_names}
+use Rattle.tp_body.specs.Scoping.{IsPortNamed, sends, receives, IsType, IsVariable, IsReference, IsNew, port_names}
 use Rattle.tp_body.specs.Messages.{IsMessage, IsTemplate}
 
 -- what is sent, where this is the list of the types that can be sent there
@@ -66,10 +66,10 @@ pub data IsSent (scope : Scope) (variables : Variables) (turns : List (List ℕ)
   -- what a loop variable holds, as an integer
   counter : (n : String Global) (k : ℕ) → IsPlace turns (string_bytes n) k → Contains sendable ty.Integer
       → IsSent scope variables turns sendable (sent.Variable n)
-      (s.Written (record { ty = ty.Integer; value = w.Turn k }))
+      (s.Written (record { ty = ty.Integer; value = send_value.Turn k }))
   -- what a variable holds, under its type
   held : (n : String Global) (k : ℕ) (u : Ty) → IsAbsent turns (string_bytes n)
-      → IsVariable variables (string_bytes n) k (kind.Message u) → Contains sendable u
+      → IsVariable variables (string_bytes n) k (variable_type.Message u) → Contains sendable u
       → IsSent scope variables turns sendable (sent.Variable n) (s.Variable k)
 
 -- to whom is sent
@@ -77,99 +77,100 @@ pub data IsReceiver (scope : Scope) (variables : Variables) (turns : List (List 
     : Option Destination → Receiver → Type 0 where
   nobody : IsReceiver scope variables turns None to.Nobody
   reference : (x : ComponentName) (k : ℕ) → IsReference scope variables turns x k
-      → IsReceiver scope variables turns (Some (d.Component x)) (to.Reference k)
+      → IsReceiver scope variables turns (Some (destination.Component x)) (to.Reference k)
   variable : (n : String Global) (k : ℕ) → IsAbsent turns (string_bytes n)
-      → IsVariable variables (string_bytes n) k kind.Component
-      → IsReceiver scope variables turns (Some (d.Component (c.Named n))) (to.Variable k)
-  all : IsReceiver scope variables turns (Some d.AllComponents) to.All
+      → IsVariable variables (string_bytes n) k variable_type.Component
+      → IsReceiver scope variables turns (Some (destination.Component (component_name.Named n))) (to.Variable k)
+  all : IsReceiver scope variables turns (Some destination.AllComponents) to.All
 
 -- a send: the port is known, and its type lists the type of what is sent
 pub record IsSend (scope : Scope) (variables : Variables) (turns : List (List ℕ)) (x : Send) (y : SendOperation)
     : Type 0 where
   pub port : PortType
-  pub port_known : IsPort scope.ports.now (string_bytes x.port) y.port port
+  pub port_known : IsPortNamed scope.ports.now (string_bytes x.port) y.port port
   pub sent : IsSent scope variables turns (sends scope.behaviour port) x.sent y.sent
   pub receiver : IsReceiver scope variables turns x.to y.to
 
 -- what is wanted, where this is the list of the types that can be received there
 pub data IsWanted (scope : Scope) (turns : List (List ℕ)) (receivable : List Ty)
     : Option MessageTemplate → RecvMsg → Type 0 where
-  every_message : IsWanted scope turns receivable None wanted.Any
+  every_message : IsWanted scope turns receivable None recv_msg.Any
   matching : (x : MessageTemplate) (u : Ty) (r : RecvTemplate) → IsType scope.types.now x.type_name u
       → Contains receivable u → IsTemplate scope.types.now turns u x.template r
-      → IsWanted scope turns receivable (Some x) (wanted.Of u r)
+      → IsWanted scope turns receivable (Some x) (recv_msg.Of u r)
 
 -- the component behind `from`, if there is one
-pub data IsSender (scope : Scope) (variables : Variables) (turns : List (List ℕ))
+pub data IsFrom (scope : Scope) (variables : Variables) (turns : List (List ℕ))
     : Option ComponentName → Option ℕ → Type 0 where
-  whoever : IsSender scope variables turns None None
+  whoever : IsFrom scope variables turns None None
   this_one : (x : ComponentName) (k : ℕ) → IsReference scope variables turns x k
-      → IsSender scope variables turns (Some x) (Some k)
+      → IsFrom scope variables turns (Some x) (Some k)
 
 -- the variable behind `value`: it has the type of the template
 pub data IsValueTarget (variables : Variables) (turns : List (List ℕ))
     : RecvMsg → Option (String Global) → Option ℕ → Type 0 where
   no_target : (m : RecvMsg) → IsValueTarget variables turns m None None
   target : (u : Ty) (r : RecvTemplate) (n : String Global) (k : ℕ) → IsAbsent turns (string_bytes n)
-      → IsVariable variables (string_bytes n) k (kind.Message u)
-      → IsValueTarget variables turns (wanted.Of u r) (Some n) (Some k)
+      → IsVariable variables (string_bytes n) k (variable_type.Message u)
+      → IsValueTarget variables turns (recv_msg.Of u r) (Some n) (Some k)
 
 -- the variable behind `sender`: it holds components
 pub data IsSenderTarget (variables : Variables) (turns : List (List ℕ))
     : Option (String Global) → Option ℕ → Type 0 where
   no_sender_target : IsSenderTarget variables turns None None
   sender_target : (n : String Global) (k : ℕ) → IsAbsent turns (string_bytes n)
-      → IsVariable variables (string_bytes n) k kind.Component
+      → IsVariable variables (string_bytes n) k variable_type.Component
       → IsSenderTarget variables turns (Some n) (Some k)
 
 -- a receiving operation: the port is known, and its type lists the type of what is wanted
 pub record IsReceive (scope : Scope) (variables : Variables) (turns : List (List ℕ)) (x : Receive) (y : Receiving)
     : Type 0 where
   pub port : PortType
-  pub port_known : IsPort scope.ports.now (string_bytes x.port) y.port port
+  pub port_known : IsPortNamed scope.ports.now (string_bytes x.port) y.port port
   pub same_kind : y.kind ≡ x.kind
   pub wants : IsWanted scope turns (receives scope.behaviour port) x.template y.wanted
-  pub from_known : IsSender scope variables turns x.sender y.sender
+  pub from_known : IsFrom scope variables turns x.sender y.sender
   pub value_known : IsValueTarget variables turns y.wanted x.redirect.value y.value_to
   pub sender_known : IsSenderTarget variables turns x.redirect.sender y.sender_to
 
 -- a verdict that a statement can name: not `error`
 pub data IsVerdict : VerdictName → Verdict → Type 0 where
-  no_verdict : IsVerdict named_verdict.NoVerdict verdict.None
-  pass : IsVerdict named_verdict.Pass verdict.Pass
-  inconc : IsVerdict named_verdict.Inconc verdict.Inconc
-  fail : IsVerdict named_verdict.Fail verdict.Fail
+  no_verdict : IsVerdict verdict_name.NoVerdict verdict.None
+  pass : IsVerdict verdict_name.Pass verdict.Pass
+  inconc : IsVerdict verdict_name.Inconc verdict.Inconc
+  fail : IsVerdict verdict_name.Fail verdict.Fail
 
 mutual
   -- what a statement does
   pub data IsStatement (scope : Scope) (variables : Variables) : List (List ℕ) → Action → Statement → Type 0 where
     send : (turns : List (List ℕ)) (x : Send) (y : SendOperation) → IsSend scope variables turns x y
-        → IsStatement scope variables turns (a.Send x) (b.Send y)
+        → IsStatement scope variables turns (action.Send x) (statement.Send y)
     receive : (turns : List (List ℕ)) (x : Receive) (y : Receiving) → IsReceive scope variables turns x y
-        → IsStatement scope variables turns (a.Receive x) (b.Receive y)
+        → IsStatement scope variables turns (action.Receive x) (statement.Receive y)
     -- not in the system under test
     control : (turns : List (List ℕ)) (x : Control) (k : ℕ) (port : PortType)
-        → scope.behaviour ≢ behaviour.SystemUnderTest → IsPort scope.ports.now (string_bytes x.port) k port
-        → IsStatement scope variables turns (a.Control x) (b.Control k x.operation)
-    all_ports : (turns : List (List ℕ)) (x : PortOperation) → scope.behaviour ≢ behaviour.SystemUnderTest
-        → IsStatement scope variables turns (a.AllPorts x) (b.AllPorts x)
-    set_verdict : (turns : List (List ℕ)) (x : VerdictName) (y : Verdict) → scope.behaviour ≢ behaviour.SystemUnderTest
+        → scope.behaviour ≢ behaviour_kind.SystemUnderTest → IsPortNamed scope.ports.now (string_bytes x.port) k port
+        → IsStatement scope variables turns (action.Control x) (statement.Control k x.operation)
+    all_ports : (turns : List (List ℕ)) (x : PortOperation) → scope.behaviour ≢ behaviour_kind.SystemUnderTest
+        → IsStatement scope variables turns (action.AllPorts x) (statement.AllPorts x)
+    set_verdict : (turns : List (List ℕ)) (x : VerdictName) (y : Verdict)
+        → scope.behaviour ≢ behaviour_kind.SystemUnderTest
         → IsVerdict x y
-        → IsStatement scope variables turns (a.SetVerdict x) (b.SetVerdict y)
+        → IsStatement scope variables turns (action.SetVerdict x) (statement.SetVerdict y)
     alt : (turns : List (List ℕ)) (xs : Vec BranchText Global) (ys : List Branch)
         → AreBranches scope variables turns xs.items ys
-        → IsStatement scope variables turns (a.Alt xs None) (b.Alt ys None)
+        → IsStatement scope variables turns (action.Alt xs None) (statement.Alt ys None)
     alt_else : (turns : List (List ℕ)) (xs : Vec BranchText Global) (ys : List Branch) (e : ElseBranch)
         (otherwise : List Statement) → AreBranches scope variables turns xs.items ys
         → IsBlock scope variables turns (out-ElseBranch e).block.items otherwise
-        → IsStatement scope variables turns (a.Alt xs (Some e)) (b.Alt ys (Some otherwise))
+        → IsStatement scope variables turns (action.Alt xs (Some e)) (statement.Alt ys (Some otherwise))
     -- inside of it there is one loop variable more
     counted : (turns : List (List ℕ)) (x : Counted) (block : List Statement)
         → IsNew scope variables turns (string_bytes (out-Counted x).turns.name)
         → IsBlock scope variables (turns ++ string_bytes (out-Counted x).turns.name ∷ [])
         (out-Counted x).block.items block
-        → IsStatement scope variables turns (a.For x)
-        (b.For (out-Counted x).turns.first (out-Counted x).turns.bound block)
+        → IsStatement scope variables turns (action.For x)
+        (statement.For (out-Counted x).turns.first (out-Counted x).turns.bound block)
 
   pub data IsBlock (scope : Scope) (variables : Variables)
       : List (List ℕ) → List StatementText → List Statement → Type 0 where
@@ -186,10 +187,10 @@ mutual
 
   -- what stands behind the operation of a branch: nothing, or a block
   pub data IsAfter (scope : Scope) (variables : Variables) : List (List ℕ) → BranchBody → List Statement → Type 0 where
-    nothing : (turns : List (List ℕ)) → IsAfter scope variables turns after.Nothing []
+    nothing : (turns : List (List ℕ)) → IsAfter scope variables turns branch_body.Nothing []
     block : (turns : List (List ℕ)) (xs : Vec StatementText Global) (ys : List Statement)
         → IsBlock scope variables turns xs.items ys
-        → IsAfter scope variables turns (after.Block xs) ys
+        → IsAfter scope variables turns (branch_body.Block xs) ys
 
   pub data AreBranches (scope : Scope) (variables : Variables)
       : List (List ℕ) → List BranchText → List Branch → Type 0 where
@@ -200,9 +201,9 @@ mutual
 
 -- the type of a variable: a type of messages, or a component type
 pub data IsHeld (scope : Scope) : TypeName → VariableType → Type 0 where
-  message : (x : TypeName) (u : Ty) → IsType scope.types.now x u → IsHeld scope x (kind.Message u)
+  message : (x : TypeName) (u : Ty) → IsType scope.types.now x u → IsHeld scope x (variable_type.Message u)
   component : (n : String Global) (k : ℕ) → IsPlace scope.component_types.now (string_bytes n) k
-      → IsHeld scope (t.Named n) kind.Component
+      → IsHeld scope (type_name.Named n) variable_type.Component
 
 -- the variables of a body, each with a new name
 pub data AreVariables (scope : Scope) : List Variable → Variables → Type 0 where

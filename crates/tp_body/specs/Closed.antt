@@ -1,7 +1,7 @@
 -- Of which loop variables statements speak.
 use Rattle.std.specs.Prelude.{ℕ, ◌-◌, List, Option, None, Some, map, max}
 use Rattle.tp_body.specs.declared.body.Sent.{Sent}
-use Rattle.tp_body.specs.declared.body.Sent.TheVariants as s
+use Rattle.tp_body.specs.declared.body.Sent.TheVariants as sent
 use Rattle.tp_body.specs.declared.body.Statement.{Statement}
 use Rattle.tp_body.specs.declared.body.Statement.TheOpen as o
 use Rattle.tp_body.specs.declared.body.Statement.TheFolds.{fold-Branch, fold-Statement}
@@ -10,8 +10,8 @@ use Rattle.tp_body.specs.Fills.{greatest, needed, needed_by_wanted}
 
 -- how many loop variables have to have values for what is sent
 abbrev pub needed_by_sent : Sent → ℕ
-needed_by_sent (s.Written m) = needed m.value
-needed_by_sent (s.Variable k) = 0
+needed_by_sent (sent.Written m) = needed m.value
+needed_by_sent (sent.Variable k) = 0
 
 -- the same of a block that may be missing
 abbrev pub needed_by_else : Option (List ℕ) → ℕ

@@ -3,14 +3,14 @@ use Rattle.std.specs.Prelude.{ℕ, List}
 use Rattle.tp_value.specs.declared.types.Types.{Types}
 use Rattle.tp_value.specs.declared.message.Message.{Message}
 use Rattle.tp_value.specs.declared.message.MsgTemplate.{MsgTemplate}
-use Rattle.tp_value.specs.declared.message.MsgTemplate.TheVariants as m
+use Rattle.tp_value.specs.declared.message.MsgTemplate.TheVariants as msg_template
 use Rattle.tp_value.specs.HasType.{HasType}
 use Rattle.tp_value.specs.Fits.{Fits}
-use Rattle.tp_syntax.specs.declared.tree.Value.{Value}
-use Rattle.tp_syntax.specs.declared.tree.Template.{Template}
+use Rattle.tp_syntax.specs.declared.message.Value.{Value}
+use Rattle.tp_syntax.specs.declared.message.Template.{Template}
 use Rattle.tp_body.specs.declared.body.SendMsg.{SendMsg}
 use Rattle.tp_body.specs.declared.body.RecvMsg.{RecvMsg}
-use Rattle.tp_body.specs.declared.body.RecvMsg.TheVariants as wanted
+use Rattle.tp_body.specs.declared.body.RecvMsg.TheVariants as recv_msg
 use Rattle.tp_body.specs.Messages.{IsValue, IsTemplate}
 use Rattle.tp_body.specs.Playable.{IsAlwaysTyped, IsAlwaysFitting, WantedFits}
 
@@ -22,10 +22,10 @@ IsTyped message made =
 
 -- where a template stands for one of the text, what it is filled to fits its type
 abbrev pub IsFitting : RecvMsg → MsgTemplate → Type 0
-IsFitting (wanted.Of u r) (m.Of v t) =
+IsFitting (recv_msg.Of u r) (msg_template.Of v t) =
     (types : Types) (turns : List (List ℕ)) (text : Template) → IsTemplate types turns u text r → Fits types v t
-IsFitting (wanted.Of u r) m.Any = ⊥
-IsFitting wanted.Any made = Unit {0}
+IsFitting (recv_msg.Of u r) msg_template.Any = ⊥
+IsFitting recv_msg.Any made = Unit {0}
 
 -- where a message has its type whatever the loop variables hold, what it is filled to has it
 abbrev pub HasItsType : SendMsg → Message → Type 0

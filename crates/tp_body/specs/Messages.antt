@@ -7,50 +7,51 @@ use Rattle.std.specs.declared.string.String.{String}
 use Rattle.tp_value.specs.declared.types.Ty.{Ty}
 use Rattle.tp_value.specs.declared.types.Ty.TheVariants as ty
 use Rattle.tp_value.specs.declared.types.Field.{Field}
-use Rattle.tp_value.specs.declared.types.TypeDef.TheVariants as def
+use Rattle.tp_value.specs.declared.types.TypeDef.TheVariants as type_def
 use Rattle.tp_value.specs.declared.types.Types.{Types}
 use Rattle.tp_value.specs.declared.template.PatternPart.{PatternPart}
-use Rattle.tp_value.specs.declared.template.PatternPart.TheVariants as part
+use Rattle.tp_value.specs.declared.template.PatternPart.TheVariants as pattern_part
 use Rattle.tp_value.specs.Types.{named}
 use Rattle.tp_value.specs.HasType.{ArePrintable}
 use Rattle.tp_value.specs.Fits.{AreOrdered}
-use Rattle.tp_syntax.specs.declared.tree.Value.{Value}
-use Rattle.tp_syntax.specs.declared.tree.Value.TheVariants as v
-use Rattle.tp_syntax.specs.declared.tree.ValueField.{ValueField}
-use Rattle.tp_syntax.specs.declared.tree.Template.{Template}
-use Rattle.tp_syntax.specs.declared.tree.Template.TheVariants as t
-use Rattle.tp_syntax.specs.declared.tree.TemplateField.{TemplateField}
-use Rattle.tp_syntax.specs.declared.tree.Message.{Message}
+use Rattle.tp_syntax.specs.declared.message.Value.{Value}
+use Rattle.tp_syntax.specs.declared.message.Value.TheVariants as value
+use Rattle.tp_syntax.specs.declared.message.ValueField.{ValueField}
+use Rattle.tp_syntax.specs.declared.message.Template.{Template}
+use Rattle.tp_syntax.specs.declared.message.Template.TheVariants as template
+use Rattle.tp_syntax.specs.declared.message.TemplateField.{TemplateField}
+use Rattle.tp_syntax.specs.declared.message.Message.{Message}
 use Rattle.tp_body.specs.declared.body.SendValue.{SendValue}
-use Rattle.tp_body.specs.declared.body.SendValue.TheVariants as w
+use Rattle.tp_body.specs.declared.body.SendValue.TheVariants as send_value
 use Rattle.tp_body.specs.declared.body.SendMsg.{SendMsg}
 use Rattle.tp_body.specs.declared.body.RecvTemplate.{RecvTemplate}
-use Rattle.tp_body.specs.declared.body.RecvTemplate.TheVariants as r
+use Rattle.tp_body.specs.declared.body.RecvTemplate.TheVariants as recv_template
 use Rattle.tp_name.specs.Named.{IsPlace}
 use Rattle.tp_body.specs.Scoping.{IsType}
 
 -- a value fits a type and stands for this, where the loop variables have these names, outermost first
 mutual
   pub data IsValue (types : Types) (turns : List (List ℕ)) : Ty → Value → SendValue → Type 0 where
-    int : (z : ℤ) → FitsSigned w64 z → IsValue types turns ty.Integer (v.Int z) (w.Int z)
-    bool : (b : Bool) → IsValue types turns ty.Boolean (v.Bool b) (w.Bool b)
-    text : (cs : Vec ℕ Global) → ArePrintable cs.items → IsValue types turns ty.Charstring (v.Text cs) (w.Text cs.items)
+    int : (z : ℤ) → FitsSigned w64 z → IsValue types turns ty.Integer (value.Int z) (send_value.Int z)
+    bool : (b : Bool) → IsValue types turns ty.Boolean (value.Bool b) (send_value.Bool b)
+    text : (cs : Vec ℕ Global) → ArePrintable cs.items → IsValue types turns ty.Charstring (value.Text cs)
+        (send_value.Text cs.items)
     -- a loop variable stands for an integer
     turn : (n : String Global) (k : ℕ) → IsPlace turns (string_bytes n) k
-        → IsValue types turns ty.Integer (v.Name n) (w.Turn k)
+        → IsValue types turns ty.Integer (value.Name n) (send_value.Turn k)
     -- elements in braces, of a record of
     elements : (u : Ty) (element : Ty) (vs : Vec Value Global) (ws : List SendValue)
-        → named types u ≡ Some (def.ListOf element) → AreElements types turns element vs.items ws
-        → IsValue types turns u (v.List vs) (w.List ws)
+        → named types u ≡ Some (type_def.ListOf element) → AreElements types turns element vs.items ws
+        → IsValue types turns u (value.List vs) (send_value.List ws)
     -- fields in braces by their places, one for each declared field
     places : (u : Ty) (fields : List Field) (vs : Vec Value Global) (ws : List SendValue)
-        → named types u ≡ Some (def.Record fields) → AreFields types turns fields vs.items ws
-        → IsValue types turns u (v.List vs) (w.Record ws)
+        → named types u ≡ Some (type_def.Record fields) → AreFields types turns fields vs.items ws
+        → IsValue types turns u (value.List vs) (send_value.Record ws)
     -- fields in braces by their names: as many as there are declared, and one for each of these
     fields : (u : Ty) (fields : List Field) (vs : Vec ValueField Global) (ws : List SendValue)
-        → named types u ≡ Some (def.Record fields) → length vs.items ≡ length fields
+        → named types u ≡ Some (type_def.Record fields) → length vs.items ≡ length fields
         → AreNamed types turns vs.items fields ws
-        → IsValue types turns u (v.Record vs) (w.Record ws)
+        → IsValue types turns u (value.Record vs) (send_value.Record ws)
 
   pub data AreElements (types : Types) (turns : List (List ℕ)) : Ty → List Value → List SendValue → Type 0 where
     no_element : (u : Ty) → AreElements types turns u [] []
@@ -75,36 +76,39 @@ mutual
 
 -- a character of a pattern: `?` is 63 and `*` is 42
 abbrev pub part_of : ℕ → PatternPart
-part_of c = if nat_eq c 63 then part.One else (if nat_eq c 42 then part.AnyOrNone else part.Literal c)
+part_of c = if nat_eq c 63 then pattern_part.One else
+    (if nat_eq c 42 then pattern_part.AnyOrNone else pattern_part.Literal c)
 
 -- a template fits a type and stands for this
 mutual
   pub data IsTemplate (types : Types) (turns : List (List ℕ)) : Ty → Template → RecvTemplate → Type 0 where
-    int_template : (z : ℤ) → FitsSigned w64 z → IsTemplate types turns ty.Integer (t.Int z) (r.Exact (w.Int z))
-    bool_template : (b : Bool) → IsTemplate types turns ty.Boolean (t.Bool b) (r.Exact (w.Bool b))
+    int_template : (z : ℤ) → FitsSigned w64 z → IsTemplate types turns ty.Integer (template.Int z)
+        (recv_template.Exact (send_value.Int z))
+    bool_template : (b : Bool) → IsTemplate types turns ty.Boolean (template.Bool b)
+        (recv_template.Exact (send_value.Bool b))
     text_template : (cs : Vec ℕ Global) → ArePrintable cs.items
-        → IsTemplate types turns ty.Charstring (t.Text cs) (r.Exact (w.Text cs.items))
+        → IsTemplate types turns ty.Charstring (template.Text cs) (recv_template.Exact (send_value.Text cs.items))
     turn_template : (n : String Global) (k : ℕ) → IsPlace turns (string_bytes n) k
-        → IsTemplate types turns ty.Integer (t.Name n) (r.Exact (w.Turn k))
-    any : (u : Ty) → IsTemplate types turns u t.Any r.Any
+        → IsTemplate types turns ty.Integer (template.Name n) (recv_template.Exact (send_value.Turn k))
+    any : (u : Ty) → IsTemplate types turns u template.Any recv_template.Any
     one_of : (u : Ty) (ts : Vec Template Global) (rs : List RecvTemplate) → AreMembers types turns u ts.items rs
-        → IsTemplate types turns u (t.OneOf ts) (r.OneOf rs)
+        → IsTemplate types turns u (template.OneOf ts) (recv_template.OneOf rs)
     none_of : (u : Ty) (ts : Vec Template Global) (rs : List RecvTemplate) → AreMembers types turns u ts.items rs
-        → IsTemplate types turns u (t.Complement ts) (r.NoneOf rs)
+        → IsTemplate types turns u (template.Complement ts) (recv_template.NoneOf rs)
     range : (low high : Option ℤ) → AreOrdered low high
-        → IsTemplate types turns ty.Integer (t.Range low high) (r.Range low high)
+        → IsTemplate types turns ty.Integer (template.Range low high) (recv_template.Range low high)
     pattern : (cs : Vec ℕ Global)
-        → IsTemplate types turns ty.Charstring (t.Pattern cs) (r.Pattern (map part_of cs.items))
+        → IsTemplate types turns ty.Charstring (template.Pattern cs) (recv_template.Pattern (map part_of cs.items))
     element_templates : (u : Ty) (element : Ty) (ts : Vec Template Global) (rs : List RecvTemplate)
-        → named types u ≡ Some (def.ListOf element) → AreElementTemplates types turns element ts.items rs
-        → IsTemplate types turns u (t.List ts) (r.List rs)
+        → named types u ≡ Some (type_def.ListOf element) → AreElementTemplates types turns element ts.items rs
+        → IsTemplate types turns u (template.List ts) (recv_template.List rs)
     place_templates : (u : Ty) (fields : List Field) (ts : Vec Template Global) (rs : List RecvTemplate)
-        → named types u ≡ Some (def.Record fields) → AreFieldTemplates types turns fields ts.items rs
-        → IsTemplate types turns u (t.List ts) (r.Record rs)
+        → named types u ≡ Some (type_def.Record fields) → AreFieldTemplates types turns fields ts.items rs
+        → IsTemplate types turns u (template.List ts) (recv_template.Record rs)
     field_templates : (u : Ty) (fields : List Field) (ts : Vec TemplateField Global) (rs : List RecvTemplate)
-        → named types u ≡ Some (def.Record fields) → length ts.items ≡ length fields
+        → named types u ≡ Some (type_def.Record fields) → length ts.items ≡ length fields
         → AreNamedTemplates types turns ts.items fields rs
-        → IsTemplate types turns u (t.Record ts) (r.Record rs)
+        → IsTemplate types turns u (template.Record ts) (recv_template.Record rs)
 
   -- templates in parentheses
   pub data AreMembers (types : Types) (turns : List (List ℕ)) : Ty → List Template → List RecvTemplate → Type 0 where
@@ -122,7 +126,7 @@ mutual
         → AreElementTemplates types turns u (ts ++ x ∷ []) (rs ++ y ∷ [])
 
   pub data IsElementTemplate (types : Types) (turns : List (List ℕ)) : Ty → Template → RecvTemplate → Type 0 where
-    many : (u : Ty) → IsElementTemplate types turns u t.AnyOrNone r.AnyOrNone
+    many : (u : Ty) → IsElementTemplate types turns u template.AnyOrNone recv_template.AnyOrNone
     single : (u : Ty) (x : Template) (y : RecvTemplate) → IsTemplate types turns u x y
         → IsElementTemplate types turns u x y
 

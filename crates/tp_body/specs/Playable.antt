@@ -6,16 +6,16 @@ use Rattle.std.specs.Int.{w64}
 use Rattle.tp_value.specs.declared.types.Ty.{Ty}
 use Rattle.tp_value.specs.declared.types.Types.{Types}
 use Rattle.tp_value.specs.declared.message.MsgTemplate.{MsgTemplate}
-use Rattle.tp_value.specs.declared.message.MsgTemplate.TheVariants as made
+use Rattle.tp_value.specs.declared.message.MsgTemplate.TheVariants as msg_template
 use Rattle.tp_value.specs.HasType.{HasType}
 use Rattle.tp_value.specs.Fits.{Fits}
 use Rattle.tp_body.specs.declared.body.SendMsg.{SendMsg}
 use Rattle.tp_body.specs.declared.body.RecvMsg.{RecvMsg}
-use Rattle.tp_body.specs.declared.body.RecvMsg.TheVariants as wanted
+use Rattle.tp_body.specs.declared.body.RecvMsg.TheVariants as recv_msg
 use Rattle.tp_body.specs.declared.body.Sent.{Sent}
 use Rattle.tp_body.specs.declared.body.Sent.TheVariants as sent
 use Rattle.tp_body.specs.declared.body.Receiver.{Receiver}
-use Rattle.tp_body.specs.declared.body.Receiver.TheVariants as to
+use Rattle.tp_body.specs.declared.body.Receiver.TheVariants as receiver
 use Rattle.tp_body.specs.declared.body.SendOperation.{SendOperation}
 use Rattle.tp_body.specs.declared.body.Receiving.{Receiving}
 use Rattle.tp_body.specs.declared.body.Statement.{Statement}
@@ -23,7 +23,7 @@ use Rattle.tp_body.specs.declared.body.Statement.TheOpen as o
 use Rattle.tp_body.specs.declared.body.Statement.TheFolds.{rec-Statement, rec-Branch}
 use Rattle.tp_body.specs.declared.body.Branch.{Branch}
 use Rattle.tp_body.specs.declared.body.VariableType.{VariableType}
-use Rattle.tp_body.specs.declared.body.VariableType.TheVariants as kind
+use Rattle.tp_body.specs.declared.body.VariableType.TheVariants as variable_type
 use Rattle.tp_body.specs.declared.body.Body.{Body}
 use Rattle.tp_body.specs.declared.scope.Scope.{Scope}
 use Rattle.tp_body.specs.Fills.{needed, needed_by_wanted, filled, filled_wanted}
@@ -38,11 +38,11 @@ pub record Stage : Type 0 where
 
 -- the variable at this place holds values of this type
 abbrev pub HoldsValues : Stage → ℕ → Ty → Type 0
-HoldsValues s k u = slice_get s.variables k ≡ Some (kind.Message u)
+HoldsValues s k u = slice_get s.variables k ≡ Some (variable_type.Message u)
 
 -- the variable at this place holds components
 abbrev pub HoldsComponents : Stage → ℕ → Type 0
-HoldsComponents s k = slice_get s.variables k ≡ Some kind.Component
+HoldsComponents s k = slice_get s.variables k ≡ Some variable_type.Component
 
 -- whatever integers the loop variables hold, the message has its type
 abbrev pub IsAlwaysTyped : Types → SendMsg → Type 0
@@ -50,8 +50,8 @@ IsAlwaysTyped types m = (turns : List ℤ) → All (FitsSigned w64) turns → Ha
 
 -- what is wanted fits its type
 abbrev pub WantedFits : Types → MsgTemplate → Type 0
-WantedFits types made.Any = Unit {0}
-WantedFits types (made.Of u t) = Fits types u t
+WantedFits types msg_template.Any = Unit {0}
+WantedFits types (msg_template.Of u t) = Fits types u t
 
 -- whatever integers the loop variables hold, what is wanted fits its type
 abbrev pub IsAlwaysFitting : Types → RecvMsg → Type 0
@@ -69,10 +69,10 @@ CanSay s n (sent.Variable k) = (u : Ty) × HoldsValues s k u
 
 -- to whom is sent: a reference that is there, or a variable of components
 abbrev pub CanAddress : Stage → Receiver → Type 0
-CanAddress s to.Nobody = Unit {0}
-CanAddress s (to.Reference k) = k < s.references
-CanAddress s (to.Variable k) = HoldsComponents s k
-CanAddress s to.All = Unit {0}
+CanAddress s receiver.Nobody = Unit {0}
+CanAddress s (receiver.Reference k) = k < s.references
+CanAddress s (receiver.Variable k) = HoldsComponents s k
+CanAddress s receiver.All = Unit {0}
 
 -- a send
 pub record CanSend (s : Stage) (n : ℕ) (x : SendOperation) : Type 0 where
@@ -93,8 +93,8 @@ CanExpect s (Some k) = k < s.references
 -- the variable behind `value` holds values of the type that is wanted
 abbrev pub CanKeepValue : Stage → RecvMsg → Option ℕ → Type 0
 CanKeepValue s x None = Unit {0}
-CanKeepValue s wanted.Any (Some k) = ⊥
-CanKeepValue s (wanted.Of u r) (Some k) = HoldsValues s k u
+CanKeepValue s recv_msg.Any (Some k) = ⊥
+CanKeepValue s (recv_msg.Of u r) (Some k) = HoldsValues s k u
 
 -- the variable behind `sender` holds components
 abbrev pub CanKeepSender : Stage → Option ℕ → Type 0

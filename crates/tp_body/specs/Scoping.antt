@@ -5,16 +5,16 @@ use Rattle.std.specs.declared.alloc.Global.{Global}
 use Rattle.tp_value.specs.declared.types.Ty.{Ty}
 use Rattle.tp_value.specs.declared.types.Ty.TheVariants as ty
 use Rattle.tp_value.specs.declared.types.Types.{Types}
-use Rattle.tp_value.specs.Types.{number_of}
+use Rattle.tp_value.specs.Types.{type_number}
 use Rattle.tp_config.specs.declared.port_type.PortType.{PortType}
 use Rattle.tp_config.specs.declared.port_type.CompType.{CompType}
-use Rattle.tp_syntax.specs.declared.tree.TypeName.{TypeName}
-use Rattle.tp_syntax.specs.declared.tree.TypeName.TheVariants as t
+use Rattle.tp_syntax.specs.declared.message.TypeName.{TypeName}
+use Rattle.tp_syntax.specs.declared.message.TypeName.TheVariants as type_name
 use Rattle.tp_syntax.specs.declared.tree.ComponentName.{ComponentName}
-use Rattle.tp_syntax.specs.declared.tree.ComponentName.TheVariants as c
+use Rattle.tp_syntax.specs.declared.tree.ComponentName.TheVariants as component_name
 use Rattle.tp_body.specs.declared.body.VariableType.{VariableType}
-use Rattle.tp_body.specs.declared.scope.Behaviour.{Behaviour}
-use Rattle.tp_body.specs.declared.scope.Behaviour.TheVariants as behaviour
+use Rattle.tp_body.specs.declared.scope.BehaviourKind.{BehaviourKind}
+use Rattle.tp_body.specs.declared.scope.BehaviourKind.TheVariants as behaviour_kind
 use Rattle.tp_body.specs.declared.scope.Scope.{Scope}
 use Rattle.tp_body.specs.declared.scope.Variables.{Variables}
 use Rattle.tp_name.specs.Named.{IsPlace, IsAbsent}
@@ -28,29 +28,29 @@ abbrev pub port_types : CompType → List PortType
 port_types ports = map (λ e. e.1) ports.ports.entries
 
 -- the port of this name stands at this place
-pub record IsPort (ports : CompType) (name : List ℕ) (place : ℕ) (port : PortType) : Type 0 where
+pub record IsPortNamed (ports : CompType) (name : List ℕ) (place : ℕ) (port : PortType) : Type 0 where
   pub named : IsPlace (port_names ports) name place
   pub typed : slice_get (port_types ports) place ≡ Some port
 
 -- what a behaviour sends at a port: in the system under test the two lists are exchanged
-abbrev pub sends : Behaviour → PortType → List Ty
-sends behaviour.TestCase port = port.outs
-sends behaviour.Function port = port.outs
-sends behaviour.SystemUnderTest port = port.ins
+abbrev pub sends : BehaviourKind → PortType → List Ty
+sends behaviour_kind.TestCase port = port.outs
+sends behaviour_kind.Function port = port.outs
+sends behaviour_kind.SystemUnderTest port = port.ins
 
 -- what it receives there
-abbrev pub receives : Behaviour → PortType → List Ty
-receives behaviour.TestCase port = port.ins
-receives behaviour.Function port = port.ins
-receives behaviour.SystemUnderTest port = port.outs
+abbrev pub receives : BehaviourKind → PortType → List Ty
+receives behaviour_kind.TestCase port = port.ins
+receives behaviour_kind.Function port = port.ins
+receives behaviour_kind.SystemUnderTest port = port.outs
 
 -- the name of a type stands for this type of values
 pub data IsType (types : Types) : TypeName → Ty → Type 0 where
-  integer : IsType types t.Integer ty.Integer
-  boolean : IsType types t.Boolean ty.Boolean
-  charstring : IsType types t.Charstring ty.Charstring
-  type_named : (n : String Global) (k : ℕ) → number_of types (string_bytes n) ≡ Some k
-      → IsType types (t.Named n) (ty.Named k)
+  integer : IsType types type_name.Integer ty.Integer
+  boolean : IsType types type_name.Boolean ty.Boolean
+  charstring : IsType types type_name.Charstring ty.Charstring
+  type_named : (n : String Global) (k : ℕ) → type_number types (string_bytes n) ≡ Some k
+      → IsType types (type_name.Named n) (ty.Named k)
 
 -- the variable of this name stands at this place and holds this
 pub record IsVariable (variables : Variables) (name : List ℕ) (place : ℕ) (held : VariableType) : Type 0 where
@@ -61,12 +61,12 @@ pub record IsVariable (variables : Variables) (name : List ℕ) (place : ℕ) (h
 -- parameters, then the component variables of the test case. A loop variable or a variable hides them, and a
 -- parameter hides a component variable
 pub data IsReference (scope : Scope) (variables : Variables) (turns : List (List ℕ)) : ComponentName → ℕ → Type 0 where
-  mtc : IsReference scope variables turns c.Mtc 0
-  itself : IsReference scope variables turns c.SelfComponent 1
+  mtc : IsReference scope variables turns component_name.Mtc 0
+  itself : IsReference scope variables turns component_name.SelfComponent 1
   component_named : (n : String Global) (k : ℕ) → IsAbsent turns (string_bytes n)
       → IsAbsent variables.names (string_bytes n)
       → IsPlace (scope.parameters.now ++ scope.components.now) (string_bytes n) k
-      → IsReference scope variables turns (c.Named n) (2 + k)
+      → IsReference scope variables turns (component_name.Named n) (2 + k)
 
 -- a new name for a variable or a loop variable: no port, parameter, variable or loop variable has it, and in the
 -- test case no component variable
@@ -75,4 +75,4 @@ pub record IsNew (scope : Scope) (variables : Variables) (turns : List (List ℕ
   pub no_parameter : IsAbsent scope.parameters.now name
   pub no_variable : IsAbsent variables.names name
   pub no_turn : IsAbsent turns name
-  pub no_component : scope.behaviour ≡ behaviour.TestCase → IsAbsent scope.components.now name
+  pub no_component : scope.behaviour ≡ behaviour_kind.TestCase → IsAbsent scope.components.now name

@@ -12,16 +12,16 @@ use tp_token::fault::ScriptFault;
 pub struct Context<'a, 'v, 'm> {
     /// The names that the body may use.
     pub scope: &'a Scope<'a>,
-    /// The variables of the body, none of which may stand in a value.
+    /// The variables of the body, or those before the one that is declared.
     pub variables: &'a Variables<'v>,
     /// The loop variables around it, outermost first.
     pub turns: &'a [Name<'m>],
-    /// The line of its statement or branch.
+    /// The line for refusals: that of the statement, the branch or the variable.
     pub line: u32,
 }
 
 impl<'a, 'v, 'm> Context<'a, 'v, 'm> {
-    ghost use Rattle.std.specs.Prelude.{◌≡◌};
+    ghost use Rattle.std.specs.Prelude.{◌≡◌, Contains};
 
     /// 11 `Unknown`.
     pub fn unknown(&self) -> ScriptFault
@@ -58,22 +58,34 @@ impl<'a, 'v, 'm> Context<'a, 'v, 'm> {
         refused(Refusal::NotInSut, self.line)
     }
 
-    /// What a name is refused with that is no loop variable: 13 `WrongType` for a variable of the
-    /// body, otherwise 11 `Unknown`.
-    pub fn no_turn(&self, name: &str) -> ScriptFault {
-        match self.variables.names.find(name) {
-            Some(_) => self.wrong_type(),
-            None => self.unknown(),
+    /// What a name is refused with that may not stand there: 13 `WrongType` for a variable of the
+    /// body, otherwise 11 `Unknown`, also for a loop variable.
+    pub fn no_turn(&self, name: &str) -> ScriptFault
+        ensures variable { Contains self.now.variables.now.names name.now
+            → result ≡ ScriptFault.Refused Refusal.WrongType self.now.line }
+        ensures other { (Contains self.now.variables.now.names name.now → ⊥)
+            → result ≡ ScriptFault.Refused Refusal.Unknown self.now.line }
+    {
+        if self.variables.names.has(name) {
+            self.wrong_type()
+        } else {
+            self.unknown()
         }
     }
 
     /// What a name is refused with where a variable has to stand, and that is neither a variable
     /// nor a loop variable: 13 `WrongType` for a parameter or a component variable, otherwise
     /// 11 `Unknown`.
-    pub fn no_variable(&self, name: &str) -> ScriptFault {
-        if self.scope.parameters.find(name).is_some()
-            || self.scope.components.find(name).is_some()
-        {
+    pub fn no_variable(&self, name: &str) -> ScriptFault
+        ensures parameter { Contains self.now.scope.now.parameters.now name.now
+            → result ≡ ScriptFault.Refused Refusal.WrongType self.now.line }
+        ensures component { Contains self.now.scope.now.components.now name.now
+            → result ≡ ScriptFault.Refused Refusal.WrongType self.now.line }
+        ensures other { (Contains self.now.scope.now.parameters.now name.now → ⊥)
+            → (Contains self.now.scope.now.components.now name.now → ⊥)
+            → result ≡ ScriptFault.Refused Refusal.Unknown self.now.line }
+    {
+        if self.scope.parameters.has(name) || self.scope.components.has(name) {
             return self.wrong_type();
         }
         self.unknown()

@@ -1,15 +1,16 @@
 //! Looking names up.
 ghost use Rattle.std.specs.Prelude.{◌≡◌, ◌++◌, ◌↔◌, Contains, IsTrue, IfNone, IfSome};
 ghost use Rattle.tp_name.specs.Named.{IsAbsent, IsPlace, texts};
-ghost use Rattle.tp_body.specs.Scoping.{IsPort, IsReference, IsType, IsVariable, port_names, receives, sends};
+ghost use Rattle.tp_body.specs.Scoping.{IsPortNamed, IsReference, IsType, IsVariable, port_names, receives, sends};
 
 use crate::body::VariableType;
 use crate::context::Context;
-use crate::scope::{Behaviour, Scope, Variables};
+use crate::scope::{BehaviourKind, Scope, Variables};
 use tp_config::port_type::{CompType, PortType};
 use tp_config::type_list::TypeList;
 use tp_name::name::find;
-use tp_syntax::tree::{ComponentName, TypeName};
+use tp_syntax::message::TypeName;
+use tp_syntax::tree::ComponentName;
 use tp_value::types::{Ty, Types};
 
 /// The place of the port of this name, or `None` where no port has it. Takes no memory.
@@ -25,7 +26,7 @@ pub fn place_of_port(ports: &CompType, name: &str) -> Option<usize>
 
 /// The port of this name: its place, and its type. Takes no memory.
 pub fn find_port<'p>(ports: &'p CompType, name: &str) -> Option<(u32, &'p PortType)>
-    ensures { IfSome result (λ found. IsPort ports.now name.now found.0 found.1.now) }
+    ensures { IfSome result (λ found. IsPortNamed ports.now name.now found.0 found.1.now) }
 {
     let place = place_of_port(ports, name)?;
     let Some((_, port)) = ports.ports.get_index(place) else {
@@ -38,22 +39,22 @@ pub fn find_port<'p>(ports: &'p CompType, name: &str) -> Option<(u32, &'p PortTy
 }
 
 /// What the behaviour sends at the port. Takes no memory.
-pub fn sendable(behaviour: Behaviour, port: &PortType) -> &TypeList
+pub fn sendable(behaviour: BehaviourKind, port: &PortType) -> &TypeList
     ensures { result.now ≡ sends behaviour port.now }
 {
     match behaviour {
-        Behaviour::TestCase | Behaviour::Function => &port.outs,
-        Behaviour::SystemUnderTest => &port.ins,
+        BehaviourKind::TestCase | BehaviourKind::Function => &port.outs,
+        BehaviourKind::SystemUnderTest => &port.ins,
     }
 }
 
 /// What the behaviour receives at the port. Takes no memory.
-pub fn receivable(behaviour: Behaviour, port: &PortType) -> &TypeList
+pub fn receivable(behaviour: BehaviourKind, port: &PortType) -> &TypeList
     ensures { result.now ≡ receives behaviour port.now }
 {
     match behaviour {
-        Behaviour::TestCase | Behaviour::Function => &port.ins,
-        Behaviour::SystemUnderTest => &port.outs,
+        BehaviourKind::TestCase | BehaviourKind::Function => &port.ins,
+        BehaviourKind::SystemUnderTest => &port.outs,
     }
 }
 

@@ -1,6 +1,5 @@
 //! What the values of messages stand for.
-ghost use Rattle.std.specs.Prelude.{◌≡◌, ◌↔◌, IfOk, IsTrue, length, map, string_bytes};
-ghost use Rattle.tp_value.specs.HasType.{ArePrintable};
+ghost use Rattle.std.specs.Prelude.{◌≡◌, IfOk, length, map, string_bytes};
 ghost use Rattle.tp_name.specs.Named.{texts};
 ghost use Rattle.tp_body.specs.Messages.{AreElements, AreFields, AreNamed, IsValue};
 
@@ -9,23 +8,12 @@ use crate::context::Context;
 use crate::placing::field_places;
 use std::alloc::Global;
 use tp_name::name::{Name, find};
-use tp_syntax::tree::{Value, ValueField};
+use tp_syntax::message::{Value, ValueField};
 use tp_token::fault::ScriptFault;
 use tp_value::items::Items;
 use tp_value::shared::Shared;
 use tp_value::types::{Field, Ty, TypeDef};
-
-/// Whether all are the characters 32 to 126.
-pub fn are_printable(text: &[u8]) -> bool
-    ensures { IsTrue result ↔ ArePrintable text.now }
-{
-    for byte in text {
-        if *byte < 32 || *byte > 126 {
-            return false;
-        }
-    }
-    true
-}
+use tp_value::typing::are_printable;
 
 /// What a value of this type stands for.
 ///
@@ -46,6 +34,7 @@ pub fn resolve_value(
 {
     match value {
         Value::Int(number) => {
+            // Read, so that it is known to have 64 bits.
             let _number = *number;
             match ty {
                 Ty::Integer => Ok(SendValue::Int(*number)),

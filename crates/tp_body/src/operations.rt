@@ -3,7 +3,7 @@ ghost use Rattle.std.specs.Prelude.{◌≡◌, Contains, IfErr, IfOk};
 ghost use Rattle.tp_name.specs.Named.{IsAbsent, texts};
 ghost use Rattle.tp_body.specs.Scoping.{IsVariable};
 ghost use Rattle.tp_body.specs.Messages.{IsMessage};
-ghost use Rattle.tp_body.specs.Bodies.{IsReceive, IsReceiver, IsSend, IsSender, IsSenderTarget, IsSent, IsValueTarget, IsVerdict, IsWanted};
+ghost use Rattle.tp_body.specs.Bodies.{IsReceive, IsReceiver, IsSend, IsFrom, IsSenderTarget, IsSent, IsValueTarget, IsVerdict, IsWanted};
 
 use crate::body::{
     Receiver, Receiving, RecvMsg, SendMsg, SendOperation, SendValue, Sent, VariableType,
@@ -18,8 +18,9 @@ use std::alloc::Global;
 use tp_config::type_list::TypeList;
 use tp_name::name::find;
 use tp_refusal::refusal::Refusal;
+use tp_syntax::message::{Message, MessageTemplate};
 use tp_syntax::tree;
-use tp_syntax::tree::{ComponentName, Destination, Message, MessageTemplate, VerdictName};
+use tp_syntax::tree::{ComponentName, Destination, VerdictName};
 use tp_token::fault::ScriptFault;
 use tp_value::types::Ty;
 use tp_value::verdict::Verdict;
@@ -231,7 +232,7 @@ fn resolve_sender(
     context: &Context,
     sender: &Option<ComponentName>,
 ) -> Result<Option<usize>, ScriptFault>
-    ensures { IfOk result (IsSender
+    ensures { IfOk result (IsFrom
         context.now.scope.now context.now.variables.now (texts context.now.turns.now) sender.now) }
 {
     let Some(component) = sender else {

@@ -7,7 +7,7 @@ use tp_value::types::Types;
 
 /// Whose body it is.
 #[derive(Clone, Copy, Debug, PartialEq, Eq)]
-pub enum Behaviour {
+pub enum BehaviourKind {
     /// The test case's own, that of `mtc`. A name in it may not be that of a component variable.
     TestCase,
     /// That of a function, whose names hide the component variables of the test case.
@@ -27,7 +27,7 @@ pub struct Scope<'m> {
     /// The component type behind `runs on`: its ports.
     pub ports: &'m CompType,
     /// Whose body it is.
-    pub behaviour: Behaviour,
+    pub behaviour: BehaviourKind,
     /// The parameters of the function.
     pub parameters: &'m NameSet<'m>,
     /// The component variables of the test case.

@@ -9,7 +9,7 @@ use crate::body::{Body, Branch, Statement};
 use crate::context::Context;
 use crate::lookup::find_port;
 use crate::operations::{resolve_receive, resolve_send, resolve_verdict};
-use crate::scope::{Behaviour, Scope};
+use crate::scope::{BehaviourKind, Scope};
 use crate::variables::{are_no_ports, is_new, resolve_variables};
 use std::alloc::Global;
 use tp_name::fault::refused;
@@ -49,7 +49,7 @@ fn resolve_control(context: &Context, control: &Control) -> Result<Statement, Sc
         context.now.scope.now context.now.variables.now (texts context.now.turns.now)
         (Action.Control control.now)) }
 {
-    if context.scope.behaviour == Behaviour::SystemUnderTest {
+    if context.scope.behaviour == BehaviourKind::SystemUnderTest {
         return Err(context.not_in_sut());
     }
     let Some((place, _)) = find_port(context.scope.ports, control.port.as_str()) else {
@@ -65,7 +65,7 @@ fn resolve_all_ports(context: &Context, operation: PortOperation) -> Result<Stat
         context.now.scope.now context.now.variables.now (texts context.now.turns.now)
         (Action.AllPorts operation)) }
 {
-    if context.scope.behaviour == Behaviour::SystemUnderTest {
+    if context.scope.behaviour == BehaviourKind::SystemUnderTest {
         return Err(context.not_in_sut());
     }
     Ok(Statement::AllPorts(operation))
@@ -79,7 +79,7 @@ fn resolve_set_verdict(context: &Context, name: VerdictName) -> Result<Statement
         context.now.scope.now context.now.variables.now (texts context.now.turns.now)
         (Action.SetVerdict name)) }
 {
-    if context.scope.behaviour == Behaviour::SystemUnderTest {
+    if context.scope.behaviour == BehaviourKind::SystemUnderTest {
         return Err(context.not_in_sut());
     }
     let verdict = resolve_verdict(context, name)?;

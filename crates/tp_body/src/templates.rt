@@ -1,34 +1,21 @@
 //! What the templates of receiving operations stand for.
-ghost use Rattle.std.specs.Prelude.{◌≡◌, ◌↔◌, IfOk, IsTrue, length, map, string_bytes};
-ghost use Rattle.tp_value.specs.Fits.{AreOrdered};
+ghost use Rattle.std.specs.Prelude.{◌≡◌, IfOk, length, map, string_bytes};
 ghost use Rattle.tp_name.specs.Named.{texts};
 ghost use Rattle.tp_body.specs.Messages.{AreElementTemplates, AreFieldTemplates, AreMembers, AreNamedTemplates, IsElementTemplate, IsTemplate, part_of};
 
 use crate::body::{RecvTemplate, SendValue};
 use crate::context::Context;
-use crate::messages::are_printable;
 use crate::placing::field_places;
 use std::alloc::Global;
 use tp_name::name::{Name, find};
-use tp_syntax::tree::{Template, TemplateField};
+use tp_syntax::message::{Template, TemplateField};
 use tp_token::fault::ScriptFault;
+use tp_value::fitting::are_ordered;
 use tp_value::items::Items;
 use tp_value::shared::Shared;
 use tp_value::template::PatternPart;
 use tp_value::types::{Field, Ty, TypeDef};
-
-/// Whether the lower bound is at most the upper, where there are both.
-fn are_ordered(lower: Option<i64>, upper: Option<i64>) -> bool
-    ensures { IsTrue result ↔ AreOrdered lower upper }
-{
-    match lower {
-        None => true,
-        Some(low) => match upper {
-            None => true,
-            Some(high) => low <= high,
-        },
-    }
-}
+use tp_value::typing::are_printable;
 
 /// What a character of a pattern stands for.
 fn part(character: u8) -> PatternPart
@@ -74,6 +61,7 @@ pub fn resolve_template(
 {
     match template {
         Template::Int(number) => {
+            // Read, so that it is known to have 64 bits.
             let _number = *number;
             match ty {
                 Ty::Integer => Ok(RecvTemplate::Exact(SendValue::Int(*number))),

@@ -7,11 +7,12 @@ ghost use Rattle.tp_body.specs.Bodies.{AreVariables, IsHeld};
 use crate::body::VariableType;
 use crate::context::Context;
 use crate::lookup::{find_type, place_of_port};
-use crate::scope::{Behaviour, Scope, Variables};
+use crate::scope::{BehaviourKind, Scope, Variables};
 use std::alloc::Global;
 use tp_name::name::find;
 use tp_name::name_set::NameSet;
-use tp_syntax::tree::{TypeName, Variable};
+use tp_syntax::message::TypeName;
+use tp_syntax::tree::Variable;
 use tp_token::fault::ScriptFault;
 use tp_value::items::Items;
 
@@ -35,7 +36,7 @@ pub fn is_new(context: &Context, name: &str) -> bool
     let None = find(context.turns, name) else {
         return false;
     };
-    if scope.behaviour != Behaviour::TestCase {
+    if scope.behaviour != BehaviourKind::TestCase {
         return true;
     }
     let None = scope.components.find(name) else {

@@ -2,11 +2,11 @@
 use Rattle.std.specs.Prelude.{◌≡◌, ◌≢◌, ◌<◌, ◌≤◌, true, ◌⊎◌, List, [], ◌∷◌, length, Contains}
 use Rattle.tp_config.specs.declared.port_type.PortRef.{PortRef}
 use Rattle.tp_config.specs.declared.creating.CreateFault.{CreateFault}
-use Rattle.tp_config.specs.declared.creating.CreateFault.TheVariants as trouble
+use Rattle.tp_config.specs.declared.creating.CreateFault.TheVariants as create_fault
 use Rattle.tp_config.specs.declared.connecting.ConnectFault.{ConnectFault}
-use Rattle.tp_config.specs.declared.connecting.ConnectFault.TheVariants as fault
+use Rattle.tp_config.specs.declared.connecting.ConnectFault.TheVariants as connect_fault
 use Rattle.tp_config.specs.declared.mapping.MapFault.{MapFault}
-use Rattle.tp_config.specs.declared.mapping.MapFault.TheVariants as refusal
+use Rattle.tp_config.specs.declared.mapping.MapFault.TheVariants as map_fault
 use Rattle.tp_config.specs.Setup.{Setup, Member, names, is_system, is_system_member}
 use Rattle.tp_config.specs.Allowed.{Directed, CanConnect, CanMap, MapDirected}
 use Rattle.tp_config.specs.Pairs.{partners}
@@ -18,7 +18,7 @@ IsFirst Cause (x ∷ xs) f = ((f ≡ x) × Cause x) ⊎ ((¬ Cause x) × IsFirst
 
 -- the order in which the causes of a refused create are looked at
 abbrev pub create_order : List CreateFault
-create_order = trouble.Duplicate ∷ trouble.Limit ∷ []
+create_order = create_fault.Duplicate ∷ create_fault.Limit ∷ []
 
 -- a component is the test system interface
 abbrev pub HasSystem : List Member → Type 0
@@ -30,9 +30,9 @@ IsTaken s m = Contains (names s) m.name ⊎ ((is_system_member m ≡ true) × Ha
 
 -- the cause of each refusal, whatever the others
 abbrev pub CreateCause : Setup → Member → CreateFault → Type 0
-CreateCause s m trouble.Duplicate = IsTaken s m
-CreateCause s m trouble.Limit = 64 ≤ length s.components
-CreateCause s m trouble.Memory = ⊥
+CreateCause s m create_fault.Duplicate = IsTaken s m
+CreateCause s m create_fault.Limit = 64 ≤ length s.components
+CreateCause s m create_fault.Memory = ⊥
 
 -- the component is new, and there is room for it
 abbrev pub CanCreate : Setup → Member → Type 0
@@ -40,13 +40,14 @@ CanCreate s m = (¬ IsTaken s m) × (length s.components < 64)
 
 -- why a create is refused: by the first cause that holds, or, where the component can be created, for want of memory
 abbrev pub CreateRefused : Setup → Member → CreateFault → Type 0
-CreateRefused s m trouble.Memory = CanCreate s m
+CreateRefused s m create_fault.Memory = CanCreate s m
 CreateRefused s m f = IsFirst (CreateCause s m) create_order f × ¬ CanCreate s m
 
 -- the order in which the causes of a refused connect are looked at
 abbrev pub connect_order : List ConnectFault
 connect_order =
-    fault.SystemPort ∷ fault.SamePort ∷ fault.Already ∷ fault.Mixed ∷ fault.TwoPortsOfOne ∷ fault.Directions ∷ []
+    connect_fault.SystemPort ∷ connect_fault.SamePort ∷ connect_fault.Already ∷ connect_fault.Mixed ∷
+    connect_fault.TwoPortsOfOne ∷ connect_fault.Directions ∷ []
 
 -- p stands in a pair of the list
 abbrev pub Stands : List (PortRef × PortRef) → PortRef → Type 0
@@ -58,34 +59,34 @@ HasOther pairs p q = (r : PortRef) × Contains (partners pairs p) r × (r.comp �
 
 -- the cause of each refusal, whatever the others
 abbrev pub ConnectCause : Setup → PortRef → PortRef → ConnectFault → Type 0
-ConnectCause s p q fault.SystemPort = (is_system s.components p ≡ true) ⊎ (is_system s.components q ≡ true)
-ConnectCause s p q fault.SamePort = p ≡ q
-ConnectCause s p q fault.Already = Contains (partners s.connected p) q
-ConnectCause s p q fault.Mixed = Stands s.mapped p ⊎ Stands s.mapped q
-ConnectCause s p q fault.TwoPortsOfOne = HasOther s.connected p q ⊎ HasOther s.connected q p
-ConnectCause s p q fault.Directions = ¬ Directed s.types s.components p q
-ConnectCause s p q fault.Memory = ⊥
+ConnectCause s p q connect_fault.SystemPort = (is_system s.components p ≡ true) ⊎ (is_system s.components q ≡ true)
+ConnectCause s p q connect_fault.SamePort = p ≡ q
+ConnectCause s p q connect_fault.Already = Contains (partners s.connected p) q
+ConnectCause s p q connect_fault.Mixed = Stands s.mapped p ⊎ Stands s.mapped q
+ConnectCause s p q connect_fault.TwoPortsOfOne = HasOther s.connected p q ⊎ HasOther s.connected q p
+ConnectCause s p q connect_fault.Directions = ¬ Directed s.types s.components p q
+ConnectCause s p q connect_fault.Memory = ⊥
 
 -- why a connect is refused: by the first cause that holds, or, where the pair can be connected, for want of memory
 abbrev pub ConnectRefused : Setup → PortRef → PortRef → ConnectFault → Type 0
-ConnectRefused s p q fault.Memory = CanConnect s p q
+ConnectRefused s p q connect_fault.Memory = CanConnect s p q
 ConnectRefused s p q f = IsFirst (ConnectCause s p q) connect_order f × ¬ CanConnect s p q
 
 -- the order in which the causes of a refused map are looked at
 abbrev pub map_order : List MapFault
-map_order = refusal.NotSystem ∷ refusal.Mixed ∷ refusal.NotOneToOne ∷ refusal.MapDirections ∷ []
+map_order = map_fault.NotSystem ∷ map_fault.Mixed ∷ map_fault.NotOneToOne ∷ map_fault.MapDirections ∷ []
 
 -- the cause of each refusal, whatever the others
 abbrev pub MapCause : Setup → PortRef → PortRef → MapFault → Type 0
-MapCause s p q refusal.NotSystem = is_system s.components p ≡ is_system s.components q
-MapCause s p q refusal.Mixed = Stands s.connected p ⊎ Stands s.connected q
-MapCause s p q refusal.NotOneToOne = Stands s.mapped p ⊎ Stands s.mapped q
-MapCause s p q refusal.MapDirections =
+MapCause s p q map_fault.NotSystem = is_system s.components p ≡ is_system s.components q
+MapCause s p q map_fault.Mixed = Stands s.connected p ⊎ Stands s.connected q
+MapCause s p q map_fault.NotOneToOne = Stands s.mapped p ⊎ Stands s.mapped q
+MapCause s p q map_fault.MapDirections =
     ¬ ((is_system s.components q ≡ true → MapDirected s.types s.components p q)
     × (is_system s.components p ≡ true → MapDirected s.types s.components q p))
-MapCause s p q refusal.Memory = ⊥
+MapCause s p q map_fault.Memory = ⊥
 
 -- why a map is refused: by the first cause that holds, or, where the pair can be mapped, for want of memory
 abbrev pub MapRefused : Setup → PortRef → PortRef → MapFault → Type 0
-MapRefused s p q refusal.Memory = CanMap s p q
+MapRefused s p q map_fault.Memory = CanMap s p q
 MapRefused s p q f = IsFirst (MapCause s p q) map_order f × ¬ CanMap s p q

@@ -6,11 +6,11 @@ use Rattle.tp_value.specs.declared.types.Ty.{Ty}
 use Rattle.tp_config.specs.declared.port_type.PortRef.{PortRef}
 use Rattle.tp_config.specs.declared.port_type.Role.{Role}
 use Rattle.tp_config.specs.declared.creating.CreateFault.{CreateFault}
-use Rattle.tp_config.specs.declared.creating.CreateFault.TheVariants as trouble
+use Rattle.tp_config.specs.declared.creating.CreateFault.TheVariants as create_fault
 use Rattle.tp_config.specs.declared.connecting.ConnectFault.{ConnectFault}
-use Rattle.tp_config.specs.declared.connecting.ConnectFault.TheVariants as fault
+use Rattle.tp_config.specs.declared.connecting.ConnectFault.TheVariants as connect_fault
 use Rattle.tp_config.specs.declared.mapping.MapFault.{MapFault}
-use Rattle.tp_config.specs.declared.mapping.MapFault.TheVariants as refusal
+use Rattle.tp_config.specs.declared.mapping.MapFault.TheVariants as map_fault
 use Rattle.tp_config.specs.Types.{same_type}
 use Rattle.tp_config.specs.Pairs.{same_port}
 use Rattle.tp_config.specs.Setup.{PortDecl, Member, is_system, is_system_role, is_system_member, ins, outs}
@@ -26,9 +26,10 @@ has_system members = list_any is_system_member members
 
 -- the causes of a refused create
 abbrev pub create_test : List Member → List ℕ → Role → CreateFault → Bool
-create_test members name role trouble.Duplicate = has_name members name || (is_system_role role && has_system members)
-create_test members name role trouble.Limit = nat_le 64 (length members)
-create_test members name role trouble.Memory = false
+create_test members name role create_fault.Duplicate =
+    has_name members name || (is_system_role role && has_system members)
+create_test members name role create_fault.Limit = nat_le 64 (length members)
+create_test members name role create_fault.Memory = false
 
 -- both or none
 abbrev pub same_bool : Bool → Bool → Bool
@@ -58,14 +59,14 @@ are_among these those = list_all (λ ty. list_any (λ other. same_type other ty)
 -- the causes of a refused connect, each where those before it don't hold
 abbrev pub connect_test :
     List (List PortDecl) → List Member → List (List (List PortRef)) → PortRef → PortRef → ConnectFault → Bool
-connect_test t m links p q fault.SystemPort = is_system m p || is_system m q
-connect_test t m links p q fault.SamePort = same_port p q
-connect_test t m links p q fault.Already = is_beside links p q
-connect_test t m links p q fault.Mixed = is_mapped m links p || is_mapped m links q
-connect_test t m links p q fault.TwoPortsOfOne = has_other links p q || has_other links q p
-connect_test t m links p q fault.Directions =
+connect_test t m links p q connect_fault.SystemPort = is_system m p || is_system m q
+connect_test t m links p q connect_fault.SamePort = same_port p q
+connect_test t m links p q connect_fault.Already = is_beside links p q
+connect_test t m links p q connect_fault.Mixed = is_mapped m links p || is_mapped m links q
+connect_test t m links p q connect_fault.TwoPortsOfOne = has_other links p q || has_other links q p
+connect_test t m links p q connect_fault.Directions =
     not (are_among (outs t m p) (ins t m q) && are_among (outs t m q) (ins t m p))
-connect_test t m links p q fault.Memory = false
+connect_test t m links p q connect_fault.Memory = false
 
 -- the system port q sends all that p sends, and p receives all that q receives
 abbrev pub map_directed : List (List PortDecl) → List Member → PortRef → PortRef → Bool
@@ -74,9 +75,9 @@ map_directed t m p q = are_among (outs t m p) (outs t m q) && are_among (ins t m
 -- the causes of a refused map
 abbrev pub map_test :
     List (List PortDecl) → List Member → List (List (List PortRef)) → PortRef → PortRef → MapFault → Bool
-map_test t m links p q refusal.NotSystem = same_bool (is_system m p) (is_system m q)
-map_test t m links p q refusal.Mixed = is_connected m links p || is_connected m links q
-map_test t m links p q refusal.NotOneToOne = is_mapped m links p || is_mapped m links q
-map_test t m links p q refusal.MapDirections =
+map_test t m links p q map_fault.NotSystem = same_bool (is_system m p) (is_system m q)
+map_test t m links p q map_fault.Mixed = is_connected m links p || is_connected m links q
+map_test t m links p q map_fault.NotOneToOne = is_mapped m links p || is_mapped m links q
+map_test t m links p q map_fault.MapDirections =
     not ((not (is_system m q) || map_directed t m p q) && (not (is_system m p) || map_directed t m q p))
-map_test t m links p q refusal.Memory = false
+map_test t m links p q map_fault.Memory = false

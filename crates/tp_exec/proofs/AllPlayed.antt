@@ -15,7 +15,7 @@ use Rattle.tp_script.specs.TestCases.{Made}
 use Rattle.tp_inbox.specs.Ledgers.{Inbox}
 use Rattle.tp_behaviour.specs.declared.station.Station.{Station}
 use Rattle.tp_exec.specs.declared.played.Played.{Played}
-use Rattle.tp_exec.specs.Returns.{HasReturned, IsWaiting, badge_of, badges_of, number_of}
+use Rattle.tp_exec.specs.Returns.{HasReturned, IsWaiting, badge_of, badges_of, station_number}
 use Rattle.tp_exec.specs.Rounds.{ArePlayed, AreStations, HasNotBegun, HasPlayed, IsStaffed, all_ways, is_from, stations_of, ways_in}
 
 abbrev Badge : Type 0
@@ -27,10 +27,12 @@ picked f None y e = absurd (none-some y e)
 picked f (Some x) y e = (x, refl, same_Some (f x) y e)
 
 -- what stands at the same place of a list that is the same by what is seen of it
-matched : {X Y Z : Type 0} (f : X → Z) (h : Y → Z) (xs : List X) (ys : List Y) (k : ℕ) (x : X) → map f xs ≡ map h ys → slice_get xs k ≡ Some x → (y : Y) × (slice_get ys k ≡ Some y) × (h y ≡ f x)
-matched f h xs ys k x same at = picked h (slice_get ys k) (f x) (sym (slice_get-map h ys k) ∙ ap (λ l. slice_get l k) (sym same) ∙ slice_get-map f xs k ∙ ap (option_map f) at)
+matched : {X Y Z : Type 0} (f : X → Z) (h : Y → Z) (xs : List X) (ys : List Y) (k : ℕ) (x : X) → map f xs ≡ map h ys → slice_get xs k ≡ Some x → (y : Y)
+    × (slice_get ys k ≡ Some y) × (h y ≡ f x)
+matched f h xs ys k x same at =
+    picked h (slice_get ys k) (f x) (sym (slice_get-map h ys k) ∙ ap (λ l. slice_get l k) (sym same) ∙ slice_get-map f xs k ∙ ap (option_map f) at)
 
-numbered : (s : Setup) (k : ℕ) (x : Station) → IsStaffed s k x → number_of x ≡ k
+numbered : (s : Setup) (k : ℕ) (x : Station) → IsStaffed s k x → station_number x ≡ k
 numbered s k x staffed = ap (λ (c : CompId). c.0) (staffed []).posted.comp
 
 -- all are at their places, and nothing has happened there
@@ -49,14 +51,16 @@ same_ways xs ys same =
     let h : Badge → List (Inbox × RouteId) = λ b. ways_in b.0 in
     sym (flat_map-map h badge_of xs) ∙ ap (flat_map h) same ∙ flat_map-map h badge_of ys
 
-module _ (made : Made) (stations : List Station) (played : List Played) (are : AreStations made.config stations) (badges : badges_of played ≡ map badge_of stations) (back : All (HasReturned made) played) where
+module _ (made : Made) (stations : List Station) (played : List Played) (are : AreStations made.config stations)
+    (badges : badges_of played ≡ map badge_of stations) (back : All (HasReturned made) played) where
   same : map badge_of (stations_of played) ≡ map badge_of stations
   same = map-map badge_of (λ (p : Played). p.station) played ∙ badges
 
   returned : (k : ℕ) (p : Played) → slice_get played k ≡ Some p → HasReturned made p
-  returned k p at = subst (HasReturned made) (get_or_from_slice_get played k p p at) (All-get_or (HasReturned made) played k p (slice_get_within played k p at) back)
+  returned k p at =
+      subst (HasReturned made) (get_or_from_slice_get played k p p at) (All-get_or (HasReturned made) played k p (slice_get_within played k p at) back)
 
-  placed : (k : ℕ) (p : Played) → slice_get played k ≡ Some p → number_of p.station ≡ k
+  placed : (k : ℕ) (p : Played) → slice_get played k ≡ Some p → station_number p.station ≡ k
   placed k p at =
       let before = matched (λ (q : Played). badge_of q.station) badge_of played stations k p badges at in
       ap (λ (b : Badge). b.0.comp.0) (sym before.2) ∙ numbered made.config k before.0 (are.staffed k before.0 before.1)
@@ -72,7 +76,8 @@ module _ (made : Made) (stations : List Station) (played : List Played) (are : A
     staffed = λ k y at.
         let from = picked (λ (p : Played). p.station) (slice_get played k) y (sym (slice_get-map (λ (p : Played). p.station) played k) ∙ at) in
         let p : Played = from.0 in
-        let staffed : IsStaffed made.config k p.station = subst (λ (n : ℕ). IsStaffed made.config n p.station) (placed k p from.1) (returned k p from.1).staffed in
+        let staffed : IsStaffed made.config k p.station = subst (λ (n : ℕ). IsStaffed made.config n p.station) (placed k p from.1)
+        (returned k p from.1).staffed in
         subst (λ (x : Station). IsStaffed made.config k x) from.2 staffed;
     routes = λ k y at.
         let before = matched badge_of badge_of (stations_of played) stations k y same at in

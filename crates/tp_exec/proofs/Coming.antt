@@ -18,10 +18,10 @@ use Rattle.tp_inbox.proofs.Arrivals.{arrivals-append}
 use Rattle.tp_behaviour.specs.Outboxes.{routes_of}
 use Rattle.tp_behaviour.proofs.Outboxes.{route_itself, route_same}
 use Rattle.tp_exec.specs.declared.ended.Ended.{Ended}
-use Rattle.tp_exec.specs.Held.{HasCome, IsBack, counts_of, ways_on}
+use Rattle.tp_exec.specs.Held.{HasCome, IsHandedBack, counts_of, ways_on}
 
 -- they are those of the inbox, in its order
-pub back_senders : (logs : ℕ → List Entry) (i : Inbox) (routes : List RouteId) (ss : List Sending) → AllZip (IsBack logs) (ways_on i routes) ss
+pub back_senders : (logs : ℕ → List Entry) (i : Inbox) (routes : List RouteId) (ss : List Sending) → AllZip (IsHandedBack logs) (ways_on i routes) ss
     → All (λ (s : Sending). s.inbox ≡ i) ss × (map (λ (s : Sending). s.route) ss ≡ routes)
 back_senders logs i [] [] z = (All-nil (λ (s : Sending). s.inbox ≡ i), refl)
 back_senders logs i [] (s ∷ ss) z = absurd z
@@ -61,7 +61,8 @@ abbrev Came : List Entry → RouteId × List Stamped → Type 0
 Came log v = arrived_on v.0 log ≡ numbered 0 v.1
 
 -- what has come from them is what their components have noted as sent, and is counted
-come_on : (logs : ℕ → List Entry) (i : Inbox) (e : Ended) (routes : List RouteId) (ss : List Sending) → AllZip (IsBack logs) (ways_on i routes) ss → AreDelivered e.desk.log (map put_by ss)
+come_on : (logs : ℕ → List Entry) (i : Inbox) (e : Ended) (routes : List RouteId) (ss : List Sending) → AllZip (IsHandedBack logs) (ways_on i routes) ss
+    → AreDelivered e.desk.log (map put_by ss)
     → All (IsCounted e.counts.items) ss → All (HasCome logs e) routes
 come_on logs i e [] ss z came counts = All-nil (HasCome logs e)
 come_on logs i e (r ∷ routes) [] z came counts = absurd z
@@ -74,11 +75,13 @@ come_on logs i e (r ∷ routes) (s ∷ ss) z came counts =
     } (come_on logs i e routes ss z.1 (All-tail (Came e.desk.log) (put_by s) (map put_by ss) came) (All-tail (IsCounted e.counts.items) s ss counts))
 
 -- all that was sent to the component has come
-pub has_come : (logs : ℕ → List Entry) (i : Inbox) (e : Ended) (ss : List Sending) → AllZip (IsBack logs) (ways_on i i.routes) ss → AllPairs (λ (r q : RouteId). r ≢ q) i.routes
+pub has_come : (logs : ℕ → List Entry) (i : Inbox) (e : Ended) (ss : List Sending) → AllZip (IsHandedBack logs) (ways_on i i.routes) ss
+    → AllPairs (λ (r q : RouteId). r ≢ q) i.routes
     → AreDelivered e.desk.log (map put_by ss) → e.counts.items ≡ counts_of (map put_by ss) → All (HasCome logs e) i.routes
 has_come logs i e ss z apart came counts =
     come_on logs i e i.routes ss z came
-    (subst (λ cs. All (IsCounted cs) ss) (sym counts) (counted ss (subst (AllPairs (λ (r q : RouteId). r ≢ q)) (sym (back_senders logs i i.routes ss z).1) apart)))
+    (subst (λ cs. All (IsCounted cs) ss) (sym counts)
+    (counted ss (subst (AllPairs (λ (r q : RouteId). r ≢ q)) (sym (back_senders logs i i.routes ss z).1) apart)))
 
 -- the counts stand beside the inbox's routes
 pub counted_routes : (ss : List Sending) → map (λ (c : RouteId × ℕ). c.0) (counts_of (map put_by ss)) ≡ map (λ (s : Sending). s.route) ss
@@ -91,8 +94,10 @@ arrivals_rest [] = refl
 arrivals_rest (x ∷ rest) = ap (λ l. entry.Arrive x.0 x.1 x.2 ∷ l) (arrivals_rest rest)
 
 -- what had arrived and what is appended came on these routes
-pub all_routed : (routes : List RouteId) (k drained : List Entry) (rest : List (ℕ × Env Message × ℕ)) → arrivals k ≡ drained → All (IsArrivalOn routes) drained → All (IsArrivalOn routes) (rest_arrivals rest)
+pub all_routed : (routes : List RouteId) (k drained : List Entry) (rest : List (ℕ × Env Message × ℕ)) → arrivals k ≡ drained → All (IsArrivalOn routes) drained
+    → All (IsArrivalOn routes) (rest_arrivals rest)
     → All (IsArrivalOn routes) (arrivals (k ++ rest_arrivals rest))
 all_routed routes k drained rest arrived before after =
-    subst (All (IsArrivalOn routes)) (sym (arrivals-append k (rest_arrivals rest) ∙ ap (λ l. l ++ arrivals (rest_arrivals rest)) arrived ∙ ap (λ l. drained ++ l) (arrivals_rest rest)))
+    subst (All (IsArrivalOn routes))
+    (sym (arrivals-append k (rest_arrivals rest) ∙ ap (λ l. l ++ arrivals (rest_arrivals rest)) arrived ∙ ap (λ l. drained ++ l) (arrivals_rest rest)))
     (All-append (IsArrivalOn routes) drained (rest_arrivals rest) before after)

@@ -26,13 +26,15 @@ pub as_many : (before now : List Station) → map rest_of now ≡ map rest_of be
 as_many before now same = sym (length-map now rest_of) ∙ ap length same ∙ length-map before rest_of
 
 from_here : (y : Sending) (more : List Sending) → filter (is_of y.route.source.0) (y ∷ more) ≡ y ∷ filter (is_of y.route.source.0) more
-from_here y more = ap (λ (b : Bool). cond b (y ∷ filter (is_of y.route.source.0) more) (filter (is_of y.route.source.0) more)) (eq-eqb y.route.source.0 y.route.source.0 refl)
+from_here y more = ap (λ (b : Bool). cond b (y ∷ filter (is_of y.route.source.0) more) (filter (is_of y.route.source.0) more))
+    (eq-eqb y.route.source.0 y.route.source.0 refl)
 
 from_else : (k : ℕ) (y : Sending) (more : List Sending) → y.route.source.0 ≢ k → filter (is_of k) (y ∷ more) ≡ filter (is_of k) more
 from_else k y more n = ap (λ (b : Bool). cond b (y ∷ filter (is_of k) more) (filter (is_of k) more)) (ne_eqb y.route.source.0 k n)
 
 -- what stands at a place of the list was there before, or was put there
-set_cases : {X : Type 0} (xs : List X) (j k : ℕ) (v y : X) → slice_get (slice_set xs j v) k ≡ Some y → ((k ≡ j) × (v ≡ y)) ⊎ ((j ≢ k) × (slice_get xs k ≡ Some y))
+set_cases : {X : Type 0} (xs : List X) (j k : ℕ) (v y : X) → slice_get (slice_set xs j v) k ≡ Some y → ((k ≡ j) × (v ≡ y))
+    ⊎ ((j ≢ k) × (slice_get xs k ≡ Some y))
 set_cases [] j k v y e = absurd (cc)
 set_cases (x ∷ xs) zero zero v y e = inl (refl, same_Some v y e)
 set_cases (x ∷ xs) zero (suc k) v y e = inr (λ (h : 0 ≡ suc k). absurd (omega (arith, h)), e)
@@ -101,7 +103,8 @@ module _ (before : List Station) (all rest : List Sending) (y : Sending) (now : 
           ∙ ap (λ l. given.0.outbox ++ l) (sym (from_here y rest))
           ∙ h.dealt y.route.source.0 given.0 given.1
 
-      by : (k : ℕ) (z : Station) → ((k ≡ y.route.source.0) × (giving given.0 y ≡ z)) ⊎ ((y.route.source.0 ≢ k) × (slice_get now k ≡ Some z)) → z.outbox ++ filter (is_of k) rest ≡ filter (is_of k) all
+      by : (k : ℕ) (z : Station) → ((k ≡ y.route.source.0) × (giving given.0 y ≡ z)) ⊎ ((y.route.source.0 ≢ k) × (slice_get now k ≡ Some z)) → z.outbox
+          ++ filter (is_of k) rest ≡ filter (is_of k) all
       by k z (inl w) =
           subst (λ j. z.outbox ++ filter (is_of j) rest ≡ filter (is_of j) all) (sym w.0)
           (subst (λ (u : Station). u.outbox ++ filter (is_of y.route.source.0) rest ≡ filter (is_of y.route.source.0) all) w.1 had)

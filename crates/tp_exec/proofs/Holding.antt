@@ -13,7 +13,7 @@ use Rattle.tp_inbox.specs.Ledgers.{Inbox, Sending}
 use Rattle.tp_inbox.proofs.Routes.{same_or_not}
 use Rattle.tp_behaviour.specs.Stations.{IsNoted, end_of}
 use Rattle.tp_exec.specs.Rounds.{is_from}
-use Rattle.tp_exec.specs.Held.{AreHeld, CanTake, Gives, IsBack, Leaves}
+use Rattle.tp_exec.specs.Held.{AreAtHand, CanTake, Gives, IsHandedBack, Leaves}
 
 abbrev Way : Type 0
 Way = Inbox × RouteId
@@ -22,7 +22,8 @@ abbrev Hand : Type 0
 Hand = IntoIter Sending Global
 
 from_here : (m : Way) (more : List Way) → filter (is_from m.1.source.0) (m ∷ more) ≡ m ∷ filter (is_from m.1.source.0) more
-from_here m more = ap (λ (b : Bool). cond b (m ∷ filter (is_from m.1.source.0) more) (filter (is_from m.1.source.0) more)) (eq-eqb m.1.source.0 m.1.source.0 refl)
+from_here m more = ap (λ (b : Bool). cond b (m ∷ filter (is_from m.1.source.0) more) (filter (is_from m.1.source.0) more))
+    (eq-eqb m.1.source.0 m.1.source.0 refl)
 
 from_else : (k : ℕ) (m : Way) (more : List Way) → m.1.source.0 ≢ k → filter (is_from k) (m ∷ more) ≡ filter (is_from k) more
 from_else k m more n = ap (λ (b : Bool). cond b (m ∷ filter (is_from k) more) (filter (is_from k) more)) (ne_eqb m.1.source.0 k n)
@@ -39,7 +40,7 @@ pub no_rest : {X : Type 0} (it : IntoIter X Global) → into_iter_len it ≡ 0 �
 no_rest it none = nothing (into_iter_items it) (sym it.rest.ok.0 ∙ none)
 
 -- the senders on these ways are held, and the next way is m
-module _ (logs : ℕ → List Entry) (hands : List Hand) (m : Way) (more : List Way) (h : AreHeld logs hands (m ∷ more)) where
+module _ (logs : ℕ → List Entry) (hands : List Hand) (m : Way) (more : List Way) (h : AreAtHand logs hands (m ∷ more)) where
   pub inside : m.1.source.0 < length hands
   inside = All-head (λ (n : Way). n.1.source.0 < length hands) m more h.within
 
@@ -65,25 +66,29 @@ module _ (logs : ℕ → List Entry) (hands : List Hand) (m : Way) (more : List 
       noted : All (IsNoted (logs m.1.source.0)) (x ∷ into_iter_items it)
       noted = subst (All (IsNoted (logs m.1.source.0))) steps had_noted
 
-      held_back : IsBack logs m x
+      held_back : IsHandedBack logs m x
       held_back = (ap (λ (n : Way). n.0) both.0, ap (λ (n : Way). n.1) both.0, All-head (IsNoted (logs m.1.source.0)) x (into_iter_items it) noted)
 
-      held_next : AreHeld logs (set hands m.1.source.0 it) more
+      held_next : AreAtHand logs (set hands m.1.source.0 it) more
       held_next =
           let long : length (set hands m.1.source.0 it) ≡ length hands = length-set hands m.1.source.0 it in record {
             each = λ k d low.
                 ⊎_elim
-                (λ (e : k ≡ m.1.source.0). ap (λ (y : Hand). map end_of (into_iter_items y)) (get_or-set_at hands m.1.source.0 k it d e inside) ∙ both.1 ∙ ap (λ (j : ℕ). filter (is_from j) more) (sym e))
-                (λ (n : k ≢ m.1.source.0). ap (λ (y : Hand). map end_of (into_iter_items y)) (get_or-set_other hands m.1.source.0 k it d n) ∙ h.each k d (omega arith) ∙ from_else k m more (λ e. n (sym e)))
+                (λ (e : k ≡ m.1.source.0). ap (λ (y : Hand). map end_of (into_iter_items y)) (get_or-set_at hands m.1.source.0 k it d e inside) ∙ both.1
+                ∙ ap (λ (j : ℕ). filter (is_from j) more) (sym e))
+                (λ (n : k ≢ m.1.source.0). ap (λ (y : Hand). map end_of (into_iter_items y)) (get_or-set_other hands m.1.source.0 k it d n)
+                ∙ h.each k d (omega arith) ∙ from_else k m more (λ e. n (sym e)))
                 (same_or_not k m.1.source.0);
             noted = λ k d low.
                 ⊎_elim
                 (λ (e : k ≡ m.1.source.0).
                 subst (λ (y : Hand). All (IsNoted (logs k)) (into_iter_items y)) (sym (get_or-set_at hands m.1.source.0 k it d e inside))
                 (subst (λ (j : ℕ). All (IsNoted (logs j)) (into_iter_items it)) (sym e) (All-tail (IsNoted (logs m.1.source.0)) x (into_iter_items it) noted)))
-                (λ (n : k ≢ m.1.source.0). subst (λ (y : Hand). All (IsNoted (logs k)) (into_iter_items y)) (sym (get_or-set_other hands m.1.source.0 k it d n)) (h.noted k d (omega arith)))
+                (λ (n : k ≢ m.1.source.0). subst (λ (y : Hand). All (IsNoted (logs k)) (into_iter_items y)) (sym (get_or-set_other hands m.1.source.0 k it d n))
+                (h.noted k d (omega arith)))
                 (same_or_not k m.1.source.0);
-            within = λ k d low. subst (λ (n : ℕ). (slice_index_or more k d).1.source.0 < n) (sym long) (All-tail (λ (n : Way). n.1.source.0 < length hands) m more h.within k d low);
+            within = λ k d low. subst (λ (n : ℕ). (slice_index_or more k d).1.source.0 < n) (sym long)
+                (All-tail (λ (n : Way). n.1.source.0 < length hands) m more h.within k d low);
           }
 
 -- o has the senders of a component, the next of which is r, and then has those of it

@@ -25,7 +25,7 @@ use Rattle.tp_inbox.specs.History.{event_at, history_of}
 use Rattle.tp_report.specs.Lines.{port_of, sender_of}
 use Rattle.tp_report.specs.Reports.{IsKnown}
 use Rattle.tp_exec.specs.Delivery.{IsOnRoute}
-use Rattle.tp_exec.specs.Reporting.{IsSound}
+use Rattle.tp_exec.specs.Reporting.{IsSoundJournal}
 use Rattle.tp_exec.specs.Settlings.{IsSentOut}
 use Rattle.tp_exec.proofs.NoCircle.{given}
 
@@ -77,7 +77,8 @@ module _ (s : Setup) (c : CompId) (port : ℕ) where
   accepted_have : (h : List (Event Message)) → All LetsIn h → All HasSender (accepted h)
   unfolding accepted
   accepted_have [] all = All-nil HasSender
-  accepted_have (event.Arrive e ∷ h) all = All-cons HasSender e (filter_map arrival h) (All-head LetsIn (event.Arrive e) h all) (accepted_have h (All-tail LetsIn (event.Arrive e) h all))
+  accepted_have (event.Arrive e ∷ h) all = All-cons HasSender e (filter_map arrival h) (All-head LetsIn (event.Arrive e) h all)
+      (accepted_have h (All-tail LetsIn (event.Arrive e) h all))
   accepted_have (event.Took e ∷ h) all = accepted_have h (All-tail LetsIn (event.Took e) h all)
   accepted_have (event.Found e ∷ h) all = accepted_have h (All-tail LetsIn (event.Found e) h all)
   accepted_have (event.Dropped e ∷ h) all = accepted_have h (All-tail LetsIn (event.Dropped e) h all)
@@ -129,7 +130,7 @@ module _ (s : Setup) (c : CompId) (port : ℕ) where
       seen_has (filter_map (event_at port) k) w.0 v e lawful (history_lets k l all) w.1 (may (take w.0 (filter_map (event_at port) k)))
 
 -- the history of a component of a run
-module _ (s : Setup) (l : IsSetup s) (c : CompId) (d : Journal) (ports : d.ports ≡ length (ports_at s.types s.components c)) (sound : IsSound d)
+module _ (s : Setup) (l : IsSetup s) (c : CompId) (d : Journal) (ports : d.ports ≡ length (ports_at s.types s.components c)) (sound : IsSoundJournal d)
     (routed : All (IsOnRoute s c) d.log) (sent : All (IsSentOut s c) d.log) where
   there : (port : ℕ) → port < d.ports → IsPort s (port_of c port)
   there port low = port_there s c port (subst (λ n. port < n) ports low)
@@ -144,9 +145,12 @@ module _ (s : Setup) (l : IsSetup s) (c : CompId) (d : Journal) (ports : d.ports
 
   known_at : (n : ℕ) (x : Entry) → slice_get d.log n ≡ Some x → IsWithin d.ports x → IsOnRoute s c x → IsSentOut s c x → IsKnown s c x
   known_at n (entry.Arrive p e stamp) at within on out = (there p within, subst (λ m. m < length s.components) on.3 (into_source s l c on.0 on.1))
-  known_at n (entry.Took p e b) at within on out = (there p within, seen p n (entry.Took p e b) (event.Took e) e within at (itself p (event.Took e)) (λ h may. may))
-  known_at n (entry.Found p e b) at within on out = (there p within, seen p n (entry.Found p e b) (event.Found e) e within at (itself p (event.Found e)) (λ h may. may))
-  known_at n (entry.Dropped p e b) at within on out = (there p within, seen p n (entry.Dropped p e b) (event.Dropped e) e within at (itself p (event.Dropped e)) (λ h may. may))
+  known_at n (entry.Took p e b) at within on out =
+      (there p within, seen p n (entry.Took p e b) (event.Took e) e within at (itself p (event.Took e)) (λ h may. may))
+  known_at n (entry.Found p e b) at within on out =
+      (there p within, seen p n (entry.Found p e b) (event.Found e) e within at (itself p (event.Found e)) (λ h may. may))
+  known_at n (entry.Dropped p e b) at within on out =
+      (there p within, seen p n (entry.Dropped p e b) (event.Dropped e) e within at (itself p (event.Dropped e)) (λ h may. may))
   known_at n (entry.Cleared p) at within on out = there p within
   known_at n (entry.Started p) at within on out = there p within
   known_at n (entry.Stopped p) at within on out = there p within

@@ -42,12 +42,14 @@ ends_from : (k : ℕ) (ss : List Sending) → map end_of (filter (is_of k) ss) �
 ends_from k [] = refl
 ends_from k (y ∷ ss) = by (is_of k y) (ends_from k ss) where
   by : (b : Bool) → map end_of (filter (is_of k) ss) ≡ filter (is_from k) (map end_of ss)
-      → map end_of (cond b (y ∷ filter (is_of k) ss) (filter (is_of k) ss)) ≡ cond b (end_of y ∷ filter (is_from k) (map end_of ss)) (filter (is_from k) (map end_of ss))
+      → map end_of (cond b (y ∷ filter (is_of k) ss) (filter (is_of k) ss)) ≡ cond b (end_of y ∷ filter (is_from k) (map end_of ss))
+      (filter (is_from k) (map end_of ss))
   by true h = ap (λ l. end_of y ∷ l) h
   by false h = h
 
 -- what stands at a place beside the senders stood there before
-same_rest : (xs ys : List Station) → map rest_of xs ≡ map rest_of ys → (k : ℕ) (x : Station) → slice_get xs k ≡ Some x → (y : Station) × (slice_get ys k ≡ Some y) × (rest_of y ≡ rest_of x)
+same_rest : (xs ys : List Station) → map rest_of xs ≡ map rest_of ys → (k : ℕ) (x : Station) → slice_get xs k ≡ Some x → (y : Station)
+    × (slice_get ys k ≡ Some y) × (rest_of y ≡ rest_of x)
 same_rest [] ys e k x stands = absurd (cc)
 same_rest (z ∷ xs) [] e k x stands = absurd (let n : length (map rest_of (z ∷ xs)) ≡ 0 = ap length e in omega (arith, n))
 same_rest (z ∷ xs) (y ∷ ys) e zero x stands = (y, refl, (let h : rest_of z ≡ rest_of y = cc in sym h) ∙ ap rest_of (same_Some z x stands))
@@ -67,7 +69,8 @@ module _ (s : Setup) (l : IsSetup s) (o : Opened) (h : AreOpened s (length s.com
   pub senders_apart : AreDistinct (routes_of o.senders.items)
   senders_apart =
       subst AreDistinct (sym (sym (routes_of_ends o.senders.items) ∙ ap (map (λ (v : Inbox × RouteId). v.1)) h.senders ∙ routes_of_ways o.stations.items))
-      (routes_apart s l 0 o.stations.items (λ k x stands. (h.each k x stands).routes ∙ ap (λ j. routes_into s (comp_at j)) (let e : k ≡ 0 + k = omega arith in e)))
+      (routes_apart s l 0 o.stations.items
+      (λ k x stands. (h.each k x stands).routes ∙ ap (λ j. routes_into s (comp_at j)) (let e : k ≡ 0 + k = omega arith in e)))
 
   pub senders_within : All (IsFromOneOf o.stations.items) o.senders.items
   senders_within =
@@ -77,7 +80,8 @@ module _ (s : Setup) (l : IsSetup s) (o : Opened) (h : AreOpened s (length s.com
       (source_within s l (comp_at w.0) y.route (subst (λ rs. Contains rs y.route) (h.each w.0 w.1 w.2).routes w.4)))
 
 -- and after
-module _ (s : Setup) (l : IsSetup s) (o : Opened) (xs : List Station) (h : AreOpened s (length s.components) o) (given : AreHandedOut o.stations.items o.senders.items xs) where
+module _ (s : Setup) (l : IsSetup s) (o : Opened) (xs : List Station) (h : AreOpened s (length s.components) o)
+    (given : AreHandedOut o.stations.items o.senders.items xs) where
   opened : (k : ℕ) (x : Station) → slice_get xs k ≡ Some x → IsOpened s k x
   opened k x stands =
       let w = same_rest xs o.stations.items given.same k x stands in
@@ -101,11 +105,13 @@ module _ (s : Setup) (l : IsSetup s) (o : Opened) (xs : List Station) (h : AreOp
       ∙ ap (filter (is_from k)) (h.senders ∙ sym (same_ways xs o.stations.items given.same))
 
   -- a sender stands on each way from the component
-  has_way : (k : ℕ) (x : Station) → slice_get xs k ≡ Some x → (j : ℕ) (y : Station) → slice_get xs j ≡ Some y → (r : RouteId) → Contains y.owner.inbox.routes r → r.source ≡ comp_at k
+  has_way : (k : ℕ) (x : Station) → slice_get xs k ≡ Some x → (j : ℕ) (y : Station) → slice_get xs j ≡ Some y → (r : RouteId) → Contains y.owner.inbox.routes r
+      → r.source ≡ comp_at k
       → Contains (routes_of x.outbox) r
   has_way k x stands j y there r inside from =
       let w : Inbox × RouteId = (y.owner.inbox, r) in
-      let kept : Contains (filter (is_from k) (all_ways xs)) w = passes (is_from k) (all_ways xs) w (way_in xs j y r there inside) (eq-eqb r.source.0 k (ap (λ (c : CompId). c.0) from)) in
+      let kept : Contains (filter (is_from k) (all_ways xs)) w =
+      passes (is_from k) (all_ways xs) w (way_in xs j y r there inside) (eq-eqb r.source.0 k (ap (λ (c : CompId). c.0) from)) in
       subst (λ rs. Contains rs r) (ap (map (λ (v : Inbox × RouteId). v.1)) (sym (ends k x stands)) ∙ routes_of_ends x.outbox)
       (map_contains (λ (v : Inbox × RouteId). v.1) (filter (is_from k) (all_ways xs)) w kept)
 
@@ -127,8 +133,10 @@ module _ (s : Setup) (l : IsSetup s) (o : Opened) (xs : List Station) (h : AreOp
       let mine = opened k x stands in record {
         comp = mine.comp;
         ports = mine.ports;
-        here = subst (All (λ (r : RouteId). r.to.comp ≡ comp_at k)) (sym mine.routes) (all_from (λ (r : RouteId). r.to.comp ≡ comp_at k) (routes_into s (comp_at k)) (leads_to s l (comp_at k)));
-        loops = all_from (λ (r : RouteId). r.source ≡ comp_at k → Contains (routes_of x.outbox) r) x.owner.inbox.routes (λ r inside from. has_way k x stands k x stands r inside from);
+        here = subst (All (λ (r : RouteId). r.to.comp ≡ comp_at k)) (sym mine.routes)
+            (all_from (λ (r : RouteId). r.to.comp ≡ comp_at k) (routes_into s (comp_at k)) (leads_to s l (comp_at k)));
+        loops = all_from (λ (r : RouteId). r.source ≡ comp_at k → Contains (routes_of x.outbox) r) x.owner.inbox.routes
+            (λ r inside from. has_way k x stands k x stands r inside from);
         ways = λ port r from.
             let p = port_of (record { config = s; comp = comp_at k; references = references }) port in
             let j = r.to.comp.0 in

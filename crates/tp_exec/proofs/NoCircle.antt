@@ -72,7 +72,8 @@ low_late (Some (entry.Verdict v)) = omega arith
 low_late (Some (entry.Failed c)) = omega arith
 
 -- a sending moves the clock, and all else comes after what the clock showed before it
-moves : (before after : ℕ) (e : Entry) → before ≤ after → ((r : _) (number : ℕ) (m : _) → e ≡ entry.Sent r number m → before < after) → 2 * before + 1 ≤ 2 * after + late e
+moves : (before after : ℕ) (e : Entry) → before ≤ after → ((r : _) (number : ℕ) (m : _) → e ≡ entry.Sent r number m → before < after)
+    → 2 * before + 1 ≤ 2 * after + late e
 moves before after (entry.Sent r number m) low up = let more = up r number m refl in omega (arith, more)
 moves before after (entry.Arrive p e s) low up = omega (arith, low)
 moves before after (entry.Took p e b) low up = omega (arith, low)
@@ -126,7 +127,8 @@ deeper None ys y h = h
 deeper (Some z) ys y h = (suc h.0, h.1)
 
 -- what is given of one of them is among what is given of all
-pub given : {A B : Type 0} (f : A → Option B) (xs : List A) (n : ℕ) (x : A) (y : B) → slice_get xs n ≡ Some x → f x ≡ Some y → (i : ℕ) × (slice_get (filter_map f xs) i ≡ Some y)
+pub given : {A B : Type 0} (f : A → Option B) (xs : List A) (n : ℕ) (x : A) (y : B) → slice_get xs n ≡ Some x → f x ≡ Some y → (i : ℕ)
+    × (slice_get (filter_map f xs) i ≡ Some y)
 given f [] n x y is at = absurd (cc)
 given f (z ∷ xs) zero x y is at = (0, ap (λ o. slice_get (cons_option o (filter_map f xs)) 0) (ap f (same_Some z x is) ∙ at))
 given f (z ∷ xs) (suc n) x y is at = deeper (f z) (filter_map f xs) y (given f xs n x y is at)
@@ -137,11 +139,13 @@ itself r =
     (and_from (r.source.0 == r.source.0) (r.to.comp.0 == r.to.comp.0) (eq-eqb r.source.0 r.source.0 refl) (eq-eqb r.to.comp.0 r.to.comp.0 refl))
     (eq-eqb r.to.port r.to.port refl)
 
-among_sent : (r : RouteId) (k : List Entry) (n number : ℕ) (m : Stamped) → slice_get k n ≡ Some (entry.Sent r number m) → (i : ℕ) × (slice_get (sent_on r k) i ≡ Some (number, m))
+among_sent : (r : RouteId) (k : List Entry) (n number : ℕ) (m : Stamped) → slice_get k n ≡ Some (entry.Sent r number m) → (i : ℕ)
+    × (slice_get (sent_on r k) i ≡ Some (number, m))
 unfolding sent_on
 among_sent r k n number m is = given (sending_on r) k n (entry.Sent r number m) (number, m) is (ap (λ b. cond b (Some (number, m)) None) (itself r))
 
-among_arrived : (r : RouteId) (k : List Entry) (n stamp : ℕ) (env : Env Message) → slice_get k n ≡ Some (entry.Arrive r.to.port env stamp) → env.sender ≡ r.source.0
+among_arrived : (r : RouteId) (k : List Entry) (n stamp : ℕ) (env : Env Message) → slice_get k n ≡ Some (entry.Arrive r.to.port env stamp)
+    → env.sender ≡ r.source.0
     → (i : ℕ) × (slice_get (arrived_on r k) i ≡ Some (env.number, record { stamp = stamp; message = env.msg }))
 unfolding arrived_on
 among_arrived r k n stamp env is from =
@@ -156,9 +160,11 @@ number_is n (x ∷ xs) are zero y is =
     let here : x.0 ≡ n = head_is x.0 n (map (λ x. x.0) xs) (numbers_from (1 + n) xs) are in
     let this : x.0 ≡ y.0 = ap (λ (p : ℕ × Stamped). p.0) (same_Some x y is) in
     omega (arith, here, this)
-number_is n (x ∷ xs) are (suc i) y is = let h = number_is (1 + n) xs (tail_is x.0 n (map (λ x. x.0) xs) (numbers_from (1 + n) xs) are) i y is in omega (arith, h)
+number_is n (x ∷ xs) are (suc i) y is = let h = number_is (1 + n) xs (tail_is x.0 n (map (λ x. x.0) xs) (numbers_from (1 + n) xs) are) i y is in omega
+    (arith, h)
 
-one_number : (xs : List (ℕ × Stamped)) → map (λ x. x.0) xs ≡ numbers_from 0 xs → (i j : ℕ) (y z : ℕ × Stamped) → slice_get xs i ≡ Some y → slice_get xs j ≡ Some z → y.0 ≡ z.0 → y ≡ z
+one_number : (xs : List (ℕ × Stamped)) → map (λ x. x.0) xs ≡ numbers_from 0 xs → (i j : ℕ) (y z : ℕ × Stamped) → slice_get xs i ≡ Some y
+    → slice_get xs j ≡ Some z → y.0 ≡ z.0 → y ≡ z
 one_number xs are i j y z at there same =
     let place : i ≡ j = omega (arith, number_is 0 xs are i y at, number_is 0 xs are j z there, same) in
     same_Some y z (sym at ∙ ap (slice_get xs) place ∙ there)
@@ -170,7 +176,8 @@ reported (Some x) n e is = (x, refl)
 abbrev history : Report → ℕ → List Entry
 history report c = log_of (slice_get report.components.items c)
 
-all_clocked : (made : Made) (report : Report) → IsReportOf made report → (c : CompId) (o : Option CompReport) → slice_get report.components.items c.0 ≡ o → IsClocked (log_of o)
+all_clocked : (made : Made) (report : Report) → IsReportOf made report → (c : CompId) (o : Option CompReport) → slice_get report.components.items c.0 ≡ o
+    → IsClocked (log_of o)
 all_clocked made report h c None is = clocked_at_start
 all_clocked made report h c (Some x) is = (h.each c x is).clocked
 
@@ -180,14 +187,16 @@ on_route : (made : Made) (report : Report) → IsReportOf made report → (r : R
 on_route made report h r k stamp env into from =
     let x = reported (slice_get report.components.items r.to.comp.0) k (entry.Arrive r.to.port env stamp) into in
     let on = (h.each r.to.comp x.0 x.1).routed k (entry.Arrive r.to.port env stamp) (ap (λ o. slice_get (log_of o) k) (sym x.1) ∙ into) in
-    let here : on.0.to.comp ≡ r.to.comp = All-contains (λ (q : RouteId). q.to.comp ≡ r.to.comp) (routes_into made.config r.to.comp) on.0 (routes_here made.config r.to.comp) on.1 in
+    let here : on.0.to.comp ≡ r.to.comp = All-contains (λ (q : RouteId). q.to.comp ≡ r.to.comp) (routes_into made.config r.to.comp) on.0
+    (routes_here made.config r.to.comp) on.1 in
     let source : on.0.source.0 ≡ r.source.0 = on.3 ∙ from in
     let same : on.0 ≡ r = λ i. record { source = record { 0 = source i }; to = record { comp = here i; port = on.2 i } } in
     subst (IsDelivered report.components.items) same (h.delivered r.to.comp on.0 on.1)
 
 -- and has the stamp of its sending
 same_stamp : (made : Made) (report : Report) → IsReportOf made report → (r : RouteId) (j k number stamp : ℕ) (m : Stamped) (env : Env Message)
-    → slice_get (history report r.source.0) j ≡ Some (entry.Sent r number m) → slice_get (history report r.to.comp.0) k ≡ Some (entry.Arrive r.to.port env stamp)
+    → slice_get (history report r.source.0) j ≡ Some (entry.Sent r number m) → slice_get (history report r.to.comp.0) k ≡ Some
+    (entry.Arrive r.to.port env stamp)
     → env.sender ≡ r.source.0 → env.number ≡ number → stamp ≡ m.stamp
 same_stamp made report h r j k number stamp m env out into from same =
     let d = on_route made report h r k stamp env into from in

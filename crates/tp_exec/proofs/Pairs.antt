@@ -30,7 +30,8 @@ mapped_pairs R f xs h i j d below within =
     (subst (λ b. R (get_or (map f xs) i (f d)) b) second (h i j (f d) below (let long = length-map xs f in omega (arith, within, long))))
 
 -- two lists of different elements, none of which is in both
-pub append_distinct : {X : Type 0} (xs ys : List X) → AllPairs (λ x y. x ≢ y) xs → AllPairs (λ x y. x ≢ y) ys → ((x : X) → Contains xs x → Contains ys x → ⊥) → AllPairs (λ x y. x ≢ y) (xs ++ ys)
+pub append_distinct : {X : Type 0} (xs ys : List X) → AllPairs (λ x y. x ≢ y) xs → AllPairs (λ x y. x ≢ y) ys → ((x : X) → Contains xs x → Contains ys x → ⊥)
+    → AllPairs (λ x y. x ≢ y) (xs ++ ys)
 append_distinct [] ys d e apart = e
 append_distinct {X = X} (x ∷ xs) ys d e apart =
     AllPairs-cons R x (xs ++ ys) (All-append (R x) xs ys (pairs_head R x xs d) others)
@@ -46,7 +47,8 @@ append_distinct {X = X} (x ∷ xs) ys d e apart =
 pub passes : {X : Type 0} (p : X → Bool) (xs : List X) (x : X) → Contains xs x → p x ≡ true → Contains (filter p xs) x
 passes p [] x h good = absurd (omega (arith, h.1))
 passes p (y ∷ ys) x (zero, low, is) good =
-    subst (λ z. Contains (filter p (z ∷ ys)) x) (sym is) (subst (λ (b : Bool). Contains (cond b (x ∷ filter p ys) (filter p ys)) x) (sym good) (0, omega arith, refl))
+    subst (λ z. Contains (filter p (z ∷ ys)) x) (sym is)
+    (subst (λ (b : Bool). Contains (cond b (x ∷ filter p ys) (filter p ys)) x) (sym good) (0, omega arith, refl))
 passes p (y ∷ ys) x (suc k, low, is) good = by (p y) (passes p ys x (k, omega arith, is) good) where
   by : (b : Bool) → Contains (filter p ys) x → Contains (cond b (y ∷ filter p ys) (filter p ys)) x
   by true h = let inside = h.1 in (suc h.0, omega arith, h.2)
@@ -59,7 +61,8 @@ passed p (y ∷ ys) x h = by (p y) refl (λ g. passed p ys x g) h where
   later : Contains ys x × (p x ≡ true) → Contains (y ∷ ys) x × (p x ≡ true)
   later w = let inside = w.0.1 in ((suc w.0.0, omega arith, w.0.2), w.1)
 
-  by : (b : Bool) → p y ≡ b → (Contains (filter p ys) x → Contains ys x × (p x ≡ true)) → Contains (cond b (y ∷ filter p ys) (filter p ys)) x → Contains (y ∷ ys) x × (p x ≡ true)
+  by : (b : Bool) → p y ≡ b → (Contains (filter p ys) x → Contains ys x × (p x ≡ true)) → Contains (cond b (y ∷ filter p ys) (filter p ys)) x
+      → Contains (y ∷ ys) x × (p x ≡ true)
   by true good rest (zero, low, is) = ((0, omega arith, is), subst (λ z. p z ≡ true) is good)
   by true good rest (suc k, low, is) = later (rest (k, omega arith, is))
   by false bad rest g = later (rest g)

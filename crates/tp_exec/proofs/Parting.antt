@@ -18,7 +18,7 @@ use Rattle.tp_behaviour.specs.Stations.{IsManned, IsNoted, end_of}
 use Rattle.tp_exec.specs.declared.idle.Idle.{Idle}
 use Rattle.tp_exec.specs.declared.played.Played.{Played}
 use Rattle.tp_exec.specs.Rounds.{AreStations, all_ways, comp_at, is_from, stations_of, ways_in}
-use Rattle.tp_exec.specs.Held.{AreHeld, IsIdle, idle_of, log_at, outbox_of, ways_to}
+use Rattle.tp_exec.specs.Held.{AreAtHand, IsIdle, idle_of, log_at, outbox_of, ways_to}
 use Rattle.tp_exec.proofs.Sources.{sources_within}
 
 abbrev Hand : Type 0
@@ -84,13 +84,14 @@ module _ (s : Setup) (l : IsSetup s) (played : List Played) (h : AreStations s (
     player k low = at_place played k (omega (arith, low, hands_long))
 
     -- a component's hand has its outbox
-    has_outbox : (k : ℕ) (d : Hand) → k < length hands → (p : Played) → slice_get played k ≡ Some p → into_iter_items (slice_index_or hands k d) ≡ p.station.outbox
+    has_outbox : (k : ℕ) (d : Hand) → k < length hands → (p : Played) → slice_get played k ≡ Some p → into_iter_items (slice_index_or hands k d)
+        ≡ p.station.outbox
     has_outbox k d low p is =
         let hand = mapped_at into_iter_items hands k (slice_index_or hands k d) (slice_get-get_or hands k d low) in
         same_Some (into_iter_items (slice_index_or hands k d)) p.station.outbox (sym hand ∙ ap (λ xs. slice_get xs k) are ∙ mapped_at outbox_of played k p is)
 
     -- each has the senders on the ways that come from it
-    pub all_held : AreHeld (log_at played) hands (ways_to (map idle_of played))
+    pub all_held : AreAtHand (log_at played) hands (ways_to (map idle_of played))
     all_held = record {
       each = λ k d low.
           let p = player k low in

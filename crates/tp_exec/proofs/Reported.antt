@@ -11,8 +11,8 @@ use Rattle.tp_config.specs.declared.port_type.RouteId.{RouteId}
 use Rattle.tp_config.specs.Allowed.{IsSetup}
 use Rattle.tp_config.specs.Setup.{Setup, IsComponent, names}
 use Rattle.tp_config.specs.Routes.{routes_into}
-use Rattle.tp_script.specs.Duties.{Duty}
-use Rattle.tp_script.specs.TestCases.{Made, duty_at}
+use Rattle.tp_script.specs.Behaviours.{Behaviour}
+use Rattle.tp_script.specs.TestCases.{Made, behaviour_at}
 use Rattle.tp_inbox.specs.declared.stamped.Stamped.{Stamped}
 use Rattle.tp_inbox.specs.declared.entry.Entry.{Entry}
 use Rattle.tp_inbox.specs.Desks.{Journal, at_port}
@@ -26,8 +26,8 @@ use Rattle.tp_behaviour.specs.declared.outcome.Outcome.TheVariants as outcome
 use Rattle.tp_behaviour.specs.Fresh.{Fresh}
 use Rattle.tp_behaviour.specs.Outcomes.{WaitsWithin}
 use Rattle.tp_exec.specs.declared.ended.Ended.{Ended}
-use Rattle.tp_exec.specs.Delivery.{FollowsDuty, IsCompReport, IsDelivered, IsOnRoute, IsReportOf, numbers_from}
-use Rattle.tp_exec.specs.Rounds.{DutyEnded}
+use Rattle.tp_exec.specs.Delivery.{FollowsBehaviour, IsCompReport, IsDelivered, IsOnRoute, IsReportOf, numbers_from}
+use Rattle.tp_exec.specs.Rounds.{BehaviourEnded}
 use Rattle.tp_exec.specs.Settlings.{IsOfARun}
 use Rattle.tp_exec.specs.Reporting.{IsAtRest, IsReportedAs, IsRest, end_as}
 use Rattle.tp_exec.proofs.Known.{all_at, known}
@@ -72,7 +72,8 @@ pub room_more : {A B : Type 0} (before rest : List A) (done after : List B) (x :
 room_more before rest done after x y room now is was same low = omega (arith, low, same, ap length is, ap length was, length-push done y)
 
 -- a behaviour with nothing to come follows what it is there for
-follows : (s : Setup) (c : CompId) (d : Option Duty) (o : Outcome) (k : List Entry) → DutyEnded s c d o k → IsRest k o → FollowsDuty s c d k (end_as o)
+follows : (s : Setup) (c : CompId) (d : Option Behaviour) (o : Outcome) (k : List Entry) → BehaviourEnded s c d o k → IsRest k o
+    → FollowsBehaviour s c d k (end_as o)
 follows s c (Some d) outcome.Done k h rest = h k refl
 follows s c (Some d) (outcome.Error code) k h rest = h k refl
 follows s c (Some d) (outcome.Waiting guards) k h rest = h k refl rest
@@ -119,11 +120,12 @@ module _ (made : Made) (ended : List Ended) (run : IsOfARun made ended) (xs : Li
         comp = ap (λ (d : Journal). d.comp) r.desk ∙ own.comp;
         ports = ap (λ (d : Journal). d.ports) r.desk ∙ own.ports;
         lawful = subst (λ (d : Journal). (port : ℕ) → port < d.ports → Lawful (at_port d port)) (sym r.desk) r.sound.lawful;
-        routed = λ k y there. all_at (IsOnRoute made.config c) x.desk.log k y (subst (All (IsOnRoute made.config c)) (sym log) (run.come.routed c.0 e w.1)) there;
+        routed = λ k y there. all_at (IsOnRoute made.config c) x.desk.log k y (subst (All (IsOnRoute made.config c)) (sym log) (run.come.routed c.0 e w.1))
+            there;
         clocked = subst IsClocked (sym log) r.sound.clocked;
-        follows = subst (FollowsDuty made.config c (duty_at made c.0) x.desk.log) (sym r.ending)
-            (subst (λ k. FollowsDuty made.config c (duty_at made c.0) k (end_as e.outcome)) (sym log)
-            (follows made.config c (duty_at made c.0) e.outcome e.desk.log own.ended (all_at IsAtRest ended c.0 e rest w.1)));
+        follows = subst (FollowsBehaviour made.config c (behaviour_at made c.0) x.desk.log) (sym r.ending)
+            (subst (λ k. FollowsBehaviour made.config c (behaviour_at made c.0) k (end_as e.outcome)) (sym log)
+            (follows made.config c (behaviour_at made c.0) e.outcome e.desk.log own.ended (all_at IsAtRest ended c.0 e rest w.1)));
         fresh = subst (Fresh c) (sym log) own.fresh;
         verdict = r.verdict ∙ ap local_verdict (sym log);
         routes = ap (map (λ (n : RouteId × ℕ). n.0)) r.counts ∙ run.come.counts c.0 e w.1;
@@ -144,7 +146,8 @@ module _ (made : Made) (ended : List Ended) (run : IsOfARun made ended) (xs : Li
       }
 
   -- **the report of a run**
-  pub report_of : All IsAtRest ended → (report : Report) → report.components.items ≡ xs → report.result ≡ overall_verdict (endings xs) (locals xs) → IsReportOf made report
+  pub report_of : All IsAtRest ended → (report : Report) → report.components.items ≡ xs → report.result ≡ overall_verdict (endings xs) (locals xs)
+      → IsReportOf made report
   report_of rest report are is = record {
     everyone = ap length are ∙ all_told;
     each = λ c x at. component rest c x (ap (λ l. slice_get l c.0) (sym are) ∙ at);

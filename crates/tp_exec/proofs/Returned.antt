@@ -4,10 +4,10 @@ use Rattle.std.specs.Option.{is_some, option_map}
 use Rattle.std.proofs.lemmas.Option.{none-some}
 use Rattle.tp_config.specs.declared.port_type.CompId.{CompId}
 use Rattle.tp_config.specs.Setup.{Setup}
-use Rattle.tp_script.specs.declared.test_case.Conduct.{Conduct}
-use Rattle.tp_script.specs.Duties.{Duty}
+use Rattle.tp_script.specs.declared.test_case.Behaviour.{Behaviour as BorrowedBehaviour}
+use Rattle.tp_script.specs.Behaviours.{Behaviour}
 use Rattle.tp_script.specs.Seen.{seen}
-use Rattle.tp_script.specs.TestCases.{Made, duty_at}
+use Rattle.tp_script.specs.TestCases.{Made, behaviour_at}
 use Rattle.tp_inbox.specs.declared.entry.Entry.{Entry}
 use Rattle.tp_inbox.specs.Ledgers.{Inbox}
 use Rattle.tp_report.specs.declared.ending.End.TheVariants as ending
@@ -21,8 +21,8 @@ use Rattle.tp_behaviour.specs.Paths.{IsPath}
 use Rattle.tp_behaviour.specs.Outcomes.{HasEnded}
 use Rattle.tp_behaviour.specs.Stations.{IsManned, role_of}
 use Rattle.tp_exec.specs.declared.played.Played.{Played}
-use Rattle.tp_exec.specs.Returns.{CanBegin, HasBehaved, HasReturned, IsBack, IsBusy, IsPostOf, IsWaiting, number_of}
-use Rattle.tp_exec.specs.Rounds.{DutyEnded, comp_at}
+use Rattle.tp_exec.specs.Returns.{CanBegin, HasBehaved, HasReturned, IsBack, IsBusy, IsPostOf, IsWaiting, station_number}
+use Rattle.tp_exec.specs.Rounds.{BehaviourEnded, comp_at}
 
 -- a station is as well that of its component for a behaviour with other references
 pub manned_for : (s : Setup) (c : CompId) (references others : List ℕ) (x : Station)
@@ -50,35 +50,39 @@ pub no_moment : (k : List Entry) → k ≡ [] → moments k ≡ []
 no_moment k none = ap moments none ∙ none_at_all
 
 -- a component that has nothing to do
-pub idle_returned : (made : Made) (x : Station) → IsWaiting made x → duty_at made (number_of x) ≡ None → HasReturned made (record { station = x; outcome = outcome.Done })
+pub idle_returned : (made : Made) (x : Station) → IsWaiting made x → behaviour_at made (station_number x) ≡ None
+    → HasReturned made (record { station = x; outcome = outcome.Done })
 idle_returned made x waits nothing = record {
   staffed = waits.staffed;
   played = record {
-    ended = subst (λ (d : Option Duty). DutyEnded made.config (comp_at (number_of x)) d outcome.Done x.desk.log) (sym nothing)
-        (λ whole same. nothing_to_do (record { config = made.config; comp = comp_at (number_of x); references = [] }) whole (same ∙ no_moment x.desk.log waits.begun));
+    ended = subst (λ (d : Option Behaviour). BehaviourEnded made.config (comp_at (station_number x)) d outcome.Done x.desk.log) (sym nothing)
+        (λ whole same. nothing_to_do (record { config = made.config; comp = comp_at (station_number x); references = [] }) whole
+        (same ∙ no_moment x.desk.log waits.begun));
     within = tt;
   };
 }
 
 -- a behaviour that has come to its end is that of its component
-pub behaved_back : (made : Made) (post : Post) (before : Station) (p : Played) → IsPostOf made before.owner.inbox.comp post → HasBehaved post before p → IsBack made before p
+pub behaved_back : (made : Made) (post : Post) (before : Station) (p : Played) → IsPostOf made before.owner.inbox.comp post → HasBehaved post before p
+    → IsBack made before p
 behaved_back made post before p its behaved =
     let inbox : p.station.owner.inbox ≡ before.owner.inbox = ap (λ b. b.0) behaved.badge in
     let c : CompId = p.station.owner.inbox.comp in
     let same : before.owner.inbox.comp ≡ c = ap (λ (i : Inbox). i.comp) (sym inbox) in
     let is : post.comp ≡ c = its.comp ∙ same in
-    let references : List ℕ = (seen post.conduct).references in
+    let references : List ℕ = (seen post.behaviour).references in
     let r : Actor = record { config = made.config; comp = c; references = references } in
     let role : role_of post ≡ r = λ i. record { config = its.config i; comp = is i; references = references } in
-    let duty : duty_at made c.0 ≡ Some (seen post.conduct) = subst (λ (d : CompId). duty_at made d.0 ≡ Some (seen post.conduct)) same its.duty in
+    let behaviour : behaviour_at made c.0 ≡ Some (seen post.behaviour) =
+    subst (λ (d : CompId). behaviour_at made d.0 ≡ Some (seen post.behaviour)) same its.behaviour in
     let manned : IsManned r p.station = subst (λ (q : Actor). IsManned q p.station) role behaved.manned in
     record {
       badge = behaved.badge;
       returned = record {
         staffed = λ others. manned_for made.config c references others p.station manned;
         played = record {
-          ended = subst (λ (d : Option Duty). DutyEnded made.config c d p.outcome p.station.desk.log) (sym duty)
-              (subst (λ (q : Actor). HasEnded q post.conduct.body.now p.outcome p.station.desk.log) role behaved.ended);
+          ended = subst (λ (d : Option Behaviour). BehaviourEnded made.config c d p.outcome p.station.desk.log) (sym behaviour)
+              (subst (λ (q : Actor). HasEnded q post.behaviour.body.now p.outcome p.station.desk.log) role behaved.ended);
           within = behaved.within;
         };
       };
@@ -87,7 +91,7 @@ behaved_back made post before p its behaved =
 -- a component can begin at its own post
 pub waiting_begins : (made : Made) (post : Post) (x : Station) → IsPostOf made x.owner.inbox.comp post → IsWaiting made x → CanBegin post x
 waiting_begins made post x its waits =
-    let references : List ℕ = (seen post.conduct).references in
+    let references : List ℕ = (seen post.behaviour).references in
     let r : Actor = record { config = made.config; comp = x.owner.inbox.comp; references = references } in
     let role : role_of post ≡ r = λ i. record { config = its.config i; comp = its.comp i; references = references } in
     record {
@@ -101,10 +105,13 @@ pub desk_comp : (made : Made) (x : Station) → IsWaiting made x → x.desk.comp
 desk_comp made x waits = (waits.staffed []).desk.0
 
 -- a component with which a body comes has something to do, and one without has nothing
-pub idle_where_none : (made : Made) (x : Station) (comp : CompId) (r : Option Conduct) → IsWaiting made x → comp ≡ x.desk.comp → option_map seen r ≡ duty_at made comp.0 → is_some r ≡ false → duty_at made (number_of x) ≡ None
-idle_where_none made x comp None waits its is none = ap (λ (c : CompId). duty_at made c.0) (sym (its ∙ desk_comp made x waits)) ∙ sym is
+pub idle_where_none : (made : Made) (x : Station) (comp : CompId) (r : Option BorrowedBehaviour) → IsWaiting made x → comp ≡ x.desk.comp
+    → option_map seen r ≡ behaviour_at made comp.0 → is_some r ≡ false → behaviour_at made (station_number x) ≡ None
+idle_where_none made x comp None waits its is none = ap (λ (c : CompId). behaviour_at made c.0) (sym (its ∙ desk_comp made x waits)) ∙ sym is
 idle_where_none made x comp (Some d) waits its is none = absurd (true≢false none)
 
-pub busy_where_some : (made : Made) (x : Station) (comp : CompId) (r : Option Conduct) → IsWaiting made x → comp ≡ x.desk.comp → option_map seen r ≡ duty_at made comp.0 → is_some r ≡ true → IsBusy made x
+pub busy_where_some : (made : Made) (x : Station) (comp : CompId) (r : Option BorrowedBehaviour) → IsWaiting made x → comp ≡ x.desk.comp
+    → option_map seen r ≡ behaviour_at made comp.0 → is_some r ≡ true → IsBusy made x
 busy_where_some made x comp None waits its is some = absurd (true≢false (sym some))
-busy_where_some made x comp (Some d) waits its is some = λ nothing. none-some (seen d) (sym nothing ∙ ap (λ (c : CompId). duty_at made c.0) (sym (its ∙ desk_comp made x waits)) ∙ sym is)
+busy_where_some made x comp (Some d) waits its is some =
+    λ nothing. none-some (seen d) (sym nothing ∙ ap (λ (c : CompId). behaviour_at made c.0) (sym (its ∙ desk_comp made x waits)) ∙ sym is)

@@ -12,8 +12,8 @@ use Rattle.tp_config.specs.Setup.{Setup}
 use Rattle.tp_config.specs.Routes.{routes_into}
 use Rattle.tp_config.proofs.RouteLaws.{map_cases, map_contains}
 use Rattle.tp_body.specs.declared.body.Body.{Body}
-use Rattle.tp_script.specs.Duties.{Duty}
-use Rattle.tp_script.specs.TestCases.{Made, duty_at}
+use Rattle.tp_script.specs.Behaviours.{Behaviour}
+use Rattle.tp_script.specs.TestCases.{Made, behaviour_at}
 use Rattle.tp_inbox.specs.declared.entry.Entry.{Entry}
 use Rattle.tp_inbox.specs.declared.entry.Entry.TheVariants as entry
 use Rattle.tp_inbox.specs.History.{is_arrival}
@@ -30,7 +30,7 @@ use Rattle.tp_behaviour.specs.Outcomes.{HasEnded, WaitsWithin}
 use Rattle.tp_behaviour.specs.Stations.{IsSentBy, end_of}
 use Rattle.tp_exec.specs.declared.ended.Ended.{Ended}
 use Rattle.tp_exec.specs.declared.played.Played.{Played}
-use Rattle.tp_exec.specs.Rounds.{ArePlayed, AreStations, DutyEnded, all_ways, comp_at, is_from, stations_of, ways_in}
+use Rattle.tp_exec.specs.Rounds.{ArePlayed, AreStations, BehaviourEnded, all_ways, comp_at, is_from, stations_of, ways_in}
 use Rattle.tp_exec.specs.Settlings.{AreSettled, IsComponentOf, IsOfARun, IsSentOut}
 use Rattle.tp_exec.proofs.Settled.{same_moments}
 
@@ -46,7 +46,8 @@ module _ (P : Entry → Type 0) where
   of_trace : (past k : List Entry) → All P k → All OfMoment (moments_after past k)
   of_trace past [] h = All-nil OfMoment
   of_trace past (e ∷ k) h =
-      All-append OfMoment (own past e) (moments_after (past ++ e ∷ []) k) (one past e (All-head P e k h) (is_arrival e)) (of_trace (past ++ e ∷ []) k (All-tail P e k h))
+      All-append OfMoment (own past e) (moments_after (past ++ e ∷ []) k) (one past e (All-head P e k h) (is_arrival e))
+      (of_trace (past ++ e ∷ []) k (All-tail P e k h))
 
   parts : ((e : Entry) → is_arrival e ≡ true → P e) → (past : List Entry) (e : Entry) (ms : List Moment) (b : Bool) → is_arrival e ≡ b
       → All OfMoment (cond b [] (record { before = past; entry = e } ∷ []) ++ ms) → P e × All OfMoment ms
@@ -80,7 +81,8 @@ module _ (out : List RouteId) where
   quiet (entry.Verdict v) is = tt
   quiet (entry.Failed c) is = tt
 
-  gone_out : (s : Setup) (c : CompId) → ((r : RouteId) → Contains out r → (r.source ≡ c) × Contains (routes_into s r.to.comp) r) → (e : Entry) → IsSentBy out e → IsSentOut s c e
+  gone_out : (s : Setup) (c : CompId) → ((r : RouteId) → Contains out r → (r.source ≡ c) × Contains (routes_into s r.to.comp) r) → (e : Entry) → IsSentBy out e
+      → IsSentOut s c e
   gone_out s c ways (entry.Sent r n m) h = ways r h
   gone_out s c ways (entry.Arrive p e stamp) h = tt
   gone_out s c ways (entry.Took p e b) h = tt
@@ -125,10 +127,13 @@ module _ (s : Setup) (stations : List Station) (are : AreStations s stations) wh
   ways_out : (k : ℕ) (x : Station) → slice_get stations k ≡ Some x → (r : RouteId) → Contains (routes_of x.outbox) r → (r.source ≡ comp_at k) × IsWay s r
   ways_out k x at r h =
       let w = map_cases (λ (q : Sending). q.route) x.outbox r h in
-      let kept : Contains (filter (is_from k) (all_ways stations)) (end_of w.0) = subst (λ l. Contains l (end_of w.0)) (are.senders k x at) (map_contains end_of x.outbox w.0 w.1) in
-      let from : is_from k (end_of w.0) ≡ true = All-contains (λ (y : Inbox × RouteId). is_from k y ≡ true) (filter (is_from k) (all_ways stations)) (end_of w.0) (filter_passes (is_from k) (all_ways stations)) kept in
+      let kept : Contains (filter (is_from k) (all_ways stations)) (end_of w.0) =
+      subst (λ l. Contains l (end_of w.0)) (are.senders k x at) (map_contains end_of x.outbox w.0 w.1) in
+      let from : is_from k (end_of w.0) ≡ true = All-contains (λ (y : Inbox × RouteId). is_from k y ≡ true) (filter (is_from k) (all_ways stations))
+      (end_of w.0) (filter_passes (is_from k) (all_ways stations)) kept in
       let source : w.0.route.source.0 ≡ k = eqb-true w.0.route.source.0 k from in
-      let way : IsWay s w.0.route = All-contains (λ (y : Inbox × RouteId). IsWay s y.1) (all_ways stations) (end_of w.0) all_are_ways (among (is_from k) (all_ways stations) (end_of w.0) kept) in
+      let way : IsWay s w.0.route = All-contains (λ (y : Inbox × RouteId). IsWay s y.1) (all_ways stations) (end_of w.0) all_are_ways
+      (among (is_from k) (all_ways stations) (end_of w.0) kept) in
       subst (λ (q : RouteId). (q.source ≡ comp_at k) × IsWay s q) w.2 (λ i. record { 0 = source i }, way)
 
 -- a behaviour that has ended has done so in each history with its trace
@@ -137,13 +142,15 @@ ended_so r body outcome.Done k l same h = λ whole is. h whole (is ∙ same)
 ended_so r body (outcome.Error code) k l same h = λ whole is. h whole (is ∙ same)
 ended_so r body (outcome.Waiting guards) k l same h = λ whole is none. h whole (is ∙ same) none
 
-duty_ended : (s : Setup) (c : CompId) (d : Option Duty) (o : Outcome) (k l : List Entry) → moments l ≡ moments k → DutyEnded s c d o k → DutyEnded s c d o l
-duty_ended s c (Some d) o k l same h = ended_so (record { config = s; comp = c; references = d.references }) d.body o k l same h
-duty_ended s c None o k l same h =
+behaviour_ended : (s : Setup) (c : CompId) (d : Option Behaviour) (o : Outcome) (k l : List Entry) → moments l ≡ moments k → BehaviourEnded s c d o k
+    → BehaviourEnded s c d o l
+behaviour_ended s c (Some d) o k l same h = ended_so (record { config = s; comp = c; references = d.references }) d.body o k l same h
+behaviour_ended s c None o k l same h =
     ended_so (record { config = s; comp = c; references = [] }) (record { variables = []; statements = [] }) o k l same h
 
 -- **what the components of a run have come to once all messages have come**
-pub of_a_run : (made : Made) (played : List Played) (ended : List Ended) → AreStations made.config (stations_of played) → ArePlayed made played → AreSettled made.config played ended
+pub of_a_run : (made : Made) (played : List Played) (ended : List Ended) → AreStations made.config (stations_of played) → ArePlayed made played
+    → AreSettled made.config played ended
     → IsOfARun made ended
 of_a_run made played ended are done settled = record { each = component; come = settled.come }
   where
@@ -153,17 +160,19 @@ of_a_run made played ended are done settled = record { each = component; come = 
         let w = settled.each k e at in
         let p : Played = w.0 in
         let x : Station = p.station in
-        let here : slice_get (stations_of played) k ≡ Some x = slice_get-map (λ (q : Played). q.station) played k ∙ ap (option_map (λ (q : Played). q.station)) w.1 in
+        let here : slice_get (stations_of played) k ≡ Some x = slice_get-map (λ (q : Played). q.station) played k
+        ∙ ap (option_map (λ (q : Played). q.station)) w.1 in
         let manned = are.staffed k x here [] in
         let own = done k p w.1 in
         let trace = same_moments p e w.2 in
         record {
           comp = w.2.comp ∙ manned.desk.0 ∙ manned.posted.comp;
           ports = w.2.ports ∙ manned.desk.1 ∙ manned.posted.ports;
-          ended = subst (λ (o : Outcome). DutyEnded made.config c (duty_at made k) o e.desk.log) (sym w.2.outcome)
-              (duty_ended made.config c (duty_at made k) p.outcome x.desk.log e.desk.log trace own.ended);
+          ended = subst (λ (o : Outcome). BehaviourEnded made.config c (behaviour_at made k) o e.desk.log) (sym w.2.outcome)
+              (behaviour_ended made.config c (behaviour_at made k) p.outcome x.desk.log e.desk.log trace own.ended);
           within = subst (λ (o : Outcome). WaitsWithin e.desk.ports o) (sym w.2.outcome) (subst (λ n. WaitsWithin n p.outcome) (sym w.2.ports) own.within);
           fresh = subst (λ (ts : List Moment). All (λ (t : Moment). LooksAtPorts t.entry → HasOwn c t.before) ts) (sym trace) manned.fresh;
-          sent = All-weaker (IsSentBy (routes_of x.outbox)) (IsSentOut made.config c) (gone_out (routes_of x.outbox) made.config c (ways_out made.config (stations_of played) are k x here)) e.desk.log
+          sent = All-weaker (IsSentBy (routes_of x.outbox)) (IsSentOut made.config c)
+              (gone_out (routes_of x.outbox) made.config c (ways_out made.config (stations_of played) are k x here)) e.desk.log
               (same_trace (IsSentBy (routes_of x.outbox)) (quiet (routes_of x.outbox)) x.desk.log e.desk.log trace manned.sent);
         }

@@ -31,7 +31,8 @@ use Rattle.tp_exec.proofs.Sources.{leads_to, receiver_within, source_within}
 use Rattle.tp_exec.proofs.Parting.{at_place, long, station_at}
 
 -- of two lists that fit place by place, what stands beside an element of the second
-beside_second : {A B C : Type 0} (f : A → B) (R : B → C → Type 0) (xs : List A) (ys : List C) → AllZip R (map f xs) ys → (k : ℕ) (y : C) → slice_get ys k ≡ Some y → (x : A) × (slice_get xs k ≡ Some x) × R (f x) y
+beside_second : {A B C : Type 0} (f : A → B) (R : B → C → Type 0) (xs : List A) (ys : List C) → AllZip R (map f xs) ys → (k : ℕ) (y : C)
+    → slice_get ys k ≡ Some y → (x : A) × (slice_get xs k ≡ Some x) × R (f x) y
 beside_second f R [] [] z k y is = absurd (cc)
 beside_second f R [] (y ∷ ys) z k w is = absurd z
 beside_second f R (x ∷ xs) [] z k y is = absurd z
@@ -39,7 +40,8 @@ beside_second f R (x ∷ xs) (y ∷ ys) z zero w is = (x, refl, subst (R (f x)) 
 beside_second f R (x ∷ xs) (y ∷ ys) z (suc k) w is = beside_second f R xs ys z.1 k w is
 
 -- and beside one of the first
-beside_first : {A B C : Type 0} (f : A → B) (R : B → C → Type 0) (xs : List A) (ys : List C) → AllZip R (map f xs) ys → (k : ℕ) (x : A) → slice_get xs k ≡ Some x → (y : C) × (slice_get ys k ≡ Some y) × R (f x) y
+beside_first : {A B C : Type 0} (f : A → B) (R : B → C → Type 0) (xs : List A) (ys : List C) → AllZip R (map f xs) ys → (k : ℕ) (x : A)
+    → slice_get xs k ≡ Some x → (y : C) × (slice_get ys k ≡ Some y) × R (f x) y
 beside_first f R [] ys z k x is = absurd (cc)
 beside_first f R (x ∷ xs) [] z k w is = absurd z
 beside_first f R (x ∷ xs) (y ∷ ys) z zero w is = (y, refl, subst (λ v. R (f v) y) (same_Some x w is) z.0)
@@ -53,9 +55,13 @@ rest_arrives rest e is = All-contains (λ x. is_arrival x ≡ true) (rest_arriva
   each (x ∷ xs) = All-cons (λ x. is_arrival x ≡ true) (entry.Arrive x.0 x.1 x.2) (rest_arrivals xs) refl (each xs)
 
 -- an entry before these arrivals, where it and they are of routes into the component
-entry_on : (s : Setup) (c : CompId) (e : Entry) (es : List Entry) (b : Bool) → is_arrival e ≡ b → All (IsArrivalOn (routes_into s c)) (cond b (e ∷ es) es) → IsOnRoute s c e × All (IsArrivalOn (routes_into s c)) es
-entry_on s c (entry.Arrive port env stamp) es true is all =
-    (All-head (IsArrivalOn (routes_into s c)) (entry.Arrive port env stamp) es all, All-tail (IsArrivalOn (routes_into s c)) (entry.Arrive port env stamp) es all)
+entry_on : (s : Setup) (c : CompId) (e : Entry) (es : List Entry) (b : Bool) → is_arrival e ≡ b → All (IsArrivalOn (routes_into s c)) (cond b (e ∷ es) es)
+    → IsOnRoute s c e × All (IsArrivalOn (routes_into s c)) es
+entry_on s c (entry.Arrive port env stamp) es true is all = (
+  All-head (IsArrivalOn (routes_into s c)) (entry.Arrive port env stamp) es all,
+  All-tail (IsArrivalOn (routes_into s c))
+      (entry.Arrive port env stamp) es all,
+)
 entry_on s c (entry.Arrive port env stamp) es false is all = absurd (cc)
 entry_on s c (entry.Took port env branch) es false is all = (tt, all)
 entry_on s c (entry.Found port env branch) es false is all = (tt, all)
@@ -96,12 +102,14 @@ same_moments p e h = ap moments h.grown ∙ moments-arrivals p.station.desk.log 
 sent_as : (p : Played) (e : Ended) → IsEndOf (idle_of p) e → (r : RouteId) → sent_on r e.desk.log ≡ sent_on r p.station.desk.log
 sent_as p e h r = ap (sent_on r) h.grown ∙ rest_sends_nothing r p.station.desk.log h.rest
 
-module _ (s : Setup) (l : IsSetup s) (played : List Played) (h : AreStations s (stations_of played)) (ended : List Ended) (z : AllZip (IsDone (log_at played)) (map idle_of played) ended) where
+module _ (s : Setup) (l : IsSetup s) (played : List Played) (h : AreStations s (stations_of played)) (ended : List Ended)
+    (z : AllZip (IsDone (log_at played)) (map idle_of played) ended) where
   player_of : (k : ℕ) (e : Ended) → slice_get ended k ≡ Some e → (p : Played) × (slice_get played k ≡ Some p) × IsDone (log_at played) (idle_of p) e
   player_of k e is = beside_second idle_of (IsDone (log_at played)) played ended z k e is
 
   -- the component of a number below that of the components
-  comp_of : (k : ℕ) → k < length s.components → (p : Played) × (slice_get played k ≡ Some p) × ((e : Ended) × (slice_get ended k ≡ Some e) × IsDone (log_at played) (idle_of p) e)
+  comp_of : (k : ℕ) → k < length s.components → (p : Played) × (slice_get played k ≡ Some p)
+      × ((e : Ended) × (slice_get ended k ≡ Some e) × IsDone (log_at played) (idle_of p) e)
   comp_of k low =
       let p = at_place played k (omega (arith, low, long s l played h)) in
       (p.0, p.1, beside_first idle_of (IsDone (log_at played)) played ended z k p.0 p.1)

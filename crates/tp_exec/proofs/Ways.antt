@@ -25,7 +25,8 @@ abbrev pub AreFrom : Setup → ℕ → List Station → Type 0
 AreFrom s n stations = (k : ℕ) (x : Station) → slice_get stations k ≡ Some x → x.owner.inbox.routes ≡ routes_into s (comp_at (n + k))
 
 -- each route into the inbox of one of the stations is a way
-pub way_in : (xs : List Station) (k : ℕ) (x : Station) (r : RouteId) → slice_get xs k ≡ Some x → Contains x.owner.inbox.routes r → Contains (all_ways xs) (x.owner.inbox, r)
+pub way_in : (xs : List Station) (k : ℕ) (x : Station) (r : RouteId) → slice_get xs k ≡ Some x → Contains x.owner.inbox.routes r
+    → Contains (all_ways xs) (x.owner.inbox, r)
 way_in [] k x r stands h = absurd (cc)
 way_in (y ∷ ys) zero x r stands h =
     let here : Contains (ways_in x.owner.inbox) (x.owner.inbox, r) = map_contains (λ q. (x.owner.inbox, q)) x.owner.inbox.routes r h in
@@ -40,7 +41,8 @@ pub way_of : (xs : List Station) (w : Inbox × RouteId) → Contains (all_ways x
 way_of [] w h = absurd (omega (arith, h.1))
 way_of (y ∷ ys) w h =
     elim (Contains-append_cases (ways_in y.owner.inbox) (all_ways ys) w h) [
-      | inl here ↦ let m = map_cases (λ r. (y.owner.inbox, r)) y.owner.inbox.routes w here in (0, y, refl, sym (ap (λ (v : Inbox × RouteId). v.0) m.2), subst (Contains y.owner.inbox.routes) (ap (λ (v : Inbox × RouteId). v.1) m.2) m.1)
+      | inl here ↦ let m = map_cases (λ r. (y.owner.inbox, r)) y.owner.inbox.routes w here in
+          (0, y, refl, sym (ap (λ (v : Inbox × RouteId). v.0) m.2), subst (Contains y.owner.inbox.routes) (ap (λ (v : Inbox × RouteId). v.1) m.2) m.1)
       | inr later ↦ let m = way_of ys w later in (suc m.0, m.1, m.2, m.3, m.4)
     ]
 
@@ -57,7 +59,8 @@ routes_of_ways (x ∷ xs) =
     ∙ ap (λ l. x.owner.inbox.routes ++ l) (routes_of_ways xs)
 
 -- a route of these stations is one of the routes of one of them
-route_of : (xs : List Station) (r : RouteId) → Contains (all_routes xs) r → (k : ℕ) × (x : Station) × (slice_get xs k ≡ Some x) × Contains x.owner.inbox.routes r
+route_of : (xs : List Station) (r : RouteId) → Contains (all_routes xs) r → (k : ℕ) × (x : Station) × (slice_get xs k ≡ Some x)
+    × Contains x.owner.inbox.routes r
 route_of [] r h = absurd (omega (arith, h.1))
 route_of (y ∷ ys) r h =
     elim (Contains-append_cases y.owner.inbox.routes (all_routes ys) r h) [

@@ -5,8 +5,8 @@ use Rattle.tp_config.specs.declared.port_type.CompId.{CompId}
 use Rattle.tp_config.specs.declared.port_type.RouteId.{RouteId}
 use Rattle.tp_config.specs.Setup.{Setup, names, ports_at}
 use Rattle.tp_config.specs.Routes.{routes_into}
-use Rattle.tp_script.specs.Duties.{Duty}
-use Rattle.tp_script.specs.TestCases.{Made, duty_at}
+use Rattle.tp_script.specs.Behaviours.{Behaviour}
+use Rattle.tp_script.specs.TestCases.{Made, behaviour_at}
 use Rattle.tp_inbox.specs.declared.entry.Entry.{Entry}
 use Rattle.tp_inbox.specs.declared.entry.Entry.TheVariants as entry
 use Rattle.tp_inbox.specs.Desks.{at_port}
@@ -45,9 +45,9 @@ IsOnRoute s c (entry.Arrive port e stamp) =
 IsOnRoute s c _ = ⊤
 
 -- what a component with no body does: nothing, and it ends at once
-abbrev pub FollowsDuty : Setup → CompId → Option Duty → List Entry → End → Type 0
-FollowsDuty s c (Some d) k end = Follows (record { config = s; comp = c; references = d.references }) d.body k end
-FollowsDuty s c None k end =
+abbrev pub FollowsBehaviour : Setup → CompId → Option Behaviour → List Entry → End → Type 0
+FollowsBehaviour s c (Some d) k end = Follows (record { config = s; comp = c; references = d.references }) d.body k end
+FollowsBehaviour s c None k end =
     Follows (record { config = s; comp = c; references = [] }) (record { variables = []; statements = [] }) k end
 
 -- the report of one component of the test case
@@ -63,7 +63,7 @@ pub record IsCompReport (made : Made) (c : CompId) (x : CompReport) : Type 0 whe
   -- each message that it sent has a stamp above all that had come to it or gone from it before
   pub clocked : IsClocked x.desk.log
   -- the trace follows the behaviour to its end
-  pub follows : FollowsDuty made.config c (duty_at made c.0) x.desk.log x.ending
+  pub follows : FollowsBehaviour made.config c (behaviour_at made c.0) x.desk.log x.ending
   -- each operation has seen what the component had sent to itself
   pub fresh : Fresh c x.desk.log
   pub verdict : x.verdict ≡ local_verdict x.desk.log

@@ -5,13 +5,13 @@ use Rattle.tp_refusal.specs.declared.refusal.Refusal.{Refusal}
 use Rattle.tp_refusal.specs.declared.refusal.Refusal.TheVariants as refusal
 use Rattle.tp_refusal.specs.Label.{label}
 use Rattle.tp_exec.specs.declared.fault.RunFault.{RunFault}
-use Rattle.tp_exec.specs.declared.fault.RunFault.TheVariants as fault
+use Rattle.tp_exec.specs.declared.fault.RunFault.TheVariants as run_fault
 
 -- its number and its name are those of this refusal
 abbrev pub run_refusal : RunFault → Refusal
-run_refusal fault.NoThread = refusal.NoThread
-run_refusal fault.Memory = refusal.Memory
-run_refusal fault.Restless = refusal.Restless
+run_refusal run_fault.NoThread = refusal.NoThread
+run_refusal run_fault.Memory = refusal.Memory
+run_refusal run_fault.Restless = refusal.Restless
 
 -- its line
 abbrev pub run_fault_text : RunFault → List ℕ

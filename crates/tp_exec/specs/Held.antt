@@ -46,7 +46,7 @@ counts_of sent = map (λ s. (s.0, length s.1)) sent
 
 -- each component, whose history is this, has those of the senders on these ways that are from it, in their order, and
 -- has noted what they have put
-pub record AreHeld (logs : ℕ → List Entry) (hands : List (IntoIter Sending Global)) (ways : List (Inbox × RouteId))
+pub record AreAtHand (logs : ℕ → List Entry) (hands : List (IntoIter Sending Global)) (ways : List (Inbox × RouteId))
     : Type 0 where
   pub each : (k : ℕ) (d : IntoIter Sending Global) → k < length hands
       → map end_of (into_iter_items (slice_index_or hands k d)) ≡ filter (is_from k) ways
@@ -55,24 +55,24 @@ pub record AreHeld (logs : ℕ → List Entry) (hands : List (IntoIter Sending G
   pub within : All (λ (way : Inbox × RouteId). way.1.source.0 < length hands) ways
 
 -- the sender is that on this way, and its component has noted what it has put
-abbrev pub IsBack : (ℕ → List Entry) → Inbox × RouteId → Sending → Type 0
-IsBack logs way s = (s.inbox ≡ way.0) × (s.route ≡ way.1) × IsNoted (logs way.1.source.0) s
+abbrev pub IsHandedBack : (ℕ → List Entry) → Inbox × RouteId → Sending → Type 0
+IsHandedBack logs way s = (s.inbox ≡ way.0) × (s.route ≡ way.1) × IsNoted (logs way.1.source.0) s
 
 -- whoever has senders has, first of all, those on these ways
 abbrev pub CanTake : List (IntoIter Sending Global) → List (Inbox × RouteId) → Type 0
-CanTake hands ways = (logs : ℕ → List Entry) × (more : List (Inbox × RouteId)) × AreHeld logs hands (ways ++ more)
+CanTake hands ways = (logs : ℕ → List Entry) × (more : List (Inbox × RouteId)) × AreAtHand logs hands (ways ++ more)
 
 -- without those on these ways they have all others
 abbrev pub Leaves : List (IntoIter Sending Global) → List (Inbox × RouteId) → List (IntoIter Sending Global) → Type 0
 Leaves hands ways after =
-    (logs : ℕ → List Entry) (more : List (Inbox × RouteId)) → AreHeld logs hands (ways ++ more)
-    → AreHeld logs after more
+    (logs : ℕ → List Entry) (more : List (Inbox × RouteId)) → AreAtHand logs hands (ways ++ more)
+    → AreAtHand logs after more
 
 -- those on these ways are these
 abbrev pub Gives : List (IntoIter Sending Global) → List (Inbox × RouteId) → List Sending → Type 0
 Gives hands ways senders =
-    (logs : ℕ → List Entry) (more : List (Inbox × RouteId)) → AreHeld logs hands (ways ++ more)
-    → AllZip (IsBack logs) ways senders
+    (logs : ℕ → List Entry) (more : List (Inbox × RouteId)) → AreAtHand logs hands (ways ++ more)
+    → AllZip (IsHandedBack logs) ways senders
 
 -- its inbox and its desk are those of one component, into which the inbox's routes lead, and what it has drained is
 -- what has arrived at the desk
@@ -107,5 +107,5 @@ pub record IsDone (logs : ℕ → List Entry) (x : Idle) (e : Ended) : Type 0 wh
 -- all has come to the component that the senders into its inbox, of those that these have, have put
 abbrev pub AllCome : List (IntoIter Sending Global) → Idle → Ended → Type 0
 AllCome hands x e =
-    (logs : ℕ → List Entry) (more : List (Inbox × RouteId)) → AreHeld logs hands (ways_in x.owner.inbox ++ more)
+    (logs : ℕ → List Entry) (more : List (Inbox × RouteId)) → AreAtHand logs hands (ways_in x.owner.inbox ++ more)
     → All (HasCome logs e) x.owner.inbox.routes

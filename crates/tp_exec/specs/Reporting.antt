@@ -5,10 +5,10 @@ use Rattle.tp_config.specs.Setup.{Setup, names}
 use Rattle.tp_inbox.specs.declared.entry.Entry.{Entry}
 use Rattle.tp_inbox.specs.Desks.{IsWithin, Journal, at_port}
 use Rattle.tp_inbox.specs.History.{IsClocked}
-use Rattle.tp_script.specs.Duties.{Duty}
-use Rattle.tp_script.specs.TestCases.{Made, duty_at}
+use Rattle.tp_script.specs.Behaviours.{Behaviour}
+use Rattle.tp_script.specs.TestCases.{Made, behaviour_at}
 use Rattle.tp_report.specs.declared.ending.End.{End}
-use Rattle.tp_report.specs.declared.ending.End.TheVariants as ending
+use Rattle.tp_report.specs.declared.ending.End.TheVariants as end
 use Rattle.tp_report.specs.declared.report.CompReport.{CompReport}
 use Rattle.tp_report.specs.Verdicts.{local_verdict}
 use Rattle.tp_behaviour.specs.declared.outcome.Outcome.{Outcome}
@@ -16,17 +16,17 @@ use Rattle.tp_behaviour.specs.declared.outcome.Outcome.TheVariants as outcome
 use Rattle.tp_behaviour.specs.Choices.{NoneOpen}
 use Rattle.tp_exec.specs.declared.ended.Ended.{Ended}
 use Rattle.tp_exec.specs.declared.fault.RunFault.{RunFault}
-use Rattle.tp_exec.specs.declared.fault.RunFault.TheVariants as fault
+use Rattle.tp_exec.specs.declared.fault.RunFault.TheVariants as run_fault
 
 -- one, where there is something to do
-abbrev pub one_with : Option Duty → ℕ
+abbrev pub one_with : Option Behaviour → ℕ
 one_with (Some d) = 1
 one_with None = 0
 
 -- how many of the first n components have something to do
 abbrev pub living_below : Made → ℕ → ℕ
 living_below made zero = 0
-living_below made (suc n) = living_below made n + one_with (duty_at made n)
+living_below made (suc n) = living_below made n + one_with (behaviour_at made n)
 
 -- what a behaviour that ended so waits for isn't there in this history
 abbrev pub IsRest : List Entry → Outcome → Type 0
@@ -39,12 +39,12 @@ IsAtRest e = IsRest e.desk.log e.outcome
 
 -- how a behaviour ended, for its report
 abbrev pub end_as : Outcome → End
-end_as outcome.Done = ending.Done
-end_as (outcome.Error code) = ending.Error code
-end_as (outcome.Waiting guards) = ending.Waiting
+end_as outcome.Done = end.Done
+end_as (outcome.Error code) = end.Error code
+end_as (outcome.Waiting guards) = end.Waiting
 
 -- each port has a lawful history, the entries name no other port, and the stamps of what was sent grow
-pub record IsSound (d : Journal) : Type 0 where
+pub record IsSoundJournal (d : Journal) : Type 0 where
   pub lawful : (port : ℕ) → port < d.ports → Lawful (at_port d port)
   pub within : All (IsWithin d.ports) d.log
   pub clocked : IsClocked d.log
@@ -57,10 +57,10 @@ pub record IsReportedAs (s : Setup) (e : Ended) (x : CompReport) : Type 0 where
   pub ending : x.ending ≡ end_as e.outcome
   pub verdict : x.verdict ≡ local_verdict e.desk.log
   pub counts : x.counts.items ≡ e.counts.items
-  pub sound : IsSound e.desk
+  pub sound : IsSoundJournal e.desk
 
 -- why there is no report of what a run came to: memory was refused, or a behaviour waits for what is there
 abbrev pub IsRefusal : List Ended → RunFault → Type 0
-IsRefusal ended fault.NoThread = ⊥
-IsRefusal ended fault.Memory = Unit {0}
-IsRefusal ended fault.Restless = ¬ All IsAtRest ended
+IsRefusal ended run_fault.NoThread = ⊥
+IsRefusal ended run_fault.Memory = Unit {0}
+IsRefusal ended run_fault.Restless = ¬ All IsAtRest ended

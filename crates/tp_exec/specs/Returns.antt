@@ -3,7 +3,7 @@ use Rattle.std.specs.Prelude.{◌≡◌, ◌≢◌, ℕ, Some, None, List, [], m
 use Rattle.tp_config.specs.declared.port_type.CompId.{CompId}
 use Rattle.tp_config.specs.declared.port_type.RouteId.{RouteId}
 use Rattle.tp_script.specs.Seen.{seen}
-use Rattle.tp_script.specs.TestCases.{Made, duty_at}
+use Rattle.tp_script.specs.TestCases.{Made, behaviour_at}
 use Rattle.tp_inbox.specs.Ledgers.{Inbox}
 use Rattle.tp_behaviour.specs.declared.post.Post.{Post}
 use Rattle.tp_behaviour.specs.declared.station.Station.{Station}
@@ -22,23 +22,23 @@ abbrev pub badges_of : List Played → List (Inbox × List (Inbox × RouteId))
 badges_of played = map (λ (p : Played). badge_of p.station) played
 
 -- the number of the component whose station it is
-abbrev pub number_of : Station → ℕ
-number_of x = x.owner.inbox.comp.0
+abbrev pub station_number : Station → ℕ
+station_number x = x.owner.inbox.comp.0
 
 -- the station is that of its component, and nothing has happened there
 pub record IsWaiting (made : Made) (x : Station) : Type 0 where
-  pub staffed : IsStaffed made.config (number_of x) x
+  pub staffed : IsStaffed made.config (station_number x) x
   pub begun : HasNotBegun x
 
 -- the component has something to do
 abbrev pub IsBusy : Made → Station → Type 0
-IsBusy made x = duty_at made (number_of x) ≢ None
+IsBusy made x = behaviour_at made (station_number x) ≢ None
 
 -- the post is that of this component
 pub record IsPostOf (made : Made) (c : CompId) (post : Post) : Type 0 where
   pub config : post.config.now ≡ made.config
   pub comp : post.comp ≡ c
-  pub duty : duty_at made c.0 ≡ Some (seen post.conduct)
+  pub behaviour : behaviour_at made c.0 ≡ Some (seen post.behaviour)
   pub can : CanBehave post
 
 -- the behaviour can begin at the station
@@ -51,13 +51,13 @@ pub record CanBegin (post : Post) (x : Station) : Type 0 where
 pub record HasBehaved (post : Post) (before : Station) (p : Played) : Type 0 where
   pub badge : badge_of p.station ≡ badge_of before
   pub manned : IsManned (role_of post) p.station
-  pub ended : HasEnded (role_of post) post.conduct.body.now p.outcome p.station.desk.log
+  pub ended : HasEnded (role_of post) post.behaviour.body.now p.outcome p.station.desk.log
   pub within : WaitsWithin p.station.desk.ports p.outcome
 
 -- the component has done what it is there for, and the station is still its own
 pub record HasReturned (made : Made) (p : Played) : Type 0 where
-  pub staffed : IsStaffed made.config (number_of p.station) p.station
-  pub played : HasPlayed made (number_of p.station) p
+  pub staffed : IsStaffed made.config (station_number p.station) p.station
+  pub played : HasPlayed made (station_number p.station) p
 
 -- what comes back from the thread of a component: the station that went into it, and what the component is there for is
 -- done

@@ -5,8 +5,8 @@ use Rattle.tp_config.specs.declared.port_type.CompId.{CompId}
 use Rattle.tp_config.specs.declared.port_type.RouteId.{RouteId}
 use Rattle.tp_config.specs.Setup.{Setup}
 use Rattle.tp_config.specs.Routes.{routes_into}
-use Rattle.tp_script.specs.Duties.{Duty}
-use Rattle.tp_script.specs.TestCases.{Made, duty_at}
+use Rattle.tp_script.specs.Behaviours.{Behaviour}
+use Rattle.tp_script.specs.TestCases.{Made, behaviour_at}
 use Rattle.tp_inbox.specs.declared.entry.Entry.{Entry}
 use Rattle.tp_inbox.specs.Ledgers.{Inbox}
 use Rattle.tp_behaviour.specs.declared.station.Station.{Station}
@@ -52,15 +52,15 @@ HasNotBegun x = x.desk.log ≡ []
 abbrev pub stations_of : List Played → List Station
 stations_of played = map (λ (p : Played). p.station) played
 
--- a component with this duty, or with none, has ended so, with this history
-abbrev pub DutyEnded : Setup → CompId → Option Duty → Outcome → List Entry → Type 0
-DutyEnded s c (Some d) o k = HasEnded (record { config = s; comp = c; references = d.references }) d.body o k
-DutyEnded s c None o k =
+-- a component with this behaviour, or with none, has ended so, with this history
+abbrev pub BehaviourEnded : Setup → CompId → Option Behaviour → Outcome → List Entry → Type 0
+BehaviourEnded s c (Some d) o k = HasEnded (record { config = s; comp = c; references = d.references }) d.body o k
+BehaviourEnded s c None o k =
     HasEnded (record { config = s; comp = c; references = [] }) (record { variables = []; statements = [] }) o k
 
 -- each component has done what it is there for
 pub record HasPlayed (made : Made) (k : ℕ) (p : Played) : Type 0 where
-  pub ended : DutyEnded made.config (comp_at k) (duty_at made k) p.outcome p.station.desk.log
+  pub ended : BehaviourEnded made.config (comp_at k) (behaviour_at made k) p.outcome p.station.desk.log
   pub within : WaitsWithin p.station.desk.ports p.outcome
 
 abbrev pub ArePlayed : Made → List Played → Type 0

@@ -11,13 +11,13 @@ use Rattle.tp_inbox.specs.declared.entry.Entry.TheVariants as entry
 use Rattle.tp_inbox.specs.declared.stamped.Stamped.{Stamped}
 use Rattle.tp_inbox.specs.History.{arrived_on, count_of, numbered, sent_on}
 use Rattle.tp_inbox.specs.Routed.{rest_arrivals}
-use Rattle.tp_script.specs.TestCases.{Made, duty_at}
+use Rattle.tp_script.specs.TestCases.{Made, behaviour_at}
 use Rattle.tp_behaviour.specs.Fresh.{Fresh}
 use Rattle.tp_behaviour.specs.Outcomes.{WaitsWithin}
 use Rattle.tp_exec.specs.declared.played.Played.{Played}
 use Rattle.tp_exec.specs.declared.ended.Ended.{Ended}
 use Rattle.tp_exec.specs.Delivery.{IsOnRoute}
-use Rattle.tp_exec.specs.Rounds.{DutyEnded, comp_at}
+use Rattle.tp_exec.specs.Rounds.{BehaviourEnded, comp_at}
 
 -- the component is the one that played, and has done what it did; its history has more arrivals behind it, that is all
 pub record IsSettled (p : Played) (e : Ended) : Type 0 where
@@ -63,7 +63,7 @@ IsSentOut s c _ = Unit {0}
 pub record IsComponentOf (made : Made) (k : ℕ) (e : Ended) : Type 0 where
   pub comp : e.desk.comp ≡ comp_at k
   pub ports : e.desk.ports ≡ length (ports_at made.config.types made.config.components (comp_at k))
-  pub ended : DutyEnded made.config (comp_at k) (duty_at made k) e.outcome e.desk.log
+  pub ended : BehaviourEnded made.config (comp_at k) (behaviour_at made k) e.outcome e.desk.log
   pub within : WaitsWithin e.desk.ports e.outcome
   pub fresh : Fresh (comp_at k) e.desk.log
   pub sent : All (IsSentOut made.config (comp_at k)) e.desk.log

@@ -73,6 +73,7 @@ pub(crate) fn take_back(
     let mut back = Vec::new(alloc);
     for route in routes {
         let Some(sender) = take_one(route, hands) else {
+            // There is a sender for each of these routes, by the condition.
             unreachable!();
         };
         back.push(sender)?;

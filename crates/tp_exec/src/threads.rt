@@ -1,9 +1,9 @@
 //! The threads of a run.
 ghost use Rattle.std.specs.Prelude.{◌≡◌, ◌≢◌, ◌≤◌, [], All, IfOk, IfSome, None};
 ghost use Rattle.std.specs.Prelude.{length, map, vec_capacity};
-ghost use Rattle.tp_script.specs.TestCases.{Made, duty_at};
+ghost use Rattle.tp_script.specs.TestCases.{Made, behaviour_at};
 ghost use Rattle.tp_exec.specs.Returns.{CanBegin, HasBehaved, HasReturned, IsBack, IsBusy};
-ghost use Rattle.tp_exec.specs.Returns.{IsPostOf, IsWaiting, badge_of, badges_of, number_of};
+ghost use Rattle.tp_exec.specs.Returns.{IsPostOf, IsWaiting, badge_of, badges_of, station_number};
 ghost use Rattle.tp_exec.specs.Rounds.{ArePlayed, AreStations, HasNotBegun, stations_of};
 ghost use Rattle.tp_exec.specs.Seats.{IsSeat, badge_at};
 
@@ -25,8 +25,8 @@ use tp_inbox::owner::Closer;
 use tp_refusal::memory::Memory;
 use tp_script::TestCase;
 
-/// What a run made for its behaviours, and all of them share. It owns its parts: of a closure that
-/// keeps a struct of references, nothing is known where it is called.
+/// What all behaviours of a run share. It owns its parts: of a closure that keeps a struct of
+/// references, nothing is known where it is called.
 #[derive(Drop)]
 pub(crate) struct Hall {
     /// Where memory is taken from.
@@ -74,10 +74,12 @@ fn leave<R: Wait>(rt: &R, hall: &Hall) {
 
 /// The post of a component that has something to do.
 fn post_of<'t>(test_case: &'t TestCase, hall: &'t Hall, comp: CompId) -> Post<'t>
-    requires { duty_at test_case.now comp.0 ≢ None }
-    ensures { IsPostOf test_case.now comp result }
+    requires { behaviour_at test_case.now comp.0 ≢ None }
+    ensures post { IsPostOf test_case.now comp result }
+    ensures closers { result.closers.now ≡ hall.now.closers.items }
 {
-    let Some(conduct) = test_case.body(comp) else {
+    let Some(behaviour) = test_case.body(comp) else {
+        // It has a behaviour, by the condition.
         unreachable!();
     };
     Post {
@@ -85,7 +87,7 @@ fn post_of<'t>(test_case: &'t TestCase, hall: &'t Hall, comp: CompId) -> Post<'t
         config: test_case.config(),
         types: test_case.types(),
         comp,
-        conduct,
+        behaviour,
         closers: hall.closers.as_slice(),
     }
 }
@@ -128,7 +130,7 @@ fn live<R: Wait, G: Gate>(
 fn idle(station: Station) -> Played
     ensures same { result.station ≡ station }
     ensures returned { (made : Made) → IsWaiting made station →
-        duty_at made (number_of station) ≡ None → HasReturned made result }
+        behaviour_at made (station_number station) ≡ None → HasReturned made result }
 {
     Played {
         station,

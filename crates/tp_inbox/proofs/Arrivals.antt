@@ -40,7 +40,8 @@ either_way (suc p) (suc q) n =
     ⊎_elim (λ (l : p < q). inl (omega arith)) (λ (l : q < p). inr (omega arith)) (either_way p q (λ e. n (ap suc e)))
 
 -- one list has no two equal routes
-pub same_place : (comp : CompId) (ports : ℕ) (routes : List RouteId) → AreRoutes comp ports routes → (p q : ℕ) → p < length routes → q < length routes → route_at routes p ≡ route_at routes q → p ≡ q
+pub same_place : (comp : CompId) (ports : ℕ) (routes : List RouteId) → AreRoutes comp ports routes → (p q : ℕ) → p < length routes → q < length routes
+    → route_at routes p ≡ route_at routes q → p ≡ q
 same_place comp ports routes r p q low few e =
     ⊎_elim
     (λ (same : p ≡ q). same)
@@ -60,7 +61,8 @@ meets_itself : (r : RouteId) → meets r r ≡ true
 meets_itself r = and_from (eqb r.to.port r.to.port) (eqb r.source.0 r.source.0) (eq-eqb r.to.port r.to.port refl) (eq-eqb r.source.0 r.source.0 refl)
 
 -- of two routes of the list, one meets the other only at one place
-meets_places : (comp : CompId) (ports : ℕ) (routes : List RouteId) → AreRoutes comp ports routes → (p q : ℕ) → p < length routes → q < length routes → meets (route_at routes p) (route_at routes q) ≡ eqb p q
+meets_places : (comp : CompId) (ports : ℕ) (routes : List RouteId) → AreRoutes comp ports routes → (p q : ℕ) → p < length routes → q < length routes
+    → meets (route_at routes p) (route_at routes q) ≡ eqb p q
 meets_places comp ports routes r p q low few =
     let R = route_at routes in
     ⊎_elim
@@ -79,7 +81,8 @@ cons_cond true x l = refl
 cons_cond false x l = refl
 
 -- what arrives on a route that meets one of the list alone is what that one's envelopes hold
-on_only : (routes : List RouteId) (q : RouteId) (p : ℕ) → ((k : ℕ) → k < length routes → meets q (route_at routes k) ≡ eqb p k) → (es : List Envelope) → AreRouted (length routes) es → arrived_on q (arrivals_of routes es) ≡ of p es
+on_only : (routes : List RouteId) (q : RouteId) (p : ℕ) → ((k : ℕ) → k < length routes → meets q (route_at routes k) ≡ eqb p k) → (es : List Envelope)
+    → AreRouted (length routes) es → arrived_on q (arrivals_of routes es) ≡ of p es
 unfolding arrived_on
 on_only routes q p only [] of_these = refl
 on_only routes q p only (e ∷ es) of_these =
@@ -88,16 +91,19 @@ on_only routes q p only (e ∷ es) of_these =
     ∙ cons_cond (eqb p e.place) (e.number, e.stamped) (of p es)
 
 -- what arrives on a route of the list is what its envelopes hold
-pub on_place : (comp : CompId) (ports : ℕ) (routes : List RouteId) → AreRoutes comp ports routes → (p : ℕ) → p < length routes → (es : List Envelope) → AreRouted (length routes) es → arrived_on (route_at routes p) (arrivals_of routes es) ≡ of p es
+pub on_place : (comp : CompId) (ports : ℕ) (routes : List RouteId) → AreRoutes comp ports routes → (p : ℕ) → p < length routes → (es : List Envelope)
+    → AreRouted (length routes) es → arrived_on (route_at routes p) (arrivals_of routes es) ≡ of p es
 on_place comp ports routes r p low es of_these = on_only routes (route_at routes p) p (λ k few. meets_places comp ports routes r p k low few) es of_these
 
 -- on a route into the component that is none of the list nothing arrives
-pub on_none : (comp : CompId) (ports : ℕ) (routes : List RouteId) → AreRoutes comp ports routes → (q : RouteId) → q.to.comp ≡ comp → ((k : ℕ) → k < length routes → route_at routes k ≡ q → ⊥)
+pub on_none : (comp : CompId) (ports : ℕ) (routes : List RouteId) → AreRoutes comp ports routes → (q : RouteId) → q.to.comp ≡ comp
+    → ((k : ℕ) → k < length routes → route_at routes k ≡ q → ⊥)
     → (es : List Envelope) → AreRouted (length routes) es → arrived_on q (arrivals_of routes es) ≡ []
 unfolding arrived_on
 on_none comp ports routes r q to apart [] of_these = refl
 on_none comp ports routes r q to apart (e ∷ es) of_these =
-    ap (λ b. cons_option (cond b (Some (e.number, e.stamped)) None) (filter_map (arrival_on q) (arrivals_of routes es))) (none (true_or_false (meets q (route_at routes e.place))))
+    ap (λ b. cons_option (cond b (Some (e.number, e.stamped)) None) (filter_map (arrival_on q) (arrivals_of routes es)))
+    (none (true_or_false (meets q (route_at routes e.place))))
     ∙ on_none comp ports routes r q to apart es of_these.1
   where
     none : (meets q (route_at routes e.place) ≡ true) ⊎ (meets q (route_at routes e.place) ≡ false) → meets q (route_at routes e.place) ≡ false
@@ -142,7 +148,8 @@ no_arrival r entry.Else n = refl
 no_arrival r (entry.Verdict v) n = refl
 no_arrival r (entry.Failed code) n = refl
 
-arrived_step : (r : RouteId) (e : Entry) (xs ys : List Entry) (b : Bool) → is_arrival e ≡ b → filter_map (arrival_on r) xs ≡ filter_map (arrival_on r) ys → filter_map (arrival_on r) (e ∷ xs) ≡ filter_map (arrival_on r) (cond b (e ∷ ys) ys)
+arrived_step : (r : RouteId) (e : Entry) (xs ys : List Entry) (b : Bool) → is_arrival e ≡ b → filter_map (arrival_on r) xs ≡ filter_map (arrival_on r) ys
+    → filter_map (arrival_on r) (e ∷ xs) ≡ filter_map (arrival_on r) (cond b (e ∷ ys) ys)
 arrived_step r e xs ys true is same = ap (cons_option (arrival_on r e)) same
 arrived_step r e xs ys false is same = ap (λ o. cons_option o (filter_map (arrival_on r) xs)) (no_arrival r e is) ∙ same
 
@@ -162,7 +169,8 @@ are_on routes (e ∷ es) of_these zero d low = (
 )
 are_on routes (e ∷ es) of_these (suc k) d low = are_on routes es of_these.1 k d (omega arith)
 
-pub numbered_on : (comp : CompId) (ports : ℕ) (routes : List RouteId) → AreRoutes comp ports routes → (es : List Envelope) → AreRouted (length routes) es → InOrder es → AreNumbered routes (arrivals_of routes es)
+pub numbered_on : (comp : CompId) (ports : ℕ) (routes : List RouteId) → AreRoutes comp ports routes → (es : List Envelope) → AreRouted (length routes) es
+    → InOrder es → AreNumbered routes (arrivals_of routes es)
 numbered_on comp ports routes r es of_these order k d low = (
   (order k).0,
   ap (λ q. arrived_on q (arrivals_of routes es)) (same_default routes k d no_route low) ∙ on_place comp ports routes r k low es of_these ∙ (order k).1,

@@ -14,7 +14,8 @@ pub same_Some : {X : Type 0} (x y : X) → Some x ≡ Some y → x ≡ y
 same_Some x y is = ap (λ o. unwrap_or o x) is
 
 -- what stands in a list with one more at its end
-get_push : {X : Type 0} (h : List X) (x : X) (k : ℕ) (e : X) → slice_get (h ++ x ∷ []) k ≡ Some e → ((k < length h) × (slice_get h k ≡ Some e)) ⊎ ((k ≡ length h) × (x ≡ e))
+get_push : {X : Type 0} (h : List X) (x : X) (k : ℕ) (e : X) → slice_get (h ++ x ∷ []) k ≡ Some e → ((k < length h) × (slice_get h k ≡ Some e))
+    ⊎ ((k ≡ length h) × (x ≡ e))
 get_push [] x zero e g = inr (refl, same_Some x e g)
 get_push [] x (suc k) e g = absurd (cc)
 get_push (y ∷ h) x zero e g = inl (omega arith, g)

@@ -76,7 +76,8 @@ pub hub_sync : IsSync hub.the_row
 hub_sync = search (sendable, crosses, envelope_send, bell_send, chained_sync, ends_sync) depth 30
 
 owner_inside_send : IsSend owner_inside.the_row
-owner_inside_send = search (sendable, crosses, knot, message_send, stamped_field_send, envelope_send, hub_send, hub_sync, seat_send, route_send) depth 40 fits 20000
+owner_inside_send = search (sendable, crosses, knot, message_send, stamped_field_send, envelope_send, hub_send, hub_sync, seat_send, route_send) depth 40 fits
+    20000
 
 pub owner_send : IsSend owner.the_row
 owner_send = search (sendable, crosses, owner_inside_send) depth 40

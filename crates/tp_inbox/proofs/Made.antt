@@ -39,7 +39,8 @@ unfolding routes_into
 routes_here s c = below_here s c (length (ports_at s.types s.components c))
 
 -- the routes into a component of a configuration
-pub routes_are : (s : Setup) (c : CompId) (routes : List RouteId) → routes ≡ routes_into s c → AreDistinct (routes_into s c) → AreRoutes c (length (ports_at s.types s.components c)) routes
+pub routes_are : (s : Setup) (c : CompId) (routes : List RouteId) → routes ≡ routes_into s c → AreDistinct (routes_into s c)
+    → AreRoutes c (length (ports_at s.types s.components c)) routes
 unfolding routes_into
 routes_are s c routes is apart =
     let n = length (ports_at s.types s.components c) in

@@ -58,22 +58,26 @@ in_hand s e h is =
     let taken : s.pass.me.view.client.taken ≡ moved s ++ e ∷ [] = h.ends ∙ ap (λ x. moved s ++ one_of x) (sym is) in
     let a = arrived s.pass.me.view.client (moved s) e (length (arc_value s.hub).routes.items) h.sound h.made taken in (a.0, a.1, taken)
 
-pub drained-push : (routes : List RouteId) (all : List Envelope) (xs : List Envelope) (e : Envelope) (o : Option Envelope) (x : Entry) → o ≡ None → all ≡ xs ++ e ∷ [] → x ≡ arrival_of routes e
+pub drained-push : (routes : List RouteId) (all : List Envelope) (xs : List Envelope) (e : Envelope) (o : Option Envelope) (x : Entry) → o ≡ None → all ≡ xs
+    ++ e ∷ [] → x ≡ arrival_of routes e
     → arrivals_of routes (before all (one_of o)) ≡ arrivals_of routes xs ++ x ∷ []
 drained-push routes all xs e o x none is entry =
     ap (λ h. arrivals_of routes (before all (one_of h))) none ∙ ap (arrivals_of routes) (before_nothing all ∙ is)
     ∙ map-append (arrival_of routes) xs (e ∷ []) ∙ ap (λ y. arrivals_of routes xs ++ y ∷ []) (sym entry)
 
-pub counts-push : (n : ℕ) (counts : List ℕ) (all xs : List Envelope) (e : Envelope) (o : Option Envelope) → o ≡ None → all ≡ xs ++ e ∷ [] → AreCounts n counts xs → e.place < n → e.number ≡ length (of e.place xs)
+pub counts-push : (n : ℕ) (counts : List ℕ) (all xs : List Envelope) (e : Envelope) (o : Option Envelope) → o ≡ None → all ≡ xs ++ e ∷ []
+    → AreCounts n counts xs → e.place < n → e.number ≡ length (of e.place xs)
     → AreCounts n (set counts e.place (e.number + 1)) (before all (one_of o))
 counts-push n counts all xs e o none is were low number =
-    subst (AreCounts n (set counts e.place (e.number + 1))) (sym (ap (λ h. before all (one_of h)) none ∙ before_nothing all ∙ is)) (counts_next n counts xs e were low number)
+    subst (AreCounts n (set counts e.place (e.number + 1))) (sym (ap (λ h. before all (one_of h)) none ∙ before_nothing all ∙ is))
+    (counts_next n counts xs e were low number)
 
 pub ends-none : (all : List Envelope) (o : Option Envelope) → o ≡ None → EndsWith all (one_of o)
 ends-none all o none = subst (λ (h : Option Envelope). EndsWith all (one_of h)) (sym none) (ends_nothing all)
 
 -- the port of an envelope is one of the desk's
-pub port_within : (hub shown : Hub) (inbox : Inbox) (d : Journal) (place port : ℕ) → shown ≡ hub → inbox_of hub ≡ inbox → IsDeskOf inbox d → place < length hub.routes.items → port ≡ (route_at shown.routes.items place).to.port → port < d.ports
+pub port_within : (hub shown : Hub) (inbox : Inbox) (d : Journal) (place port : ℕ) → shown ≡ hub → inbox_of hub ≡ inbox → IsDeskOf inbox d
+    → place < length hub.routes.items → port ≡ (route_at shown.routes.items place).to.port → port < d.ports
 port_within hub shown inbox d place port same is desk low at =
     let p : port ≡ (route_at hub.routes.items place).to.port = at ∙ ap (λ (h : Hub). (route_at h.routes.items place).to.port) same in
     let within : (route_at hub.routes.items place).to.port < hub.ports = hub.routed.within place no_route low in
@@ -82,7 +86,8 @@ port_within hub shown inbox d place port same is desk low at =
     omega arith
 
 -- what is drained is no more than the desk's history holds
-pub drained_within : (s : owner.Inside) (v : Draining) (d : Journal) (place : ℕ) → seen s ≡ v → arrivals d.log ≡ v.drained → length (of place (moved s)) ≤ length d.log
+pub drained_within : (s : owner.Inside) (v : Draining) (d : Journal) (place : ℕ) → seen s ≡ v → arrivals d.log ≡ v.drained
+    → length (of place (moved s)) ≤ length d.log
 drained_within s v d place is same =
     let routes = (arc_value s.hub).routes.items in
     let a : length (arrivals_of routes (moved s)) ≡ length (moved s) = length-map (moved s) (arrival_of routes) in
@@ -98,7 +103,8 @@ pub adding_twice : (d : Journal) (xs ys : List Entry) → adding_all (adding_all
 adding_twice d xs ys = λ i. record { comp = d.comp; ports = d.ports; log = append_assoc d.log xs ys i }
 
 -- how many of a route that is found were drained
-pub counted_at : (s : owner.Inside) (v : Draining) (route : RouteId) (place n : ℕ) → IsOwner s → seen s ≡ v → get_by (route_eq route) s.places ≡ Some place → n ≡ get_or s.counts.items place 0 → n ≡ drained_on v route
+pub counted_at : (s : owner.Inside) (v : Draining) (route : RouteId) (place n : ℕ) → IsOwner s → seen s ≡ v → get_by (route_eq route) s.places ≡ Some place
+    → n ≡ get_or s.counts.items place 0 → n ≡ drained_on v route
 counted_at s v route place n o is found at =
     let hub = arc_value s.hub in
     let routes = hub.routes.items in
@@ -106,12 +112,14 @@ counted_at s v route place n o is found at =
     let low = known.0 in
     let routed = routed_before _ _ s.pass.me.view.client.taken (one_of s.hand) o.made o.sound.routed in
     let here : route.to.comp ≡ hub.comp = ap (λ (r : RouteId). r.to.comp) (sym known.1) ∙ hub.routed.here place no_route low in
-    at ∙ o.counts.1 place low ∙ ap length (sym (on_place hub.comp hub.ports routes hub.routed place low (moved s) routed)) ∙ ap (λ r. length (arrived_on r (drained_of s))) known.1
+    at ∙ o.counts.1 place low ∙ ap length (sym (on_place hub.comp hub.ports routes hub.routed place low (moved s) routed))
+    ∙ ap (λ r. length (arrived_on r (drained_of s))) known.1
     ∙ ap (λ b. cond b (length (arrived_on route (drained_of s))) 0) (sym (eq-eqb route.to.comp.0 hub.comp.0 (ap (λ (c : CompId). c.0) here)))
     ∙ ap (λ (x : Draining). drained_on x route) is
 
 -- of a route that isn't found nothing was drained
-pub none_counted : (s : owner.Inside) (v : Draining) (route : RouteId) → IsOwner s → seen s ≡ v → get_by (route_eq route) s.places ≡ None → 0 ≡ drained_on v route
+pub none_counted : (s : owner.Inside) (v : Draining) (route : RouteId) → IsOwner s → seen s ≡ v → get_by (route_eq route) s.places ≡ None
+    → 0 ≡ drained_on v route
 none_counted s v route o is none = by (cases_Bool (eqb route.to.comp.0 hub.comp.0)) ∙ ap (λ (x : Draining). drained_on x route) is
   where
     hub : Hub

@@ -43,7 +43,8 @@ pub in_order_before : (all kept : List Envelope) → InOrder all → InOrder (be
 in_order_before all kept h = let n = length all - length kept in in_order-front (take n all) (drop n all) (subst InOrder (sym (take-append-drop n all)) h)
 
 pub routed_before : (n m : ℕ) (all kept : List Envelope) → n ≡ m → AreRouted n all → AreRouted m (before all kept)
-routed_before n m all kept e h = let k = length all - length kept in routed-front m (take k all) (drop k all) (subst (λ (x : ℕ × List Envelope). AreRouted x.0 x.1) (λ i. (e i, sym (take-append-drop k all) i)) h)
+routed_before n m all kept e h = let k = length all - length kept in routed-front m (take k all) (drop k all)
+    (subst (λ (x : ℕ × List Envelope). AreRouted x.0 x.1) (λ i. (e i, sym (take-append-drop k all) i)) h)
 
 pub sound_after : (X : Type 0) (r : Option Envelope) (v w : View) → Sound v → MatchOption r ((w ≡ v) × Knows v []) (λ e. Takes v e w × X) → Sound w
 sound_after X None v w s h = subst Sound (sym h.0) s
@@ -63,23 +64,27 @@ sound_joined v u w known n s e same held =
       fronts = subst (λ (x : View). AreFronts x.taken x.known) e (fronts_of_known u held.0 held.2);
     }
 
-pub gathered : (v u w : View) (known : List (List Stamped)) (routes : ℕ) (hand : Option Envelope) (rest : List Envelope) → v.made ≡ routes → EndsWith v.taken (one_of hand) → rest ≡ [] → u ≡ owner_of v.made v.taken known → w ≡ u
+pub gathered : (v u w : View) (known : List (List Stamped)) (routes : ℕ) (hand : Option Envelope) (rest : List Envelope) → v.made ≡ routes
+    → EndsWith v.taken (one_of hand) → rest ≡ [] → u ≡ owner_of v.made v.taken known → w ≡ u
     → (w.made ≡ routes) × (w.known ≡ known) × EndsWith w.taken (one_of hand ++ rest) × IfSome hand (λ _. rest ≡ [])
 gathered v u w known routes hand rest made ends none e same = (
   ap (λ (x : View). x.made) (same ∙ e) ∙ made,
   ap (λ (x : View). x.known) (same ∙ e),
-  subst (λ (x : List Envelope × List Envelope). EndsWith x.0 x.1) (λ i. (ap (λ (x : View). x.taken) (sym (same ∙ e)) i, (sym (append_nil (one_of hand)) ∙ ap (λ l. one_of hand ++ l) (sym none)) i)) ends,
+  subst (λ (x : List Envelope × List Envelope). EndsWith x.0 x.1)
+      (λ i. (ap (λ (x : View). x.taken) (sym (same ∙ e)) i, (sym (append_nil (one_of hand)) ∙ ap (λ l. one_of hand ++ l) (sym none)) i)) ends,
   at_some (rest ≡ []) hand none,
 )
 
-pub fronts_split : (w : View) (known : List (List Stamped)) (kept : List Envelope) → Sound w → w.known ≡ known → EndsWith w.taken kept → AreFronts (before w.taken kept ++ kept) known
+pub fronts_split : (w : View) (known : List (List Stamped)) (kept : List Envelope) → Sound w → w.known ≡ known → EndsWith w.taken kept
+    → AreFronts (before w.taken kept ++ kept) known
 fronts_split w known kept s k e = subst (λ (x : List Envelope × List (List Stamped)). AreFronts x.0 x.1) (λ i. (e i, k i)) s.fronts
 
 pub routed_rest : (n m : ℕ) (all xs ys : List Envelope) → n ≡ m → all ≡ xs ++ ys → AreRouted n all → AreRouted m ys
 routed_rest n m all xs ys e is h = routed-back m xs ys (subst (λ (x : ℕ × List Envelope). AreRouted x.0 x.1) (λ i. (e i, is i)) h)
 
 -- what was taken out is of a route that there is, and the next of its route
-pub arrived : (w : View) (xs : List Envelope) (e : Envelope) (routes : ℕ) → Sound w → w.made ≡ routes → w.taken ≡ xs ++ e ∷ [] → (e.place < routes) × (e.number ≡ length (of e.place xs))
+pub arrived : (w : View) (xs : List Envelope) (e : Envelope) (routes : ℕ) → Sound w → w.made ≡ routes → w.taken ≡ xs ++ e ∷ [] → (e.place < routes)
+    × (e.number ≡ length (of e.place xs))
 arrived w xs e routes s m t = (
   (routed_rest w.made routes w.taken xs (e ∷ []) m t s.routed).0,
   next_number xs e (subst InOrder t s.order),

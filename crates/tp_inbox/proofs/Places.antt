@@ -37,7 +37,8 @@ filed_next routes m after n apart low filed up = record {
     here : RouteId
     here = route_at routes n
 
-    other : (k : ℕ) → k < n → (route_eq here (route_at routes k) ≡ true) ⊎ (route_eq here (route_at routes k) ≡ false) → route_eq here (route_at routes k) ≡ false
+    other : (k : ℕ) → k < n → (route_eq here (route_at routes k) ≡ true) ⊎ (route_eq here (route_at routes k) ≡ false)
+        → route_eq here (route_at routes k) ≡ false
     other k less (inl same) = absurd (apart k n no_route less low (sym (eq_same here (route_at routes k) same)))
     other k less (inr apart_) = apart_
 

@@ -89,7 +89,8 @@ history-push port log e = filter_map-append (event_at port) log (e ∷ [])
 pub history-same : (port : ℕ) (log : List Entry) (e : Entry) → event_at port e ≡ None → history_of port (log ++ e ∷ []) ≡ history_of port log
 history-same port log e none = history-push port log e ∙ ap (λ o. history_of port log ++ cons_option o []) none ∙ append_nil (history_of port log)
 
-pub history-more : (port : ℕ) (log : List Entry) (e : Entry) (event : Event Message) → event_at port e ≡ Some event → history_of port (log ++ e ∷ []) ≡ history_of port log ++ event ∷ []
+pub history-more : (port : ℕ) (log : List Entry) (e : Entry) (event : Event Message) → event_at port e ≡ Some event
+    → history_of port (log ++ e ∷ []) ≡ history_of port log ++ event ∷ []
 history-more port log e event some = history-push port log e ∙ ap (λ o. history_of port log ++ cons_option o []) some
 
 -- an entry that names no port keeps all of it
@@ -107,7 +108,8 @@ kept_by_note queues clock later log after e k note timely now grown =
     }
 
 -- an entry that names this port, where the port's queue has its event more
-pub kept_at_time : (queues : List (List (Event Message))) (clock later : ℕ) (log after : List Entry) (port : ℕ) (e : Entry) (event : Event Message) (old new : List (Event Message))
+pub kept_at_time : (queues : List (List (Event Message))) (clock later : ℕ) (log after : List Entry) (port : ℕ) (e : Entry) (event : Event Message)
+    (old new : List (Event Message))
     → IsKept queues clock log → port < length queues → old ≡ get_or queues port old → new ≡ old ++ event ∷ []
     → ((p : ℕ) → event_at p e ≡ cond (eqb p port) (Some event) None) → IsTimely log e → later ≡ max clock (stamp_of e) → after ≡ log ++ e ∷ [] → Lawful new
     → IsKept (set queues port new) later after
@@ -117,7 +119,8 @@ kept_at_time queues clock later log after port e event old new k low at more nam
     ∙ sym (history-more p log e event (names p ∙ ap (λ b. cond b (Some event) None) (eq-eqb p port same))) in
     let there : (p : ℕ) → p ≢ port → history_of p (log ++ e ∷ []) ≡ history_of p log = λ p other.
     history-same p log e (names p ∙ ap (λ b. cond b (Some event) None) (ne_eqb p port other)) in
-    let within : IsWithin (length queues) e = within_event (length queues) port e event low (names port ∙ ap (λ b. cond b (Some event) None) (eq-eqb port port refl)) in
+    let within : IsWithin (length queues) e =
+    within_event (length queues) port e event low (names port ∙ ap (λ b. cond b (Some event) None) (eq-eqb port port refl)) in
     let short : (p : ℕ) → p < length (set queues port new) → p < length queues = λ p below. omega (arith, length-set queues port new) in
     subst (IsKept (set queues port new) later) (sym grown)
     record {
@@ -137,7 +140,8 @@ kept_at_time queues clock later log after port e event old new k low at more nam
     }
 
 -- and that has no stamp
-pub kept_at : (queues : List (List (Event Message))) (clock : ℕ) (log after : List Entry) (port : ℕ) (e : Entry) (event : Event Message) (old new : List (Event Message))
+pub kept_at : (queues : List (List (Event Message))) (clock : ℕ) (log after : List Entry) (port : ℕ) (e : Entry) (event : Event Message)
+    (old new : List (Event Message))
     → IsKept queues clock log → port < length queues → old ≡ get_or queues port old → new ≡ old ++ event ∷ []
     → ((p : ℕ) → event_at p e ≡ cond (eqb p port) (Some event) None) → IsTimely log e → stamp_of e ≡ 0 → after ≡ log ++ e ∷ [] → Lawful new
     → IsKept (set queues port new) clock after
@@ -190,5 +194,6 @@ adding_is d was ports log e same p l =
     (λ i. record { comp = was.comp; ports = p i; log = l i }) ∙ ap (λ (x : Journal). adding x e) same
 
 -- the queue of a port has the port's history
-pub history_is : (queues : List (List (Event Message))) (clock : ℕ) (log : List Entry) (port : ℕ) (old : List (Event Message)) → IsKept queues clock log → port < length queues → old ≡ get_or queues port old → old ≡ history_of port log
+pub history_is : (queues : List (List (Event Message))) (clock : ℕ) (log : List Entry) (port : ℕ) (old : List (Event Message)) → IsKept queues clock log
+    → port < length queues → old ≡ get_or queues port old → old ≡ history_of port log
 history_is queues clock log port old k low at = get_or_read queues port old low at [] ∙ k.histories port low

@@ -17,7 +17,8 @@ abbrev pub Rest : Type 0
 Rest = ℕ × Env Message × ℕ
 
 -- the rest goes to ports that there are
-pub rest_within : (comp : CompId) (ports : ℕ) (routes : List RouteId) (rest : List Rest) → AreRoutes comp ports routes → All (IsArrivalOn routes) (rest_arrivals rest) → All (λ (x : Rest). x.0 < ports) rest
+pub rest_within : (comp : CompId) (ports : ℕ) (routes : List RouteId) (rest : List Rest) → AreRoutes comp ports routes
+    → All (IsArrivalOn routes) (rest_arrivals rest) → All (λ (x : Rest). x.0 < ports) rest
 rest_within comp ports routes [] are on = All-nil (λ (x : Rest). x.0 < ports)
 rest_within comp ports routes (x ∷ rest) are on =
     let first : IsArrivalOn routes (entry.Arrive x.0 x.1 x.2) = All-head (IsArrivalOn routes) (entry.Arrive x.0 x.1 x.2) (rest_arrivals rest) on in
@@ -34,7 +35,8 @@ none_sent r (x ∷ rest) = none_sent r rest
 pub rest_sends_nothing : (r : RouteId) (k : List Entry) (rest : List Rest) → sent_on r (k ++ rest_arrivals rest) ≡ sent_on r k
 unfolding sent_on
 rest_sends_nothing r k rest =
-    filter_map-append (sending_on r) k (rest_arrivals rest) ∙ ap (λ l. filter_map (sending_on r) k ++ l) (none_sent r rest) ∙ append-nil (filter_map (sending_on r) k)
+    filter_map-append (sending_on r) k (rest_arrivals rest) ∙ ap (λ l. filter_map (sending_on r) k ++ l) (none_sent r rest)
+    ∙ append-nil (filter_map (sending_on r) k)
 
 -- nothing of it is what a behaviour did
 none_traced : (rest : List Rest) → filter (λ e. not (is_arrival e)) (rest_arrivals rest) ≡ []

@@ -21,7 +21,8 @@ cond_append false x xs ys = refl
 
 pub of-append : (p : ℕ) (xs ys : List Envelope) → of p (xs ++ ys) ≡ of p xs ++ of p ys
 of-append p [] ys = refl
-of-append p (x ∷ xs) ys = ap (λ l. cond (eqb p x.place) ((x.number, x.stamped) ∷ l) l) (of-append p xs ys) ∙ cond_append (eqb p x.place) (x.number, x.stamped) (of p xs) (of p ys)
+of-append p (x ∷ xs) ys = ap (λ l. cond (eqb p x.place) ((x.number, x.stamped) ∷ l) l) (of-append p xs ys) ∙ cond_append (eqb p x.place) (x.number, x.stamped)
+    (of p xs) (of p ys)
 
 pub of-here : (p : ℕ) (e : Envelope) → p ≡ e.place → of p (e ∷ []) ≡ (e.number, e.stamped) ∷ []
 of-here p e h = ap (λ b. cond b ((e.number, e.stamped) ∷ []) []) (eq-eqb p e.place h)
@@ -31,7 +32,9 @@ of-else p e h = ap (λ b. cond b ((e.number, e.stamped) ∷ []) []) (ne_eqb p e.
 
 pub numbered-snoc : (n : ℕ) (ms : List Stamped) (m : Stamped) → numbered n (ms ++ m ∷ []) ≡ numbered n ms ++ (n + length ms, m) ∷ []
 numbered-snoc n [] m = λ i. (let e : n ≡ n + 0 = omega arith in e i, m) ∷ []
-numbered-snoc n (x ∷ xs) m = ap (λ l. (n, x) ∷ l) (numbered-snoc (n + 1) xs m ∙ ap (λ k. numbered (n + 1) xs ++ (k, m) ∷ []) (let e : n + 1 + length xs ≡ n + length (x ∷ xs) = omega arith in e))
+numbered-snoc n (x ∷ xs) m =
+    ap (λ l. (n, x) ∷ l)
+    (numbered-snoc (n + 1) xs m ∙ ap (λ k. numbered (n + 1) xs ++ (k, m) ∷ []) (let e : n + 1 + length xs ≡ n + length (x ∷ xs) = omega arith in e))
 
 head_is : (x y : ℕ × Stamped) (xs ys : List (ℕ × Stamped)) → x ∷ xs ≡ y ∷ ys → (x ≡ y) × (xs ≡ ys)
 head_is x y xs ys e = (cc, cc)
@@ -40,7 +43,8 @@ head_is x y xs ys e = (cc, cc)
 pub numbered-front : (n : ℕ) (ms : List Stamped) (xs ys : List (ℕ × Stamped)) → xs ++ ys ≡ numbered n ms → (ks : List Stamped) × (xs ≡ numbered n ks)
 numbered-front n ms [] ys e = ([], refl)
 numbered-front n [] (x ∷ xs) ys e = absurd (cc)
-numbered-front n (m ∷ ms) (x ∷ xs) ys e = let h = head_is x (n, m) (xs ++ ys) (numbered (n + 1) ms) e in let r = numbered-front (n + 1) ms xs ys h.1 in (m ∷ r.0, λ i. h.0 i ∷ r.1 i)
+numbered-front n (m ∷ ms) (x ∷ xs) ys e = let h = head_is x (n, m) (xs ++ ys) (numbered (n + 1) ms) e in let r = numbered-front (n + 1) ms xs ys h.1 in
+    (m ∷ r.0, λ i. h.0 i ∷ r.1 i)
 
 pub in_order-front : (xs ys : List Envelope) → InOrder (xs ++ ys) → InOrder xs
 in_order-front xs ys h p = let k = h p in numbered-front 0 k.0 (of p xs) (of p ys) (sym (of-append p xs ys) ∙ k.1)
@@ -70,12 +74,14 @@ pub number_at_end : (n : ℕ) (xs : List (ℕ × Stamped)) (x : ℕ × Stamped) 
 number_at_end n [] x [] e = absurd (cc)
 number_at_end n [] x (m ∷ ms) e = let h = head_is x (n, m) [] (numbered (n + 1) ms) e in let q : x.0 ≡ n = ap (λ (y : ℕ × Stamped). y.0) h.0 in omega arith
 number_at_end n (y ∷ ys) x [] e = absurd (cc)
-number_at_end n (y ∷ ys) x (m ∷ ms) e = let h = head_is y (n, m) (ys ++ x ∷ []) (numbered (n + 1) ms) e in let q = number_at_end (n + 1) ys x ms h.1 in omega arith
+number_at_end n (y ∷ ys) x (m ∷ ms) e =
+    let h = head_is y (n, m) (ys ++ x ∷ []) (numbered (n + 1) ms) e in let q = number_at_end (n + 1) ys x ms h.1 in omega arith
 
 pub next_number : (xs : List Envelope) (e : Envelope) → InOrder (xs ++ e ∷ []) → e.number ≡ length (of e.place xs)
 next_number xs e h =
     let k = h e.place in
-    let q = number_at_end 0 (of e.place xs) (e.number, e.stamped) k.0 (ap (λ l. of e.place xs ++ l) (sym (of-here e.place e refl)) ∙ sym (of-append e.place xs (e ∷ [])) ∙ k.1) in
+    let q = number_at_end 0 (of e.place xs) (e.number, e.stamped) k.0
+    (ap (λ l. of e.place xs ++ l) (sym (of-here e.place e refl)) ∙ sym (of-append e.place xs (e ∷ [])) ∙ k.1) in
     omega arith
 
 length-cond : (b : Bool) (x : ℕ × Stamped) (l : List (ℕ × Stamped)) (n : ℕ) → length l ≤ n → length (cond b (x ∷ l) l) ≤ suc n
@@ -86,7 +92,8 @@ pub length-of : (p : ℕ) (xs : List Envelope) → length (of p xs) ≤ length x
 length-of p [] = omega arith
 length-of p (x ∷ xs) = length-cond (eqb p x.place) (x.number, x.stamped) (of p xs) (length xs) (length-of p xs)
 
-pub counts_next : (n : ℕ) (counts : List ℕ) (xs : List Envelope) (e : Envelope) → AreCounts n counts xs → e.place < n → e.number ≡ length (of e.place xs) → AreCounts n (set counts e.place (e.number + 1)) (xs ++ e ∷ [])
+pub counts_next : (n : ℕ) (counts : List ℕ) (xs : List Envelope) (e : Envelope) → AreCounts n counts xs → e.place < n → e.number ≡ length (of e.place xs)
+    → AreCounts n (set counts e.place (e.number + 1)) (xs ++ e ∷ [])
 counts_next n counts xs e h low num = (
   length-set counts e.place (e.number + 1) ∙ h.0,
   λ p below.
@@ -95,7 +102,8 @@ counts_next n counts xs e h low num = (
       get_or-set_at counts e.place p (e.number + 1) 0 same (let q = h.0 in omega arith)
       ∙ (let q : e.number + 1 ≡ length (of e.place xs) + 1 = omega arith in q)
       ∙ sym (length-append (of e.place xs) ((e.number, e.stamped) ∷ []))
-      ∙ ap length (ap (λ l. of e.place xs ++ l) (sym (of-here e.place e refl)) ∙ sym (of-append e.place xs (e ∷ [])) ∙ ap (λ q. of q (xs ++ e ∷ [])) (sym same)))
+      ∙ ap length (ap (λ l. of e.place xs ++ l) (sym (of-here e.place e refl)) ∙ sym (of-append e.place xs (e ∷ []))
+      ∙ ap (λ q. of q (xs ++ e ∷ [])) (sym same)))
       (λ (diff : p ≢ e.place).
       get_or-set_other counts e.place p (e.number + 1) 0 diff ∙ h.1 p below
       ∙ ap length (sym (append_nil (of p xs)) ∙ ap (λ l. of p xs ++ l) (sym (of-else p e diff)) ∙ sym (of-append p xs (e ∷ []))))

@@ -12,7 +12,8 @@ map-set_same f (x ∷ xs) zero t d low same = ap (λ y. y ∷ map f xs) same
 map-set_same f (x ∷ xs) (suc p) t d low same = ap (λ l. f x ∷ l) (map-set_same f xs p t d (omega arith) same)
 
 -- one of them has put more
-pub senders_set : (inbox : Inbox) (ss : List Sending) (p : ℕ) (s t : Sending) → AreSenders inbox ss → p < length ss → s ≡ get_or ss p s → t.inbox ≡ s.inbox → t.route ≡ s.route → AreSenders inbox (set ss p t)
+pub senders_set : (inbox : Inbox) (ss : List Sending) (p : ℕ) (s t : Sending) → AreSenders inbox ss → p < length ss → s ≡ get_or ss p s → t.inbox ≡ s.inbox
+    → t.route ≡ s.route → AreSenders inbox (set ss p t)
 senders_set inbox ss p s t are low at same route = (
   λ k d few.
       ⊎_elim
@@ -23,16 +24,19 @@ senders_set inbox ss p s t are low at same route = (
 )
 
 -- these have the inboxes and the routes of those
-pub same_senders : (inbox : Inbox) (xs ys : List Sending) → map (λ (s : Sending). s.inbox) xs ≡ map (λ (s : Sending). s.inbox) ys → map (λ (s : Sending). s.route) xs ≡ map (λ (s : Sending). s.route) ys → AreSenders inbox ys → AreSenders inbox xs
+pub same_senders : (inbox : Inbox) (xs ys : List Sending) → map (λ (s : Sending). s.inbox) xs ≡ map (λ (s : Sending). s.inbox) ys
+    → map (λ (s : Sending). s.route) xs ≡ map (λ (s : Sending). s.route) ys → AreSenders inbox ys → AreSenders inbox xs
 same_senders inbox xs ys inboxes routes are = (
   λ k d low.
       let few : k < length ys = omega (arith, ap length inboxes, length-map xs (λ (s : Sending). s.inbox), length-map ys (λ (s : Sending). s.inbox)) in
-      sym (get_or-map (λ (s : Sending). s.inbox) xs k d inbox low) ∙ ap (λ l. get_or l k inbox) inboxes ∙ get_or-map (λ (s : Sending). s.inbox) ys k d inbox few ∙ are.0 k d few,
+      sym (get_or-map (λ (s : Sending). s.inbox) xs k d inbox low) ∙ ap (λ l. get_or l k inbox) inboxes ∙ get_or-map (λ (s : Sending). s.inbox) ys k d inbox few
+      ∙ are.0 k d few,
   routes ∙ are.1,
 )
 
 -- one of those on the right has moved to the left
-pub moved : {A B C : Type 0} (f : A → C) (g : B → C) (all xs : List A) (x : A) (left rest : List B) (y : B) (whole : List C) → all ≡ xs ++ x ∷ [] → left ≡ y ∷ rest → f x ≡ g y → map f xs ++ map g left ≡ whole → map f all ++ map g rest ≡ whole
+pub moved : {A B C : Type 0} (f : A → C) (g : B → C) (all xs : List A) (x : A) (left rest : List B) (y : B) (whole : List C) → all ≡ xs ++ x ∷ []
+    → left ≡ y ∷ rest → f x ≡ g y → map f xs ++ map g left ≡ whole → map f all ++ map g rest ≡ whole
 moved f g all xs x left rest y whole is steps same was =
     move_one (map f all) (map f xs) (f x) (map g rest) (ap (map f) is ∙ map-append f xs (x ∷ [])) ∙ ap (λ z. map f xs ++ z ∷ map g rest) same
     ∙ sym (ap (λ l. map f xs ++ map g l) steps) ∙ was

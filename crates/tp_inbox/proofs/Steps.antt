@@ -33,7 +33,8 @@ all_one : (F : ℕ → View → Type 0) (x : View) → F 0 x → All F (x ∷ []
 all_one F x h zero v e = subst (F 0) (some-injective x v e) h
 all_one F x h (suc j) v e = absurd (some-ne-none v (sym e))
 
-all_set : (F : ℕ → View → Type 0) (views : List View) (pass : ℕ) (w : View) → F pass w → ((j : ℕ) (u : View) → j ≢ pass → get_elem? views j ≡ some u → F j u) → All F (set views pass w)
+all_set : (F : ℕ → View → Type 0) (views : List View) (pass : ℕ) (w : View) → F pass w → ((j : ℕ) (u : View) → j ≢ pass → get_elem? views j ≡ some u → F j u)
+    → All F (set views pass w)
 all_set F views pass w mine others j u e =
     ⊎_elim
     (λ (x : (j ≡ pass) × (w ≡ u)). subst (λ (y : ℕ × View). F y.0 y.1) (λ i. (sym x.0 i, x.1 i)) mine)
@@ -68,12 +69,15 @@ begins = record {
 }
 
 -- what was taken out and is held, once e is put at the end
-put_whole : (taken items : List Envelope) (put : ℕ → List Stamped) (e : Envelope) (ms : List Stamped) → ((p : ℕ) → of p (taken ++ items) ≡ numbered 0 (put p)) → ms ≡ put e.place → e.number ≡ length ms → (p : ℕ) → of p (taken ++ (items ++ e ∷ [])) ≡ numbered 0 (at put e.place (ms ++ e.stamped ∷ []) p)
+put_whole : (taken items : List Envelope) (put : ℕ → List Stamped) (e : Envelope) (ms : List Stamped) → ((p : ℕ) → of p (taken ++ items) ≡ numbered 0 (put p))
+    → ms ≡ put e.place → e.number ≡ length ms → (p : ℕ) → of p (taken ++ (items ++ e ∷ [])) ≡ numbered 0 (at put e.place (ms ++ e.stamped ∷ []) p)
 put_whole taken items put e ms old mine num p =
-    let apart : of p (taken ++ (items ++ e ∷ [])) ≡ of p (taken ++ items) ++ of p (e ∷ []) = ap (of p) (sym (append_assoc taken items (e ∷ []))) ∙ of-append p (taken ++ items) (e ∷ []) in
+    let apart : of p (taken ++ (items ++ e ∷ [])) ≡ of p (taken ++ items) ++ of p (e ∷ []) = ap (of p) (sym (append_assoc taken items (e ∷ [])))
+    ∙ of-append p (taken ++ items) (e ∷ []) in
     ⊎_elim
     (λ (same : p ≡ e.place).
-    apart ∙ ap (λ l. l ++ of p (e ∷ [])) (old p ∙ ap (λ q. numbered 0 (put q)) same ∙ ap (numbered 0) (sym mine)) ∙ ap (λ l. numbered 0 ms ++ l) (of-here p e same)
+    apart ∙ ap (λ l. l ++ of p (e ∷ [])) (old p ∙ ap (λ q. numbered 0 (put q)) same ∙ ap (numbered 0) (sym mine))
+    ∙ ap (λ l. numbered 0 ms ++ l) (of-here p e same)
     ∙ ap (λ k. numbered 0 ms ++ (k, e.stamped) ∷ []) (let n : e.number ≡ 0 + length ms = omega arith in n)
     ∙ sym (numbered-snoc 0 ms e.stamped)
     ∙ ap (numbered 0) (sym (at-here put e.place (ms ++ e.stamped ∷ []))) ∙ ap (λ q. numbered 0 (at put e.place (ms ++ e.stamped ∷ []) q)) (sym same))
@@ -82,7 +86,8 @@ put_whole taken items put e ms old mine num p =
     ∙ ap (numbered 0) (sym (at-else put e.place (ms ++ e.stamped ∷ []) p other)))
     (same_or_not p e.place)
 
-pub sends : (n pass : ℕ) (ms : List Stamped) (e : Envelope) → e.number ≡ length ms → Pushes Delivers n pass (sender_of e.place ms) e (Puts (sender_of e.place ms) e)
+pub sends : (n pass : ℕ) (ms : List Stamped) (e : Envelope) → e.number ≡ length ms → Pushes Delivers n pass (sender_of e.place ms) e
+    (Puts (sender_of e.place ms) e)
 sends n pass ms e num items views _ h here =
     let place = e.place in
     let mine = h.senders pass (sender_of place ms) here refl in
@@ -105,13 +110,23 @@ sends n pass ms e num items views _ h here =
             (o.0, o.1, o.2 ∙ sym (at-else h.put place more u.place (λ same. apart (some-injective j pass (sym o.1 ∙ ap h.seat same ∙ mine.1))))));
         owners = all_set (FitsOwner h.owner h.made h.seat put h.taken) views pass w (λ o. absurd (off o))
             (λ j u apart e' o.
-            let f = h.owners j u e' o in
-            (f.0, f.1, f.2, f.3, λ p low. ((f.4 p low).0, (f.4 p low).1 ∙ sym (at-else h.put place more p (λ same. some-ne-none pass (sym mine.1 ∙ ap h.seat (sym same) ∙ (f.4 p low).0))))));
+            let f = h.owners j u e' o in (
+              f.0,
+              f.1,
+              f.2,
+              f.3,
+              λ p low. (
+                (f.4 p low).0,
+                (f.4 p low).1
+                    ∙ sym (at-else h.put place more p (λ same. some-ne-none pass (sym mine.1 ∙ ap h.seat (sym same) ∙ (f.4 p low).0))),
+              ),
+            ));
       },
       refl,
     )
 
-pub takes : (pass made : ℕ) (taken : List Envelope) (known : List (List Stamped)) → Pops Delivers pass (owner_of made taken known) (Takes (owner_of made taken known))
+pub takes : (pass made : ℕ) (taken : List Envelope) (known : List (List Stamped)) → Pops Delivers pass (owner_of made taken known)
+    (Takes (owner_of made taken known))
 takes pass made taken known e items views h here =
     let mine = h.owners pass (owner_of made taken known) here refl in
     let w = owner_of made (taken ++ e ∷ []) known in
@@ -133,15 +148,23 @@ takes pass made taken known e items views h here =
         owners = all_set (FitsOwner h.owner h.made h.seat h.put more) views pass w (λ _. (mine.0, mine.1, ap (λ l. l ++ e ∷ []) mine.2, mine.3, mine.4))
             (λ j u apart e' o. absurd (apart ((h.owners j u e' o).0 ∙ sym mine.0)));
       },
-      (refl, (let l : e.place < h.made = low in let m : made ≡ h.made = mine.1 in omega arith), in_order-front (taken ++ e ∷ []) items (λ p. (h.put p, whole p)), λ p below. (of p items, sym (of-append p (taken ++ e ∷ []) items) ∙ whole p ∙ ap (numbered 0) (sym (mine.4 p below).1))),
+      (
+        refl,
+        (let l : e.place < h.made = low in let m : made ≡ h.made = mine.1 in omega arith),
+        in_order-front (taken ++ e ∷ []) items
+            (λ p. (h.put p, whole p)),
+        λ p below. (of p items, sym (of-append p (taken ++ e ∷ []) items) ∙ whole p ∙ ap (numbered 0) (sym (mine.4 p below).1)),
+      ),
     )
 
-pub learns : (pass made : ℕ) (taken : List Envelope) (known : List (List Stamped)) → Learns Delivers pass (owner_of made taken known) (Knows (owner_of made taken known))
+pub learns : (pass made : ℕ) (taken : List Envelope) (known : List (List Stamped)) → Learns Delivers pass (owner_of made taken known)
+    (Knows (owner_of made taken known))
 learns pass made taken known items views h here p low =
     let mine = h.owners pass (owner_of made taken known) here refl in
     ap (λ l. of p (l ++ items)) mine.2 ∙ h.whole p ∙ ap (numbered 0) (sym (mine.4 p low).1)
 
-pub splits : (pass made : ℕ) (taken : List Envelope) (known : List (List Stamped)) → Forks Delivers pass (owner_of made taken known) (owner_of (made + 1) taken known) (sender_of made [])
+pub splits : (pass made : ℕ) (taken : List Envelope) (known : List (List Stamped)) → Forks Delivers pass (owner_of made taken known)
+    (owner_of (made + 1) taken known) (sender_of made [])
 splits pass made taken known items views h here =
     let mine = h.owners pass (owner_of made taken known) here refl in
     let same : made ≡ h.made = mine.1 in
@@ -168,8 +191,14 @@ splits pass made taken known items views h here =
       owners = all_snoc (FitsOwner h.owner (h.made + 1) seat h.put h.taken) vs right
           (all_set (FitsOwner h.owner (h.made + 1) seat h.put h.taken) views pass left
           (λ _.
-          let l = mine.3 in
-          (mine.0, omega arith, mine.2, omega arith, λ p low. (at-else h.seat made (some (length vs)) p (λ eq. omega arith) ∙ (mine.4 p low).0, (mine.4 p low).1)))
+          let l = mine.3 in (
+            mine.0,
+            omega arith,
+            mine.2,
+            omega arith,
+            λ p low.
+                (at-else h.seat made (some (length vs)) p (λ eq. omega arith) ∙ (mine.4 p low).0, (mine.4 p low).1),
+          ))
           (λ j u apart e o. absurd (apart ((h.owners j u e o).0 ∙ sym mine.0))))
           (λ o. absurd (off o));
     }
@@ -228,20 +257,26 @@ joins pass made taken known other ms items views h here two there =
     }
 
 -- the steps, at a view that is known
-pub sends_as : (n pass : ℕ) (v : View) (ms : List Stamped) (e : Envelope) → v ≡ sender_of e.place ms → e.number ≡ length ms → Pushes Delivers n pass v e (Puts v e)
+pub sends_as : (n pass : ℕ) (v : View) (ms : List Stamped) (e : Envelope) → v ≡ sender_of e.place ms → e.number ≡ length ms
+    → Pushes Delivers n pass v e (Puts v e)
 sends_as n pass v ms e is num = subst (λ (u : View). Pushes Delivers n pass u e (Puts u e)) (sym is) (sends n pass ms e num)
 
-pub takes_as : (pass : ℕ) (v : View) (made : ℕ) (taken : List Envelope) (known : List (List Stamped)) → v ≡ owner_of made taken known → Pops Delivers pass v (Takes v)
+pub takes_as : (pass : ℕ) (v : View) (made : ℕ) (taken : List Envelope) (known : List (List Stamped)) → v ≡ owner_of made taken known
+    → Pops Delivers pass v (Takes v)
 takes_as pass v made taken known is = subst (λ (u : View). Pops Delivers pass u (Takes u)) (sym is) (takes pass made taken known)
 
-pub learns_as : (pass : ℕ) (v : View) (made : ℕ) (taken : List Envelope) (known : List (List Stamped)) → v ≡ owner_of made taken known → Learns Delivers pass v (Knows v)
+pub learns_as : (pass : ℕ) (v : View) (made : ℕ) (taken : List Envelope) (known : List (List Stamped)) → v ≡ owner_of made taken known
+    → Learns Delivers pass v (Knows v)
 learns_as pass v made taken known is = subst (λ (u : View). Learns Delivers pass u (Knows u)) (sym is) (learns pass made taken known)
 
-pub splits_as : (pass : ℕ) (v : View) (made : ℕ) (taken : List Envelope) (known : List (List Stamped)) → v ≡ owner_of made taken known → Forks Delivers pass v (owner_of (v.made + 1) v.taken v.known) (sender_of v.made [])
-splits_as pass v made taken known is = subst (λ (u : View). Forks Delivers pass u (owner_of (u.made + 1) u.taken u.known) (sender_of u.made [])) (sym is) (splits pass made taken known)
+pub splits_as : (pass : ℕ) (v : View) (made : ℕ) (taken : List Envelope) (known : List (List Stamped)) → v ≡ owner_of made taken known
+    → Forks Delivers pass v (owner_of (v.made + 1) v.taken v.known) (sender_of v.made [])
+splits_as pass v made taken known is = subst (λ (u : View). Forks Delivers pass u (owner_of (u.made + 1) u.taken u.known) (sender_of u.made [])) (sym is)
+    (splits pass made taken known)
 
 pub joins_as : (pass : ℕ) (v : View) (other : ℕ) (w : View) (made : ℕ) (taken : List Envelope) (known : List (List Stamped)) (place : ℕ) (ms : List Stamped)
-    → v ≡ owner_of made taken known → w ≡ sender_of place ms → place ≡ length known → Merges Delivers pass v other w (owner_of v.made v.taken (v.known ++ w.put ∷ [])) spent
+    → v ≡ owner_of made taken known → w ≡ sender_of place ms → place ≡ length known
+    → Merges Delivers pass v other w (owner_of v.made v.taken (v.known ++ w.put ∷ [])) spent
 joins_as pass v other w made taken known place ms is its at =
     subst (λ (x : View × View). Merges Delivers pass x.0 other x.1 (owner_of x.0.made x.0.taken (x.0.known ++ x.1.put ∷ [])) spent)
     (λ i. (sym is i, sym (its ∙ ap (λ p. sender_of p ms) at) i))

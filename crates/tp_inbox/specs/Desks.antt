@@ -3,7 +3,7 @@ use Rattle.std.specs.Prelude.{◌≡◌, ℕ, ◌<◌, Bool, true, false, Option
 use Rattle.tp_queue.specs.declared.event.Env.{Env}
 use Rattle.tp_queue.specs.declared.event.Event.{Event}
 use Rattle.tp_queue.specs.declared.event.TriggerAnswer.{TriggerAnswer}
-use Rattle.tp_queue.specs.declared.event.TriggerAnswer.TheVariants as answer
+use Rattle.tp_queue.specs.declared.event.TriggerAnswer.TheVariants as trigger_answer
 use Rattle.tp_queue.specs.History.{Lawful, top}
 use Rattle.tp_queue.specs.Answers.{Finds, FindsNone, Satisfies}
 use Rattle.tp_value.specs.declared.message.Message.{Message}
@@ -62,11 +62,11 @@ Receives admits from port branch d None after = FindsNone admits from (at_port d
 
 -- what `trigger` answers, and the desk after it
 abbrev pub Triggers : (Message → Type 0) → Option ℕ → ℕ → ℕ → Journal → TriggerAnswer Message → Journal → Type 0
-Triggers admits from port branch d (answer.Took e) after =
+Triggers admits from port branch d (trigger_answer.Took e) after =
     Finds admits from (at_port d port) e × (after ≡ adding d (entry.Took port e branch))
-Triggers admits from port branch d (answer.Dropped e) after =
+Triggers admits from port branch d (trigger_answer.Dropped e) after =
     (top (at_port d port) ≡ Some e) × ¬ Satisfies admits from e × (after ≡ adding d (entry.Dropped port e branch))
-Triggers admits from port branch d answer.Nothing after = (top (at_port d port) ≡ None) × (after ≡ d)
+Triggers admits from port branch d trigger_answer.Nothing after = (top (at_port d port) ≡ None) × (after ≡ d)
 
 -- the desk after a `check` that answered this
 abbrev pub checked : ℕ → ℕ → Journal → Option (Env Message) → Journal

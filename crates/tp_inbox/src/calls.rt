@@ -66,12 +66,14 @@ pub(crate) fn receive<W: Wanted<Message>>(
     ensures err { OnErr result (queue.new ≡ queue.old) }
     ensures lawful { Lawful queue.new }
 {
+    // Called for its clause: the history is lawful.
     let _ = queue.events();
     let Some(twin) = wanted_top(alloc, queue, wanted, from)? else {
         return Ok(None);
     };
     match queue.receive(&MsgTemplate::Any, None)? {
         Some(env) => Ok(Some((env, twin))),
+        // There is a top that is deliverable: it was copied just now.
         None => unreachable!(),
     }
 }
@@ -88,12 +90,14 @@ pub(crate) fn check<W: Wanted<Message>>(
     ensures err { OnErr result (queue.new ≡ queue.old) }
     ensures lawful { Lawful queue.new }
 {
+    // Called for its clause: the history is lawful.
     let _ = queue.events();
     let Some(twin) = wanted_top(alloc, queue, wanted, from)? else {
         return Ok(None);
     };
     match queue.check(&MsgTemplate::Any, None)? {
         Some(_) => Ok(Some(twin)),
+        // There is a top that is deliverable: it was copied just now.
         None => unreachable!(),
     }
 }
@@ -117,6 +121,7 @@ pub(crate) fn trigger<W: Wanted<Message>>(
     ensures err { OnErr result (queue.new ≡ queue.old) }
     ensures lawful { Lawful queue.new }
 {
+    // Called for its clause: the history is lawful.
     let _ = queue.events();
     let Some(first) = top(queue) else {
         return Ok(Triggered::Nothing);
@@ -125,6 +130,7 @@ pub(crate) fn trigger<W: Wanted<Message>>(
     match queue.trigger(wanted, from)? {
         TriggerAnswer::Took(env) => Ok(Triggered::Took(env, twin)),
         TriggerAnswer::Dropped(env) => Ok(Triggered::Dropped(env, twin)),
+        // There is a top that is deliverable: it was copied just now.
         TriggerAnswer::Nothing => unreachable!(),
     }
 }

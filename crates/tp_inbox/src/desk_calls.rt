@@ -6,7 +6,7 @@ ghost use Rattle.tp_inbox.specs.History.{IsTimely};
 use crate::desk::Desk;
 use crate::entry::Entry;
 use crate::stamped::Stamped;
-use crate::tests::{any_integer, drain_again, integer, put_again, two, way};
+use crate::tests::{any_integer, drain_again, integer, put_again, two, two_again, way};
 use std::test::Fail;
 use tp_queue::event::{Env, TriggerAnswer};
 use tp_refusal::memory::Memory;
@@ -16,21 +16,18 @@ use tp_value::verdict::Verdict;
 /// The calls of a desk on its happy path, each made again where memory is refused: what they
 /// answer, and the history.
 #[test]
-fn the_calls_of_a_desk(rt: HostRuntime) {
-    let Ok((mut ends, _floor)) = two(rt.alloc()) else {
-        return;
-    };
+fn refused_memory_leaves_a_desk_as_it_was(rt: HostRuntime) -> Result<(), Fail> {
+    let (mut ends, _floor) = two_again(rt.alloc())?;
     for n in 0..4 {
         assert!(rt; put_again(&rt, &mut ends, n as i64, n));
     }
     assert!(rt; drain_again(&rt, &mut ends));
-    let Ok(mut desk) = Ported::new(ends.into_desk()) else {
-        return;
-    };
+    let mut desk = Ported::new(ends.into_desk())?;
     for call in CALLS {
         assert!(rt; desk.again(call));
     }
     assert!(rt; desk.is_noted());
+    Ok(())
 }
 
 /// A call of a desk.
@@ -68,7 +65,8 @@ const CALLS: [Call; 13] = [
     Call::Failed,
 ];
 
-/// Whether the entry is of this kind, at port 0 and in this branch if it has one.
+/// Whether the entry is of this kind, at port 0 and in this branch if it has one. Of what was sent
+/// it is the number that is 0.
 fn is_at(entry: &Entry, name: &str, branch: usize) -> bool {
     match entry {
         Entry::Arrive(0, _, _) => name == "arrive",

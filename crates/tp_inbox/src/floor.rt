@@ -148,6 +148,7 @@ impl Floor {
                 return all_rest;
             }
         }
+        // The loop ends where nobody changed the counts in between.
         unreachable!()
     }
 
@@ -198,6 +199,7 @@ impl Place {
                 return true;
             }
         }
+        // The loop ends where nobody changed the counts in between.
         unreachable!()
     }
 
@@ -218,6 +220,7 @@ impl Place {
                 return;
             }
         }
+        // The loop ends where nobody changed the counts in between.
         unreachable!()
     }
 }

@@ -153,6 +153,7 @@ impl Gathered {
         ensures begun { IfErr result (λ back.
             AreBegun (back.1.drained ++ back.1.kept) back.1.sent) }
     {
+        // Contracts alone speak of the desk.
         let _ = desk;
         let Gathered {
             hub,
@@ -177,6 +178,7 @@ impl Gathered {
                 Some(envelope) => rest.push_reserved(hub.addressed(envelope)),
             }
         }
+        // The loop ends by a return alone.
         unreachable!()
     }
 }

@@ -32,7 +32,7 @@ pub enum Woken {
 /// looks and comes to rest under the one lock under which a push is announced: either it finds the
 /// announcement, or the announcement finds it at rest. Whoever ends a rest takes it from the floor
 /// under that same lock, and only then wakes: so a behaviour that is on its way back counts as
-/// awake. The floor is changed inside the inbox's lock, never the other way round.
+/// awake. No bell is taken while the floor is changed.
 pub(crate) struct Hub {
     /// The queue. It has a rule, and no lock.
     pub(crate) line: InboxQueue,
@@ -87,7 +87,7 @@ impl Hub {
     }
 
     /// Gives the bell back, and wakes the owner where it is to be woken. It wakes all that wait at
-    /// this inbox: a wait only borrows the owner, so that nothing here rules out that there are two.
+    /// this inbox: a wait only borrows the owner, so nothing here rules out that there are two.
     fn wake(&self, bell: MutexGuard<Bell>, wakes: bool) {
         drop(bell);
         if wakes {

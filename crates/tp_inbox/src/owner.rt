@@ -160,6 +160,7 @@ impl Owner {
             }
             self.deliver(desk)?;
         }
+        // The loop ends by a return alone.
         unreachable!()
     }
 

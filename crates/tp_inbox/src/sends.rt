@@ -2,8 +2,9 @@
 use crate::desk::Desk;
 use crate::entry::Entry;
 use crate::sender::Sender;
-use crate::tests::{Ends, Post, is_stamped, stamped, two};
+use crate::tests::{Ends, Post, is_stamped, stamped, two_again};
 use std::sync::Wait;
+use std::test::Fail;
 
 /// Sends `integer:n`, a second time where memory is refused: nothing was put or noted then.
 fn send_again<R: Wait>(rt: &R, desk: &mut Desk, sender: &mut Sender, n: i64) -> bool {
@@ -28,12 +29,11 @@ fn is_sending(entry: &Entry, n: u32) -> bool {
     }
 }
 
-/// The messages that were sent have the stamps 1 and 2 and the numbers 0 and 1, and were put.
+/// The messages that were sent have the stamps 1 and 2 and the numbers 0 and 1, and were put, also
+/// where memory was refused at first.
 #[test]
-fn what_is_sent_is_put_and_noted(rt: HostRuntime) {
-    let Ok((ends, _floor)) = two(rt.alloc()) else {
-        return;
-    };
+fn refused_memory_puts_and_notes_nothing(rt: HostRuntime) -> Result<(), Fail> {
+    let (ends, _floor) = two_again(rt.alloc())?;
     let Ends {
         post,
         mut senders,
@@ -52,4 +52,5 @@ fn what_is_sent_is_put_and_noted(rt: HostRuntime) {
         [one, other] => assert!(rt; is_sending(one, 1) && is_sending(other, 2)),
         _ => assert!(rt; false),
     }
+    Ok(())
 }

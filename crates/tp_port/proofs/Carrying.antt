@@ -11,17 +11,17 @@ use Rattle.tp_queue.specs.declared.event.Event.TheVariants as event
 use Rattle.tp_port.specs.declared.engine.Engine.{Engine}
 use Rattle.tp_queue.specs.History.{accepted, arrival, top}
 use Rattle.tp_port.specs.Line.{Line, Wish, arrive, receive, check, trigger}
-use Rattle.tp_port.specs.Replay.{Stage, seen_in, seen_if, seen, sighted, answer, events_of, found, meets, triggered, number_of, entry_or_no, triggered_text, envelope}
-use Rattle.tp_port.specs.Carried.{Carries, IsWithin, stage_of}
+use Rattle.tp_port.specs.Replay.{Progress, seen_in, seen_if, seen, sighted, answer, events_of, found, meets, triggered, sender_number, entry_or_no, triggered_text, envelope}
+use Rattle.tp_port.specs.Carried.{CarriesLine, HasCounted, progress_of}
 use Rattle.tp_queue.proofs.Words.{accepted_more}
 
-abbrev staged : List (List ℕ) → List (Event ℤ) → Stage
+abbrev staged : List (List ℕ) → List (Event ℤ) → Progress
 staged senders history = record { senders = senders; history = history }
 
--- the same stage, by its parts
-same_stage : (senders names : List (List ℕ)) (history events : List (Event ℤ)) → senders ≡ names → history ≡ events
+-- the same progress, by its parts
+same_progress : (senders names : List (List ℕ)) (history events : List (Event ℤ)) → senders ≡ names → history ≡ events
     → staged senders history ≡ staged names events
-same_stage senders names history events e f = ap (λ s. staged s history) e ∙ ap (λ h. staged names h) f
+same_progress senders names history events e f = ap (λ s. staged s history) e ∙ ap (λ h. staged names h) f
 
 accepted_quiet : (h es : List (Event ℤ)) → accepted es ≡ [] → accepted (h ++ es) ≡ accepted h
 unfolding accepted
@@ -29,13 +29,13 @@ accepted_quiet h es q = filter_map-append arrival h es ∙ ap (λ l. filter_map 
 
 -- a line with which nothing arrives
 pub carries_quiet : (old new : Engine) (line : Line) (limit : ℕ) (events : List (Event ℤ)) → accepted events ≡ []
-    → events ≡ events_of (sighted (stage_of old) line) line → new.queue ≡ old.queue ++ events
+    → events ≡ events_of (sighted (progress_of old) line) line → new.queue ≡ old.queue ++ events
     → new.senders ≡ seen_in old.senders line → length new.senders ≤ length old.senders + 1 → new.arrivals ≡ old.arrivals
-    → string_bytes new.answers ≡ string_bytes old.answers ++ answer (sighted (stage_of old) line) line
-    → IsWithin old limit → Carries old new line
+    → string_bytes new.answers ≡ string_bytes old.answers ++ answer (sighted (progress_of old) line) line
+    → HasCounted old limit → CarriesLine old new line
 carries_quiet old new line limit events quiet are queue senders few same answers within =
     record {
-      stage = same_stage _ _ _ _ senders (queue ∙ ap (λ es. old.queue ++ es) are);
+      progress = same_progress _ _ _ _ senders (queue ∙ ap (λ es. old.queue ++ es) are);
       answers = answers;
       counted = same ∙ within.counted ∙ ap length (sym (ap accepted queue ∙ accepted_quiet old.queue events quiet));
       arrivals = omega arith;
@@ -66,16 +66,16 @@ quiet_triggered value from (Some e) = quiet_either (meets value from e) e
 
 -- the number of the wanted sender is its number among the senders that are seen then
 wanted_is : (old new : Engine) (wish : Wish) (from : Option ℕ) → new.senders ≡ seen_if old.senders wish.from
-    → from ≡ option_map (number_of new.senders) wish.from
-    → from ≡ option_map (number_of (seen_if old.senders wish.from)) wish.from
-wanted_is old new wish from seen number = number ∙ ap (λ s. option_map (number_of s) wish.from) seen
+    → from ≡ option_map (sender_number new.senders) wish.from
+    → from ≡ option_map (sender_number (seen_if old.senders wish.from)) wish.from
+wanted_is old new wish from seen number = number ∙ ap (λ s. option_map (sender_number s) wish.from) seen
 
 pub carries_receive : (old new : Engine) (wish : Wish) (limit : ℕ) (from : Option ℕ)
-    → new.senders ≡ seen_if old.senders wish.from → from ≡ option_map (number_of new.senders) wish.from
+    → new.senders ≡ seen_if old.senders wish.from → from ≡ option_map (sender_number new.senders) wish.from
     → new.queue ≡ old.queue ++ map event.Took (option_to_list (found wish.value from old.queue))
     → string_bytes new.answers ≡ string_bytes old.answers ++ entry_or_no new.senders (codes "took ") (found wish.value from old.queue)
-    → length new.senders ≤ length old.senders + 1 → new.arrivals ≡ old.arrivals → IsWithin old limit
-    → Carries old new (receive wish)
+    → length new.senders ≤ length old.senders + 1 → new.arrivals ≡ old.arrivals → HasCounted old limit
+    → CarriesLine old new (receive wish)
 carries_receive old new wish limit from seen number queue text few same within =
     let is = wanted_is old new wish from seen number in
     carries_quiet old new (receive wish) limit (map event.Took (option_to_list (found wish.value from old.queue)))
@@ -87,11 +87,11 @@ carries_receive old new wish limit from seen number queue text few same within =
     within
 
 pub carries_check : (old new : Engine) (wish : Wish) (limit : ℕ) (from : Option ℕ)
-    → new.senders ≡ seen_if old.senders wish.from → from ≡ option_map (number_of new.senders) wish.from
+    → new.senders ≡ seen_if old.senders wish.from → from ≡ option_map (sender_number new.senders) wish.from
     → new.queue ≡ old.queue ++ map event.Found (option_to_list (found wish.value from old.queue))
     → string_bytes new.answers ≡ string_bytes old.answers ++ entry_or_no new.senders (codes "found ") (found wish.value from old.queue)
-    → length new.senders ≤ length old.senders + 1 → new.arrivals ≡ old.arrivals → IsWithin old limit
-    → Carries old new (check wish)
+    → length new.senders ≤ length old.senders + 1 → new.arrivals ≡ old.arrivals → HasCounted old limit
+    → CarriesLine old new (check wish)
 carries_check old new wish limit from seen number queue text few same within =
     let is = wanted_is old new wish from seen number in
     carries_quiet old new (check wish) limit (map event.Found (option_to_list (found wish.value from old.queue)))
@@ -103,11 +103,11 @@ carries_check old new wish limit from seen number queue text few same within =
     within
 
 pub carries_trigger : (old new : Engine) (wish : Wish) (limit : ℕ) (from : Option ℕ)
-    → new.senders ≡ seen_if old.senders wish.from → from ≡ option_map (number_of new.senders) wish.from
+    → new.senders ≡ seen_if old.senders wish.from → from ≡ option_map (sender_number new.senders) wish.from
     → new.queue ≡ old.queue ++ map (λ e. triggered (meets wish.value from e) e) (option_to_list (top old.queue))
     → string_bytes new.answers ≡ string_bytes old.answers ++ triggered_text new.senders wish.value from (top old.queue)
-    → length new.senders ≤ length old.senders + 1 → new.arrivals ≡ old.arrivals → IsWithin old limit
-    → Carries old new (trigger wish)
+    → length new.senders ≤ length old.senders + 1 → new.arrivals ≡ old.arrivals → HasCounted old limit
+    → CarriesLine old new (trigger wish)
 carries_trigger old new wish limit from seen number queue text few same within =
     let is = wanted_is old new wish from seen number in
     carries_quiet old new (trigger wish) limit
@@ -121,20 +121,20 @@ carries_trigger old new wish limit from seen number queue text few same within =
 
 -- an arrival
 pub carries_arrive : (old new : Engine) (name : List ℕ) (value : ℤ) (limit sender : ℕ)
-    → new.senders ≡ seen old.senders name → sender ≡ number_of new.senders name
+    → new.senders ≡ seen old.senders name → sender ≡ sender_number new.senders name
     → new.queue ≡ old.queue ++ event.Arrive (record { sender = sender; number = old.arrivals; msg = value }) ∷ []
     → string_bytes new.answers ≡ string_bytes old.answers ++ codes "queued\n"
-    → length new.senders ≤ length old.senders + 1 → new.arrivals ≡ old.arrivals + 1 → IsWithin old limit
-    → Carries old new (arrive name value)
+    → length new.senders ≤ length old.senders + 1 → new.arrivals ≡ old.arrivals + 1 → HasCounted old limit
+    → CarriesLine old new (arrive name value)
 carries_arrive old new name value limit sender sighting number queue text few more within =
-    let sent : sender ≡ number_of (seen old.senders name) name = number ∙ ap (λ s. number_of s name) sighting in
+    let sent : sender ≡ sender_number (seen old.senders name) name = number ∙ ap (λ s. sender_number s name) sighting in
     let line : Line = arrive name value in
     let env : Env ℤ = record { sender = sender; number = old.arrivals; msg = value } in
-    let is : env ≡ envelope (sighted (stage_of old) line) name value =
+    let is : env ≡ envelope (sighted (progress_of old) line) name value =
     ap (λ n. record { sender = n; number = old.arrivals; msg = value }) sent
-    ∙ ap (λ n. record { sender = number_of (seen old.senders name) name; number = n; msg = value }) within.counted in
+    ∙ ap (λ n. record { sender = sender_number (seen old.senders name) name; number = n; msg = value }) within.counted in
     record {
-      stage = same_stage _ _ _ _ sighting (queue ∙ ap (λ e. old.queue ++ event.Arrive e ∷ []) is);
+      progress = same_progress _ _ _ _ sighting (queue ∙ ap (λ e. old.queue ++ event.Arrive e ∷ []) is);
       answers = text;
       counted =
           omega (

@@ -8,10 +8,10 @@ use Rattle.std.proofs.Math.Seq.{take-append_seam}
 use Rattle.tp_port.specs.declared.replay.QueueFault.{QueueFault}
 use Rattle.tp_port.specs.declared.replay.QueueFault.TheVariants as fault
 use Rattle.tp_port.specs.Line.{Line, IsGood, IsFirstBad, Spells, Says, lines_of}
-use Rattle.tp_port.specs.Replay.{Stage, answer, sighted, after, text_from, left_text, queue_text}
+use Rattle.tp_port.specs.Replay.{Progress, answer, sighted, after, text_from, left_text, queue_text}
 use Rattle.tp_port.specs.declared.text.ReadFault.{ReadFault}
 use Rattle.tp_port.specs.declared.text.ReadFault.TheVariants as read
-use Rattle.tp_port.specs.Reading.{Takes}
+use Rattle.tp_port.specs.Reading.{TakesBytes}
 use Rattle.tp_port.specs.Faults.{HasFault, IsFaultOf, IsReadFaultOf, fault_of}
 
 get_after : {X : Type 0} (xs ys : List X) (y : X) → slice_get (xs ++ y ∷ ys) (length xs) ≡ Some y
@@ -51,17 +51,17 @@ good_all lines done rest none is good =
     subst P (sym (is ∙ ap (λ l. done ++ lines_of l) (empty_is rest none) ∙ append-nil done)) good
 
 -- whatever the rest of a text says, the answers so far and those to it are the answers to the whole
-pub record Goes (text rest : List ℕ) (s : Stage) (out : List ℕ) : Type 0 where
+pub record Goes (text rest : List ℕ) (s : Progress) (out : List ℕ) : Type 0 where
   pub on : (lines : List Line) → Says rest lines → (all : List Line) × Says text all × (out ++ text_from s lines ≡ queue_text all)
 
-pub Goes-first : (text : List ℕ) (s : Stage) (out : List ℕ) → s ≡ record { senders = []; history = [] } → out ≡ [] → Goes text text s out
+pub Goes-first : (text : List ℕ) (s : Progress) (out : List ℕ) → s ≡ record { senders = []; history = [] } → out ≡ [] → Goes text text s out
 Goes-first text s out e f =
     record { on = λ lines says. (lines, says, ap (λ o. o ++ text_from s lines) f ∙ ap (λ t. text_from t lines) e) }
 
-pub Goes-more : (text rest next line : List ℕ) (said : Line) (s t : Stage) (out more : List ℕ)
+pub Goes-more : (text rest next line : List ℕ) (said : Line) (s t : Progress) (out more : List ℕ)
     → lines_of rest ≡ line ∷ lines_of next → Spells line said → t ≡ after s said
     → more ≡ out ++ answer (sighted s said) said → Goes text rest s out → Goes text next t more
-Goes-more text rest next line said s t out more cut spells stage answers goes =
+Goes-more text rest next line said s t out more cut spells progress answers goes =
     record {
       on = λ lines says.
           let P : List (List ℕ) → Type 0 = λ ls. AllZip Spells ls (said ∷ lines) in
@@ -69,13 +69,13 @@ Goes-more text rest next line said s t out more cut spells stage answers goes =
             whole.0,
             whole.1,
             ap (λ m. m ++ text_from t lines) answers
-                ∙ ap (λ u. (out ++ answer (sighted s said) said) ++ text_from u lines) stage
+                ∙ ap (λ u. (out ++ answer (sighted s said) said) ++ text_from u lines) progress
                 ∙ append_assoc out (answer (sighted s said) said) (text_from (after s said) lines)
                 ∙ whole.2,
           );
     }
 
-pub Goes-end : (text rest : List ℕ) (s : Stage) (out : List ℕ) → length rest ≡ 0 → Goes text rest s out
+pub Goes-end : (text rest : List ℕ) (s : Progress) (out : List ℕ) → length rest ≡ 0 → Goes text rest s out
     → (all : List Line) × Says text all × (out ++ left_text s.senders s.history ≡ queue_text all)
 Goes-end text rest s out none goes =
     let P : List ℕ → Type 0 = λ r. Says r [] in goes.on [] (subst P (sym (empty_is rest none)) tt)
@@ -88,7 +88,7 @@ says_good (text ∷ texts) (line ∷ lines) says zero d h = (line, says.0)
 says_good (text ∷ texts) (line ∷ lines) says (suc k) d h = says_good texts lines says.1 k d (omega arith)
 
 -- a fault of reading
-pub reading_fault : (fault : ReadFault) (old new : Option (List ℕ)) → Takes old new (Some fault) → HasFault old new (fault_of fault)
+pub reading_fault : (fault : ReadFault) (old new : Option (List ℕ)) → TakesBytes old new (Some fault) → HasFault old new (fault_of fault)
 reading_fault read.Read None new taken = (taken.0, taken.1, tt)
 reading_fault read.Read (Some text) new taken = taken
 reading_fault read.Limit None new taken = (taken.0, taken.1, tt)
@@ -107,7 +107,7 @@ read_fault fault.Limit text taken short few h = absurd (omega arith)
 read_fault fault.Memory text taken short few h = (few, inr h)
 
 pub read_faults : (r : Result (Unit {0}) QueueFault) (old new : Option (List ℕ)) (text : List ℕ) → IfSome old (λ all. text ≡ all) → length text ≤ 1048576
-    → Takes old new None → IfErr r (IsFaultOf text) → IfErr r (HasFault old new)
+    → TakesBytes old new None → IfErr r (IsFaultOf text) → IfErr r (HasFault old new)
 read_faults (Ok x) old new text e short taken h = tt
 read_faults (Err x) None new text e short taken h = (taken.0, taken.1, tt)
 read_faults (Err x) (Some all) new text e short taken h =

@@ -2,17 +2,17 @@
 use Rattle.std.specs.Prelude.{◌≡◌, ℕ, ◌<◌, ◌≤◌, ◌⊎◌, Option, List, length, All, IfSome}
 use Rattle.std.specs.Io.KnownBytes.{Appends, Consumes}
 use Rattle.tp_port.specs.declared.text.ReadFault.{ReadFault}
-use Rattle.tp_port.specs.declared.text.ReadFault.TheVariants as read
+use Rattle.tp_port.specs.declared.text.ReadFault.TheVariants as read_fault
 use Rattle.tp_port.specs.declared.replay.QueueFault.{QueueFault}
-use Rattle.tp_port.specs.declared.replay.QueueFault.TheVariants as fault
+use Rattle.tp_port.specs.declared.replay.QueueFault.TheVariants as queue_fault
 use Rattle.tp_port.specs.Line.{Line, Says, IsGood, IsFirstBad, lines_of}
 use Rattle.tp_port.specs.Reading.{IsFull}
 use Rattle.tp_port.specs.Replay.{queue_text}
 
 abbrev pub fault_of : ReadFault → QueueFault
-fault_of read.Read = fault.Read
-fault_of read.Limit = fault.Limit
-fault_of read.Memory = fault.Memory
+fault_of read_fault.Read = queue_fault.Read
+fault_of read_fault.Limit = queue_fault.Limit
+fault_of read_fault.Memory = queue_fault.Memory
 
 -- what is written grew by the answers to the lines of the text
 abbrev pub Answers : List ℕ → Option (List ℕ) → Option (List ℕ) → Type 0
@@ -20,26 +20,26 @@ Answers text old new = (lines : List Line) × Says text lines × Appends old new
 
 -- within the limit: the first bad line, and want of memory only where no line is bad
 abbrev pub IsRefusedFor : List ℕ → QueueFault → Type 0
-IsRefusedFor text (fault.BadLine n) = IsFirstBad (lines_of text) n
-IsRefusedFor text fault.Memory = All IsGood (lines_of text)
+IsRefusedFor text (queue_fault.BadLine n) = IsFirstBad (lines_of text) n
+IsRefusedFor text queue_fault.Memory = All IsGood (lines_of text)
 IsRefusedFor text _ = ⊥
 
 -- of a text in memory: the limit comes first, then the first bad line, then want of memory, and then a failed write
 abbrev pub IsFaultOf : List ℕ → QueueFault → Type 0
-IsFaultOf text (fault.BadLine n) = IsFirstBad (lines_of text) n
-IsFaultOf text fault.Read = ⊥
-IsFaultOf text fault.Write = All IsGood (lines_of text)
-IsFaultOf text fault.Limit = 1048576 < length text
-IsFaultOf text fault.Memory = All IsGood (lines_of text)
+IsFaultOf text (queue_fault.BadLine n) = IsFirstBad (lines_of text) n
+IsFaultOf text queue_fault.Read = ⊥
+IsFaultOf text queue_fault.Write = All IsGood (lines_of text)
+IsFaultOf text queue_fault.Limit = 1048576 < length text
+IsFaultOf text queue_fault.Memory = All IsGood (lines_of text)
 
 -- of a text that is read first, where reading took so many bytes of it: the reader may fail anywhere within the limit,
 -- and memory may be wanting where the room for the text is full, whatever the text
 abbrev pub IsReadFaultOf : List ℕ → ℕ → QueueFault → Type 0
-IsReadFaultOf text taken (fault.BadLine n) = (length text ≤ 1048576) × IsFirstBad (lines_of text) n
-IsReadFaultOf text taken fault.Read = taken ≤ 1048576
-IsReadFaultOf text taken fault.Write = (length text ≤ 1048576) × All IsGood (lines_of text)
-IsReadFaultOf text taken fault.Limit = (1048576 < length text) × (taken ≡ 1048577)
-IsReadFaultOf text taken fault.Memory = (taken ≤ 1048576) × (IsFull taken ⊎ All IsGood (lines_of text))
+IsReadFaultOf text taken (queue_fault.BadLine n) = (length text ≤ 1048576) × IsFirstBad (lines_of text) n
+IsReadFaultOf text taken queue_fault.Read = taken ≤ 1048576
+IsReadFaultOf text taken queue_fault.Write = (length text ≤ 1048576) × All IsGood (lines_of text)
+IsReadFaultOf text taken queue_fault.Limit = (1048576 < length text) × (taken ≡ 1048577)
+IsReadFaultOf text taken queue_fault.Memory = (taken ≤ 1048576) × (IsFull taken ⊎ All IsGood (lines_of text))
 
 -- the same of what the reader has, where that is known
 abbrev pub HasFault : Option (List ℕ) → Option (List ℕ) → QueueFault → Type 0

@@ -15,7 +15,7 @@ use Rattle.tp_queue.specs.Answers.{halted_count}
 use Rattle.tp_port.specs.Line.{Line, arrive, receive, check, trigger, clear, start, stop, halt, Wish}
 
 -- how far a replay has come: the senders in the order of their first sight, and the port's history
-pub record Stage : Type 0 where
+pub record Progress : Type 0 where
   pub senders : List (List ℕ)
   pub history : List (Event ℤ)
 
@@ -36,16 +36,16 @@ seen_in senders (trigger wish) = seen_if senders wish.from
 seen_in senders _ = senders
 
 -- the number of a sender: its place among the senders, from 0
-abbrev pub number_of : List (List ℕ) → List ℕ → ℕ
-number_of senders name = position_or_len (pointwise nat_eq name) senders
+abbrev pub sender_number : List (List ℕ) → List ℕ → ℕ
+sender_number senders name = position_or_len (pointwise nat_eq name) senders
 
 -- the name of the sender of this number
 abbrev pub name_of : List (List ℕ) → ℕ → List ℕ
 name_of senders number = unwrap_or (slice_get senders number) []
 
 -- the envelope of an `arrive`: its number is that of the `arrive` lines before it
-abbrev pub envelope : Stage → List ℕ → ℤ → Env ℤ
-envelope s name n = record { sender = number_of s.senders name; number = length (accepted s.history); msg = n }
+abbrev pub envelope : Progress → List ℕ → ℤ → Env ℤ
+envelope s name n = record { sender = sender_number s.senders name; number = length (accepted s.history); msg = n }
 
 abbrev pub is_wanted : Pattern → ℤ → Bool
 is_wanted pattern.Any n = true
@@ -64,10 +64,10 @@ abbrev pub found : Pattern → Option ℕ → List (Event ℤ) → Option (Env �
 found value from h = option_and_then (λ e. if meets value from e then Some e else None) (top h)
 
 -- the number of the wanted sender
-abbrev pub from_of : Stage → Wish → Option ℕ
-from_of s wish = option_map (number_of s.senders) wish.from
+abbrev pub from_of : Progress → Wish → Option ℕ
+from_of s wish = option_map (sender_number s.senders) wish.from
 
-abbrev pub found_in : Stage → Wish → Option (Env ℤ)
+abbrev pub found_in : Progress → Wish → Option (Env ℤ)
 found_in s wish = found wish.value (from_of s wish) s.history
 
 -- what a trigger makes of the top
@@ -76,7 +76,7 @@ triggered true e = event.Took e
 triggered false e = event.Dropped e
 
 -- the events of a line, none or one, where its senders are seen already
-abbrev pub events_of : Stage → Line → List (Event ℤ)
+abbrev pub events_of : Progress → Line → List (Event ℤ)
 events_of s (arrive name n) = event.Arrive (envelope s name n) ∷ []
 events_of s (receive wish) = map event.Took (option_to_list (found_in s wish))
 events_of s (check wish) = map event.Found (option_to_list (found_in s wish))
@@ -112,7 +112,7 @@ halted_text None = codes "unchanged\n"
 halted_text (Some n) = counted_text (codes "halted ") n
 
 -- the answer to a line, where its senders are seen already
-abbrev pub answer : Stage → Line → List ℕ
+abbrev pub answer : Progress → Line → List ℕ
 answer s (arrive name n) = codes "queued\n"
 answer s (receive wish) = entry_or_no s.senders (codes "took ") (found_in s wish)
 answer s (check wish) = entry_or_no s.senders (codes "found ") (found_in s wish)
@@ -122,27 +122,27 @@ answer s start = counted_text (codes "cleared ") (length (queued s.history))
 answer s stop = codes "stopped\n"
 answer s halt = halted_text (halted_count (status_of s.history) s.history)
 
--- the stage at which a line is carried out: its senders are seen
-abbrev pub sighted : Stage → Line → Stage
+-- the progress at which a line is carried out: its senders are seen
+abbrev pub sighted : Progress → Line → Progress
 sighted s line = record { senders = seen_in s.senders line; history = s.history }
 
--- the stage after a line
-abbrev pub after : Stage → Line → Stage
+-- the progress after a line
+abbrev pub after : Progress → Line → Progress
 after s line = record { senders = seen_in s.senders line; history = s.history ++ events_of (sighted s line) line }
 
 -- what is queued in the end
 abbrev pub left_text : List (List ℕ) → List (Event ℤ) → List ℕ
 left_text senders h = counted_text (codes "left ") (length (queued h)) ++ flat_map (entry_text senders) (queued h)
 
--- the answers to the lines from this stage on, and then what is left
-abbrev pub text_from : Stage → List Line → List ℕ
+-- the answers to the lines from this progress on, and then what is left
+abbrev pub text_from : Progress → List Line → List ℕ
 text_from s [] = left_text s.senders s.history
 text_from s (line ∷ lines) = answer (sighted s line) line ++ text_from (after s line) lines
 
 -- before the first line: no sender is seen, and nothing has happened
-abbrev pub first_stage : Stage
-first_stage = record { senders = []; history = [] }
+abbrev pub first_progress : Progress
+first_progress = record { senders = []; history = [] }
 
 -- the text that a queue file of these lines answers
 abbrev pub queue_text : List Line → List ℕ
-queue_text lines = text_from first_stage lines
+queue_text lines = text_from first_progress lines

@@ -5,8 +5,8 @@ ghost use Rattle.tp_queue.specs.declared.event.Event.TheVariants as event;
 ghost use Rattle.tp_queue.specs.History.{top};
 ghost use Rattle.tp_port.specs.Line.{arrive, check, clear, halt, receive, start, stop, trigger};
 ghost use Rattle.tp_port.specs.Command.{line_of, wish_of};
-ghost use Rattle.tp_port.specs.Carried.{Carries, IsWithin, stage_of};
-ghost use Rattle.tp_port.specs.Replay.{entry_or_no, first_stage, found, left_text, meets, triggered, triggered_text};
+ghost use Rattle.tp_port.specs.Carried.{CarriesLine, HasCounted, progress_of};
+ghost use Rattle.tp_port.specs.Replay.{entry_or_no, first_progress, found, left_text, meets, triggered, triggered_text};
 
 use crate::answers::{write_count, write_entry_or_no, write_left};
 use crate::command::{Command, Criteria};
@@ -89,9 +89,9 @@ fn answer_trigger(
 impl<'t> Engine<'t> {
     /// Before the first line.
     pub fn new(alloc: Global) -> Engine<'t>
-        ensures stage { stage_of result ≡ first_stage }
+        ensures progress { progress_of result ≡ first_progress }
         ensures answers { string_bytes result.answers ≡ [] }
-        ensures within { IsWithin result 0 }
+        ensures within { HasCounted result 0 }
     {
         Engine {
             senders: Senders::new(alloc),
@@ -102,8 +102,8 @@ impl<'t> Engine<'t> {
     }
 
     fn arrive(&mut self, name: &'t str, value: i64) -> Result<(), Memory>
-        requires { IsWithin self.old TEXT_LIMIT }
-        ensures { OnOk result (Carries self.old self.new (arrive name.now value)) }
+        requires { HasCounted self.old TEXT_LIMIT }
+        ensures { OnOk result (CarriesLine self.old self.new (arrive name.now value)) }
     {
         let sender = self.senders.number(name)?;
         let env = Env {
@@ -122,8 +122,8 @@ impl<'t> Engine<'t> {
     }
 
     fn receive(&mut self, criteria: Criteria<'t>) -> Result<(), Memory>
-        requires { IsWithin self.old TEXT_LIMIT }
-        ensures { OnOk result (Carries self.old self.new (receive (wish_of criteria.entry))) }
+        requires { HasCounted self.old TEXT_LIMIT }
+        ensures { OnOk result (CarriesLine self.old self.new (receive (wish_of criteria.entry))) }
     {
         let from = self.senders.wanted(criteria.from)?;
         let value = criteria.value;
@@ -138,8 +138,8 @@ impl<'t> Engine<'t> {
     }
 
     fn check(&mut self, criteria: Criteria<'t>) -> Result<(), Memory>
-        requires { IsWithin self.old TEXT_LIMIT }
-        ensures { OnOk result (Carries self.old self.new (check (wish_of criteria.entry))) }
+        requires { HasCounted self.old TEXT_LIMIT }
+        ensures { OnOk result (CarriesLine self.old self.new (check (wish_of criteria.entry))) }
     {
         let from = self.senders.wanted(criteria.from)?;
         let value = criteria.value;
@@ -154,8 +154,8 @@ impl<'t> Engine<'t> {
     }
 
     fn trigger(&mut self, criteria: Criteria<'t>) -> Result<(), Memory>
-        requires { IsWithin self.old TEXT_LIMIT }
-        ensures { OnOk result (Carries self.old self.new (trigger (wish_of criteria.entry))) }
+        requires { HasCounted self.old TEXT_LIMIT }
+        ensures { OnOk result (CarriesLine self.old self.new (trigger (wish_of criteria.entry))) }
     {
         let from = self.senders.wanted(criteria.from)?;
         let value = criteria.value;
@@ -170,8 +170,8 @@ impl<'t> Engine<'t> {
     }
 
     fn clear(&mut self) -> Result<(), Memory>
-        requires { IsWithin self.old TEXT_LIMIT }
-        ensures { OnOk result (Carries self.old self.new clear) }
+        requires { HasCounted self.old TEXT_LIMIT }
+        ensures { OnOk result (CarriesLine self.old self.new clear) }
     {
         let count = self.queue.clear()?;
         write_count(&mut self.answers, "cleared ", count)?;
@@ -179,8 +179,8 @@ impl<'t> Engine<'t> {
     }
 
     fn start(&mut self) -> Result<(), Memory>
-        requires { IsWithin self.old TEXT_LIMIT }
-        ensures { OnOk result (Carries self.old self.new start) }
+        requires { HasCounted self.old TEXT_LIMIT }
+        ensures { OnOk result (CarriesLine self.old self.new start) }
     {
         let count = self.queue.start()?;
         write_count(&mut self.answers, "cleared ", count)?;
@@ -188,8 +188,8 @@ impl<'t> Engine<'t> {
     }
 
     fn stop(&mut self) -> Result<(), Memory>
-        requires { IsWithin self.old TEXT_LIMIT }
-        ensures { OnOk result (Carries self.old self.new stop) }
+        requires { HasCounted self.old TEXT_LIMIT }
+        ensures { OnOk result (CarriesLine self.old self.new stop) }
     {
         self.queue.stop()?;
         self.answers.push_str("stopped\n")?;
@@ -197,8 +197,8 @@ impl<'t> Engine<'t> {
     }
 
     fn halt(&mut self) -> Result<(), Memory>
-        requires { IsWithin self.old TEXT_LIMIT }
-        ensures { OnOk result (Carries self.old self.new halt) }
+        requires { HasCounted self.old TEXT_LIMIT }
+        ensures { OnOk result (CarriesLine self.old self.new halt) }
     {
         match self.queue.halt()? {
             Some(count) => write_count(&mut self.answers, "halted ", count)?,
@@ -207,10 +207,10 @@ impl<'t> Engine<'t> {
         Ok(())
     }
 
-    /// Carries the command out, and adds its answer.
+    /// CarriesLine the command out, and adds its answer.
     pub fn perform(&mut self, command: Command<'t>) -> Result<(), Memory>
-        requires { IsWithin self.old TEXT_LIMIT }
-        ensures { OnOk result (Carries self.old self.new (line_of command.entry)) }
+        requires { HasCounted self.old TEXT_LIMIT }
+        ensures { OnOk result (CarriesLine self.old self.new (line_of command.entry)) }
     {
         match command {
             Command::Arrive(name, value) => self.arrive(name, value),

@@ -1,6 +1,6 @@
 //! The senders of a queue file.
 ghost use Rattle.std.specs.Prelude.{◌≡◌, ◌+◌, ◌<◌, ◌≤◌, ◌^◌, [], length, IfOk, OnOk};
-ghost use Rattle.tp_port.specs.Replay.{name_of, number_of, seen, seen_if};
+ghost use Rattle.tp_port.specs.Replay.{name_of, sender_number, seen, seen_if};
 ghost use Rattle.std.specs.Option.{option_copied, option_map};
 
 use indexmap::IndexSet;
@@ -36,7 +36,7 @@ impl<'t> Senders<'t> {
     pub fn number(&mut self, name: &'t str) -> Result<u32, Memory>
         requires { length self.old < 2 ^ 32 }
         ensures seen { OnOk result (self.new ≡ seen self.old name.now) }
-        ensures number { IfOk result (λ number. number ≡ number_of self.new name.now) }
+        ensures number { IfOk result (λ number. number ≡ sender_number self.new name.now) }
         ensures few { OnOk result (length self.new ≤ length self.old + 1) }
     {
         let (number, _) = self.names.insert_full(name)?;
@@ -48,7 +48,7 @@ impl<'t> Senders<'t> {
         requires { length self.old < 2 ^ 32 }
         ensures seen { OnOk result (self.new ≡ seen_if self.old (option_copied from.entry)) }
         ensures number { IfOk result (λ number.
-            number ≡ option_map (number_of self.new) (option_copied from.entry)) }
+            number ≡ option_map (sender_number self.new) (option_copied from.entry)) }
         ensures few { OnOk result (length self.new ≤ length self.old + 1) }
     {
         match from {

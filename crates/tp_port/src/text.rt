@@ -2,8 +2,8 @@
 ghost use Rattle.std.specs.Prelude.{◌≡◌, ◌≢◌, ◌+◌, ◌<◌, ◌≤◌, Err, IfErr, IfOk, IfSome, OnErr, OnOk, drop, length, take, vec_len};
 ghost use Rattle.std.specs.Result.{result_err};
 ghost use Rattle.std.specs.Io.KnownBytes.{Consumes, IsAtEnd, Keeps};
-ghost use Rattle.tp_port.specs.declared.text.ReadFault.TheVariants as fault;
-ghost use Rattle.tp_port.specs.Reading.{IsFull, IsRoom, Takes};
+ghost use Rattle.tp_port.specs.declared.text.ReadFault.TheVariants as read_fault;
+ghost use Rattle.tp_port.specs.Reading.{IsFull, IsRoom, TakesBytes};
 
 use std::alloc::{AllocError, Global};
 use std::io::{ErrorKind, Read};
@@ -38,9 +38,10 @@ pub fn read_text<R: Read>(alloc: Global, reader: &mut R) -> Result<Vec<u8>, Read
         IfSome (R.remaining reader.old) (λ all. text.items ≡ all)) }
     ensures end { OnOk result (IsAtEnd (R.remaining reader.new)) }
     ensures short { IfOk result (λ text. length text.items ≤ 1048576) }
-    ensures long { result ≡ Err fault.Limit
+    ensures long { result ≡ Err read_fault.Limit
         → IfSome (R.remaining reader.old) (λ all. 1048576 < length all) }
-    ensures taken { Takes (R.remaining reader.old) (R.remaining reader.new) (result_err result) }
+    ensures taken { TakesBytes
+        (R.remaining reader.old) (R.remaining reader.new) (result_err result) }
 {
     let mut text = Vec::new(alloc);
     let mut size = 0;

@@ -4,7 +4,7 @@ use Rattle.tp_queue.specs.declared.event.Env.{Env}
 use Rattle.tp_queue.specs.declared.event.Event.{Event}
 use Rattle.tp_queue.specs.declared.event.Event.TheVariants as event
 use Rattle.tp_queue.specs.declared.event.TriggerAnswer.{TriggerAnswer}
-use Rattle.tp_queue.specs.declared.event.TriggerAnswer.TheVariants as answer
+use Rattle.tp_queue.specs.declared.event.TriggerAnswer.TheVariants as trigger_answer
 use Rattle.tp_queue.specs.declared.event.Status.{Status}
 use Rattle.tp_queue.specs.declared.event.Status.TheVariants as status
 use Rattle.tp_queue.specs.History.{top, queued}
@@ -45,10 +45,10 @@ TakesOut received h None after = (top h ≡ None) × (after ≡ h)
 -- what `trigger` answers, and the history after it
 abbrev pub Triggers : {M : Type 0} → (M → Type 0) → Option ℕ → List (Event M)
     → TriggerAnswer M → List (Event M) → Type 0
-Triggers admits from h (answer.Took e) after = Finds admits from h e × (after ≡ h ++ event.Took e ∷ [])
-Triggers admits from h (answer.Dropped e) after =
+Triggers admits from h (trigger_answer.Took e) after = Finds admits from h e × (after ≡ h ++ event.Took e ∷ [])
+Triggers admits from h (trigger_answer.Dropped e) after =
     (top h ≡ Some e) × ¬ Satisfies admits from e × (after ≡ h ++ event.Dropped e ∷ [])
-Triggers admits from h answer.Nothing after = (top h ≡ None) × (after ≡ h)
+Triggers admits from h trigger_answer.Nothing after = (top h ≡ None) × (after ≡ h)
 
 -- the top, if there is one, was noted as found
 abbrev pub Notes : {M : Type 0} → List (Event M) → List (Event M) → Type 0

@@ -81,6 +81,7 @@ impl<M: Payload> PortQueue<M> {
         }
         match self.entries.push_back(env) {
             Ok(()) => Ok(()),
+            // Room for it was taken above.
             Err(_) => unreachable!(),
         }
     }
@@ -100,6 +101,7 @@ impl<M: Payload> PortQueue<M> {
         ensures err { OnErr result (self.new ≡ self.old) }
         ensures lawful { Lawful self.new }
     {
+        // Named, so that what always holds of these fields is known here.
         let _ = &self.events;
         if self.offers(wanted, from) {
             self.take_out(true)
@@ -121,6 +123,7 @@ impl<M: Payload> PortQueue<M> {
         ensures found { IfOk result (λ answer.
             Checks (W.admits wanted.now) from self.old (option_copied answer)) }
     {
+        // Named, so that what always holds of these fields is known here.
         let _ = &self.events;
         if !self.offers(wanted, from) {
             return Ok(None);
@@ -144,6 +147,7 @@ impl<M: Payload> PortQueue<M> {
         ensures err { OnErr result (self.new ≡ self.old) }
         ensures lawful { Lawful self.new }
     {
+        // Named, so that what always holds of these fields is known here.
         let _ = &self.events;
         let fits = match self.top() {
             None => return Ok(TriggerAnswer::Nothing),

@@ -57,22 +57,29 @@ module _ (types : Types) where
   abbrev Checked : Type 0
   Checked = (v : Value) × Agrees types v
 
-  all : (t : Ty) (xs : List Checked) → Decides (list_all (λ (is : Ty → Bool). is t) (map (λ w u. is_typed types u w) (map (λ (e : Checked). e.0) xs))) (AllHave (λ w u. HasType types u w) t (map (λ (e : Checked). e.0) xs))
+  all : (t : Ty) (xs : List Checked) → Decides (list_all (λ (is : Ty → Bool). is t) (map (λ w u. is_typed types u w) (map (λ (e : Checked). e.0) xs)))
+      (AllHave (λ w u. HasType types u w) t (map (λ (e : Checked). e.0) xs))
   all t [] = (λ _. tt, λ _. refl)
   all t (x ∷ xs) = both _ _ _ _ (x.1 t) (all t xs)
 
-  fields : (fs : List Field) (xs : List Checked) → Decides (are_fields (λ (is : Ty → Bool). is) fs (map (λ w u. is_typed types u w) (map (λ (e : Checked). e.0) xs))) (FieldsHave (λ w u. HasType types u w) fs (map (λ (e : Checked). e.0) xs))
+  fields : (fs : List Field) (xs : List Checked)
+      → Decides (are_fields (λ (is : Ty → Bool). is) fs (map (λ w u. is_typed types u w) (map (λ (e : Checked). e.0) xs)))
+      (FieldsHave (λ w u. HasType types u w) fs (map (λ (e : Checked). e.0) xs))
   fields [] [] = (λ _. tt, λ _. refl)
   fields [] (x ∷ xs) = (λ e. absurd (true≢false (sym e)), λ h. absurd h)
   fields (f ∷ fs) [] = (λ e. absurd (true≢false (sym e)), λ h. absurd h)
   fields (f ∷ fs) (x ∷ xs) = both _ _ _ _ (x.1 f.ty) (fields fs xs)
 
-  a_record : (xs : List Checked) (d : Option TypeDef) → Decides (is_record (λ (is : Ty → Bool). is) (map (λ w u. is_typed types u w) (map (λ (e : Checked). e.0) xs)) d) (RecordHas (λ w u. HasType types u w) (map (λ (e : Checked). e.0) xs) d)
+  a_record : (xs : List Checked) (d : Option TypeDef)
+      → Decides (is_record (λ (is : Ty → Bool). is) (map (λ w u. is_typed types u w) (map (λ (e : Checked). e.0) xs)) d)
+      (RecordHas (λ w u. HasType types u w) (map (λ (e : Checked). e.0) xs) d)
   a_record xs None = (λ e. absurd (true≢false (sym e)), λ h. absurd h)
   a_record xs (Some (def.Record fs)) = fields fs xs
   a_record xs (Some (def.ListOf t)) = (λ e. absurd (true≢false (sym e)), λ h. absurd h)
 
-  a_list : (xs : List Checked) (d : Option TypeDef) → Decides (is_list (λ (is : Ty → Bool). is) (map (λ w u. is_typed types u w) (map (λ (e : Checked). e.0) xs)) d) (ListHas (λ w u. HasType types u w) (map (λ (e : Checked). e.0) xs) d)
+  a_list : (xs : List Checked) (d : Option TypeDef)
+      → Decides (is_list (λ (is : Ty → Bool). is) (map (λ w u. is_typed types u w) (map (λ (e : Checked). e.0) xs)) d)
+      (ListHas (λ w u. HasType types u w) (map (λ (e : Checked). e.0) xs) d)
   a_list xs None = (λ e. absurd (true≢false (sym e)), λ h. absurd h)
   a_list xs (Some (def.Record fs)) = (λ e. absurd (true≢false (sym e)), λ h. absurd h)
   a_list xs (Some (def.ListOf t)) = all t xs
@@ -93,5 +100,7 @@ module _ (types : Types) where
 
   pub typed : (v : Value) → Agrees types v
   typed = ind-Value (Agrees types) (λ x y is t.
-      let here = subst (λ z. Decides (is_typed_layer types (map-Value Value (Ty → Bool) (λ w u. is_typed types u w) z) t) (value_has types Value (λ w. w) (λ w u. HasType types u w) z t)) is (layer y t) in
-      subst (λ (P : Type 0). Decides (is_typed types t (roll-Value x)) P) (sym (has_roll types t x)) (subst (λ b. Decides b (value_has types Value (λ w. w) (λ w u. HasType types u w) x t)) (sym (rolled x t)) here))
+      let here = subst (λ z. Decides (is_typed_layer types (map-Value Value (Ty → Bool) (λ w u. is_typed types u w) z) t)
+      (value_has types Value (λ w. w) (λ w u. HasType types u w) z t)) is (layer y t) in
+      subst (λ (P : Type 0). Decides (is_typed types t (roll-Value x)) P) (sym (has_roll types t x))
+      (subst (λ b. Decides b (value_has types Value (λ w. w) (λ w u. HasType types u w) x t)) (sym (rolled x t)) here))

@@ -33,7 +33,8 @@ module _ (s : Setup) (c : CompId) (port : ℕ) where
   other rest v none all true = subst (λ o. All HasSender (cons_option o (filter_map arrival rest))) (sym none) all
   other rest v none all false = all
 
-  more : (e : Entry) → IsKnown s c e → (rest : List (Event Message)) → All HasSender (filter_map arrival rest) → All HasSender (filter_map arrival (cons_option (event_at port e) rest))
+  more : (e : Entry) → IsKnown s c e → (rest : List (Event Message)) → All HasSender (filter_map arrival rest)
+      → All HasSender (filter_map arrival (cons_option (event_at port e) rest))
   more (entry.Arrive p env stamp) h rest all = arrives rest env h.1 all (port == p)
   more (entry.Took p env branch) h rest all = other rest (event.Took env) refl all (port == p)
   more (entry.Found p env branch) h rest all = other rest (event.Found env) refl all (port == p)

@@ -23,10 +23,12 @@ unfolding decl_at ports_at
 component_of s p h =
     elim ((slice_get_cases s.components p.comp.0).1) [
       | inl w ↦ w.1
-      | inr w ↦ absurd (false≢true (subst (λ (o : Option Member). IsSome (slice_get (option_map_or (λ (m : Member). get_or s.types m.kind []) o []) p.port)) w.1 h))
+      | inr w ↦ absurd
+          (false≢true (subst (λ (o : Option Member). IsSome (slice_get (option_map_or (λ (m : Member). get_or s.types m.kind []) o []) p.port)) w.1 h))
     ]
 
-named : {A : Type 0} (es : List (String A × PortType)) (k : ℕ) → get_or (map (λ (d : PortDecl). d.name) (map decl_of es)) k [] ≡ option_map_or (λ e. string_bytes e.0) (slice_get es k) []
+named : {A : Type 0} (es : List (String A × PortType)) (k : ℕ) → get_or (map (λ (d : PortDecl). d.name) (map decl_of es)) k [] ≡ option_map_or
+    (λ e. string_bytes e.0) (slice_get es k) []
 named [] k = refl
 named (e ∷ es) zero = refl
 named (e ∷ es) (suc k) = named es k

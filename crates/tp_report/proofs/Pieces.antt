@@ -28,7 +28,8 @@ pub then : {T E : Type 0} (r : Result T E) (a b c : Option (List ℕ)) (x y : Li
 then (Err e) a b c x y p q = tt
 then (Ok v) a b c x y p q = appends_both a b c x y p q
 
-pub typed_text : (types : Types) (m : Message) → is_typed types m.ty m.value ≡ true → type_name types m.ty ++ (codes ":" ++ value_text types m.ty m.value) ≡ message_text types m
+pub typed_text : (types : Types) (m : Message) → is_typed types m.ty m.value ≡ true → type_name types m.ty ++ (codes ":" ++ value_text types m.ty m.value)
+    ≡ message_text types m
 unfolding message_text
 typed_text types m e = sym (ap (λ b. cond b (type_name types m.ty ++ (codes ":" ++ value_text types m.ty m.value)) (codes "-")) e)
 
@@ -43,13 +44,17 @@ nothing (Ok v) a b text same none = subst (λ (c : Option (List ℕ)). Appends a
 taken : {X : Type 0} (xs : List X) (i : ℕ) (x : X) → i < length xs → x ≡ get_or xs i x → take (i + 1) xs ≡ take i xs ++ x ∷ []
 taken [] i x h is = absurd (omega arith)
 taken (y ∷ xs) zero x h is = ap (λ z. z ∷ []) (sym is)
-taken (y ∷ xs) (suc i) x h is = ap (λ k. take k (y ∷ xs)) (add-one (suc i)) ∙ ap (λ l. y ∷ l) (sym (ap (λ k. take k xs) (add-one i)) ∙ taken xs i x (omega arith) is)
+taken (y ∷ xs) (suc i) x h is = ap (λ k. take k (y ∷ xs)) (add-one (suc i))
+    ∙ ap (λ l. y ∷ l) (sym (ap (λ k. take k xs) (add-one i)) ∙ taken xs i x (omega arith) is)
 
 -- one text more, where each element has one
 pub one_more : {X : Type 0} (text : X → List ℕ) (xs : List X) (i : ℕ) (x : X) → i < length xs → x ≡ get_or xs i x
-    → (start here now : Option (List ℕ)) → Appends start here (flat_map text (take i xs)) → Appends here now (text x) → Appends start now (flat_map text (take (i + 1) xs))
+    → (start here now : Option (List ℕ)) → Appends start here (flat_map text (take i xs)) → Appends here now (text x)
+    → Appends start now (flat_map text (take (i + 1) xs))
 one_more text xs i x h is start here now p q =
-    subst (Appends start now) (sym (ap (flat_map text) (taken xs i x h is) ∙ flat_map-append text (take i xs) (x ∷ []) ∙ ap (λ l. flat_map text (take i xs) ++ l) (append-nil (text x))))
+    subst (Appends start now)
+    (sym (ap (flat_map text) (taken xs i x h is) ∙ flat_map-append text (take i xs) (x ∷ []) ∙ ap (λ l. flat_map text (take i xs) ++ l)
+    (append-nil (text x))))
     (appends_both start here now (flat_map text (take i xs)) (text x) p q)
 
 -- all of them
@@ -65,31 +70,39 @@ there : {X : Type 0} (xs : List X) (i : ℕ) (x : X) → slice_get xs i ≡ Some
 there xs i x e = elim ((slice_get_cases xs i).1) [ inl w ↦ w.1 | inr w ↦ absurd (cc) ]
 
 pub one_more_at : {X : Type 0} (text : X → List ℕ) (xs : List X) (i : ℕ) (x : X) → slice_get xs i ≡ Some x
-    → (start here now : Option (List ℕ)) → Appends start here (flat_map text (take i xs)) → Appends here now (text x) → Appends start now (flat_map text (take (i + 1) xs))
+    → (start here now : Option (List ℕ)) → Appends start here (flat_map text (take i xs)) → Appends here now (text x)
+    → Appends start now (flat_map text (take (i + 1) xs))
 one_more_at text xs i x e = one_more text xs i x (there xs i x e) (sym (get_or_from_slice_get xs i x x e))
 
 -- what is left at one port more
 pub left_more : (made : Made) (d : Journal) (n : ℕ) (c : CompId) (h : List (Event Message)) → c ≡ d.comp → h ≡ at_port d n
-    → (start here now : Option (List ℕ)) → Appends start here (left_below made d n) → Appends here now (flat_map (envelope_line made (codes "left") (port_of c n)) (queued h))
+    → (start here now : Option (List ℕ)) → Appends start here (left_below made d n)
+    → Appends here now (flat_map (envelope_line made (codes "left") (port_of c n)) (queued h))
     → Appends start now (left_below made d (n + 1))
 unfolding left_at
 left_more made d n c h own is start here now p q =
     let at : flat_map (envelope_line made (codes "left") (port_of c n)) (queued h) ≡ left_at made d n =
-    ap (λ k. flat_map (envelope_line made (codes "left") (port_of c n)) (queued k)) is ∙ ap (λ e. flat_map (envelope_line made (codes "left") (port_of e n)) (queued (at_port d n))) own in
-    subst (λ k. Appends start now (left_below made d k)) (sym (add-one n)) (appends_both start here now (left_below made d n) (left_at made d n) p (subst (Appends here now) at q))
+    ap (λ k. flat_map (envelope_line made (codes "left") (port_of c n)) (queued k)) is
+    ∙ ap (λ e. flat_map (envelope_line made (codes "left") (port_of e n)) (queued (at_port d n))) own in
+    subst (λ k. Appends start now (left_below made d k)) (sym (add-one n))
+    (appends_both start here now (left_below made d n) (left_at made d n) p (subst (Appends here now) at q))
 
 pub whole_component : {T E : Type 0} (r : Result T E) (made : Made) (x : CompReport) (c : CompId) (k : List Entry) → c ≡ x.desk.comp → k ≡ x.desk.log
     → (start headed noted ended judged done : Option (List ℕ)) → Appends start headed (heading made c) → Appends headed noted (flat_map (entry_text made c) k)
-    → Appends noted ended (end_text x.ending) → Appends ended judged (verdict_line (codes "verdict") x.verdict) → OnOk r (Appends judged done (left_below made x.desk x.desk.ports))
+    → Appends noted ended (end_text x.ending) → Appends ended judged (verdict_line (codes "verdict") x.verdict)
+    → OnOk r (Appends judged done (left_below made x.desk x.desk.ports))
     → OnOk r (Appends start done (component_text made x))
 unfolding component_text
 whole_component r made x c k own is start headed noted ended judged done name entries end verdict left =
     then r start headed done _ _ (subst (λ e. Appends start headed (heading made e)) own name)
-    (then r headed noted done _ _ (subst (λ e. Appends headed noted (flat_map (entry_text made e) x.desk.log)) own (subst (λ l. Appends headed noted (flat_map (entry_text made c) l)) is entries))
+    (then r headed noted done _ _
+    (subst (λ e. Appends headed noted (flat_map (entry_text made e) x.desk.log)) own
+    (subst (λ l. Appends headed noted (flat_map (entry_text made c) l)) is entries))
     (then r noted ended done _ _ end (then r ended judged done _ _ verdict left)))
 
 pub whole_report : {T E : Type 0} (r : Result T E) (made : Made) (report : Report) (xs : List CompReport) → xs ≡ report.components.items
-    → (start here done : Option (List ℕ)) → Appends start here (flat_map (component_text made) xs) → OnOk r (Appends here done (verdict_line (codes "result") report.result))
+    → (start here done : Option (List ℕ)) → Appends start here (flat_map (component_text made) xs)
+    → OnOk r (Appends here done (verdict_line (codes "result") report.result))
     → OnOk r (Appends start done (report_text made report))
 unfolding report_text
 whole_report r made report xs is start here done components result =

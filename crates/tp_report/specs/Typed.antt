@@ -5,7 +5,7 @@ use Rattle.tp_value.specs.declared.types.Ty.{Ty}
 use Rattle.tp_value.specs.declared.types.Ty.TheVariants as ty
 use Rattle.tp_value.specs.declared.types.Field.{Field}
 use Rattle.tp_value.specs.declared.types.TypeDef.{TypeDef}
-use Rattle.tp_value.specs.declared.types.TypeDef.TheVariants as def
+use Rattle.tp_value.specs.declared.types.TypeDef.TheVariants as type_def
 use Rattle.tp_value.specs.declared.types.Types.{Types}
 use Rattle.tp_value.specs.declared.value.Value.{Value}
 use Rattle.tp_value.specs.declared.value.Value.TheOpen as v
@@ -42,14 +42,14 @@ are_fields is (f ∷ fs) [] = false
 
 -- the definition is a record, and the values have the types of its fields
 abbrev pub is_record : {X : Type 0} → (X → Ty → Bool) → List X → Option TypeDef → Bool
-is_record is xs (Some (def.Record fs)) = are_fields is fs xs
-is_record is xs (Some (def.ListOf t)) = false
+is_record is xs (Some (type_def.Record fs)) = are_fields is fs xs
+is_record is xs (Some (type_def.ListOf t)) = false
 is_record is xs None = false
 
 -- the definition is a record of, and the values have its type
 abbrev pub is_list : {X : Type 0} → (X → Ty → Bool) → List X → Option TypeDef → Bool
-is_list is xs (Some (def.Record fs)) = false
-is_list is xs (Some (def.ListOf t)) = list_all (λ x. is x t) xs
+is_list is xs (Some (type_def.Record fs)) = false
+is_list is xs (Some (type_def.ListOf t)) = list_all (λ x. is x t) xs
 is_list is xs None = false
 
 -- one layer of a value, with the answers for the values inside

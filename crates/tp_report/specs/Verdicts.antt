@@ -8,7 +8,7 @@ use Rattle.tp_value.specs.Verdicts.{worse}
 use Rattle.tp_inbox.specs.declared.entry.Entry.{Entry}
 use Rattle.tp_inbox.specs.declared.entry.Entry.TheVariants as entry
 use Rattle.tp_report.specs.declared.ending.End.{End}
-use Rattle.tp_report.specs.declared.ending.End.TheVariants as ending
+use Rattle.tp_report.specs.declared.ending.End.TheVariants as end
 use Rattle.tp_report.specs.declared.report.CompReport.{CompReport}
 
 -- the worst of these, `none` where there are none
@@ -30,7 +30,7 @@ unfoldable pub local_verdict : List Entry → Verdict
 local_verdict k = if list_any is_failure k then verdict.Error else worst (filter_map verdict_set k)
 
 abbrev pub is_waiting : End → Bool
-is_waiting ending.Waiting = true
+is_waiting end.Waiting = true
 is_waiting _ = false
 
 -- the overall verdict: `error` if a behaviour waits in the end, else the worst of the local ones

@@ -19,17 +19,17 @@ use Rattle.tp_setup.specs.Definitions.{component_type_names, functions}
 use Rattle.tp_setup.specs.Rules.{sut}
 use Rattle.tp_setup.specs.Components.{IsMember, component_list, creations, created, interface, main_component, variable, variables}
 use Rattle.tp_setup.specs.Configuring.{IsStep, Makes, nothing, one_more, interface_number}
-use Rattle.tp_setup.specs.Starting.{IsStartPlace, IsStarted, started_names, type_names_of}
+use Rattle.tp_setup.specs.Starting.{IsStartPlace, IsStartOf, started_names, type_names_of}
 use Rattle.tp_setup.specs.Prepared.{IsPreparedOf}
 use Rattle.tp_setup.proofs.Steps.{zip_at}
 use Rattle.tp_body.specs.declared.body.Body.{Body}
 use Rattle.tp_script.specs.declared.bodies.Bodies.{Bodies}
-use Rattle.tp_script.specs.declared.part.Part.{Part}
+use Rattle.tp_script.specs.declared.instance.Instance.{Instance}
 use Rattle.tp_script.specs.Scopes.{IsMainBody, IsFunctionBody}
-use Rattle.tp_script.specs.Duties as d
-use Rattle.tp_script.specs.Duties.{Duty, Does}
-use Rattle.tp_script.specs.Parts as parts
-use Rattle.tp_script.specs.Parts.{known_in, body_in, duty_of, IsPart, AreParts, part_count}
+use Rattle.tp_script.specs.Behaviours as d
+use Rattle.tp_script.specs.Behaviours.{Behaviour, Does}
+use Rattle.tp_script.specs.Instances as instances
+use Rattle.tp_script.specs.Instances.{known_in, body_in, behaviour_of, IsInstance, AreInstances, instance_count}
 use Rattle.tp_script.specs.TestCases.{known_of, AreKinds, IsTestCaseOf}
 
 -- a setup statement leaves the component types and the components
@@ -96,7 +96,7 @@ module _ (m : Module) (p : Prepared) (of : IsPreparedOf m p) where
       AllZip-long (IsStartPlace (started_names p.case.case.now.starts.items)) (variables p.case.case.now.setups.items) p.starts.places.items of.starts.all
       ∙ length-map (creations p.case.case.now.setups.items) variable
 
-  pub everyone : length p.config.components ≡ part_count p
+  pub everyone : length p.config.components ≡ instance_count p
   everyone =
       let kept = (makes_keeps (interface_number p.case.case.now) of.config.set_up.start p.case.case.now.setups.items p.config of.config.set_up.makes).1 in
       let listed =
@@ -113,45 +113,47 @@ module _ (m : Module) (p : Prepared) (of : IsPreparedOf m p) where
 
   module _ (bodies : Bodies) (own : IsMainBody (known_in p) p.case.case.now bodies.main)
       (others : AllZip (IsFunctionBody (known_in p)) (functions m) bodies.functions.items) where
-    -- a part whose body is known makes this duty
-    made_of : (x : Part) (b : Body) → body_in bodies x.source ≡ Some b
-        → duty_of bodies (Some x) ≡ Some (record { body = b; references = map (λ c. c.0) x.references.items })
+    -- a instance whose body is known makes this behaviour
+    made_of : (x : Instance) (b : Body) → body_in bodies x.source ≡ Some b
+        → behaviour_of bodies (Some x) ≡ Some (record { body = b; references = map (λ c. c.0) x.references.items })
     made_of x b e = ap (option_map (λ (b : Body). record { body = b; references = map (λ c. c.0) x.references.items })) e
 
-    part_does : (k : ℕ) (x : Option Part) → IsPart p k x → Does (known_in p) (functions m) p.case.case.now p.starts k (duty_of bodies x)
-    part_does k x (parts.main part src refs) =
-        subst (Does (known_in p) (functions m) p.case.case.now p.starts 0) (sym (made_of part bodies.main (ap (body_in bodies) src)))
-        (d.main (record { body = bodies.main; references = map (λ c. c.0) part.references.items }) own refs)
-    part_does k x (parts.started j place s part there start src refs) =
+    instance_does : (k : ℕ) (x : Option Instance) → IsInstance p k x → Does (known_in p) (functions m) p.case.case.now p.starts k (behaviour_of bodies x)
+    instance_does k x (instances.main instance src refs) =
+        subst (Does (known_in p) (functions m) p.case.case.now p.starts 0) (sym (made_of instance bodies.main (ap (body_in bodies) src)))
+        (d.main (record { body = bodies.main; references = map (λ c. c.0) instance.references.items }) own refs)
+    instance_does k x (instances.started j place s instance there start src refs) =
         let begun =
-        zip_at (IsStarted (functions m) (variables p.case.case.now.setups.items) (type_names_of p.case.case.now)) p.case.case.now.starts.items
+        zip_at (IsStartOf (functions m) (variables p.case.case.now.setups.items) (type_names_of p.case.case.now)) p.case.case.now.starts.items
         p.starts.starts.items place s of.starts.starts start in
         let found = zip_from (IsFunctionBody (known_in p)) (functions m) bodies.functions.items s.function begun.2.function others begun.2.function_known in
-        subst (Does (known_in p) (functions m) p.case.case.now p.starts (j + 1)) (sym (made_of part found.0 (ap (body_in bodies) src ∙ found.1)))
-        (d.started j place s begun.2.function (record { body = found.0; references = map (λ c. c.0) part.references.items }) there start begun.2.function_known
+        subst (Does (known_in p) (functions m) p.case.case.now p.starts (j + 1)) (sym (made_of instance found.0 (ap (body_in bodies) src ∙ found.1)))
+        (d.started j place s begun.2.function (record { body = found.0; references = map (λ c. c.0) instance.references.items }) there start
+        begun.2.function_known
         found.2 refs)
-    part_does k x (parts.system n place part there is placed src refs) =
+    instance_does k x (instances.system n place instance there is placed src refs) =
         let named =
         mapped_from (λ (f : Function). string_bytes f.name) (functions m) place sut
         (ap (λ l. slice_get l place) (sym of.sorted.functions.names_are) ∙ place_there p.sorted.function_names sut place (sym placed)) in
         let found = zip_from (IsFunctionBody (known_in p)) (functions m) bodies.functions.items place named.0 others named.1 in
-        subst (Does (known_in p) (functions m) p.case.case.now p.starts n) (sym (made_of part found.0 (ap (body_in bodies) src ∙ found.1)))
-        (d.system n named.0 (record { body = found.0; references = map (λ c. c.0) part.references.items }) (numbered n there is)
+        subst (Does (known_in p) (functions m) p.case.case.now p.starts n) (sym (made_of instance found.0 (ap (body_in bodies) src ∙ found.1)))
+        (d.system n named.0 (record { body = found.0; references = map (λ c. c.0) instance.references.items }) (numbered n there is)
         (contains_at (functions m) place named.0 named.1) named.2 found.2 refs)
-    part_does k x (parts.nobody n there is absent) =
+    instance_does k x (instances.nobody n there is absent) =
         d.nobody n (numbered n there is)
         (λ h. place_unknown p.sorted.function_names sut (sym absent) (subst (λ l. Contains l sut) (sym of.sorted.functions.names_are) h))
 
-    pub does : (list : List (Option Part)) → AreParts p list → (k : ℕ) (duty : Option Duty) → slice_get (map (duty_of bodies) list) k ≡ Some duty
-        → Does (known_of m p.case.case.now p.config p.types) (functions m) p.case.case.now p.starts k duty
-    does list each k duty e =
-        let from = mapped_from (duty_of bodies) list k duty e in
-        subst (λ kn. Does kn (functions m) p.case.case.now p.starts k duty) known_is
-        (subst (Does (known_in p) (functions m) p.case.case.now p.starts k) from.2 (part_does k from.0 (each k from.0 from.1)))
+    pub does : (list : List (Option Instance)) → AreInstances p list → (k : ℕ) (behaviour : Option Behaviour) → slice_get (map (behaviour_of bodies) list) k
+        ≡ Some behaviour
+        → Does (known_of m p.case.case.now p.config p.types) (functions m) p.case.case.now p.starts k behaviour
+    does list each k behaviour e =
+        let from = mapped_from (behaviour_of bodies) list k behaviour e in
+        subst (λ kn. Does kn (functions m) p.case.case.now p.starts k behaviour) known_is
+        (subst (Does (known_in p) (functions m) p.case.case.now p.starts k) from.2 (instance_does k from.0 (each k from.0 from.1)))
 
     -- what the passes made is the test case of the module
-    pub test_case_of : (list : List (Option Part)) → AreParts p list → length list ≡ part_count p
-        → IsTestCaseOf m (record { config = p.config; types = p.types; duties = map (duty_of bodies) list })
+    pub test_case_of : (list : List (Option Instance)) → AreInstances p list → length list ≡ instance_count p
+        → IsTestCaseOf m (record { config = p.config; types = p.types; behaviours = map (behaviour_of bodies) list })
     test_case_of list each count = record {
       case = p.case.case.now;
       one_test_case = of.one_test_case;
@@ -160,6 +162,6 @@ module _ (m : Module) (p : Prepared) (of : IsPreparedOf m p) where
       config = of.config;
       starts = p.starts;
       starts_are = of.starts;
-      everyone = length-map list (duty_of bodies) ∙ count ∙ sym everyone;
+      everyone = length-map list (behaviour_of bodies) ∙ count ∙ sym everyone;
       does = does list each;
     }

@@ -20,7 +20,7 @@ use Rattle.tp_body.proofs.body.Statement.TheLaws.TheKnot.{crosses as statement_k
 use Rattle.tp_body.specs.contracts.body.Statement as statement
 use Rattle.tp_body.specs.contracts.body.Body as body
 use Rattle.tp_script.specs.contracts.bodies.Bodies as bodies
-use Rattle.tp_script.specs.contracts.part.Part as part
+use Rattle.tp_script.specs.contracts.instance.Instance as instance
 use Rattle.tp_script.specs.contracts.test_case.TestCase as test_case
 use Rattle.tp_script.specs.contracts.test_case.TestCase.TheInside as test_case_inside
 
@@ -68,11 +68,11 @@ body_field_sync = search (sendable, crosses, statement_sync, items_sync) depth 3
 bodies_field_sync : IsSync (bodies.the_field).row
 bodies_field_sync = search (sendable, crosses, body_sync, body_field_sync) depth 30
 
-part_sync : IsSync part.the_row
-part_sync = search (sendable, crosses) depth 30
+instance_sync : IsSync instance.the_row
+instance_sync = search (sendable, crosses) depth 30
 
 test_case_inside_sync : IsSync test_case_inside.the_row
-test_case_inside_sync = search (sendable, crosses, config_sync, types_sync, bodies_field_sync, part_sync) depth 30
+test_case_inside_sync = search (sendable, crosses, config_sync, types_sync, bodies_field_sync, instance_sync) depth 30
 
 pub test_case_sync : IsSync test_case.the_row
 test_case_sync = search (sendable, crosses, test_case_inside_sync) depth 30

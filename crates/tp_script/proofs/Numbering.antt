@@ -1,13 +1,13 @@
--- Numbers of components, and parts that are added one by one.
+-- Numbers of components, and instances that are added one by one.
 use Rattle.std.proofs.Common.{◌≡◌, ◌⊎◌, inl, inr, ℕ, ◌+◌, ◌<◌, ◌≤◌, List, [], ◌∷◌, ◌++◌, Option, Some, length, slice_get, append-nil, append_assoc, refl, sym, ap, ◌∙◌, subst, arith}
 use Rattle.std.proofs.lemmas.List.{length_push, get_or_push, get_or_append_left}
 use Rattle.std.proofs.lemmas.Option.{slice_get-get_or, get_or_from_slice_get}
 use Rattle.std.proofs.lemmas.Bool.{cases_lt}
 use Rattle.tp_body.proofs.Placed.{push_cases}
 use Rattle.tp_setup.specs.declared.prepared.Prepared.{Prepared}
-use Rattle.tp_script.specs.declared.part.Part.{Part}
-use Rattle.tp_script.specs.Duties.{Numbers}
-use Rattle.tp_script.specs.Parts.{AreParts, IsPart}
+use Rattle.tp_script.specs.declared.instance.Instance.{Instance}
+use Rattle.tp_script.specs.Behaviours.{Numbers}
+use Rattle.tp_script.specs.Instances.{AreInstances, IsInstance}
 
 pub numbers_none : (before : List ℕ) → Numbers 0 before before
 numbers_none before = record { variables = []; as_many = refl; numbered = λ k lt. absurd (omega (arith, lt)); all = sym (append-nil before) }
@@ -34,12 +34,13 @@ numbers_more count before after next h e =
         slice_get-get_or (h.variables ++ (count + 1) ∷ []) k 0 (omega (arith, longer, lt))
         ∙ ap Some (get_or_push h.variables (count + 1) 0 k (h.as_many ∙ last) ∙ ap (λ n. n + 1) last)
 
-pub parts_none : (p : Prepared) → AreParts p []
-parts_none p k x e = absurd (cc)
+pub instances_none : (p : Prepared) → AreInstances p []
+instances_none p k x e = absurd (cc)
 
-pub parts_more : (p : Prepared) (list next : List (Option Part)) (x : Option Part) → AreParts p list → IsPart p (length list) x → next ≡ list ++ x ∷ []
-    → AreParts p next
-parts_more p list next x each here e k y at = by (push_cases list x k y (ap (λ l. slice_get l k) (sym e) ∙ at)) where
-  by : (slice_get list k ≡ Some y) ⊎ ((k ≡ length list) × (y ≡ x)) → IsPart p k y
+pub instances_more : (p : Prepared) (list next : List (Option Instance)) (x : Option Instance) → AreInstances p list → IsInstance p (length list) x
+    → next ≡ list ++ x ∷ []
+    → AreInstances p next
+instances_more p list next x each here e k y at = by (push_cases list x k y (ap (λ l. slice_get l k) (sym e) ∙ at)) where
+  by : (slice_get list k ≡ Some y) ⊎ ((k ≡ length list) × (y ≡ x)) → IsInstance p k y
   by (inl before) = each k y before
-  by (inr (last, same)) = subst (λ n. IsPart p n y) (sym last) (subst (IsPart p (length list)) (sym same) here)
+  by (inr (last, same)) = subst (λ n. IsInstance p n y) (sym last) (subst (IsInstance p (length list)) (sym same) here)

@@ -35,20 +35,20 @@ use Rattle.tp_setup.specs.Definitions.{among, component_type_names, declared, fu
 use Rattle.tp_setup.specs.Rules.{IsSound, sut}
 use Rattle.tp_setup.specs.Components.{Declared, IsMember, component_list, creations, created, interface, main_component, variable, variables}
 use Rattle.tp_setup.specs.Configuring.{IsStep, Makes, nothing, one_more, interface_number}
-use Rattle.tp_setup.specs.Starting.{HasParameterType, IsStartPlace, IsStarted, started_names, type_names_of}
+use Rattle.tp_setup.specs.Starting.{HasParameterType, IsStartPlace, IsStartOf, started_names, type_names_of}
 use Rattle.tp_setup.specs.Sorted.{HasSoundDefinitions}
 use Rattle.tp_setup.specs.Prepared.{IsWellDeclared}
 use Rattle.tp_setup.proofs.Steps.{zip_at}
 use Rattle.tp_body.specs.declared.body.Body.{Body}
-use Rattle.tp_body.specs.declared.scope.Behaviour.{Behaviour}
+use Rattle.tp_body.specs.declared.scope.BehaviourKind.{BehaviourKind}
 use Rattle.tp_body.specs.Playable.{IsPlayable, reference_count}
 use Rattle.tp_body.proofs.Played.{body_played}
 use Rattle.tp_script.specs.Scopes.{Known, StandsFor}
-use Rattle.tp_script.specs.Duties as d
-use Rattle.tp_script.specs.Duties.{Duty, Does, AreReferences}
-use Rattle.tp_script.specs.TestCases.{Made, IsTestCaseOf, known_of, duty_at}
+use Rattle.tp_script.specs.Behaviours as d
+use Rattle.tp_script.specs.Behaviours.{Behaviour, Does, AreReferences}
+use Rattle.tp_script.specs.TestCases.{Made, IsTestCaseOf, known_of, behaviour_at}
 use Rattle.tp_script.specs.Seen.{seen}
-use Rattle.tp_script.specs.declared.test_case.Conduct.{Conduct}
+use Rattle.tp_script.specs.declared.test_case.Behaviour.{Behaviour as BorrowedBehaviour}
 use Rattle.tp_script.specs.Ready.{CanDo, IsReady, port_count}
 use Rattle.tp_script.proofs.Assembling.{mapped_from, zip_from}
 
@@ -187,7 +187,7 @@ module _ (m : Module) (made : Made) (rules : IsWellDeclared m) (of : IsTestCaseO
   variable_count = length-map (creations case.setups.items) variable
 
   -- a component can play what stands for a body that runs on its type, where there are as many references as the body's scope has
-  can_play : (k : ℕ) (x : Declared) (plays : Behaviour) (runs_on : List ℕ) (parameters : List (List ℕ)) (vs : List Variable)
+  can_play : (k : ℕ) (x : Declared) (plays : BehaviourKind) (runs_on : List ℕ) (parameters : List (List ℕ)) (vs : List Variable)
       (statements : List Statement) (body : Body) (references : List ℕ)
       → slice_get (component_list case) k ≡ Some x → x.type_name ≡ runs_on → StandsFor known plays runs_on parameters vs statements body
       → length references ≡ length parameters + count + 2 → IsPlayable made.types (port_count config k) (length references) body
@@ -276,7 +276,7 @@ module _ (m : Module) (made : Made) (rules : IsWellDeclared m) (of : IsTestCaseO
       (subst (HasSoundDefinitions m) same_case rules.definitions) there).plays_system named
 
   -- what a component does, it can do
-  does_can : (k : ℕ) (o : Option Duty) (w : Duty) → o ≡ Some w → IsKnown k → Does known (functions m) case of.starts k o → CanDo config made.types k w
+  does_can : (k : ℕ) (o : Option Behaviour) (w : Behaviour) → o ≡ Some w → IsKnown k → Does known (functions m) case of.starts k o → CanDo config made.types k w
   does_can k o w e here (d.main x is refs) =
       subst (CanDo config made.types 0) (same_Some x w e)
       (record {
@@ -298,9 +298,9 @@ module _ (m : Module) (made : Made) (rules : IsWellDeclared m) (of : IsTestCaseO
       })
     where
       begun :
-          (s : ComponentStart) × (slice_get case.starts.items place ≡ Some s) × IsStarted (functions m) (variables case.setups.items) (type_names_of case) s x
+          (s : ComponentStart) × (slice_get case.starts.items place ≡ Some s) × IsStartOf (functions m) (variables case.setups.items) (type_names_of case) s x
       begun =
-          zip_at (IsStarted (functions m) (variables case.setups.items) (type_names_of case)) case.starts.items of.starts.starts.items place x
+          zip_at (IsStartOf (functions m) (variables case.setups.items) (type_names_of case)) case.starts.items of.starts.starts.items place x
           of.starts_are.starts start
 
       placed : (v : List ℕ) × (slice_get (variables case.setups.items) j ≡ Some v) × IsStartPlace (started_names case.starts.items) v place
@@ -372,12 +372,12 @@ module _ (m : Module) (made : Made) (rules : IsWellDeclared m) (of : IsTestCaseO
         record { member = member.0; there = member.1; name = member.2.name; role = member.2.role };
     system_last = is_last;
     everyone = of.everyone;
-    can_do = λ k w e. let there = at_place made.duties k w e in
-        does_can k (Some w) w refl (omega (arith, of.everyone, slice_get_within made.duties k (Some w) there)) (of.does k (Some w) there);
+    can_do = λ k w e. let there = at_place made.behaviours k w e in
+        does_can k (Some w) w refl (omega (arith, of.everyone, slice_get_within made.behaviours k (Some w) there)) (of.does k (Some w) there);
   }
 
 -- what a component is given to do, it can do
-pub can_at : (made : Made) (k : ℕ) (o : Option Conduct) → IsReady made → option_map seen o ≡ duty_at made k
+pub can_at : (made : Made) (k : ℕ) (o : Option BorrowedBehaviour) → IsReady made → option_map seen o ≡ behaviour_at made k
     → IfSome o (λ c. CanDo made.config made.types k (seen c))
 can_at made k None is e = tt
 can_at made k (Some c) is e = is.can_do k (seen c) (sym e)

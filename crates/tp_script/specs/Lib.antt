@@ -1,6 +1,6 @@
 pub mod Scopes
-pub mod Duties
+pub mod Behaviours
 pub mod TestCases
-pub mod Parts
+pub mod Instances
 pub mod Seen
 pub mod Ready

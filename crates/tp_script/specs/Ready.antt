@@ -5,15 +5,15 @@ use Rattle.tp_config.specs.declared.port_type.CompId.{CompId}
 use Rattle.tp_config.specs.declared.port_type.Role.TheVariants as role
 use Rattle.tp_config.specs.Setup.{Setup, Member, is_system_member, ports_at}
 use Rattle.tp_body.specs.Playable.{IsPlayable}
-use Rattle.tp_script.specs.Duties.{Duty}
-use Rattle.tp_script.specs.TestCases.{Made, duty_at}
+use Rattle.tp_script.specs.Behaviours.{Behaviour}
+use Rattle.tp_script.specs.TestCases.{Made, behaviour_at}
 
 -- how many ports the component of this number has
 abbrev pub port_count : Setup → ℕ → ℕ
 port_count config k = length (ports_at config.types config.components (record { 0 = k }))
 
 -- the component of this number can do this
-pub record CanDo (config : Setup) (types : Types) (k : ℕ) (d : Duty) : Type 0 where
+pub record CanDo (config : Setup) (types : Types) (k : ℕ) (d : Behaviour) : Type 0 where
   -- each place of which its body speaks is there, and holds what it has to
   pub playable : IsPlayable types (port_count config k) (length d.references) d.body
   -- the components that its references name are those of the configuration
@@ -43,6 +43,6 @@ pub record IsReady (made : Made) : Type 0 where
   -- the test system interface, if there is one, is the last component
   pub system_last : (k : ℕ) (m : Member) → slice_get made.config.components k ≡ Some m → is_system_member m ≡ true
       → k + 1 ≡ length made.config.components
-  -- there is a duty, or none, for each component
-  pub everyone : length made.duties ≡ length made.config.components
-  pub can_do : (k : ℕ) (d : Duty) → duty_at made k ≡ Some d → CanDo made.config made.types k d
+  -- there is a behaviour, or none, for each component
+  pub everyone : length made.behaviours ≡ length made.config.components
+  pub can_do : (k : ℕ) (d : Behaviour) → behaviour_at made k ≡ Some d → CanDo made.config made.types k d

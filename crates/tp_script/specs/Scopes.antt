@@ -12,8 +12,8 @@ use Rattle.tp_name.specs.Tables.{place_of}
 use Rattle.tp_setup.specs.Definitions.{declared}
 use Rattle.tp_setup.specs.Rules.{sut}
 use Rattle.tp_body.specs.declared.body.Body.{Body}
-use Rattle.tp_body.specs.declared.scope.Behaviour.{Behaviour}
-use Rattle.tp_body.specs.declared.scope.Behaviour.TheVariants as behaviour
+use Rattle.tp_body.specs.declared.scope.BehaviourKind.{BehaviourKind}
+use Rattle.tp_body.specs.declared.scope.BehaviourKind.TheVariants as behaviour_kind
 use Rattle.tp_body.specs.declared.scope.Scope.{Scope}
 use Rattle.tp_body.specs.Bodies.{IsBody}
 
@@ -26,7 +26,7 @@ pub record Known : Type 0 where
   pub components : List (List ℕ)
 
 -- what a behaviour may speak of that runs on the component type of this name and has parameters of these names
-pub record IsScope (known : Known) (plays : Behaviour) (runs_on : List ℕ) (names : List (List ℕ)) (scope : Scope)
+pub record IsScope (known : Known) (plays : BehaviourKind) (runs_on : List ℕ) (names : List (List ℕ)) (scope : Scope)
     : Type 0 where
   pub types : scope.types.now ≡ known.types
   pub component_types : scope.component_types.now ≡ known.component_types
@@ -39,7 +39,7 @@ pub record IsScope (known : Known) (plays : Behaviour) (runs_on : List ℕ) (nam
   pub components : scope.components.now ≡ known.components
 
 -- these variables and statements obey the rules on bodies in such a scope, and stand for this body
-pub record StandsFor (known : Known) (plays : Behaviour) (runs_on : List ℕ) (parameters : List (List ℕ))
+pub record StandsFor (known : Known) (plays : BehaviourKind) (runs_on : List ℕ) (parameters : List (List ℕ))
     (variables : List Variable) (statements : List Statement) (body : Body) : Type 0 where
   pub scope : Scope
   pub is_scope : IsScope known plays runs_on parameters scope
@@ -48,11 +48,12 @@ pub record StandsFor (known : Known) (plays : Behaviour) (runs_on : List ℕ) (p
 -- the test case's own body
 abbrev pub IsMainBody : Known → TestCase → Body → Type 0
 IsMainBody known case body =
-    StandsFor known behaviour.TestCase (string_bytes case.runs_on) [] case.variables.items case.statements.items body
+    StandsFor known behaviour_kind.TestCase (string_bytes case.runs_on) [] case.variables.items case.statements.items
+    body
 
 -- a function named `sut` plays the system under test
-abbrev pub plays_of : Function → Behaviour
-plays_of f = if bytes_eq (string_bytes f.name) sut then behaviour.SystemUnderTest else behaviour.Function
+abbrev pub plays_of : Function → BehaviourKind
+plays_of f = if bytes_eq (string_bytes f.name) sut then behaviour_kind.SystemUnderTest else behaviour_kind.Function
 
 -- the body of a function
 abbrev pub IsFunctionBody : Known → Function → Body → Type 0

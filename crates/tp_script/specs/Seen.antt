@@ -1,7 +1,7 @@
 -- What contracts see of what a component does.
 use Rattle.std.specs.Prelude.{map}
-use Rattle.tp_script.specs.declared.test_case.Conduct.{Conduct}
-use Rattle.tp_script.specs.Duties.{Duty}
+use Rattle.tp_script.specs.declared.test_case.Behaviour.{Behaviour as BorrowedBehaviour}
+use Rattle.tp_script.specs.Behaviours.{Behaviour}
 
-abbrev pub seen : Conduct → Duty
+abbrev pub seen : BorrowedBehaviour → Behaviour
 seen c = record { body = c.body.now; references = map (λ x. x.0) c.references.now }

@@ -15,14 +15,14 @@ use Rattle.tp_setup.specs.Starting.{AreStarts}
 use Rattle.tp_setup.specs.Prepared.{IsConfigOf, IsWellDeclared}
 use Rattle.tp_body.specs.declared.body.Body.{Body}
 use Rattle.tp_script.specs.Scopes.{Known, IsMainBody, IsFunctionBody}
-use Rattle.tp_script.specs.Duties.{Duty, Does, size_of_duty}
+use Rattle.tp_script.specs.Behaviours.{Behaviour, Does, size_of_behaviour}
 
 -- what contracts see of a test case: its configuration, the record and record-of types, and what each component does,
 -- in the order of the components
 pub record Made : Type 0 where
   pub config : Setup
   pub types : Types
-  pub duties : List (Option Duty)
+  pub behaviours : List (Option Behaviour)
 
 -- what the bodies of a module may speak of, whose test case is this
 abbrev pub known_of : Module → TestCase → Setup → Types → Known
@@ -54,9 +54,9 @@ pub record IsTestCaseOf (m : Module) (made : Made) : Type 0 where
   -- each component does what it is there for, with the arguments of its start
   pub starts : Starts
   pub starts_are : AreStarts (functions m) case starts
-  pub everyone : length made.duties ≡ length made.config.components
-  pub does : (k : ℕ) (duty : Option Duty) → slice_get made.duties k ≡ Some duty
-      → Does (known_of m case made.config made.types) (functions m) case starts k duty
+  pub everyone : length made.behaviours ≡ length made.config.components
+  pub does : (k : ℕ) (behaviour : Option Behaviour) → slice_get made.behaviours k ≡ Some behaviour
+      → Does (known_of m case made.config made.types) (functions m) case starts k behaviour
 
 -- the module obeys the rules on bodies: the test case's own and each function's, started or not, stands for something
 pub record HasSoundBodies (m : Module) : Type 0 where
@@ -73,7 +73,7 @@ pub record HasSoundBodies (m : Module) : Type 0 where
 
 -- all components together have at most 100,000 statements to carry out
 abbrev pub size_of_all : Made → ℕ
-size_of_all made = sum (map size_of_duty made.duties)
+size_of_all made = sum (map size_of_behaviour made.behaviours)
 
 pub record IsSmall (m : Module) : Type 0 where
   pub made : Made
@@ -90,5 +90,5 @@ pub record WellFormed (m : Module) : Type 0 where
   pub small : IsSmall m
 
 -- the component of this number does this, or nothing where there is no such component
-abbrev pub duty_at : Made → ℕ → Option Duty
-duty_at made k = slice_index_or made.duties k None
+abbrev pub behaviour_at : Made → ℕ → Option Behaviour
+behaviour_at made k = slice_index_or made.behaviours k None

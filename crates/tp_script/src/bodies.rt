@@ -2,13 +2,13 @@
 ghost use Rattle.std.specs.Prelude.{◌≡◌, IfOk};
 ghost use Rattle.std.specs.List.{AllZip};
 ghost use Rattle.tp_setup.specs.Definitions.{among, function_of, functions};
-ghost use Rattle.tp_script.specs.Parts.{known_in};
+ghost use Rattle.tp_script.specs.Instances.{known_in};
 ghost use Rattle.tp_script.specs.Scopes.{IsFunctionBody, IsMainBody, plays_of};
 
 use crate::scopes::{parameter_names, scope_of};
 use std::alloc::Global;
 use tp_body::body::Body;
-use tp_body::scope::Behaviour;
+use tp_body::scope::BehaviourKind;
 use tp_body::statements::resolve_body;
 use tp_name::name_set::NameSet;
 use tp_setup::definitions::is_sut;
@@ -27,13 +27,13 @@ pub struct Bodies {
 }
 
 /// Whose body a function's is: a function named `sut` plays the system under test. Takes no memory.
-fn plays(function: &Function) -> Behaviour
+fn plays(function: &Function) -> BehaviourKind
     ensures { result ≡ plays_of function.now }
 {
     if is_sut(function.name.as_str()) {
-        Behaviour::SystemUnderTest
+        BehaviourKind::SystemUnderTest
     } else {
-        Behaviour::Function
+        BehaviourKind::Function
     }
 }
 
@@ -45,7 +45,13 @@ fn resolve_main(alloc: Global, prepared: &Prepared) -> Result<Body, ScriptFault>
     let line = prepared.case.line;
     let parameters = NameSet::new(alloc);
     let runs_on = case.runs_on.as_str();
-    let scope = scope_of(&*prepared, runs_on, Behaviour::TestCase, &parameters, line)?;
+    let scope = scope_of(
+        &*prepared,
+        runs_on,
+        BehaviourKind::TestCase,
+        &parameters,
+        line,
+    )?;
     let body = resolve_body(alloc, &scope, line, &case.variables, &case.statements)?;
     Ok(body)
 }

@@ -2,13 +2,13 @@
 ghost use Rattle.std.specs.Prelude.{◌≡◌, ◌≤◌, IfOk, OnOk, length, map, sum};
 ghost use Rattle.std.specs.List.{AllZip};
 ghost use Rattle.tp_setup.specs.Definitions.{functions};
-ghost use Rattle.tp_script.specs.Duties.{size_of_duty};
-ghost use Rattle.tp_script.specs.Parts.{AreParts, duty_of, known_in, part_count};
+ghost use Rattle.tp_script.specs.Behaviours.{size_of_behaviour};
+ghost use Rattle.tp_script.specs.Instances.{AreInstances, behaviour_of, known_in, instance_count};
 ghost use Rattle.tp_script.specs.Scopes.{IsFunctionBody, IsMainBody};
 ghost use Rattle.tp_script.specs.TestCases.{IsTestCaseOf, WellFormed};
 
 use crate::bodies::resolve_bodies;
-use crate::parts::make_parts;
+use crate::instances::make_instances;
 use crate::test_case::{Behaviours, TestCase};
 use crate::total::check_size;
 use std::alloc::Global;
@@ -28,15 +28,15 @@ fn resolve_behaviours<'m>(
         IsMainBody (known_in prepared.now) prepared.now.case.case.now b.bodies.main) }
     ensures functions { IfOk result (λ b. AllZip (IsFunctionBody (known_in prepared.now))
         (functions parsed.now) b.bodies.functions.items) }
-    ensures parts { IfOk result (λ b. AreParts prepared.now b.parts.items) }
-    ensures count { IfOk result (λ b. length b.parts.items ≡ part_count prepared.now) }
+    ensures instances { IfOk result (λ b. AreInstances prepared.now b.instances.items) }
+    ensures count { IfOk result (λ b. length b.instances.items ≡ instance_count prepared.now) }
     ensures few { IfOk result (λ b.
-        sum (map size_of_duty (map (duty_of b.bodies) b.parts.items)) ≤ 100000) }
+        sum (map size_of_behaviour (map (behaviour_of b.bodies) b.instances.items)) ≤ 100000) }
 {
     let bodies = resolve_bodies(alloc, parsed, prepared)?;
-    let parts = make_parts(alloc, prepared)?;
-    check_size(alloc, &bodies, &parts, prepared.case.line)?;
-    Ok(Behaviours { bodies, parts })
+    let instances = make_instances(alloc, prepared)?;
+    check_size(alloc, &bodies, &instances, prepared.case.line)?;
+    Ok(Behaviours { bodies, instances })
 }
 
 /// Checks a module, and makes its test case.

@@ -4,17 +4,17 @@
 
 mod bodies;
 mod checking;
-mod part;
-mod parts;
+mod instance;
+mod instances;
 mod scopes;
 mod test_case;
 mod total;
 
 pub use crate::checking::check;
-pub use crate::test_case::{Conduct, TestCase};
+pub use crate::test_case::{Behaviour, TestCase};
 pub use tp_body::body;
 pub use tp_body::fill::{fill_message, fill_template};
 pub use tp_syntax::parser::parse;
-pub use tp_syntax::tree;
+pub use tp_syntax::{message, tree};
 pub use tp_token::fault::ScriptFault;
 pub use tp_token::lexer::lex;

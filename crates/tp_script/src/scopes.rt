@@ -2,11 +2,11 @@
 ghost use Rattle.std.specs.Prelude.{◌≡◌, IfOk, map, slice_get};
 ghost use Rattle.std.specs.Option.{option_copied};
 ghost use Rattle.tp_setup.specs.Definitions.{declared};
-ghost use Rattle.tp_script.specs.Parts.{known_in};
+ghost use Rattle.tp_script.specs.Instances.{known_in};
 ghost use Rattle.tp_script.specs.Scopes.{IsScope};
 
 use std::alloc::Global;
-use tp_body::scope::{Behaviour, Scope};
+use tp_body::scope::{BehaviourKind, Scope};
 use tp_config::port_type::CompType;
 use tp_name::fault::refused;
 use tp_name::name_set::NameSet;
@@ -38,7 +38,7 @@ pub fn parameter_names(alloc: Global, parameters: &[Parameter]) -> Result<NameSe
 pub fn scope_of<'m>(
     prepared: &'m Prepared<'m>,
     runs_on: &str,
-    behaviour: Behaviour,
+    behaviour: BehaviourKind,
     parameters: &'m NameSet<'m>,
     line: u32,
 ) -> Result<Scope<'m>, ScriptFault>

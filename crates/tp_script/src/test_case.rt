@@ -4,13 +4,13 @@ ghost use Rattle.std.specs.List.{slice_index_or};
 ghost use Rattle.std.specs.Option.{option_copied, option_map};
 ghost use Rattle.tp_config.specs.Allowed.{IsSetup};
 ghost use Rattle.tp_config.specs.Setup.{IsComponent};
-ghost use Rattle.tp_script.specs.TestCases.{duty_at};
-ghost use Rattle.tp_script.specs.Parts.{body_in, duty_of};
+ghost use Rattle.tp_script.specs.TestCases.{behaviour_at};
+ghost use Rattle.tp_script.specs.Instances.{body_in, behaviour_of};
 ghost use Rattle.tp_script.specs.Ready.{CanDo, HasMain, HasNoSystem, IsReady, IsSystem};
 ghost use Rattle.tp_script.specs.Seen.{seen};
 
 use crate::bodies::Bodies;
-use crate::part::{Part, Source};
+use crate::instance::{Instance, Source};
 use std::marker::Model;
 use tp_body::body::Body;
 use tp_config::config::Config;
@@ -19,7 +19,7 @@ use tp_setup::prepared::Prepared;
 use tp_value::types::Types;
 
 /// A test case whose module obeys the rules: its components and what each of them does. Contracts
-/// see the configuration, the types and each component's duty.
+/// see the configuration, the types and each component's behaviour.
 ///
 /// At every moment it can be executed: each component can do what it is there for, so that each
 /// port, reference, variable and loop variable of which its body speaks is there.
@@ -28,21 +28,21 @@ pub struct TestCase {
     config: Config,
     types: Types,
     bodies: Bodies,
-    /// What each component does, by its number.
-    parts: Vec<Option<Part>>,
+    /// Which body each component has, by its number.
+    instances: Vec<Option<Instance>>,
 }
 
 /// The bodies of a module, and what each component does with them.
 #[derive(Drop)]
 pub(crate) struct Behaviours {
     pub(crate) bodies: Bodies,
-    /// What each component does, by its number.
-    pub(crate) parts: Vec<Option<Part>>,
+    /// Which of them each component has, by its number.
+    pub(crate) instances: Vec<Option<Instance>>,
 }
 
 /// What a component does.
 #[derive(Clone, Copy)]
-pub struct Conduct<'t> {
+pub struct Behaviour<'t> {
     /// Its body. Components that start the same function have the same.
     pub body: &'t Body,
     /// The components that the references of the body name, by their places: `mtc` at 0, the
@@ -51,12 +51,12 @@ pub struct Conduct<'t> {
     pub references: &'t [CompId],
 }
 
-/// The part of the component of this number, if it has one. Takes no memory.
-fn part_at(parts: &[Option<Part>], comp: CompId) -> Option<&Part>
-    ensures { option_copied result ≡ slice_index_or parts.now comp.0 None }
+/// The instance of the component of this number, if it has one. Takes no memory.
+fn instance_at(instances: &[Option<Instance>], comp: CompId) -> Option<&Instance>
+    ensures { option_copied result ≡ slice_index_or instances.now comp.0 None }
 {
-    match parts.get(comp.0 as usize) {
-        Some(Some(part)) => Some(part),
+    match instances.get(comp.0 as usize) {
+        Some(Some(instance)) => Some(instance),
         Some(None) | None => None,
     }
 }
@@ -72,30 +72,30 @@ fn body_of(bodies: &Bodies, source: Source) -> Option<&Body>
 }
 
 /// What the component of this number does. Takes no memory.
-fn conduct_of<'t>(
+fn find_behaviour<'t>(
     bodies: &'t Bodies,
-    parts: &'t [Option<Part>],
+    instances: &'t [Option<Instance>],
     comp: CompId,
-) -> Option<Conduct<'t>>
-    ensures { let duties = map (duty_of bodies.now) parts.now in
-        option_map seen result ≡ slice_index_or duties comp.0 None }
+) -> Option<Behaviour<'t>>
+    ensures { let behaviours = map (behaviour_of bodies.now) instances.now in
+        option_map seen result ≡ slice_index_or behaviours comp.0 None }
 {
-    let Some(part) = part_at(parts, comp) else {
+    let Some(instance) = instance_at(instances, comp) else {
         return None;
     };
-    let Some(body) = body_of(bodies, part.source) else {
+    let Some(body) = body_of(bodies, instance.source) else {
         return None;
     };
-    Some(Conduct {
+    Some(Behaviour {
         body,
-        references: part.references.as_slice(),
+        references: instance.references.as_slice(),
     })
 }
 
 impl Model for TestCase {
     ghost use Rattle.std.specs.Prelude.{map};
     ghost use Rattle.tp_script.specs.TestCases.{Made};
-    ghost use Rattle.tp_script.specs.Parts.{duty_of};
+    ghost use Rattle.tp_script.specs.Instances.{behaviour_of};
     ghost use Rattle.tp_body.specs.contracts.body.Statement as statement_contract;
     ghost use Rattle.std.specs.Coded.{codes};
 
@@ -108,34 +108,38 @@ impl Model for TestCase {
     ghost view = { λ t. record {
       config = t.config;
       types = t.types;
-      duties = map (duty_of t.bodies) t.parts.items;
+      behaviours = map (behaviour_of t.bodies) t.instances.items;
     } };
 
     ghost invariant = { λ t. IsReady (record {
       config = t.config;
       types = t.types;
-      duties = map (duty_of t.bodies) t.parts.items;
+      behaviours = map (behaviour_of t.bodies) t.instances.items;
     }) };
 }
 
 impl TestCase {
     /// The test case of what the passes made.
     pub(crate) fn new(prepared: Prepared<'_>, behaviours: Behaviours) -> TestCase
-        requires { let duties = map (duty_of behaviours.bodies) behaviours.parts.items in
-            IsReady (record { config = prepared.config; types = prepared.types; duties = duties }) }
+        requires { let all = map (behaviour_of behaviours.bodies) behaviours.instances.items in
+            IsReady (record {
+              config = prepared.config;
+              types = prepared.types;
+              behaviours = all;
+            }) }
         ensures { result ≡ record {
           config = prepared.entry.config;
           types = prepared.entry.types;
-          duties = map (duty_of behaviours.bodies) behaviours.parts.items;
+          behaviours = map (behaviour_of behaviours.bodies) behaviours.instances.items;
         } }
     {
         let Prepared { types, config, .. } = prepared;
-        let Behaviours { bodies, parts } = behaviours;
+        let Behaviours { bodies, instances } = behaviours;
         TestCase {
             config,
             types,
             bodies,
-            parts,
+            instances,
         }
     }
 
@@ -157,6 +161,7 @@ impl TestCase {
         ensures number { result.0 ≡ number }
         ensures there { IsComponent self.now.config result }
     {
+        // Called for its clauses: there are components, 64 at most.
         let _count = self.components();
         CompId(number as u32)
     }
@@ -166,6 +171,7 @@ impl TestCase {
         ensures number { result.0 ≡ 0 }
         ensures there { IsComponent self.now.config result }
     {
+        // Called for its clauses: there are components, 64 at most.
         let _count = self.components();
         CompId(0)
     }
@@ -202,10 +208,10 @@ impl TestCase {
     /// component that is started, and that of `sut` for the test system interface. `None` for a
     /// test system interface without `sut`, and where there is no such component. The component can
     /// do it. Takes no memory.
-    pub fn body(&self, comp: CompId) -> Option<Conduct<'_>>
-        ensures duty { option_map seen result ≡ duty_at self.now comp.0 }
+    pub fn body(&self, comp: CompId) -> Option<Behaviour<'_>>
+        ensures behaviour { option_map seen result ≡ behaviour_at self.now comp.0 }
         ensures can { IfSome result (λ c. CanDo self.now.config self.now.types comp.0 (seen c)) }
     {
-        conduct_of(&self.bodies, &self.parts, comp)
+        find_behaviour(&self.bodies, &self.instances, comp)
     }
 }

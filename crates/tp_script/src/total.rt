@@ -2,11 +2,11 @@
 ghost use Rattle.std.specs.Prelude.{◌≡◌, ◌≤◌, IfOk, OnOk, map, sum};
 ghost use Rattle.std.specs.List.{slice_index_or};
 ghost use Rattle.tp_body.specs.Sizes.{capped, size_of_body};
-ghost use Rattle.tp_script.specs.Duties.{size_of_duty};
-ghost use Rattle.tp_script.specs.Parts.{duty_of, size_of_part};
+ghost use Rattle.tp_script.specs.Behaviours.{size_of_behaviour};
+ghost use Rattle.tp_script.specs.Instances.{behaviour_of, size_of_instance};
 
 use crate::bodies::Bodies;
-use crate::part::{Part, Source};
+use crate::instance::{Instance, Source};
 use std::alloc::Global;
 use tp_body::body::Body;
 use tp_body::size::{COUNTED, cap, count_body};
@@ -34,25 +34,25 @@ fn size_at(sizes: &[u64], place: u32) -> u64
 }
 
 /// The size of what a component does, where the bodies have these sizes.
-fn part_size(main: u64, functions: &[u64], part: &Option<Part>) -> u64
-    ensures { result ≡ size_of_part main functions.now part.now }
+fn instance_size(main: u64, functions: &[u64], instance: &Option<Instance>) -> u64
+    ensures { result ≡ size_of_instance main functions.now instance.now }
 {
-    let Some(part) = part else {
+    let Some(instance) = instance else {
         return 0;
     };
-    match part.source {
+    match instance.source {
         Source::TestCase => main,
         Source::Function(place) => size_at(functions, place),
     }
 }
 
 /// The sum of the sizes of what the components do, up to [`COUNTED`].
-fn count_parts(main: u64, functions: &[u64], parts: &[Option<Part>]) -> u64
-    ensures { result ≡ capped (sum (map (size_of_part main functions.now) parts.now)) }
+fn count_instances(main: u64, functions: &[u64], instances: &[Option<Instance>]) -> u64
+    ensures { result ≡ capped (sum (map (size_of_instance main functions.now) instances.now)) }
 {
     let mut sum = 0;
-    for part in parts {
-        sum = cap(sum + cap(part_size(main, functions, part)));
+    for instance in instances {
+        sum = cap(sum + cap(instance_size(main, functions, instance)));
     }
     sum
 }
@@ -63,14 +63,15 @@ fn count_parts(main: u64, functions: &[u64], parts: &[Option<Part>]) -> u64
 pub fn check_size(
     alloc: Global,
     bodies: &Bodies,
-    parts: &[Option<Part>],
+    instances: &[Option<Instance>],
     line: u32,
 ) -> Result<(), ScriptFault>
-    ensures { OnOk result (sum (map size_of_duty (map (duty_of bodies.now) parts.now)) ≤ 100000) }
+    ensures { OnOk result (
+        sum (map size_of_behaviour (map (behaviour_of bodies.now) instances.now)) ≤ 100000) }
 {
     let main = count_body(&bodies.main);
     let functions = count_bodies(alloc, &bodies.functions)?;
-    if count_parts(main, &functions, parts) >= COUNTED {
+    if count_instances(main, &functions, instances) >= COUNTED {
         return Err(ScriptFault::limit(line));
     }
     Ok(())

@@ -13,17 +13,17 @@ use Rattle.tp_syntax.specs.declared.tree.TestCase.{TestCase}
 use Rattle.tp_name.specs.Tables.{place_of}
 use Rattle.tp_setup.specs.Definitions.{declared_ports}
 use Rattle.tp_setup.specs.Resolved.{ty_of}
-use Rattle.tp_setup.specs.Rules.{IsSound, IsType, sut}
+use Rattle.tp_setup.specs.Rules.{IsSound, NamesType, sut}
 use Rattle.tp_setup.proofs.Known.{each_known}
 
 module _ (types ports components : List (List ℕ)) (system : Option (List ℕ)) (x : Defined) where
-  pub sound_record : (r : RecordType) → x ≡ d.Record r → All (λ f. IsType types f.type_name) r.fields.items → IsSound types ports components system x
+  pub sound_record : (r : RecordType) → x ≡ d.Record r → All (λ f. NamesType types f.type_name) r.fields.items → IsSound types ports components system x
   sound_record r e known = rw e (record { types_known = known; port_types_known = tt; component_types_known = tt; few_ports = tt; plays_system = tt })
 
   pub sound_list : (l : ListType) → x ≡ d.List l → is_some (ty_of types l.element) ≡ true → IsSound types ports components system x
   sound_list l e known = rw e (record { types_known = known; port_types_known = tt; component_types_known = tt; few_ports = tt; plays_system = tt })
 
-  pub sound_port : (p : PortType) → x ≡ d.Port p → All (λ w. All (IsType types) w.types.items) p.directions.items → IsSound types ports components system x
+  pub sound_port : (p : PortType) → x ≡ d.Port p → All (λ w. All (NamesType types) w.types.items) p.directions.items → IsSound types ports components system x
   sound_port p e known = rw e (record { types_known = known; port_types_known = tt; component_types_known = tt; few_ports = tt; plays_system = tt })
 
   pub sound_component : (c : ComponentType) → x ≡ d.Component c → list_all (λ p. is_some (place_of ports (string_bytes p.type_name))) c.ports.items ≡ true

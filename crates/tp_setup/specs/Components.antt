@@ -7,7 +7,7 @@ use Rattle.tp_syntax.specs.declared.tree.ComponentType.{ComponentType}
 use Rattle.tp_syntax.specs.declared.tree.Creation.{Creation}
 use Rattle.tp_syntax.specs.declared.tree.SetupStatement.{SetupStatement}
 use Rattle.tp_syntax.specs.declared.tree.SetupAction.{SetupAction}
-use Rattle.tp_syntax.specs.declared.tree.SetupAction.TheVariants as a
+use Rattle.tp_syntax.specs.declared.tree.SetupAction.TheVariants as setup_action
 use Rattle.tp_syntax.specs.declared.tree.TestCase.{TestCase}
 use Rattle.tp_config.specs.declared.port_type.CompId.{CompId}
 use Rattle.tp_config.specs.declared.port_type.Role.{Role}
@@ -17,9 +17,9 @@ use Rattle.tp_name.specs.Tables.{AreDistinct, place_of}
 use Rattle.tp_setup.specs.Definitions.{declared_ports}
 
 abbrev pub creation_in : SetupAction → Option Creation
-creation_in (a.Create c) = Some c
-creation_in (a.Connect p q) = None
-creation_in (a.Map p q) = None
+creation_in (setup_action.Create c) = Some c
+creation_in (setup_action.Connect p q) = None
+creation_in (setup_action.Map p q) = None
 
 -- the component that a setup statement makes, if it does
 abbrev pub creation_of : SetupStatement → Option Creation
@@ -56,8 +56,8 @@ interface case =
     (λ s. record { name = codes "system"; type_name = string_bytes s; role = role.System }) case.system)
 
 -- the number of a component, if there is one
-abbrev pub number_of : Option CompId → Option ℕ
-number_of found = option_map (λ (c : CompId). c.0) found
+abbrev pub component_number : Option CompId → Option ℕ
+component_number found = option_map (λ (c : CompId). c.0) found
 
 -- the components in their order: `mtc`, those that are made, and the test system interface
 abbrev pub component_list : TestCase → List Declared

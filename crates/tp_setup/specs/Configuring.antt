@@ -5,10 +5,10 @@ use Rattle.std.specs.Option.{option_map}
 use Rattle.std.specs.List.{AllZip}
 use Rattle.tp_syntax.specs.declared.tree.PairEnd.{PairEnd}
 use Rattle.tp_syntax.specs.declared.tree.EndComponent.{EndComponent}
-use Rattle.tp_syntax.specs.declared.tree.EndComponent.TheVariants as e
+use Rattle.tp_syntax.specs.declared.tree.EndComponent.TheVariants as end_component
 use Rattle.tp_syntax.specs.declared.tree.SetupStatement.{SetupStatement}
 use Rattle.tp_syntax.specs.declared.tree.SetupAction.{SetupAction}
-use Rattle.tp_syntax.specs.declared.tree.SetupAction.TheVariants as a
+use Rattle.tp_syntax.specs.declared.tree.SetupAction.TheVariants as setup_action
 use Rattle.tp_syntax.specs.declared.tree.TestCase.{TestCase}
 use Rattle.tp_syntax.specs.declared.tree.ComponentType.{ComponentType}
 use Rattle.tp_config.specs.declared.port_type.PortRef.{PortRef}
@@ -20,10 +20,10 @@ use Rattle.tp_setup.specs.Components.{HasPorts, HasSoundVariables, IsMember, com
 -- the number of the component that a setup statement names, where the component variables before it have these names
 -- and the test system interface has this number, if there is a `system` clause
 abbrev pub component_at : List (List ℕ) → Option ℕ → EndComponent → Option ℕ
-component_at names system (e.Named n) = option_map (λ k. k + 1) (place_of names (string_bytes n))
-component_at names system e.Mtc = Some 0
-component_at names system e.SelfComponent = Some 0
-component_at names system e.System = system
+component_at names system (end_component.Named n) = option_map (λ k. k + 1) (place_of names (string_bytes n))
+component_at names system end_component.Mtc = Some 0
+component_at names system end_component.SelfComponent = Some 0
+component_at names system end_component.System = system
 
 -- the port that a setup statement names
 pub record IsEnd (s : Setup) (names : List (List ℕ)) (system : Option ℕ) (x : PairEnd) (p : PortRef) : Type 0 where
@@ -49,9 +49,9 @@ pub record Maps (s : Setup) (names : List (List ℕ)) (system : Option ℕ) (x y
 
 -- what one setup statement makes of a configuration whose components are all there
 abbrev pub IsStep : Setup → List (List ℕ) → Option ℕ → SetupAction → Setup → Type 0
-IsStep s names system (a.Create c) t = t ≡ s
-IsStep s names system (a.Connect x y) t = Connects s names system x y t
-IsStep s names system (a.Map x y) t = Maps s names system x y t
+IsStep s names system (setup_action.Create c) t = t ≡ s
+IsStep s names system (setup_action.Connect x y) t = Connects s names system x y t
+IsStep s names system (setup_action.Map x y) t = Maps s names system x y t
 
 -- what the setup statements make of a configuration, one after the other
 pub data Makes (system : Option ℕ) (start : Setup) : List SetupStatement → Setup → Type 0 where

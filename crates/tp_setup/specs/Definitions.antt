@@ -4,7 +4,7 @@ use Rattle.std.specs.List.{filter_map, flat_map}
 use Rattle.tp_syntax.specs.declared.tree.Module.{Module}
 use Rattle.tp_syntax.specs.declared.tree.Definition.{Definition}
 use Rattle.tp_syntax.specs.declared.tree.Defined.{Defined}
-use Rattle.tp_syntax.specs.declared.tree.Defined.TheVariants as d
+use Rattle.tp_syntax.specs.declared.tree.Defined.TheVariants as defined
 use Rattle.tp_syntax.specs.declared.tree.PortType.{PortType}
 use Rattle.tp_syntax.specs.declared.tree.ComponentType.{ComponentType}
 use Rattle.tp_syntax.specs.declared.tree.Function.{Function}
@@ -14,12 +14,12 @@ use Rattle.tp_syntax.specs.declared.tree.PortDeclaration.{PortDeclaration}
 
 -- the name of a definition
 abbrev pub name_of : Defined → List ℕ
-name_of (d.Record r) = string_bytes r.name
-name_of (d.List l) = string_bytes l.name
-name_of (d.Port p) = string_bytes p.name
-name_of (d.Component c) = string_bytes c.name
-name_of (d.Function f) = string_bytes f.name
-name_of (d.TestCase c) = string_bytes c.name
+name_of (defined.Record r) = string_bytes r.name
+name_of (defined.List l) = string_bytes l.name
+name_of (defined.Port p) = string_bytes p.name
+name_of (defined.Component c) = string_bytes c.name
+name_of (defined.Function f) = string_bytes f.name
+name_of (defined.TestCase c) = string_bytes c.name
 
 -- the definitions of one kind, in the order of the text
 abbrev pub among : {T : Type 0} → (Defined → Option T) → List Definition → List T
@@ -27,44 +27,44 @@ among kind definitions = filter_map (λ (x : Definition). kind x.defined) defini
 
 -- a record or a record of
 abbrev pub type_of : Defined → Option Defined
-type_of (d.Record r) = Some (d.Record r)
-type_of (d.List l) = Some (d.List l)
-type_of (d.Port p) = None
-type_of (d.Component c) = None
-type_of (d.Function f) = None
-type_of (d.TestCase c) = None
+type_of (defined.Record r) = Some (defined.Record r)
+type_of (defined.List l) = Some (defined.List l)
+type_of (defined.Port p) = None
+type_of (defined.Component c) = None
+type_of (defined.Function f) = None
+type_of (defined.TestCase c) = None
 
 abbrev pub port_of : Defined → Option PortType
-port_of (d.Record r) = None
-port_of (d.List l) = None
-port_of (d.Port p) = Some p
-port_of (d.Component c) = None
-port_of (d.Function f) = None
-port_of (d.TestCase c) = None
+port_of (defined.Record r) = None
+port_of (defined.List l) = None
+port_of (defined.Port p) = Some p
+port_of (defined.Component c) = None
+port_of (defined.Function f) = None
+port_of (defined.TestCase c) = None
 
 abbrev pub component_of : Defined → Option ComponentType
-component_of (d.Record r) = None
-component_of (d.List l) = None
-component_of (d.Port p) = None
-component_of (d.Component c) = Some c
-component_of (d.Function f) = None
-component_of (d.TestCase c) = None
+component_of (defined.Record r) = None
+component_of (defined.List l) = None
+component_of (defined.Port p) = None
+component_of (defined.Component c) = Some c
+component_of (defined.Function f) = None
+component_of (defined.TestCase c) = None
 
 abbrev pub function_of : Defined → Option Function
-function_of (d.Record r) = None
-function_of (d.List l) = None
-function_of (d.Port p) = None
-function_of (d.Component c) = None
-function_of (d.Function f) = Some f
-function_of (d.TestCase c) = None
+function_of (defined.Record r) = None
+function_of (defined.List l) = None
+function_of (defined.Port p) = None
+function_of (defined.Component c) = None
+function_of (defined.Function f) = Some f
+function_of (defined.TestCase c) = None
 
 abbrev pub case_of : Defined → Option TestCase
-case_of (d.Record r) = None
-case_of (d.List l) = None
-case_of (d.Port p) = None
-case_of (d.Component c) = None
-case_of (d.Function f) = None
-case_of (d.TestCase c) = Some c
+case_of (defined.Record r) = None
+case_of (defined.List l) = None
+case_of (defined.Port p) = None
+case_of (defined.Component c) = None
+case_of (defined.Function f) = None
+case_of (defined.TestCase c) = Some c
 
 abbrev pub type_definitions : Module → List Defined
 type_definitions m = among type_of m.definitions.items
@@ -107,9 +107,9 @@ declared_ports ports = flat_map (λ (p : PortDeclaration). map declared p.names.
 
 -- the names of the fields, ports or parameters that a definition declares
 abbrev pub inner_names : Defined → List (List ℕ)
-inner_names (d.Record r) = map (λ f. declared f.name) r.fields.items
-inner_names (d.List l) = []
-inner_names (d.Port p) = []
-inner_names (d.Component c) = declared_ports c.ports.items
-inner_names (d.Function f) = map (λ p. declared p.name) f.parameters.items
-inner_names (d.TestCase c) = []
+inner_names (defined.Record r) = map (λ f. declared f.name) r.fields.items
+inner_names (defined.List l) = []
+inner_names (defined.Port p) = []
+inner_names (defined.Component c) = declared_ports c.ports.items
+inner_names (defined.Function f) = map (λ p. declared p.name) f.parameters.items
+inner_names (defined.TestCase c) = []

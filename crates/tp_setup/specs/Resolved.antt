@@ -4,12 +4,12 @@ use Rattle.std.specs.Prelude.{map, option_map, string_bytes}
 use Rattle.std.specs.List.{AllZip, flat_map}
 use Rattle.tp_syntax.specs.declared.tree.Module.{Module}
 use Rattle.tp_syntax.specs.declared.tree.Defined.{Defined}
-use Rattle.tp_syntax.specs.declared.tree.Defined.TheVariants as d
-use Rattle.tp_syntax.specs.declared.tree.TypeName.{TypeName}
-use Rattle.tp_syntax.specs.declared.tree.TypeName.TheVariants as n
+use Rattle.tp_syntax.specs.declared.tree.Defined.TheVariants as defined
+use Rattle.tp_syntax.specs.declared.message.TypeName.{TypeName}
+use Rattle.tp_syntax.specs.declared.message.TypeName.TheVariants as type_name
 use Rattle.tp_syntax.specs.declared.tree.FieldType.{FieldType}
 use Rattle.tp_syntax.specs.declared.tree.Way.{Way}
-use Rattle.tp_syntax.specs.declared.tree.Way.TheVariants as w
+use Rattle.tp_syntax.specs.declared.tree.Way.TheVariants as way
 use Rattle.tp_syntax.specs.declared.tree.Direction.{Direction}
 use Rattle.tp_syntax.specs.declared.tree.PortType.{PortType}
 use Rattle.tp_syntax.specs.declared.tree.PortDeclaration.{PortDeclaration}
@@ -18,7 +18,7 @@ use Rattle.tp_value.specs.declared.types.Ty.{Ty}
 use Rattle.tp_value.specs.declared.types.Ty.TheVariants as ty
 use Rattle.tp_value.specs.declared.types.Field.{Field}
 use Rattle.tp_value.specs.declared.types.TypeDef.{TypeDef}
-use Rattle.tp_value.specs.declared.types.TypeDef.TheVariants as t
+use Rattle.tp_value.specs.declared.types.TypeDef.TheVariants as type_def
 use Rattle.tp_value.specs.declared.types.Types.{Types}
 use Rattle.tp_config.specs.declared.port_type.CompType.{CompType}
 use Rattle.tp_config.specs.declared.port_type.PortType.{PortType as PortLists}
@@ -30,10 +30,10 @@ use Rattle.tp_setup.specs.Definitions.{name_of, type_definitions, type_names, po
 
 -- the type that a type name names, where the record and record-of types have these names
 abbrev pub ty_of : List (List ℕ) → TypeName → Option Ty
-ty_of types n.Integer = Some ty.Integer
-ty_of types n.Boolean = Some ty.Boolean
-ty_of types n.Charstring = Some ty.Charstring
-ty_of types (n.Named name) = option_map ty.Named (place_of types (string_bytes name))
+ty_of types type_name.Integer = Some ty.Integer
+ty_of types type_name.Boolean = Some ty.Boolean
+ty_of types type_name.Charstring = Some ty.Charstring
+ty_of types (type_name.Named name) = option_map ty.Named (place_of types (string_bytes name))
 
 -- a type name names this type
 abbrev pub Names : List (List ℕ) → TypeName → Ty → Type 0
@@ -50,14 +50,14 @@ IsField types f field = (field.name ≡ declared f.name) × Names types f.type_n
 
 -- a record type has its fields in declared order, a record-of type its elements' type
 abbrev pub IsTypeDef : List (List ℕ) → Defined → TypeDef → Type 0
-IsTypeDef types (d.Record r) (t.Record fields) = AllZip (IsField types) r.fields.items fields
-IsTypeDef types (d.Record r) (t.ListOf element) = ⊥
-IsTypeDef types (d.List l) (t.Record fields) = ⊥
-IsTypeDef types (d.List l) (t.ListOf element) = Names types l.element element
-IsTypeDef types (d.Port p) made = ⊥
-IsTypeDef types (d.Component c) made = ⊥
-IsTypeDef types (d.Function f) made = ⊥
-IsTypeDef types (d.TestCase c) made = ⊥
+IsTypeDef types (defined.Record r) (type_def.Record fields) = AllZip (IsField types) r.fields.items fields
+IsTypeDef types (defined.Record r) (type_def.ListOf element) = ⊥
+IsTypeDef types (defined.List l) (type_def.Record fields) = ⊥
+IsTypeDef types (defined.List l) (type_def.ListOf element) = Names types l.element element
+IsTypeDef types (defined.Port p) made = ⊥
+IsTypeDef types (defined.Component c) made = ⊥
+IsTypeDef types (defined.Function f) made = ⊥
+IsTypeDef types (defined.TestCase c) made = ⊥
 
 -- a type under its own name
 abbrev pub IsNamedType : List (List ℕ) → Defined → List ℕ × TypeDef → Type 0
@@ -65,14 +65,14 @@ IsNamedType types x made = (made.0 ≡ name_of x) × IsTypeDef types x made.1
 
 -- whether messages go into a port this way, and whether they go out; `inout` is both
 abbrev pub goes_in : Way → Bool
-goes_in w.In = true
-goes_in w.Out = false
-goes_in w.InOut = true
+goes_in way.In = true
+goes_in way.Out = false
+goes_in way.InOut = true
 
 abbrev pub goes_out : Way → Bool
-goes_out w.In = false
-goes_out w.Out = true
-goes_out w.InOut = true
+goes_out way.In = false
+goes_out way.Out = true
+goes_out way.InOut = true
 
 -- the message types of a direction that a port of the type receives, and those that it sends
 abbrev pub received : Direction → List TypeName

@@ -4,8 +4,8 @@ use Rattle.std.specs.Prelude.{IfSome, IsSome, IsTrue, codes, is_some, length, st
 use Rattle.tp_syntax.specs.declared.tree.Module.{Module}
 use Rattle.tp_syntax.specs.declared.tree.Definition.{Definition}
 use Rattle.tp_syntax.specs.declared.tree.Defined.{Defined}
-use Rattle.tp_syntax.specs.declared.tree.Defined.TheVariants as d
-use Rattle.tp_syntax.specs.declared.tree.TypeName.{TypeName}
+use Rattle.tp_syntax.specs.declared.tree.Defined.TheVariants as defined
+use Rattle.tp_syntax.specs.declared.message.TypeName.{TypeName}
 use Rattle.tp_syntax.specs.declared.tree.ComponentType.{ComponentType}
 use Rattle.tp_syntax.specs.declared.tree.Function.{Function}
 use Rattle.tp_refusal.specs.declared.refusal.Refusal.TheVariants.{Unknown, Limit}
@@ -24,47 +24,47 @@ pub record HasUniqueNames (m : Module) : Type 0 where
   pub inner : All (λ (x : Definition). AreDistinct (inner_names x.defined)) m.definitions.items
 
 -- a type name names a type
-abbrev pub IsType : List (List ℕ) → TypeName → Type 0
-IsType types name = IsSome (ty_of types name)
+abbrev pub NamesType : List (List ℕ) → TypeName → Type 0
+NamesType types name = IsSome (ty_of types name)
 
 -- each name where the type of a field, of elements or of messages stands names a type
 abbrev pub AreTypesKnown : List (List ℕ) → Defined → Type 0
-AreTypesKnown types (d.Record r) = All (λ f. IsType types f.type_name) r.fields.items
-AreTypesKnown types (d.List l) = IsType types l.element
-AreTypesKnown types (d.Port p) = All (λ w. All (IsType types) w.types.items) p.directions.items
-AreTypesKnown types (d.Component c) = Unit {0}
-AreTypesKnown types (d.Function f) = Unit {0}
-AreTypesKnown types (d.TestCase c) = Unit {0}
+AreTypesKnown types (defined.Record r) = All (λ f. NamesType types f.type_name) r.fields.items
+AreTypesKnown types (defined.List l) = NamesType types l.element
+AreTypesKnown types (defined.Port p) = All (λ w. All (NamesType types) w.types.items) p.directions.items
+AreTypesKnown types (defined.Component c) = Unit {0}
+AreTypesKnown types (defined.Function f) = Unit {0}
+AreTypesKnown types (defined.TestCase c) = Unit {0}
 
 -- each name where the type of a port stands names a port type
 abbrev pub ArePortTypesKnown : List (List ℕ) → Defined → Type 0
-ArePortTypesKnown ports (d.Record r) = Unit {0}
-ArePortTypesKnown ports (d.List l) = Unit {0}
-ArePortTypesKnown ports (d.Port p) = Unit {0}
-ArePortTypesKnown ports (d.Component c) = All (λ p. Contains ports (string_bytes p.type_name)) c.ports.items
-ArePortTypesKnown ports (d.Function f) = Unit {0}
-ArePortTypesKnown ports (d.TestCase c) = Unit {0}
+ArePortTypesKnown ports (defined.Record r) = Unit {0}
+ArePortTypesKnown ports (defined.List l) = Unit {0}
+ArePortTypesKnown ports (defined.Port p) = Unit {0}
+ArePortTypesKnown ports (defined.Component c) = All (λ p. Contains ports (string_bytes p.type_name)) c.ports.items
+ArePortTypesKnown ports (defined.Function f) = Unit {0}
+ArePortTypesKnown ports (defined.TestCase c) = Unit {0}
 
 -- each name where a component type stands names one: behind `runs on` and `system`, and at a parameter
 abbrev pub AreComponentTypesKnown : List (List ℕ) → Defined → Type 0
-AreComponentTypesKnown components (d.Record r) = Unit {0}
-AreComponentTypesKnown components (d.List l) = Unit {0}
-AreComponentTypesKnown components (d.Port p) = Unit {0}
-AreComponentTypesKnown components (d.Component c) = Unit {0}
-AreComponentTypesKnown components (d.Function f) =
+AreComponentTypesKnown components (defined.Record r) = Unit {0}
+AreComponentTypesKnown components (defined.List l) = Unit {0}
+AreComponentTypesKnown components (defined.Port p) = Unit {0}
+AreComponentTypesKnown components (defined.Component c) = Unit {0}
+AreComponentTypesKnown components (defined.Function f) =
     Contains components (string_bytes f.runs_on)
     × All (λ p. Contains components (string_bytes p.type_name)) f.parameters.items
-AreComponentTypesKnown components (d.TestCase c) =
+AreComponentTypesKnown components (defined.TestCase c) =
     Contains components (string_bytes c.runs_on) × IfSome c.system (λ s. Contains components (string_bytes s))
 
 -- a component type has at most 64 ports
 abbrev pub HasFewPorts : Defined → Type 0
-HasFewPorts (d.Record r) = Unit {0}
-HasFewPorts (d.List l) = Unit {0}
-HasFewPorts (d.Port p) = Unit {0}
-HasFewPorts (d.Component c) = length (declared_ports c.ports.items) ≤ 64
-HasFewPorts (d.Function f) = Unit {0}
-HasFewPorts (d.TestCase c) = Unit {0}
+HasFewPorts (defined.Record r) = Unit {0}
+HasFewPorts (defined.List l) = Unit {0}
+HasFewPorts (defined.Port p) = Unit {0}
+HasFewPorts (defined.Component c) = length (declared_ports c.ports.items) ≤ 64
+HasFewPorts (defined.Function f) = Unit {0}
+HasFewPorts (defined.TestCase c) = Unit {0}
 
 -- whether the type of each port of a component type is among these names
 abbrev pub has_known_ports : List (List ℕ) → ComponentType → Bool
@@ -92,12 +92,12 @@ CanPlaySystem system f = (f.parameters.items ≡ []) × (system ≡ Some (string
 
 -- a function named `sut` can play the system under test
 abbrev pub PlaysSystem : Option (List ℕ) → Defined → Type 0
-PlaysSystem system (d.Record r) = Unit {0}
-PlaysSystem system (d.List l) = Unit {0}
-PlaysSystem system (d.Port p) = Unit {0}
-PlaysSystem system (d.Component c) = Unit {0}
-PlaysSystem system (d.Function f) = string_bytes f.name ≡ sut → CanPlaySystem system f
-PlaysSystem system (d.TestCase c) = Unit {0}
+PlaysSystem system (defined.Record r) = Unit {0}
+PlaysSystem system (defined.List l) = Unit {0}
+PlaysSystem system (defined.Port p) = Unit {0}
+PlaysSystem system (defined.Component c) = Unit {0}
+PlaysSystem system (defined.Function f) = string_bytes f.name ≡ sut → CanPlaySystem system f
+PlaysSystem system (defined.TestCase c) = Unit {0}
 
 -- the rules on one definition, where the types, port types and component types have these names, and this name stands
 -- behind `system`

@@ -16,7 +16,7 @@ use Rattle.tp_syntax.specs.declared.tree.TestCase.{TestCase}
 use Rattle.tp_setup.specs.Definitions.{among, component_of, component_type_names, function_of, name_of, port_of}
 use Rattle.tp_setup.specs.Definitions.{port_type_names, type_names, type_of}
 
--- these are the definitions of one kind, and their names, no two of them equal
+-- these are the definitions of one kind, and their names
 pub record AreOfKind {T : Type 0} (kind : Defined → Option T) (name : T → List ℕ) (definitions : List Definition)
     (names : List (List ℕ)) (items : List T) : Type 0 where
   pub items_are : items ≡ among kind definitions

@@ -4,7 +4,7 @@ use Rattle.std.specs.Prelude.{length, map, slice_get, string_bytes}
 use Rattle.std.specs.Option.{option_map}
 use Rattle.std.specs.List.{AllZip}
 use Rattle.tp_syntax.specs.declared.tree.ComponentName.{ComponentName}
-use Rattle.tp_syntax.specs.declared.tree.ComponentName.TheVariants as n
+use Rattle.tp_syntax.specs.declared.tree.ComponentName.TheVariants as component_name
 use Rattle.tp_syntax.specs.declared.tree.ComponentStart.{ComponentStart}
 use Rattle.tp_syntax.specs.declared.tree.Function.{Function}
 use Rattle.tp_syntax.specs.declared.tree.Parameter.{Parameter}
@@ -19,13 +19,13 @@ use Rattle.tp_setup.specs.Components.{creations, variables}
 
 -- the number of the component that an argument names, where the component variables have these names; `self` is `mtc`
 abbrev pub component_named : List (List ℕ) → ComponentName → Option ℕ
-component_named names (n.Named x) = option_map (λ k. k + 1) (place_of names (string_bytes x))
-component_named names n.Mtc = Some 0
-component_named names n.SelfComponent = Some 0
+component_named names (component_name.Named x) = option_map (λ k. k + 1) (place_of names (string_bytes x))
+component_named names component_name.Mtc = Some 0
+component_named names component_name.SelfComponent = Some 0
 
 -- the argument names this component
-abbrev pub IsReference : List (List ℕ) → ComponentName → CompId → Type 0
-IsReference names x comp = component_named names x ≡ Some comp.0
+abbrev pub IsArgument : List (List ℕ) → ComponentName → CompId → Type 0
+IsArgument names x comp = component_named names x ≡ Some comp.0
 
 -- the component has the type of the parameter, where the components have types of these names
 abbrev pub HasParameterType : List (List ℕ) → Parameter → CompId → Type 0
@@ -38,7 +38,7 @@ type_names_of case =
 
 -- a start obeys its rules and starts this, where the functions are these, the component variables have these names and
 -- the components types of these names
-pub record IsStarted (functions : List Function) (names types : List (List ℕ)) (x : ComponentStart) (made : Started)
+pub record IsStartOf (functions : List Function) (names types : List (List ℕ)) (x : ComponentStart) (made : Started)
     : Type 0 where
   pub variable : ℕ
   pub variable_known : place_of names (string_bytes x.component) ≡ Some variable
@@ -49,7 +49,7 @@ pub record IsStarted (functions : List Function) (names types : List (List ℕ))
   -- the function runs on the component's type
   pub runs_on : slice_get types (variable + 1) ≡ Some (string_bytes function.runs_on)
   -- each argument is known and of its parameter's type, and there are as many
-  pub arguments_known : AllZip (IsReference names) x.arguments.items made.arguments.items
+  pub arguments_known : AllZip (IsArgument names) x.arguments.items made.arguments.items
   pub arguments_fit : AllZip (HasParameterType types) function.parameters.items made.arguments.items
 
 -- the components that are started
@@ -62,7 +62,7 @@ IsStartPlace started name k = place_of started name ≡ Some k
 
 -- the starts of a test case obey their rules and start this
 pub record AreStarts (functions : List Function) (case : TestCase) (made : Starts) : Type 0 where
-  pub starts : AllZip (IsStarted functions (variables case.setups.items) (type_names_of case))
+  pub starts : AllZip (IsStartOf functions (variables case.setups.items) (type_names_of case))
       case.starts.items made.starts.items
   -- no component is started twice
   pub once : AreDistinct (started_names case.starts.items)

@@ -1,11 +1,11 @@
 //! The third pass of the checks: the components of the test case.
-ghost use Rattle.std.specs.Prelude.{◌≡◌, ◌≤◌, ◌++◌, ◌∷◌, [], Contains, IfOk, OnOk, length, map, option_map, slice_get, string_bytes};
+ghost use Rattle.std.specs.Prelude.{◌≡◌, ◌≢◌, ◌≤◌, ◌++◌, ◌∷◌, [], Contains, IfOk, OnErr, OnOk, length, map, option_map, slice_get, string_bytes};
 ghost use Rattle.std.specs.Option.{option_copied};
 ghost use Rattle.tp_name.specs.Tables.{AreDistinct};
-ghost use Rattle.tp_setup.specs.Components.{Adds, AddsAll, HasPorts, HasSoundVariables, created, creation_of, creations, interface, number_of, variable};
+ghost use Rattle.tp_setup.specs.Components.{Adds, AddsAll, HasPorts, HasSoundVariables, created, creation_of, creations, interface, component_number, variable};
 ghost use Rattle.tp_setup.specs.Sorted.{AreComponentsNamed, component_types_in};
 
-use crate::sorted::Sorted;
+use crate::sorted::{Sorted, definition_at};
 use crate::unique_names::declare_ports;
 use std::alloc::Global;
 use tp_config::config::Config;
@@ -17,8 +17,11 @@ use tp_refusal::refusal::Refusal;
 use tp_syntax::tree::{ComponentType, Creation, SetupAction, SetupStatement, TestCase};
 use tp_token::fault::ScriptFault;
 
-/// The fault of a statement that is refused so, at its line; 50 `Memory` has none.
-pub(crate) fn fault_at(refusal: Refusal, line: u32) -> ScriptFault {
+/// The refusal at this line, or want of memory, which has none.
+pub(crate) fn fault_at(refusal: Refusal, line: u32) -> ScriptFault
+    ensures memory { refusal ≡ Refusal.Memory → result ≡ ScriptFault.Memory (record {}) }
+    ensures other { refusal ≢ Refusal.Memory → result ≡ ScriptFault.Refused refusal line }
+{
     match refusal {
         Refusal::Memory => ScriptFault::Memory(Memory),
         _ => refused(refusal, line),
@@ -38,7 +41,8 @@ pub(crate) struct DeclaredComponent<'a> {
     pub line: u32,
 }
 
-/// Adds a component, and answers its number. 11 `Unknown` at its line where its type is unknown.
+/// Adds a component, and answers its number. 11 `Unknown` at its line where its type is unknown,
+/// then the refusals of [`Config::create`]: the configuration is then as before.
 pub(crate) fn add_component(
     alloc: Global,
     config: &mut Config,
@@ -52,6 +56,7 @@ pub(crate) fn add_component(
           role = component.now.role;
         }) config.old config.new) }
     ensures number { IfOk result (λ comp. comp.0 ≡ length config.old.components) }
+    ensures err { OnErr result (config.new ≡ config.old) }
 {
     let Some(kind) = types.find(component.type_name) else {
         return Err(refused(Refusal::Unknown, component.line));
@@ -65,9 +70,9 @@ pub(crate) fn add_component(
         .map_err(|fault| fault_at(fault.refusal(), component.line))
 }
 
-/// What the component variables of a test case are held against.
+/// What a component variable of a test case must obey.
 #[derive(Clone, Copy)]
-pub(crate) struct VariableChecks<'a, 'm> {
+pub(crate) struct VariableRules<'a, 'm> {
     /// The names of the component types.
     pub types: &'a NameSet<'m>,
     /// The names of the ports of the main component.
@@ -81,32 +86,32 @@ pub(crate) struct VariableChecks<'a, 'm> {
 /// two types differ, 15 `Limit` where there are too many components.
 fn check_variable<'m>(
     variables: &mut NameSet<'m>,
-    checks: &VariableChecks,
+    rules: &VariableRules,
     creation: &'m Creation,
     line: u32,
 ) -> Result<(), ScriptFault>
     ensures added { OnOk result (variables.new ≡ variables.old ++ variable creation.now ∷ []) }
     ensures distinct { AreDistinct variables.new }
-    ensures no_port { OnOk result (Contains checks.now.ports.now (variable creation.now) → ⊥) }
+    ensures no_port { OnOk result (Contains rules.now.ports.now (variable creation.now) → ⊥) }
     ensures known { OnOk result (
-        Contains checks.now.types.now (string_bytes creation.now.type_name)) }
+        Contains rules.now.types.now (string_bytes creation.now.type_name)) }
     ensures same { OnOk result (
         string_bytes creation.now.type_name ≡ string_bytes creation.now.created) }
-    ensures few { OnOk result (length variables.new ≤ checks.now.most) }
+    ensures few { OnOk result (length variables.new ≤ rules.now.most) }
 {
     if let Err(fault) = variables.add(creation.name.as_str()) {
         return Err(fault.at(line));
     }
-    if checks.ports.has(creation.name.as_str()) {
+    if rules.ports.has(creation.name.as_str()) {
         return Err(refused(Refusal::Duplicate, line));
     }
-    if !checks.types.has(creation.type_name.as_str()) {
+    if !rules.types.has(creation.type_name.as_str()) {
         return Err(refused(Refusal::Unknown, line));
     }
     if creation.type_name.as_str() != creation.created.as_str() {
         return Err(refused(Refusal::WrongType, line));
     }
-    if variables.len() > checks.most {
+    if variables.len() > rules.most {
         return Err(ScriptFault::limit(line));
     }
     Ok(())
@@ -146,47 +151,47 @@ fn create<'m>(
     alloc: Global,
     config: &mut Config,
     variables: &mut NameSet<'m>,
-    checks: &VariableChecks,
+    rules: &VariableRules,
     at: CreationAt<'m>,
 ) -> Result<(), ScriptFault>
     ensures added { OnOk result (
         variables.new ≡ variables.old ++ variable at.entry.creation.now ∷ []) }
     ensures distinct { AreDistinct variables.new }
     ensures no_port { OnOk result (
-        Contains checks.now.ports.now (variable at.entry.creation.now) → ⊥) }
+        Contains rules.now.ports.now (variable at.entry.creation.now) → ⊥) }
     ensures known { OnOk result (
-        Contains checks.now.types.now (string_bytes at.entry.creation.now.type_name)) }
+        Contains rules.now.types.now (string_bytes at.entry.creation.now.type_name)) }
     ensures same { OnOk result (string_bytes at.entry.creation.now.type_name
         ≡ string_bytes at.entry.creation.now.created) }
-    ensures few { OnOk result (length variables.new ≤ checks.now.most) }
+    ensures few { OnOk result (length variables.new ≤ rules.now.most) }
     ensures component { OnOk result (
-        Adds checks.now.types.now (created at.entry.creation.now) config.old config.new) }
+        Adds rules.now.types.now (created at.entry.creation.now) config.old config.new) }
 {
-    check_variable(variables, checks, at.creation, at.line)?;
+    check_variable(variables, rules, at.creation, at.line)?;
     let component = DeclaredComponent {
         name: at.creation.name.as_str(),
         type_name: at.creation.type_name.as_str(),
         role: Role::Test,
         line: at.line,
     };
-    add_component(alloc, config, checks.types, &component)?;
+    add_component(alloc, config, rules.types, &component)?;
     Ok(())
 }
 
 /// Makes the components of the setup statements, in the order of the text, where their variables
-/// are held against this.
+/// must obey these rules.
 ///
 /// The first statement that makes a component and breaks a rule stops it: 12 `Duplicate`, 11
 /// `Unknown`, 13 `WrongType` or 15 `Limit`, at its line, or 50 `Memory`.
 pub(crate) fn create_components<'m>(
     alloc: Global,
     config: &mut Config,
-    checks: &VariableChecks,
+    rules: &VariableRules,
     setups: &'m [SetupStatement],
 ) -> Result<(), Stopped<'m>>
-    ensures sound { OnOk result (HasSoundVariables checks.now.types.now checks.now.ports.now
-        checks.now.most (creations setups.now)) }
-    ensures added { OnOk result (AddsAll checks.now.types.now
+    ensures sound { OnOk result (HasSoundVariables rules.now.types.now rules.now.ports.now
+        rules.now.most (creations setups.now)) }
+    ensures added { OnOk result (AddsAll rules.now.types.now
         (map created (creations setups.now)) config.old config.new) }
 {
     let mut variables = NameSet::new(alloc);
@@ -196,7 +201,7 @@ pub(crate) fn create_components<'m>(
         };
         let line = setup.line;
         let at = CreationAt { line, creation };
-        if let Err(fault) = create(alloc, config, &mut variables, checks, at) {
+        if let Err(fault) = create(alloc, config, &mut variables, rules, at) {
             let before = &setups[..i];
             return Err(Stopped { before, fault });
         }
@@ -218,21 +223,12 @@ pub(crate) fn ports_of_type<'m>(
     let Some(place) = sorted.component_names.find(name) else {
         return Err(refused(Refusal::Unknown, line));
     };
-    let Some(component) = component_at(&sorted.components, place) else {
+    let Some(component) = definition_at(&sorted.components, place) else {
         return Err(refused(Refusal::Unknown, line));
     };
     let mut ports = NameSet::new(alloc);
     declare_ports(&mut ports, &component.ports)?;
     Ok(ports)
-}
-
-fn component_at<'m>(components: &[&'m ComponentType], place: u32) -> Option<&'m ComponentType>
-    ensures { option_copied result ≡ slice_get (map (λ c. c.now) components.now) place }
-{
-    match components.get(place as usize) {
-        Some(component) => Some(*component),
-        None => None,
-    }
 }
 
 /// Adds the test system interface, if the test case has a `system` clause, and answers its number.
@@ -244,7 +240,7 @@ pub(crate) fn add_interface(
     line: u32,
 ) -> Result<Option<CompId>, ScriptFault>
     ensures added { OnOk result (AddsAll types.now (interface case.now) config.old config.new) }
-    ensures number { IfOk result (λ found. number_of found
+    ensures number { IfOk result (λ found. component_number found
         ≡ option_map (λ _. length config.old.components) case.now.system) }
 {
     let Some(system) = &case.system else {

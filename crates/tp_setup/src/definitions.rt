@@ -2,7 +2,7 @@
 ghost use Rattle.std.specs.Prelude.{◌≡◌, ◌≤◌, ◌↔◌, All, Contains, IfErr, IfOk, IfSome, IsTrue, OnOk, is_some, length, option_map, string_bytes};
 ghost use Rattle.std.specs.List.{AllZip, list_all};
 ghost use Rattle.tp_setup.specs.Definitions.{declared_ports};
-ghost use Rattle.tp_setup.specs.Rules.{CanPlaySystem, IsComponentFault, IsType, has_known_parameters, has_known_ports, sut};
+ghost use Rattle.tp_setup.specs.Rules.{CanPlaySystem, IsComponentFault, NamesType, has_known_parameters, has_known_ports, sut};
 ghost use Rattle.tp_name.specs.Tables.{place_of};
 ghost use Rattle.tp_setup.specs.Sorted.{AreComponentTypesIn, AreSorted, AreSound, ArePortsNamed, HasSoundDefinitions, IsSoundIn, types_in};
 ghost use Rattle.tp_setup.specs.Resolved.{IsNamedType};
@@ -39,14 +39,14 @@ pub struct Definitions<'m> {
 
 /// Whether the type of each field is known.
 fn are_fields_known(types: &NameSet, fields: &[FieldType]) -> bool
-    ensures { IsTrue result → All (λ f. IsType types.now f.type_name) fields.now }
+    ensures { IsTrue result → All (λ f. NamesType types.now f.type_name) fields.now }
 {
     fields.iter().all(|field| is_type(types, &field.type_name))
 }
 
 /// Whether each message type of the directions is known.
 fn are_messages_known(types: &NameSet, directions: &[Direction]) -> bool
-    ensures { IsTrue result → All (λ w. All (IsType types.now) w.types.items) directions.now }
+    ensures { IsTrue result → All (λ w. All (NamesType types.now) w.types.items) directions.now }
 {
     directions
         .iter()

@@ -16,9 +16,8 @@ use tp_config::type_list::TypeList;
 use tp_name::fault::refused;
 use tp_name::name_set::NameSet;
 use tp_refusal::refusal::Refusal;
-use tp_syntax::tree::{
-    self, ComponentType, DeclaredName, Direction, PortDeclaration, TypeName, Way,
-};
+use tp_syntax::message::TypeName;
+use tp_syntax::tree::{self, ComponentType, DeclaredName, Direction, PortDeclaration, Way};
 use tp_token::fault::ScriptFault;
 use tp_value::items::Items;
 use tp_value::types::Ty;
@@ -166,6 +165,7 @@ fn add_ports(
     Ok(())
 }
 
+/// The port type that was made at this place, or `None` where there is none. Takes no memory.
 fn made_at(made: &[PortType], place: u32) -> Option<&PortType>
     ensures { option_copied result ≡ slice_get made.now place }
 {

@@ -44,7 +44,7 @@ struct Configured<'m> {
 
 /// The third pass: setup and starts, where the module's definitions are sorted so and its component
 /// types are these, each with at most 64 ports.
-fn configure<'m>(
+fn set_up_and_start<'m>(
     alloc: Global,
     sorted: &Sorted<'m>,
     case: CaseAt<'m>,
@@ -82,7 +82,7 @@ pub fn prepare(alloc: Global, parsed: &Module) -> Result<Prepared<'_>, ScriptFau
         types,
         components,
     } = find_definitions(alloc, parsed)?;
-    let configured = configure(alloc, &sorted, case, components)?;
+    let configured = set_up_and_start(alloc, &sorted, case, components)?;
     Ok(Prepared {
         case,
         sorted,

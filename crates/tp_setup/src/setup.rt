@@ -4,11 +4,11 @@ ghost use Rattle.tp_config.specs.Setup.{empty_setup};
 ghost use Rattle.tp_config.specs.Shape.{ports_of};
 ghost use Rattle.tp_setup.specs.Sorted.{AreComponentsNamed, component_types_in};
 ghost use Rattle.std.specs.Option.{option_map, option_to_list};
-ghost use Rattle.tp_setup.specs.Components.{AddsAll, HasSoundVariables, created, creation_of, creations, main_component, number_of, variable, variables};
+ghost use Rattle.tp_setup.specs.Components.{AddsAll, HasSoundVariables, created, creation_of, creations, main_component, component_number, variable, variables};
 ghost use Rattle.tp_setup.specs.Configuring.{AreSoundVariables, IsEnd, IsSetUp, IsStep, Makes, component_at, most_variables};
 
 use crate::components::{
-    DeclaredComponent, Stopped, VariableChecks, add_component, add_interface, create_components,
+    DeclaredComponent, Stopped, VariableRules, add_component, add_interface, create_components,
     fault_at, ports_of_type,
 };
 use crate::sorted::Sorted;
@@ -24,13 +24,13 @@ use tp_token::fault::ScriptFault;
 
 /// The component that is named, where the component variables so far have these names, or `None`
 /// where there is none. Takes no memory.
-fn find_component(
+fn find_end_component(
     known: &NameSet,
     system: Option<CompId>,
     component: &EndComponent,
 ) -> Option<CompId>
     ensures { IfSome result (λ comp.
-        component_at known.now (number_of system) component.now ≡ Some comp.0) }
+        component_at known.now (component_number system) component.now ≡ Some comp.0) }
 {
     match component {
         EndComponent::Mtc | EndComponent::SelfComponent => Some(CompId(0)),
@@ -55,9 +55,9 @@ fn find_end(
     end: &PairEnd,
     line: u32,
 ) -> Result<PortRef, ScriptFault>
-    ensures { IfOk result (IsEnd config.now known.now (number_of system) end.now) }
+    ensures { IfOk result (IsEnd config.now known.now (component_number system) end.now) }
 {
-    let Some(comp) = find_component(known, system, &end.component) else {
+    let Some(comp) = find_end_component(known, system, &end.component) else {
         return Err(refused(Refusal::Unknown, line));
     };
     let Some(port) = config.port_of(comp, end.port.as_str()) else {
@@ -75,9 +75,9 @@ fn find_ends(
     line: u32,
 ) -> Result<(PortRef, PortRef), ScriptFault>
     ensures first { IfOk result (λ ports.
-        IsEnd config.now known.now (number_of system) ends.entry.0.now ports.0) }
+        IsEnd config.now known.now (component_number system) ends.entry.0.now ports.0) }
     ensures second { IfOk result (λ ports.
-        IsEnd config.now known.now (number_of system) ends.entry.1.now ports.1) }
+        IsEnd config.now known.now (component_number system) ends.entry.1.now ports.1) }
 {
     let p = find_end(config, known, system, ends.0, line)?;
     let q = find_end(config, known, system, ends.1, line)?;
@@ -94,7 +94,7 @@ fn step<'m>(
     setup: &'m SetupStatement,
 ) -> Result<(), ScriptFault>
     ensures step { OnOk result (
-        IsStep config.old known.old (number_of system) setup.now.action config.new) }
+        IsStep config.old known.old (component_number system) setup.now.action config.new) }
     ensures known { OnOk result (known.new
         ≡ known.old ++ option_to_list (option_map variable (creation_of setup.now))) }
 {
@@ -132,7 +132,7 @@ pub fn connect_all<'m>(
     setups: &'m [SetupStatement],
 ) -> Result<NameSet<'m>, ScriptFault>
     ensures known { IfOk result (λ known. known ≡ variables setups.now) }
-    ensures makes { OnOk result (Makes (number_of system) config.old setups.now config.new) }
+    ensures makes { OnOk result (Makes (component_number system) config.old setups.now config.new) }
 {
     let mut known = NameSet::new(alloc);
     for setup in setups {
@@ -196,12 +196,12 @@ fn create_beside(
     ensures added { OnOk result (AddsAll types.now
         (map created (creations case.entry.case.now.setups.items)) config.old config.new) }
 {
-    let checks = VariableChecks {
+    let rules = VariableRules {
         types,
         ports,
         most: most_variables(case.case),
     };
-    match create_components(alloc, &mut *config, &checks, &case.case.setups) {
+    match create_components(alloc, &mut *config, &rules, &case.case.setups) {
         Ok(()) => Ok(()),
         Err(stopped) => Err(first_fault(alloc, config, types, case, stopped)),
     }

@@ -1,5 +1,5 @@
 //! The definitions of a module, sorted by their kinds.
-ghost use Rattle.std.specs.Prelude.{◌≡◌, ℕ, List, Option, IfOk, map, string_bytes};
+ghost use Rattle.std.specs.Prelude.{◌≡◌, ℕ, List, Option, IfOk, map, slice_get, string_bytes};
 ghost use Rattle.std.specs.Option.{option_copied};
 ghost use Rattle.tp_syntax.specs.declared.tree.Defined.{Defined};
 ghost use Rattle.tp_setup.specs.Definitions.{component_of, function_of, name_of, port_of, type_of};
@@ -31,6 +31,16 @@ pub struct Sorted<'m> {
     pub function_names: NameSet<'m>,
     /// The functions.
     pub functions: Vec<&'m Function>,
+}
+
+/// The definition of this kind at this place, or `None` where there is none. Takes no memory.
+pub(crate) fn definition_at<'m, K>(definitions: &[&'m K], place: u32) -> Option<&'m K>
+    ensures { option_copied result ≡ slice_get (map (λ d. d.now) definitions.now) place }
+{
+    match definitions.get(place as usize) {
+        Some(definition) => Some(*definition),
+        None => None,
+    }
 }
 
 /// A kind of definition: the record and record-of types, the port types, the component types, or

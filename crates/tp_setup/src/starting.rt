@@ -5,11 +5,11 @@ ghost use Rattle.std.specs.List.{AllZip};
 ghost use Rattle.tp_setup.specs.Sorted.{AreFunctionsNamed, functions_in};
 ghost use Rattle.tp_name.specs.Tables.{AreDistinct};
 ghost use Rattle.tp_setup.specs.Components.{creations, variables};
-ghost use Rattle.tp_setup.specs.Starting.{AreStarts, HasParameterType, IsReference, IsStartPlace, IsStarted, started_names, type_names_of};
+ghost use Rattle.tp_setup.specs.Starting.{AreStarts, HasParameterType, IsArgument, IsStartPlace, IsStartOf, started_names, type_names_of};
 
 use crate::components::as_creation;
 use crate::definitions::is_sut;
-use crate::sorted::Sorted;
+use crate::sorted::{Sorted, definition_at};
 use crate::starts::{Started, Starts};
 use crate::unique_names::CaseAt;
 use std::alloc::Global;
@@ -23,8 +23,8 @@ use tp_syntax::tree::{
 use tp_token::fault::ScriptFault;
 
 /// The component that the argument names, or `None` where there is none. Takes no memory.
-fn find_reference(variables: &NameSet, argument: &ComponentName) -> Option<CompId>
-    ensures { IfSome result (IsReference variables.now argument.now) }
+fn find_argument(variables: &NameSet, argument: &ComponentName) -> Option<CompId>
+    ensures { IfSome result (IsArgument variables.now argument.now) }
 {
     match argument {
         ComponentName::Mtc | ComponentName::SelfComponent => Some(CompId(0)),
@@ -40,10 +40,12 @@ fn find_reference(variables: &NameSet, argument: &ComponentName) -> Option<CompI
     }
 }
 
-fn type_at<'m>(types: &[&'m str], place: u32) -> Option<&'m str>
-    ensures { option_copied result ≡ slice_get (map (λ t. t.now) types.now) place }
+/// The name of the type of the component of this number, or `None` where there is none. Takes no
+/// memory.
+fn type_name_at<'m>(types: &[&'m str], number: u32) -> Option<&'m str>
+    ensures { option_copied result ≡ slice_get (map (λ t. t.now) types.now) number }
 {
-    match types.get(place as usize) {
+    match types.get(number as usize) {
         Some(name) => Some(*name),
         None => None,
     }
@@ -53,7 +55,7 @@ fn type_at<'m>(types: &[&'m str], place: u32) -> Option<&'m str>
 fn has_type(types: &[&str], comp: CompId, name: &str) -> bool
     ensures { IsTrue result → slice_get (map (λ t. t.now) types.now) comp.0 ≡ Some name.now }
 {
-    match type_at(types, comp.0) {
+    match type_name_at(types, comp.0) {
         Some(other) => other == name,
         None => false,
     }
@@ -68,10 +70,10 @@ fn check_argument(
     argument: &ComponentName,
     line: u32,
 ) -> Result<CompId, ScriptFault>
-    ensures known { IfOk result (IsReference variables.now argument.now) }
+    ensures known { IfOk result (IsArgument variables.now argument.now) }
     ensures fits { IfOk result (HasParameterType (map (λ t. t.now) types.now) parameter.now) }
 {
-    let Some(comp) = find_reference(variables, argument) else {
+    let Some(comp) = find_argument(variables, argument) else {
         return Err(refused(Refusal::Unknown, line));
     };
     if !has_type(types, comp, parameter.type_name.as_str()) {
@@ -89,7 +91,7 @@ fn check_arguments(
     start: &ComponentStart,
 ) -> Result<Vec<CompId>, ScriptFault>
     ensures known { IfOk result (λ made.
-        AllZip (IsReference variables.now) start.now.arguments.items made.items) }
+        AllZip (IsArgument variables.now) start.now.arguments.items made.items) }
     ensures fits { IfOk result (λ made.
         AllZip (HasParameterType (map (λ t. t.now) types.now)) parameters.now made.items) }
 {
@@ -105,15 +107,6 @@ fn check_arguments(
     Ok(made)
 }
 
-fn function_at<'m>(functions: &[&'m Function], place: u32) -> Option<&'m Function>
-    ensures { option_copied result ≡ slice_get (map (λ f. f.now) functions.now) place }
-{
-    match functions.get(place as usize) {
-        Some(function) => Some(*function),
-        None => None,
-    }
-}
-
 /// What a start starts, where its component is started once.
 fn check_start(
     alloc: Global,
@@ -123,23 +116,23 @@ fn check_start(
     start: &ComponentStart,
 ) -> Result<Started, ScriptFault>
     requires { AreFunctionsNamed sorted.now }
-    ensures { IfOk result (IsStarted (functions_in sorted.now) variables.now
+    ensures { IfOk result (IsStartOf (functions_in sorted.now) variables.now
         (map (λ t. t.now) types.now) start.now) }
 {
     let line = start.line;
-    let Some(comp) = variables.find(start.component.as_str()) else {
+    let Some(variable) = variables.find(start.component.as_str()) else {
         return Err(refused(Refusal::Unknown, line));
     };
     let Some(place) = sorted.function_names.find(start.function.as_str()) else {
         return Err(refused(Refusal::Unknown, line));
     };
-    let Some(function) = function_at(&sorted.functions, place) else {
+    let Some(function) = definition_at(&sorted.functions, place) else {
         return Err(refused(Refusal::Unknown, line));
     };
     if is_sut(start.function.as_str()) {
         return Err(refused(Refusal::NotInSut, line));
     }
-    if comp == u32::MAX || !has_type(types, CompId(comp + 1), function.runs_on.as_str()) {
+    if variable == u32::MAX || !has_type(types, CompId(variable + 1), function.runs_on.as_str()) {
         return Err(refused(Refusal::WrongType, line));
     }
     let arguments = check_arguments(alloc, variables, types, &function.parameters, start)?;
@@ -229,7 +222,7 @@ fn check_each<'m>(
 ) -> Result<(NameSet<'m>, Vec<Started>), ScriptFault>
     requires { AreFunctionsNamed sorted.now }
     ensures started { IfOk result (λ r. AllZip
-        (IsStarted (functions_in sorted.now) variables.now (map (λ t. t.now) types.now))
+        (IsStartOf (functions_in sorted.now) variables.now (map (λ t. t.now) types.now))
         starts.now r.1.items) }
     ensures names { IfOk result (λ r. r.0 ≡ started_names starts.now) }
     ensures distinct { IfOk result (λ r. AreDistinct r.0) }
@@ -253,7 +246,7 @@ fn start_all<'m>(
 ) -> Result<(NameSet<'m>, Vec<Started>), ScriptFault>
     requires { AreFunctionsNamed sorted.now }
     ensures started { IfOk result (λ r. AllZip
-        (IsStarted (functions_in sorted.now) names.now (type_names_of case.now))
+        (IsStartOf (functions_in sorted.now) names.now (type_names_of case.now))
         case.now.starts.items r.1.items) }
     ensures names { IfOk result (λ r. r.0 ≡ started_names case.now.starts.items) }
     ensures distinct { IfOk result (λ r. AreDistinct r.0) }

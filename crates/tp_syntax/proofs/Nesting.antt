@@ -4,16 +4,16 @@ use Rattle.std.proofs.lemmas.List.{map_push}
 use Rattle.std.specs.declared.vec.Vec.{Vec}
 use Rattle.std.specs.declared.alloc.Global.{Global}
 use Rattle.std.specs.declared.string.String.{String}
-use Rattle.tp_syntax.specs.declared.tree.Value.{Value}
-use Rattle.tp_syntax.specs.declared.tree.Value.TheVariants as v
-use Rattle.tp_syntax.specs.declared.tree.Value.TheOpen as ov
-use Rattle.tp_syntax.specs.declared.tree.Value.TheFolds.{fold-roll-Value, fold_out-ValueField}
-use Rattle.tp_syntax.specs.declared.tree.ValueField.{ValueField, out-ValueField}
-use Rattle.tp_syntax.specs.declared.tree.Template.{Template}
-use Rattle.tp_syntax.specs.declared.tree.Template.TheVariants as t
-use Rattle.tp_syntax.specs.declared.tree.Template.TheOpen as ot
-use Rattle.tp_syntax.specs.declared.tree.Template.TheFolds.{fold-roll-Template, fold_out-TemplateField}
-use Rattle.tp_syntax.specs.declared.tree.TemplateField.{TemplateField, out-TemplateField}
+use Rattle.tp_syntax.specs.declared.message.Value.{Value}
+use Rattle.tp_syntax.specs.declared.message.Value.TheVariants as v
+use Rattle.tp_syntax.specs.declared.message.Value.TheOpen as ov
+use Rattle.tp_syntax.specs.declared.message.Value.TheFolds.{fold-roll-Value, fold_out-ValueField}
+use Rattle.tp_syntax.specs.declared.message.ValueField.{ValueField, out-ValueField}
+use Rattle.tp_syntax.specs.declared.message.Template.{Template}
+use Rattle.tp_syntax.specs.declared.message.Template.TheVariants as t
+use Rattle.tp_syntax.specs.declared.message.Template.TheOpen as ot
+use Rattle.tp_syntax.specs.declared.message.Template.TheFolds.{fold-roll-Template, fold_out-TemplateField}
+use Rattle.tp_syntax.specs.declared.message.TemplateField.{TemplateField, out-TemplateField}
 use Rattle.tp_syntax.specs.declared.tree.Send.{Send}
 use Rattle.tp_syntax.specs.declared.tree.Receive.{Receive}
 use Rattle.tp_syntax.specs.declared.tree.Control.{Control}

@@ -7,7 +7,7 @@ use Rattle.tp_token.specs.declared.token.Symbol.TheVariants.{LeftParen, RightPar
 use Rattle.tp_token.specs.Lexeme.{Lexeme, PlacedLexeme, name, word, symbol}
 use Rattle.tp_token.specs.Cut.{AreTokens}
 use Rattle.tp_syntax.specs.declared.tree.DeclaredName.{DeclaredName}
-use Rattle.tp_syntax.specs.declared.tree.TypeName.{TypeName}
+use Rattle.tp_syntax.specs.declared.message.TypeName.{TypeName}
 use Rattle.tp_syntax.specs.declared.tree.ComponentName.{ComponentName}
 use Rattle.tp_syntax.specs.declared.tree.FieldType.{FieldType}
 use Rattle.tp_syntax.specs.declared.tree.RecordType.{RecordType}
@@ -21,16 +21,16 @@ use Rattle.tp_syntax.specs.declared.tree.ComponentType.{ComponentType}
 use Rattle.tp_syntax.specs.declared.tree.Parameter.{Parameter}
 use Rattle.tp_syntax.specs.declared.tree.Function.{Function}
 use Rattle.tp_syntax.specs.declared.tree.EndComponent.{EndComponent}
-use Rattle.tp_syntax.specs.declared.tree.EndComponent.TheVariants as e
+use Rattle.tp_syntax.specs.declared.tree.EndComponent.TheVariants as end_component
 use Rattle.tp_syntax.specs.declared.tree.PairEnd.{PairEnd}
 use Rattle.tp_syntax.specs.declared.tree.SetupAction.{SetupAction}
-use Rattle.tp_syntax.specs.declared.tree.SetupAction.TheVariants as s
+use Rattle.tp_syntax.specs.declared.tree.SetupAction.TheVariants as setup_action
 use Rattle.tp_syntax.specs.declared.tree.SetupStatement.{SetupStatement}
 use Rattle.tp_syntax.specs.declared.tree.ComponentStart.{ComponentStart}
 use Rattle.tp_syntax.specs.declared.tree.AllDone.{AllDone}
 use Rattle.tp_syntax.specs.declared.tree.TestCase.{TestCase}
 use Rattle.tp_syntax.specs.declared.tree.Defined.{Defined}
-use Rattle.tp_syntax.specs.declared.tree.Defined.TheVariants as d
+use Rattle.tp_syntax.specs.declared.tree.Defined.TheVariants as defined
 use Rattle.tp_syntax.specs.declared.tree.Definition.{Definition}
 use Rattle.tp_syntax.specs.declared.tree.Module.{Module}
 use Rattle.tp_syntax.specs.Ahead.{plain}
@@ -121,10 +121,10 @@ function_lexemes f =
 
 -- Name | "mtc" | "self" | "system"
 abbrev pub end_component_lexeme : EndComponent → Lexeme
-end_component_lexeme (e.Named n) = name (string_bytes n)
-end_component_lexeme e.Mtc = word w.Mtc
-end_component_lexeme e.SelfComponent = word w.SelfWord
-end_component_lexeme e.System = word w.System
+end_component_lexeme (end_component.Named n) = name (string_bytes n)
+end_component_lexeme end_component.Mtc = word w.Mtc
+end_component_lexeme end_component.SelfComponent = word w.SelfWord
+end_component_lexeme end_component.System = word w.System
 
 -- (Name | "mtc" | "self" | "system") ":" Name
 abbrev pub end_point_lexemes : PairEnd → List Lexeme
@@ -136,11 +136,11 @@ ends_lexemes a b = parenthesised (end_point_lexemes a ++ symbol Comma ∷ end_po
 
 -- "var" Name Name ":=" Name "." "create" | ("connect" | "map") "(" End "," End ")"
 unfoldable pub setup_action_lexemes : SetupAction → List Lexeme
-setup_action_lexemes (s.Create c) =
+setup_action_lexemes (setup_action.Create c) =
     word w.Var ∷ name (string_bytes c.type_name) ∷ name (string_bytes c.name) ∷ symbol Assign ∷
     name (string_bytes c.created) ∷ symbol Dot ∷ word w.Create ∷ []
-setup_action_lexemes (s.Connect a b) = word w.Connect ∷ ends_lexemes a b
-setup_action_lexemes (s.Map a b) = word w.Map ∷ ends_lexemes a b
+setup_action_lexemes (setup_action.Connect a b) = word w.Connect ∷ ends_lexemes a b
+setup_action_lexemes (setup_action.Map a b) = word w.Map ∷ ends_lexemes a b
 
 -- a setup statement and its `;`
 abbrev pub setup_lexemes : SetupStatement → List Lexeme
@@ -190,12 +190,12 @@ test_case_lexemes t =
 
 -- what a definition defines
 unfoldable pub defined_lexemes : Defined → List Lexeme
-defined_lexemes (d.Record t) = record_type_lexemes t
-defined_lexemes (d.List t) = list_type_lexemes t
-defined_lexemes (d.Port t) = port_type_lexemes t
-defined_lexemes (d.Component t) = component_type_lexemes t
-defined_lexemes (d.Function f) = function_lexemes f
-defined_lexemes (d.TestCase t) = test_case_lexemes t
+defined_lexemes (defined.Record t) = record_type_lexemes t
+defined_lexemes (defined.List t) = list_type_lexemes t
+defined_lexemes (defined.Port t) = port_type_lexemes t
+defined_lexemes (defined.Component t) = component_type_lexemes t
+defined_lexemes (defined.Function f) = function_lexemes f
+defined_lexemes (defined.TestCase t) = test_case_lexemes t
 
 -- a definition and its `;`
 abbrev pub definition_lexemes : Definition → List Lexeme

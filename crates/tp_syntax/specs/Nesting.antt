@@ -1,18 +1,18 @@
 -- How deep brackets nest in what a text says: how many of `{`, `(` and `[` are open at once.
 use Rattle.std.specs.Prelude.{ℕ, ◌+◌, max, List, [], ◌∷◌, map, Option, Some, None}
-use Rattle.tp_syntax.specs.declared.tree.Value.{Value}
-use Rattle.tp_syntax.specs.declared.tree.Value.TheOpen as v
-use Rattle.tp_syntax.specs.declared.tree.Value.TheFolds.{fold-Value, fold-ValueField}
-use Rattle.tp_syntax.specs.declared.tree.ValueField.{ValueField}
-use Rattle.tp_syntax.specs.declared.tree.Template.{Template}
-use Rattle.tp_syntax.specs.declared.tree.Template.TheOpen as t
-use Rattle.tp_syntax.specs.declared.tree.Template.TheFolds.{fold-Template, fold-TemplateField}
-use Rattle.tp_syntax.specs.declared.tree.TemplateField.{TemplateField}
-use Rattle.tp_syntax.specs.declared.tree.MessageTemplate.{MessageTemplate}
+use Rattle.tp_syntax.specs.declared.message.Value.{Value}
+use Rattle.tp_syntax.specs.declared.message.Value.TheOpen as v
+use Rattle.tp_syntax.specs.declared.message.Value.TheFolds.{fold-Value, fold-ValueField}
+use Rattle.tp_syntax.specs.declared.message.ValueField.{ValueField}
+use Rattle.tp_syntax.specs.declared.message.Template.{Template}
+use Rattle.tp_syntax.specs.declared.message.Template.TheOpen as t
+use Rattle.tp_syntax.specs.declared.message.Template.TheFolds.{fold-Template, fold-TemplateField}
+use Rattle.tp_syntax.specs.declared.message.TemplateField.{TemplateField}
+use Rattle.tp_syntax.specs.declared.message.MessageTemplate.{MessageTemplate}
 use Rattle.tp_syntax.specs.declared.tree.Sent.{Sent}
 use Rattle.tp_syntax.specs.declared.tree.Sent.TheVariants as sent
 use Rattle.tp_syntax.specs.declared.tree.ReceiveKind.{ReceiveKind}
-use Rattle.tp_syntax.specs.declared.tree.ReceiveKind.TheVariants as k
+use Rattle.tp_syntax.specs.declared.tree.ReceiveKind.TheVariants as receive_kind
 use Rattle.tp_syntax.specs.declared.tree.Receive.{Receive}
 use Rattle.tp_syntax.specs.declared.tree.Statement.{Statement}
 use Rattle.tp_syntax.specs.declared.tree.Action.{Action}
@@ -23,7 +23,7 @@ use Rattle.tp_syntax.specs.declared.tree.BranchBody.{BranchBody}
 use Rattle.tp_syntax.specs.declared.tree.Counted.{Counted}
 use Rattle.tp_syntax.specs.declared.tree.ElseBranch.{ElseBranch}
 use Rattle.tp_syntax.specs.declared.tree.Defined.{Defined}
-use Rattle.tp_syntax.specs.declared.tree.Defined.TheVariants as d
+use Rattle.tp_syntax.specs.declared.tree.Defined.TheVariants as defined
 use Rattle.tp_syntax.specs.declared.tree.Definition.{Definition}
 use Rattle.tp_syntax.specs.declared.tree.Module.{Module}
 
@@ -92,9 +92,9 @@ part_depth (Some m) = template_depth m.template + 1
 
 -- `check` has parentheses of its own
 abbrev pub operation_depth : ReceiveKind → ℕ → ℕ
-operation_depth k.Receive n = n
-operation_depth k.Trigger n = n
-operation_depth k.Check n = n + 1
+operation_depth receive_kind.Receive n = n
+operation_depth receive_kind.Trigger n = n
+operation_depth receive_kind.Check n = n + 1
 
 -- how deep a receiving operation nests
 abbrev pub receive_depth : Receive → ℕ
@@ -187,12 +187,12 @@ otherwise_depth (Some e) = else_branch_depth e
 
 -- how deep the statements of a definition nest, in the braces of its function or test case
 abbrev pub defined_depth : Defined → ℕ
-defined_depth (d.Record r) = 0
-defined_depth (d.List l) = 0
-defined_depth (d.Port p) = 0
-defined_depth (d.Component c) = 0
-defined_depth (d.Function f) = statements_depth f.statements.items + 1
-defined_depth (d.TestCase c) = statements_depth c.statements.items + 1
+defined_depth (defined.Record r) = 0
+defined_depth (defined.List l) = 0
+defined_depth (defined.Port p) = 0
+defined_depth (defined.Component c) = 0
+defined_depth (defined.Function f) = statements_depth f.statements.items + 1
+defined_depth (defined.TestCase c) = statements_depth c.statements.items + 1
 
 -- how deep definitions nest
 abbrev pub definitions_depth : List Definition → ℕ

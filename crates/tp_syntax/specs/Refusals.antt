@@ -14,7 +14,8 @@ IsOfGrammar (Memory m) = Unit {0}
 
 -- the text has tokens within the limits, and isn't too long
 abbrev pub HasTokens : List ℕ → Type 0
-HasTokens bytes = (tokens : List PlacedLexeme) × AreTokens bytes tokens × AreWithinLimits tokens × (length bytes ≤ 1048576)
+HasTokens bytes = (tokens : List PlacedLexeme) × AreTokens bytes tokens × AreWithinLimits tokens
+    × (length bytes ≤ 1048576)
 
 -- the text has no such tokens, and this is its first fault; or it has, and the grammar refuses them so; or memory was
 -- refused

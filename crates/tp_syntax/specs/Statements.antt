@@ -7,22 +7,22 @@ use Rattle.tp_token.specs.declared.word.Word.TheVariants as w
 use Rattle.tp_token.specs.declared.token.Symbol.TheVariants.{Dot, LeftParen, RightParen, LeftBracket, RightBracket, Arrow, Assign, Semicolon, Less, Plus}
 use Rattle.tp_token.specs.Lexeme.{Lexeme, name, word, number, symbol}
 use Rattle.tp_syntax.specs.declared.tree.ComponentName.{ComponentName}
-use Rattle.tp_syntax.specs.declared.tree.ComponentName.TheVariants as c
+use Rattle.tp_syntax.specs.declared.tree.ComponentName.TheVariants as component_name
 use Rattle.tp_syntax.specs.declared.tree.Sent.{Sent}
 use Rattle.tp_syntax.specs.declared.tree.Sent.TheVariants as sent
 use Rattle.tp_syntax.specs.declared.tree.Destination.{Destination}
-use Rattle.tp_syntax.specs.declared.tree.Destination.TheVariants as d
-use Rattle.tp_syntax.specs.declared.tree.MessageTemplate.{MessageTemplate}
+use Rattle.tp_syntax.specs.declared.tree.Destination.TheVariants as destination
+use Rattle.tp_syntax.specs.declared.message.MessageTemplate.{MessageTemplate}
 use Rattle.tp_syntax.specs.declared.tree.Send.{Send}
 use Rattle.tp_syntax.specs.declared.tree.ReceiveKind.{ReceiveKind}
-use Rattle.tp_syntax.specs.declared.tree.ReceiveKind.TheVariants as k
+use Rattle.tp_syntax.specs.declared.tree.ReceiveKind.TheVariants as receive_kind
 use Rattle.tp_syntax.specs.declared.tree.Redirect.{Redirect}
 use Rattle.tp_syntax.specs.declared.tree.Receive.{Receive}
 use Rattle.tp_syntax.specs.declared.tree.PortOperation.{PortOperation}
-use Rattle.tp_syntax.specs.declared.tree.PortOperation.TheVariants as p
+use Rattle.tp_syntax.specs.declared.tree.PortOperation.TheVariants as port_operation
 use Rattle.tp_syntax.specs.declared.tree.Control.{Control}
 use Rattle.tp_syntax.specs.declared.tree.VerdictName.{VerdictName}
-use Rattle.tp_syntax.specs.declared.tree.VerdictName.TheVariants as verdict
+use Rattle.tp_syntax.specs.declared.tree.VerdictName.TheVariants as verdict_name
 use Rattle.tp_syntax.specs.declared.tree.Variable.{Variable}
 use Rattle.tp_syntax.specs.declared.tree.Turns.{Turns}
 use Rattle.tp_syntax.specs.declared.tree.Statement.{Statement}
@@ -39,9 +39,9 @@ use Rattle.tp_syntax.specs.Templates.{message_template_lexemes}
 
 -- Name | "mtc" | "self"
 abbrev pub component_lexemes : ComponentName → List Lexeme
-component_lexemes (c.Named n) = name (string_bytes n) ∷ []
-component_lexemes c.Mtc = word w.Mtc ∷ []
-component_lexemes c.SelfComponent = word w.SelfWord ∷ []
+component_lexemes (component_name.Named n) = name (string_bytes n) ∷ []
+component_lexemes component_name.Mtc = word w.Mtc ∷ []
+component_lexemes component_name.SelfComponent = word w.SelfWord ∷ []
 
 -- TypeName ":" Value | Name
 abbrev pub sent_lexemes : Sent → List Lexeme
@@ -51,8 +51,8 @@ sent_lexemes (sent.Variable n) = name (string_bytes n) ∷ []
 -- [ "to" ( Comp | "all" "component" ) ]
 abbrev pub to_lexemes : Option Destination → List Lexeme
 to_lexemes None = []
-to_lexemes (Some (d.Component c)) = word w.To ∷ component_lexemes c
-to_lexemes (Some d.AllComponents) = word w.To ∷ word w.All ∷ word w.Component ∷ []
+to_lexemes (Some (destination.Component c)) = word w.To ∷ component_lexemes c
+to_lexemes (Some destination.AllComponents) = word w.To ∷ word w.All ∷ word w.Component ∷ []
 
 -- Name "." "send" "(" Message ")" [ "to" .. ]
 unfoldable pub send_lexemes : Send → List Lexeme
@@ -90,9 +90,9 @@ received_lexemes r = template_part r.template ++ (from_lexemes r.sender ++ redir
 
 -- "receive" .. | "trigger" .. | "check" "(" "receive" .. ")"
 abbrev pub operation_lexemes : ReceiveKind → List Lexeme → List Lexeme
-operation_lexemes k.Receive ts = word w.Receive ∷ ts
-operation_lexemes k.Trigger ts = word w.Trigger ∷ ts
-operation_lexemes k.Check ts = word w.Check ∷ parenthesised (word w.Receive ∷ ts)
+operation_lexemes receive_kind.Receive ts = word w.Receive ∷ ts
+operation_lexemes receive_kind.Trigger ts = word w.Trigger ∷ ts
+operation_lexemes receive_kind.Check ts = word w.Check ∷ parenthesised (word w.Receive ∷ ts)
 
 -- Name "." and a receiving operation
 unfoldable pub receive_lexemes : Receive → List Lexeme
@@ -100,10 +100,10 @@ receive_lexemes r = name (string_bytes r.port) ∷ symbol Dot ∷ operation_lexe
 
 -- "start" | "stop" | "halt" | "clear"
 abbrev pub port_operation_lexeme : PortOperation → Lexeme
-port_operation_lexeme p.Start = word w.Start
-port_operation_lexeme p.Stop = word w.Stop
-port_operation_lexeme p.Halt = word w.Halt
-port_operation_lexeme p.Clear = word w.Clear
+port_operation_lexeme port_operation.Start = word w.Start
+port_operation_lexeme port_operation.Stop = word w.Stop
+port_operation_lexeme port_operation.Halt = word w.Halt
+port_operation_lexeme port_operation.Clear = word w.Clear
 
 -- Name "." and an operation
 unfoldable pub control_lexemes : Control → List Lexeme
@@ -115,11 +115,11 @@ all_ports_lexemes o = word w.All ∷ word w.Port ∷ symbol Dot ∷ port_operati
 
 -- "none" | "pass" | "inconc" | "fail" | "error"
 abbrev pub verdict_lexeme : VerdictName → Lexeme
-verdict_lexeme verdict.NoVerdict = word w.NoneWord
-verdict_lexeme verdict.Pass = word w.Pass
-verdict_lexeme verdict.Inconc = word w.Inconc
-verdict_lexeme verdict.Fail = word w.Fail
-verdict_lexeme verdict.Error = word w.Error
+verdict_lexeme verdict_name.NoVerdict = word w.NoneWord
+verdict_lexeme verdict_name.Pass = word w.Pass
+verdict_lexeme verdict_name.Inconc = word w.Inconc
+verdict_lexeme verdict_name.Fail = word w.Fail
+verdict_lexeme verdict_name.Error = word w.Error
 
 -- "setverdict" "(" and a verdict ")"
 unfoldable pub set_verdict_lexemes : VerdictName → List Lexeme

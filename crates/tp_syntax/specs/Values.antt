@@ -3,13 +3,13 @@ use Rattle.std.specs.Prelude.{suc, ℤ, pos, negsuc, Bool, true, false, List, []
 use Rattle.tp_token.specs.declared.word.Word.TheVariants as w
 use Rattle.tp_token.specs.declared.token.Symbol.TheVariants.{Colon, Minus, Assign}
 use Rattle.tp_token.specs.Lexeme.{Lexeme, name, word, number, text, symbol}
-use Rattle.tp_syntax.specs.declared.tree.TypeName.{TypeName}
-use Rattle.tp_syntax.specs.declared.tree.TypeName.TheVariants as t
-use Rattle.tp_syntax.specs.declared.tree.Message.{Message}
-use Rattle.tp_syntax.specs.declared.tree.Value.{Value}
-use Rattle.tp_syntax.specs.declared.tree.Value.TheOpen as v
-use Rattle.tp_syntax.specs.declared.tree.Value.TheFolds.{fold-Value, fold-ValueField}
-use Rattle.tp_syntax.specs.declared.tree.ValueField.{ValueField}
+use Rattle.tp_syntax.specs.declared.message.TypeName.{TypeName}
+use Rattle.tp_syntax.specs.declared.message.TypeName.TheVariants as type_name
+use Rattle.tp_syntax.specs.declared.message.Message.{Message}
+use Rattle.tp_syntax.specs.declared.message.Value.{Value}
+use Rattle.tp_syntax.specs.declared.message.Value.TheOpen as v
+use Rattle.tp_syntax.specs.declared.message.Value.TheFolds.{fold-Value, fold-ValueField}
+use Rattle.tp_syntax.specs.declared.message.ValueField.{ValueField}
 use Rattle.tp_syntax.specs.Sequences.{by_commas, braced}
 
 -- [ "-" ] Number, where the number 0 has no `-`
@@ -24,10 +24,10 @@ bool_lexeme false = word w.False
 
 -- "integer" | "boolean" | "charstring" | Name
 abbrev pub type_lexemes : TypeName → List Lexeme
-type_lexemes t.Integer = word w.Integer ∷ []
-type_lexemes t.Boolean = word w.Boolean ∷ []
-type_lexemes t.Charstring = word w.Charstring ∷ []
-type_lexemes (t.Named n) = name (string_bytes n) ∷ []
+type_lexemes type_name.Integer = word w.Integer ∷ []
+type_lexemes type_name.Boolean = word w.Boolean ∷ []
+type_lexemes type_name.Charstring = word w.Charstring ∷ []
+type_lexemes (type_name.Named n) = name (string_bytes n) ∷ []
 
 -- an integer, a truth value, a text, a name, or values or fields in braces
 abbrev pub value_step : v.Value-F (List Lexeme) (List Lexeme) → List Lexeme

@@ -3,6 +3,7 @@
 
 mod cursor;
 mod definitions;
+pub mod message;
 mod operations;
 pub mod parser;
 mod statements;

@@ -7,9 +7,9 @@ ghost use Rattle.tp_syntax.specs.Nesting.{part_depth, receive_depth, sent_depth}
 ghost use Rattle.tp_syntax.specs.Refusals.{IsOfGrammar};
 
 use crate::cursor::Parser;
+use crate::message::MessageTemplate;
 use crate::tree::{
-    ComponentName, Control, Destination, MessageTemplate, PortOperation, Receive, ReceiveKind,
-    Redirect, Send, Sent,
+    ComponentName, Control, Destination, PortOperation, Receive, ReceiveKind, Redirect, Send, Sent,
 };
 use std::alloc::Global;
 use tp_token::fault::ScriptFault;

@@ -9,7 +9,7 @@ ghost use Rattle.tp_syntax.specs.Nesting.{deepest, template_depth, template_fiel
 ghost use Rattle.tp_syntax.specs.Refusals.{IsOfGrammar};
 
 use crate::cursor::{Parser, below};
-use crate::tree::{MessageTemplate, Template, TemplateField};
+use crate::message::{MessageTemplate, Template, TemplateField};
 use crate::values::positive;
 use std::alloc::Global;
 use tp_token::fault::ScriptFault;

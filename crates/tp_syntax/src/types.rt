@@ -7,9 +7,10 @@ ghost use Rattle.tp_syntax.specs.Passing.{Passes};
 ghost use Rattle.tp_syntax.specs.Refusals.{IsOfGrammar};
 
 use crate::cursor::Parser;
+use crate::message::TypeName;
 use crate::tree::{
     ComponentType, DeclaredName, Defined, Direction, FieldType, ListType, PortDeclaration,
-    PortType, RecordType, TypeName, Way,
+    PortType, RecordType, Way,
 };
 use std::alloc::Global;
 use tp_token::fault::ScriptFault;

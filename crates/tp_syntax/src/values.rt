@@ -9,7 +9,7 @@ ghost use Rattle.tp_syntax.specs.Nesting.{deepest, value_depth, value_field_dept
 ghost use Rattle.tp_syntax.specs.Refusals.{IsOfGrammar};
 
 use crate::cursor::{Parser, below};
-use crate::tree::{Message, TypeName, Value, ValueField};
+use crate::message::{Message, TypeName, Value, ValueField};
 use std::alloc::Global;
 use tp_token::fault::ScriptFault;
 use tp_token::token::{Symbol, Token};

@@ -1,7 +1,5 @@
 //! Configurations of the worked kind, each refusal on the calls themselves, and refused memory.
-ghost use Rattle.std.specs.Prelude.{◌≤◌, IfOk, IfSome, length};
-ghost use Rattle.tp_config.specs.Setup.{IsPort};
-
+use crate::making::{add, at, connect, empty, four, map, port, route};
 use indexmap::IndexMap;
 use std::alloc::Global;
 use std::process::Abort;
@@ -10,105 +8,14 @@ use tp_config::config::Config;
 use tp_config::connecting::ConnectFault;
 use tp_config::creating::CreateFault;
 use tp_config::mapping::MapFault;
-use tp_config::port_type::{
-    COMPONENT_LIMIT, CompId, CompType, PORT_LIMIT, PortRef, PortType, Role, RouteId,
-};
+use tp_config::port_type::{COMPONENT_LIMIT, CompId, CompType, PORT_LIMIT, PortType, Role};
 use tp_config::routes::RouteFault;
 use tp_config::type_list::TypeList;
 use tp_refusal::memory::Memory;
 use tp_value::items::Items;
 use tp_value::types::Ty;
 
-/// A component type with ports of these names, each of which receives and sends these types.
-fn comp_type(alloc: Global, names: &[&str], ins: &[Ty], outs: &[Ty]) -> Result<CompType, Memory>
-    ensures { IfOk result (λ t. length t.ports.entries ≤ PORT_LIMIT) }
-{
-    let mut ports = IndexMap::new(alloc);
-    for name in names {
-        let port_type = PortType {
-            ins: TypeList::from_items(alloc, Items::from_slice(alloc, ins)?)?,
-            outs: TypeList::from_items(alloc, Items::from_slice(alloc, outs)?)?,
-        };
-        ports.insert(String::from_str(alloc, *name)?, port_type)?;
-    }
-    if ports.len() > PORT_LIMIT {
-        return Err(Memory);
-    }
-    Ok(CompType { ports })
-}
-
-/// No component. Type 0 has the ports p and q, which take integers both ways. Type 1 has the port
-/// s, which receives and sends these types.
-pub fn empty(alloc: Global, ins: &[Ty], outs: &[Ty]) -> Result<Config, Memory> {
-    let both = [Ty::Integer];
-    let first = comp_type(
-        alloc,
-        ["p", "q"].as_slice(),
-        both.as_slice(),
-        both.as_slice(),
-    )?;
-    let second = comp_type(alloc, ["s"].as_slice(), ins, outs)?;
-    let mut types = Vec::new(alloc);
-    types.push(first)?;
-    types.push(second)?;
-    Ok(Config::new(alloc, types))
-}
-
-/// Creates a component of this name, where there is a type of that number.
-pub fn add(
-    alloc: Global,
-    config: &mut Config,
-    name: &str,
-    kind: u32,
-    role: Role,
-) -> Result<CompId, CreateFault> {
-    let Ok(name) = String::from_str(alloc, name) else {
-        return Err(CreateFault::Memory);
-    };
-    if kind as usize >= config.types().len() {
-        return Err(CreateFault::Memory);
-    }
-    config.create(name, kind, role)
-}
-
-fn port(config: &Config, comp: &str, port: &str) -> Option<PortRef>
-    ensures { IfSome result (λ p. IsPort config.now p) }
-{
-    let comp = config.comp_of(comp)?;
-    config.port_of(comp, port)
-}
-
-/// Connects two ports by the names of their components and their own.
-pub fn connect(
-    config: &mut Config,
-    p: (&str, &str),
-    q: (&str, &str),
-) -> Option<Result<(), ConnectFault>> {
-    let p = port(config, p.0, p.1)?;
-    let q = port(config, q.0, q.1)?;
-    Some(config.connect(p, q))
-}
-
-/// Maps two ports by the names of their components and their own.
-fn map(config: &mut Config, p: (&str, &str), q: (&str, &str)) -> Option<Result<(), MapFault>> {
-    let p = port(config, p.0, p.1)?;
-    let q = port(config, q.0, q.1)?;
-    Some(config.map(p, q))
-}
-
-/// The components mtc, a, b and c of type 0, and none of their ports connected.
-fn four(alloc: Global) -> Result<Config, CreateFault> {
-    let both = [Ty::Integer];
-    let Ok(mut config) = empty(alloc, both.as_slice(), both.as_slice()) else {
-        return Err(CreateFault::Memory);
-    };
-    for name in ["mtc", "a", "b", "c"] {
-        add(alloc, &mut config, name, 0, Role::Test)?;
-    }
-    Ok(config)
-}
-
-/// These four, with mtc:p connected to a:p, b:p and c:p in this order.
+/// The components of `four`, with mtc:p connected to a:p, b:p and c:p in this order.
 fn star<R: AllocGlobal + Abort>(rt: &R) -> Result<Config, Fail> {
     let mut config = four(rt.alloc())?;
     for name in ["a", "b", "c"] {
@@ -118,22 +25,6 @@ fn star<R: AllocGlobal + Abort>(rt: &R) -> Result<Config, Fail> {
         );
     }
     Ok(config)
-}
-
-/// The port of this number of the component of this number.
-pub fn at(comp: u32, port: u32) -> PortRef {
-    PortRef {
-        comp: CompId(comp),
-        port,
-    }
-}
-
-/// The route from a component to a port, all by their numbers.
-pub fn route(source: u32, comp: u32, port: u32) -> RouteId {
-    RouteId {
-        source: CompId(source),
-        to: at(comp, port),
-    }
 }
 
 /// Asserts what a star answers.
@@ -433,15 +324,15 @@ fn has_64_ports_of_a_type(rt: HostRuntime) -> Result<(), Fail> {
 
 /// Asserts that nothing but want of memory refuses to connect mtc:p to the port p of this
 /// component, after which the routes are as before; and that the same call then connects them.
-fn connects_in_the_end<R: Abort>(rt: &R, config: &mut Config, name: &str, comp: u32) -> bool {
+fn connects_in_the_end<R: Abort>(rt: &R, config: &mut Config, name: &str, comp: u32) {
     let before = config.route(at(0, 0), None);
     match connect(config, ("mtc", "p"), (name, "p")) {
-        Some(Ok(())) => true,
+        Some(Ok(())) => {}
         answer => {
             assert_eq!(rt; answer, Some(Err(ConnectFault::Memory)));
             assert_eq!(rt; config.route(at(0, 0), None), before);
             assert_eq!(rt; config.route(at(comp, 0), None), Err(RouteFault::NoRoute));
-            connect(config, ("mtc", "p"), (name, "p")) == Some(Ok(()))
+            assert_eq!(rt; connect(config, ("mtc", "p"), (name, "p")), Some(Ok(())));
         }
     }
 }
@@ -449,38 +340,48 @@ fn connects_in_the_end<R: Abort>(rt: &R, config: &mut Config, name: &str, comp: 
 /// Right also where an allocation was refused, whichever: each create, connect and list of routes
 /// is then as if it had not been called.
 #[test]
-fn refused_memory_leaves_connections_as_they_were(rt: HostRuntime) {
-    let Ok(mut config) = four(rt.alloc()) else {
-        return;
+fn refused_memory_leaves_connections_as_they_were(rt: HostRuntime) -> Result<(), Fail> {
+    let mut config = match four(rt.alloc()) {
+        Ok(config) => config,
+        Err(_) => four(rt.alloc())?,
     };
     for (name, comp) in [("a", 1), ("b", 2), ("c", 3)] {
-        if !connects_in_the_end(&rt, &mut config, name, comp) {
-            return;
-        }
+        connects_in_the_end(&rt, &mut config, name, comp);
     }
+    let (mut gone, mut came) = (false, false);
     for _ in 0..2 {
         if let Ok(routes) = config.routes_from(at(0, 0)) {
+            gone = true;
             assert_eq!(rt;
                 routes.as_slice(),
                 [route(0, 1, 0), route(0, 2, 0), route(0, 3, 0)].as_slice()
             );
         }
         if let Ok(routes) = config.routes_into(CompId(0)) {
+            came = true;
             assert_eq!(rt;
                 routes.as_slice(),
                 [route(1, 0, 0), route(2, 0, 0), route(3, 0, 0)].as_slice()
             );
         }
     }
+    assert!(rt; gone && came);
+    Ok(())
+}
+
+/// A configuration without components, made a second time where memory is refused.
+fn empty_again(alloc: Global) -> Result<Config, Memory> {
+    let both = [Ty::Integer];
+    match empty(alloc, both.as_slice(), both.as_slice()) {
+        Ok(config) => Ok(config),
+        Err(Memory) => empty(alloc, both.as_slice(), both.as_slice()),
+    }
 }
 
 /// The same of create: a component is there or not.
 #[test]
-fn refused_memory_leaves_components_as_they_were(rt: HostRuntime) {
-    let both = [Ty::Integer];
-    let Ok(mut config) = empty(rt.alloc(), both.as_slice(), both.as_slice()) else {
-        return;
-    };
+fn refused_memory_leaves_components_as_they_were(rt: HostRuntime) -> Result<(), Fail> {
+    let mut config = empty_again(rt.alloc())?;
     for (number, name) in ["mtc", "a", "b", "c", "d"].into_iter().enumerate() {
         match add(rt.alloc(), &mut config, name, 0, Role::Test) {
             Ok(comp) => assert_eq!(rt; comp.0 as usize, number),
@@ -488,9 +389,7 @@ fn refused_memory_leaves_components_as_they_were(rt: HostRuntime) {
                 assert_eq!(rt; fault, CreateFault::Memory);
                 assert_eq!(rt; config.len(), number);
                 assert_eq!(rt; config.comp_of(name), None);
-                if add(rt.alloc(), &mut config, name, 0, Role::Test).is_err() {
-                    return;
-                }
+                assert!(rt; add(rt.alloc(), &mut config, name, 0, Role::Test).is_ok());
             }
         }
         assert_eq!(rt; config.len(), number + 1);
@@ -501,18 +400,16 @@ fn refused_memory_leaves_components_as_they_were(rt: HostRuntime) {
                 .is_some_and(|comp| comp.0 as usize == number)
         );
     }
+    Ok(())
 }
 
 /// The same of map.
 #[test]
-fn refused_memory_leaves_mappings_as_they_were(rt: HostRuntime) {
-    let both = [Ty::Integer];
-    let Ok(mut config) = empty(rt.alloc(), both.as_slice(), both.as_slice()) else {
-        return;
-    };
+fn refused_memory_leaves_mappings_as_they_were(rt: HostRuntime) -> Result<(), Fail> {
+    let mut config = empty_again(rt.alloc())?;
     for (name, kind, role) in [("mtc", 0, Role::Test), ("system", 1, Role::System)] {
         if add(rt.alloc(), &mut config, name, kind, role).is_err() {
-            return;
+            add(rt.alloc(), &mut config, name, kind, role)?;
         }
     }
     let answer = map(&mut config, ("mtc", "q"), ("system", "s"));
@@ -520,10 +417,12 @@ fn refused_memory_leaves_mappings_as_they_were(rt: HostRuntime) {
         assert_eq!(rt; answer, Some(Err(MapFault::Memory)));
         assert_eq!(rt; config.route(at(0, 1), None), Err(RouteFault::NoRoute));
         assert_eq!(rt; config.route(at(1, 0), None), Err(RouteFault::NoRoute));
-        if map(&mut config, ("mtc", "q"), ("system", "s")) != Some(Ok(())) {
-            return;
-        }
+        assert_eq!(rt;
+            map(&mut config, ("mtc", "q"), ("system", "s")),
+            Some(Ok(()))
+        );
     }
     assert_eq!(rt; config.route(at(0, 1), None), Ok(route(0, 1, 0)));
     assert_eq!(rt; config.route(at(1, 0), None), Ok(route(1, 0, 1)));
+    Ok(())
 }

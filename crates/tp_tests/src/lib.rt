@@ -1,5 +1,6 @@
-//! Tests of the public calls of the crates below: `tp_token`, `tp_port`, `tp_value` and `tp_config`.
-//! They stand here, and not in the crates that they test, so that those are proved once.
+//! Tests of the public calls of the crates below: `tp_token`, `tp_queue`, `tp_port`, `tp_value` and
+//! `tp_config`. They stand here, and not in the crates that they test, so that those are proved
+//! once. `writers` is proved without the tests too, since wrong bodies are tried without them.
 #![tactic(auto)]
 
 #[cfg(test)]
@@ -7,12 +8,15 @@ mod configurations;
 #[cfg(test)]
 mod lists;
 #[cfg(test)]
+mod making;
+#[cfg(test)]
 mod partners;
 #[cfg(test)]
 mod ports;
 #[cfg(test)]
+mod templates;
+#[cfg(test)]
 mod tokens;
 #[cfg(test)]
 mod values;
-#[cfg(test)]
-mod writers;
+pub mod writers;

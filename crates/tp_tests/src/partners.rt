@@ -1,5 +1,5 @@
 //! A port that is connected with as many others as there can be, and its routes.
-use crate::configurations::{add, at, connect, empty, route};
+use crate::making::{add, at, connect, empty, route};
 use std::process::Abort;
 use std::test::Fail;
 use tp_config::config::Config;

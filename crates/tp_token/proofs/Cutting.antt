@@ -49,5 +49,6 @@ placed_within None n h = tt
 placed_within (Some l) n h = (h, tt)
 
 -- one more piece within the limits
-pub within_more : (ts : List PlacedLexeme) (found : Option Lexeme) (n : ℕ) → AreWithinLimits ts → IsFoundWithinLimits found → AreWithinLimits (ts ++ placed found n)
+pub within_more : (ts : List PlacedLexeme) (found : Option Lexeme) (n : ℕ) → AreWithinLimits ts → IsFoundWithinLimits found
+    → AreWithinLimits (ts ++ placed found n)
 within_more ts found n h i = all_on ts (placed found n) h (placed_within found n i)

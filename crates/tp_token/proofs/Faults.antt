@@ -15,7 +15,7 @@ use Rattle.tp_token.specs.Byte.{kind_of, is_word_byte, is_printable, between, in
 use Rattle.tp_token.specs.Lexeme.{Lexeme, name, word, number, text, symbol}
 use Rattle.tp_token.specs.Spelling.{Run, doubled, IsSpelled, value_on}
 use Rattle.tp_token.specs.Cut.{Piece, blank, line_comment, block_comment, token, piece_bytes, HasNoEnd, IsPiece, BeginsWith, TokenAt, Cuts, tokens_in, line_after}
-use Rattle.tp_token.specs.Fault.{AreWithinLimits, IsRefused, HasNoSymbol, IsBroken, IsFaultAt, IsFaulty, IsOpen, IsUnclosed, IsWithinLimits}
+use Rattle.tp_token.specs.Fault.{AreWithinLimits, IsRefused, HasNoSymbol, IsBroken, IsFaultAt, IsFaulty, IsOpenText, IsUnclosed, IsWithinLimits}
 use Rattle.tp_token.proofs.Longest.{first_kind, spelled_kind}
 use Rattle.tp_token.proofs.Pieces.{ends, quote_byte}
 use Rattle.tp_token.proofs.Unique.{heads, tails, spelled_some, slash_kind, slash_token}
@@ -140,13 +140,13 @@ parts : (bytes t : List ℕ) (at : ℕ) → take at bytes ≡ doubled t → byte
 parts bytes t at e = sym (take-append-drop at bytes) ∙ ap (λ (x : List ℕ). x ++ drop at bytes) e
 
 pub open_at : (bytes t : List ℕ) (at : ℕ) → take at bytes ≡ doubled t → Run is_printable t → at < length bytes → is_printable (get_or bytes at 0) ≡ false
-    → IsOpen bytes
+    → IsOpenText bytes
 open_at bytes t at e r lt h = (t, drop at bytes, parts bytes t at e, r, broken_at bytes at lt h)
 
-pub open_end : (bytes t : List ℕ) (at : ℕ) → take at bytes ≡ doubled t → Run is_printable t → length bytes ≤ at → IsOpen bytes
+pub open_end : (bytes t : List ℕ) (at : ℕ) → take at bytes ≡ doubled t → Run is_printable t → length bytes ≤ at → IsOpenText bytes
 open_end bytes t at e r h = (t, drop at bytes, parts bytes t at e, r, broken_end bytes at h)
 
-pub open_text : (bytes : List ℕ) → BeginsWith Quote bytes → IsOpen (drop 1 bytes) → IsFaulty Syntax bytes
+pub open_text : (bytes : List ℕ) → BeginsWith Quote bytes → IsOpenText (drop 1 bytes) → IsFaulty Syntax bytes
 open_text [] h o = absurd h
 open_text (b ∷ bs) h o = (some_bytes b bs, inr (inl (refl, (bs, ap (λ (z : ℕ). z ∷ bs) (quote_byte b h), o))))
 
@@ -214,7 +214,7 @@ refused_syntax bytes line f e h = subst (λ (z : ScriptFault). IsFaultAt bytes l
 pub refused_limit : (bytes : List ℕ) (line : ℕ) (f : ScriptFault) → f ≡ Refused Limit line → IsFaulty Limit bytes → IsFaultAt bytes line f
 refused_limit bytes line f e h = subst (λ (z : ScriptFault). IsFaultAt bytes line z) (sym e) (refl, h)
 
-pub refused_open : (bytes : List ℕ) (line : ℕ) (f : ScriptFault) → f ≡ Refused Syntax line → IsOpen bytes → IsUnclosed bytes line f
+pub refused_open : (bytes : List ℕ) (line : ℕ) (f : ScriptFault) → f ≡ Refused Syntax line → IsOpenText bytes → IsUnclosed bytes line f
 refused_open bytes line f e h = subst (λ (z : ScriptFault). IsUnclosed bytes line z) (sym e) (refl, refl, h)
 
 pub refused_text : (bytes : List ℕ) (line : ℕ) (f : ScriptFault) → BeginsWith Quote bytes → IsUnclosed (drop 1 bytes) line f → IsFaultAt bytes line f

@@ -39,12 +39,12 @@ IsBroken (b ∷ bs) = is_printable b ≡ false
 
 -- behind an opening quote: characters of a text, but no closing quote before the end or a byte that can't stand in a
 -- text
-abbrev pub IsOpen : List ℕ → Type 0
-IsOpen bytes = (t : List ℕ) × (rest : List ℕ) × (bytes ≡ doubled t ++ rest) × Run is_printable t × IsBroken rest
+abbrev pub IsOpenText : List ℕ → Type 0
+IsOpenText bytes = (t : List ℕ) × (rest : List ℕ) × (bytes ≡ doubled t ++ rest) × Run is_printable t × IsBroken rest
 
 -- a text that isn't closed stands at the front of the bytes
 abbrev pub HasOpenText : List ℕ → Type 0
-HasOpenText bytes = (rest : List ℕ) × (bytes ≡ 34 ∷ rest) × IsOpen rest
+HasOpenText bytes = (rest : List ℕ) × (bytes ≡ 34 ∷ rest) × IsOpenText rest
 
 -- a token beyond the limits stands at the front of the bytes
 abbrev pub IsBeyondLimits : List ℕ → Type 0
@@ -87,7 +87,7 @@ GoodTextsAreAccepted =
 
 -- behind an opening quote no text is closed, which is 10 on this line, or memory was refused
 abbrev pub IsUnclosed : List ℕ → ℕ → ScriptFault → Type 0
-IsUnclosed bytes line (Refused r n) = (n ≡ line) × (r ≡ Syntax) × IsOpen bytes
+IsUnclosed bytes line (Refused r n) = (n ≡ line) × (r ≡ Syntax) × IsOpenText bytes
 IsUnclosed bytes line (Memory m) = Unit {0}
 
 -- no symbol stands at the front of the bytes

@@ -1,6 +1,6 @@
 //! Why a text of the notation is refused.
 ghost use Rattle.std.specs.Prelude.{◌≡◌};
-ghost use Rattle.tp_token.specs.declared.fault.ScriptFault.TheVariants as fault;
+ghost use Rattle.tp_token.specs.declared.fault.ScriptFault.TheVariants as script_fault;
 
 use std::alloc::{AllocError, AllocFailed};
 use thiserror::Error;
@@ -47,7 +47,7 @@ impl ScriptFault {
 }
 
 impl From<Memory> for ScriptFault {
-    ghost from_gives = { λ memory made. made ≡ fault.Memory memory };
+    ghost from_gives = { λ memory made. made ≡ script_fault.Memory memory };
 
     fn from(memory: Memory) -> ScriptFault {
         ScriptFault::Memory(memory)
@@ -55,7 +55,7 @@ impl From<Memory> for ScriptFault {
 }
 
 impl From<AllocError> for ScriptFault {
-    ghost from_gives = { λ _ made. made ≡ fault.Memory (record {}) };
+    ghost from_gives = { λ _ made. made ≡ script_fault.Memory (record {}) };
 
     fn from(_refused: AllocError) -> ScriptFault {
         ScriptFault::Memory(Memory)
@@ -63,7 +63,7 @@ impl From<AllocError> for ScriptFault {
 }
 
 impl<T: Drop> From<AllocFailed<T>> for ScriptFault {
-    ghost from_gives = { λ _ made. made ≡ fault.Memory (record {}) };
+    ghost from_gives = { λ _ made. made ≡ script_fault.Memory (record {}) };
 
     fn from(_refused: AllocFailed<T>) -> ScriptFault {
         ScriptFault::Memory(Memory)

@@ -77,6 +77,7 @@ fn word<'t>(bytes: &'t [u8], line: u32) -> Result<(Token<'t>, usize), ScriptFaul
 {
     let size = word_len(bytes);
     let Ok(spelling) = str::from_utf8(&bytes[..size]) else {
+        // Letters, digits and underscores are each one byte.
         unreachable!();
     };
     if let Some(word) = word_of(spelling) {

@@ -11,7 +11,7 @@ use Rattle.std.proofs.lemmas.Slice.Eq.{bytes_eq-Decides}
 use Rattle.indexmap.specs.IndexMap.{insert_entry}
 use Rattle.tp_value.specs.declared.types.TypeDef.{TypeDef}
 use Rattle.tp_value.specs.declared.types.Types.{Types}
-use Rattle.tp_value.specs.Types.{names, number_of}
+use Rattle.tp_value.specs.Types.{names, type_number}
 
 place_map : {X Y : Type 0} (v : X → Y) (p : Y → Bool) (xs : List X) → position_or_len (λ x. p (v x)) xs ≡ position_or_len p (map v xs)
 place_map v p [] = refl
@@ -23,17 +23,17 @@ position_map v p xs =
     ∙ ap (λ m. cond (nat_lt (position_or_len p (map v xs)) m) (Some (position_or_len p (map v xs))) None) (sym (length-map xs v))
 
 -- the name of this number is the one that was looked for
-pub name_there : (types : Types) (name : List ℕ) (n : ℕ) → Some n ≡ number_of types name → slice_get (names types) n ≡ Some name
+pub name_there : (types : Types) (name : List ℕ) (n : ℕ) → Some n ≡ type_number types name → slice_get (names types) n ≡ Some name
 name_there types name n e =
     let p = position-Some (bytes_eq name) (names types) n name (sym e) in
     slice_get-get_or (names types) n name p.0 ∙ ap (λ (x : List ℕ). Some x) (sym ((bytes_eq-Decides name (get_or (names types) n name)).0 p.1))
 
-pub name_known : (types : Types) (name : List ℕ) (n : ℕ) → Some n ≡ number_of types name → Contains (names types) name
+pub name_known : (types : Types) (name : List ℕ) (n : ℕ) → Some n ≡ type_number types name → Contains (names types) name
 name_known types name n e =
     let p = position-Some (bytes_eq name) (names types) n name (sym e) in
     (n, p.0, sym ((bytes_eq-Decides name (get_or (names types) n name)).0 p.1))
 
-pub name_unknown : (types : Types) (name : List ℕ) → None ≡ number_of types name → Contains (names types) name → ⊥
+pub name_unknown : (types : Types) (name : List ℕ) → None ≡ type_number types name → Contains (names types) name → ⊥
 name_unknown types name e (k, below, is) =
     let here : bytes_eq name (get_or (names types) k name) ≡ true = (bytes_eq-Decides name (get_or (names types) k name)).1 (sym is) in
     by (nat_lt (position_or_len (bytes_eq name) (names types)) (length (names types))) refl e here
@@ -57,9 +57,9 @@ module _ {K : Type 0} (v : K → List ℕ) where
 
   -- a look-up among the keys gives the number
   pub number_is : (es : List (K × TypeDef)) (types : Types) (name : List ℕ) → shown es ≡ types
-      → position (λ k. bytes_eq name (v k)) (map (λ e. e.0) es) ≡ number_of types name
+      → position (λ k. bytes_eq name (v k)) (map (λ e. e.0) es) ≡ type_number types name
   number_is es types name e =
-      position_map v (bytes_eq name) (map (λ e. e.0) es) ∙ ap (position (bytes_eq name)) (names_shown es) ∙ ap (λ t. number_of t name) e
+      position_map v (bytes_eq name) (map (λ e. e.0) es) ∙ ap (position (bytes_eq name)) (names_shown es) ∙ ap (λ t. type_number t name) e
 
   -- the name of an entry
   pub name_at : (es : List (K × TypeDef)) (types : Types) (n : ℕ) → shown es ≡ types → slice_get (names types) n ≡ option_map (λ e. v e.0) (slice_get es n)

@@ -3,7 +3,7 @@ use Rattle.std.specs.Prelude.{◌≡◌, ℤ, ◌≤ℤ◌, Bool, true, List, []
 use Rattle.tp_value.specs.declared.types.Ty.{Ty}
 use Rattle.tp_value.specs.declared.types.Ty.TheVariants as ty
 use Rattle.tp_value.specs.declared.types.TypeDef.{TypeDef}
-use Rattle.tp_value.specs.declared.types.TypeDef.TheVariants as def
+use Rattle.tp_value.specs.declared.types.TypeDef.TheVariants as type_def
 use Rattle.tp_value.specs.declared.types.Types.{Types}
 use Rattle.tp_value.specs.declared.template.Template.{Template}
 use Rattle.tp_value.specs.declared.template.Template.TheOpen as t
@@ -25,8 +25,8 @@ ElementsFit many fits t (x ∷ xs) = ((many x ≡ true) ⊎ fits x t) × Element
 
 -- the definition is a record of, and the elements fit its type
 abbrev pub ListFits : {X : Type 0} → (X → Bool) → (X → Ty → Type 0) → List X → Option TypeDef → Type 0
-ListFits many fits xs (Some (def.ListOf t)) = ElementsFit many fits t xs
-ListFits many fits xs (Some (def.Record fs)) = ⊥
+ListFits many fits xs (Some (type_def.ListOf t)) = ElementsFit many fits t xs
+ListFits many fits xs (Some (type_def.Record fs)) = ⊥
 ListFits many fits xs None = ⊥
 
 -- one layer of a template; `fits` tells it of the templates inside

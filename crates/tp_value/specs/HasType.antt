@@ -5,7 +5,7 @@ use Rattle.tp_value.specs.declared.types.Ty.{Ty}
 use Rattle.tp_value.specs.declared.types.Ty.TheVariants as ty
 use Rattle.tp_value.specs.declared.types.Field.{Field}
 use Rattle.tp_value.specs.declared.types.TypeDef.{TypeDef}
-use Rattle.tp_value.specs.declared.types.TypeDef.TheVariants as def
+use Rattle.tp_value.specs.declared.types.TypeDef.TheVariants as type_def
 use Rattle.tp_value.specs.declared.types.Types.{Types}
 use Rattle.tp_value.specs.Types.{named}
 use Rattle.tp_value.specs.declared.value.Value.{Value}
@@ -31,14 +31,14 @@ FieldsHave has (f ∷ fs) [] = ⊥
 
 -- the definition is a record, and the values have the types of its fields
 abbrev pub RecordHas : {X : Type 0} → (X → Ty → Type 0) → List X → Option TypeDef → Type 0
-RecordHas has xs (Some (def.Record fs)) = FieldsHave has fs xs
-RecordHas has xs (Some (def.ListOf t)) = ⊥
+RecordHas has xs (Some (type_def.Record fs)) = FieldsHave has fs xs
+RecordHas has xs (Some (type_def.ListOf t)) = ⊥
 RecordHas has xs None = ⊥
 
 -- the definition is a record of, and the values have its type
 abbrev pub ListHas : {X : Type 0} → (X → Ty → Type 0) → List X → Option TypeDef → Type 0
-ListHas has xs (Some (def.Record fs)) = ⊥
-ListHas has xs (Some (def.ListOf t)) = AllHave has t xs
+ListHas has xs (Some (type_def.Record fs)) = ⊥
+ListHas has xs (Some (type_def.ListOf t)) = AllHave has t xs
 ListHas has xs None = ⊥
 
 -- one layer of a value; `has` tells it of the values inside

@@ -4,7 +4,7 @@ use Rattle.tp_value.specs.declared.value.Value.{Value}
 use Rattle.tp_value.specs.declared.value.Value.TheOpen as v
 use Rattle.tp_value.specs.declared.value.Value.TheViews.{out-Value}
 use Rattle.tp_value.specs.declared.template.PatternPart.{PatternPart}
-use Rattle.tp_value.specs.declared.template.PatternPart.TheVariants as part
+use Rattle.tp_value.specs.declared.template.PatternPart.TheVariants as pattern_part
 use Rattle.tp_value.specs.declared.template.Template.{Template}
 use Rattle.tp_value.specs.declared.template.Template.TheOpen as t
 use Rattle.tp_value.specs.declared.template.Template.TheViews.{out-Template}
@@ -13,15 +13,15 @@ use Rattle.tp_value.specs.Cuts.{HasCut, PieceOf}
 
 -- the part is `*`
 abbrev pub is_many_part : PatternPart → Bool
-is_many_part part.AnyOrNone = true
-is_many_part part.One = false
-is_many_part (part.Literal c) = false
+is_many_part pattern_part.AnyOrNone = true
+is_many_part pattern_part.One = false
+is_many_part (pattern_part.Literal c) = false
 
 -- a part that stands for one character admits this one
 abbrev pub AdmitsChar : PatternPart → ℕ → Type 0
-AdmitsChar (part.Literal c) d = d ≡ c
-AdmitsChar part.One d = Unit {0}
-AdmitsChar part.AnyOrNone d = ⊥
+AdmitsChar (pattern_part.Literal c) d = d ≡ c
+AdmitsChar pattern_part.One d = Unit {0}
+AdmitsChar pattern_part.AnyOrNone d = ⊥
 
 -- the piece is the literal character, one character, or any piece
 abbrev pub IsTextPiece : PatternPart → List ℕ → Type 0

@@ -12,8 +12,8 @@ abbrev pub names : Types → List (List ℕ)
 names types = map (λ t. t.0) types
 
 -- the number that has the name
-abbrev pub number_of : Types → List ℕ → Option ℕ
-number_of types name = position (bytes_eq name) (names types)
+abbrev pub type_number : Types → List ℕ → Option ℕ
+type_number types name = position (bytes_eq name) (names types)
 
 -- the definition that a type names
 abbrev pub named : Types → Ty → Option TypeDef

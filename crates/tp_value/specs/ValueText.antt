@@ -5,7 +5,7 @@ use Rattle.std.specs.List.{flat_map}
 use Rattle.tp_value.specs.declared.types.Ty.{Ty}
 use Rattle.tp_value.specs.declared.types.Field.{Field}
 use Rattle.tp_value.specs.declared.types.TypeDef.{TypeDef}
-use Rattle.tp_value.specs.declared.types.TypeDef.TheVariants as def
+use Rattle.tp_value.specs.declared.types.TypeDef.TheVariants as type_def
 use Rattle.tp_value.specs.declared.types.Types.{Types}
 use Rattle.tp_value.specs.declared.value.Value.{Value}
 use Rattle.tp_value.specs.declared.value.Value.TheOpen as v
@@ -56,14 +56,14 @@ element_texts text t (x ∷ xs) = text x t ∷ element_texts text t xs
 
 -- a record; a value that hasn't the type has no text of its own
 abbrev pub record_text : {X : Type 0} → (X → Ty → List ℕ) → List X → Option TypeDef → List ℕ
-record_text text xs (Some (def.Record fs)) = braced (field_texts text fs xs)
-record_text text xs (Some (def.ListOf t)) = []
+record_text text xs (Some (type_def.Record fs)) = braced (field_texts text fs xs)
+record_text text xs (Some (type_def.ListOf t)) = []
 record_text text xs None = []
 
 -- a record of
 abbrev pub list_text : {X : Type 0} → (X → Ty → List ℕ) → List X → Option TypeDef → List ℕ
-list_text text xs (Some (def.Record fs)) = []
-list_text text xs (Some (def.ListOf t)) = braced (element_texts text t xs)
+list_text text xs (Some (type_def.Record fs)) = []
+list_text text xs (Some (type_def.ListOf t)) = braced (element_texts text t xs)
 list_text text xs None = []
 
 -- one layer of a value, with the texts of the values inside

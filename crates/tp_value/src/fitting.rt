@@ -8,8 +8,9 @@ use crate::template::Template;
 use crate::types::{Field, Ty, TypeDef, Types};
 use crate::typing::has_type;
 
-/// Whether the lower bound is at most the upper, where there are both.
-fn are_ordered(lower: Option<i64>, upper: Option<i64>) -> bool
+/// Whether the lower bound of a range is at most the upper, where there are both
+/// (ES 201 873-1, B.1.2.5). Takes no memory.
+pub fn are_ordered(lower: Option<i64>, upper: Option<i64>) -> bool
     ensures { IsTrue result ↔ AreOrdered lower upper }
 {
     match lower {

@@ -52,9 +52,9 @@ pub enum AddFault {
 
 impl<T: Drop> From<AllocFailed<T>> for AddFault {
     ghost use Rattle.std.specs.Prelude.{◌≡◌};
-    ghost use Rattle.tp_value.specs.declared.types.AddFault.TheVariants as fault;
+    ghost use Rattle.tp_value.specs.declared.types.AddFault.TheVariants as add_fault;
 
-    ghost from_gives = { λ _ made. made ≡ fault.Memory };
+    ghost from_gives = { λ _ made. made ≡ add_fault.Memory };
 
     fn from(_refused: AllocFailed<T>) -> AddFault {
         AddFault::Memory
@@ -83,7 +83,7 @@ impl Model for Types {
 impl Types {
     ghost use Rattle.std.specs.Prelude.{◌≡◌, ◌<◌, ◌∷◌, ◌++◌, ◌↔◌, [], length, slice_get, string_bytes, Contains, IfOk, IfSome, IsErrOf, IsSome, OnErr};
     ghost use Rattle.std.specs.Option.{option_copied};
-    ghost use Rattle.tp_value.specs.Types.{named, names, number_of};
+    ghost use Rattle.tp_value.specs.Types.{named, names, type_number};
 
     /// No types. Takes no memory; a later [`Types::add`] takes it from `alloc`.
     pub fn new(alloc: Global) -> Types
@@ -125,7 +125,7 @@ impl Types {
 
     /// The number of the type of this name, or `None` where no type has it. Takes no memory.
     pub fn find(&self, name: &str) -> Option<u32>
-        ensures number { result ≡ number_of self.now name.now }
+        ensures number { result ≡ type_number self.now name.now }
         ensures there { IfSome result (λ number.
             slice_get (names self.now) number ≡ Some name.now) }
         ensures known { IsSome result ↔ Contains (names self.now) name.now }

@@ -5,8 +5,9 @@ ghost use Rattle.tp_value.specs.HasType.{ArePrintable, AllHave, FieldsHave, HasT
 use crate::types::{Field, Ty, TypeDef, Types};
 use crate::value::Value;
 
-/// Whether all are the characters 32 to 126.
-fn are_printable(text: &[u8]) -> bool
+/// Whether all are the characters 32 to 126, which a charstring may have (ES 201 873-1, 6.1.1).
+/// Takes no memory.
+pub fn are_printable(text: &[u8]) -> bool
     ensures { IsTrue result ↔ ArePrintable text.now }
 {
     for byte in text {
@@ -32,6 +33,7 @@ pub fn has_type(types: &Types, ty: Ty, value: &Value) -> bool
 {
     match value {
         Value::Int(number) => {
+            // Read, so that it is known to have 64 bits.
             let _number = *number;
             ty == Ty::Integer
         }

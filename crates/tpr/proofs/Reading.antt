@@ -4,7 +4,7 @@ use Rattle.std.specs.Prelude.{IfSome, IfErr}
 use Rattle.std.proofs.lemmas.List.{length-append}
 use Rattle.tp_port.specs.declared.text.ReadFault.{ReadFault}
 use Rattle.tp_port.specs.declared.text.ReadFault.TheVariants as read
-use Rattle.tp_port.specs.Reading.{Takes}
+use Rattle.tp_port.specs.Reading.{TakesBytes}
 use Rattle.tp_token.specs.declared.fault.ScriptFault.{ScriptFault}
 use Rattle.tp_token.specs.declared.fault.ScriptFault.TheVariants as script
 use Rattle.tpr.specs.declared.checking.CheckFault.TheVariants as fault
@@ -14,7 +14,7 @@ use Rattle.tp_script.specs.TestCases.{Made}
 use Rattle.tpr.specs.Checked.{HasCheckFault, IsRight, IsScriptFaultIn, IsScriptFaultOf, IsScriptOf, check_fault_of}
 
 -- a fault of reading
-pub reading_fault : (f : ReadFault) (old new : Option (List ℕ)) → Takes old new (Some f) → HasCheckFault old new (check_fault_of f)
+pub reading_fault : (f : ReadFault) (old new : Option (List ℕ)) → TakesBytes old new (Some f) → HasCheckFault old new (check_fault_of f)
 reading_fault read.Read None new taken = (taken.0, taken.1, tt)
 reading_fault read.Read (Some text) new taken = taken
 reading_fault read.Limit None new taken = (taken.0, taken.1, tt)
@@ -30,7 +30,7 @@ script_fault (script.Refused r line) text taken short few h = h
 script_fault (script.Memory m) text taken short few h = (few, inr short)
 
 pub checking_fault : (f : ScriptFault) (old new : Option (List ℕ)) (text : List ℕ) → IfSome old (λ all. text ≡ all) → length text ≤ 1048576
-    → Takes old new None → IsScriptFaultOf text f → HasCheckFault old new (fault.Script f)
+    → TakesBytes old new None → IsScriptFaultOf text f → HasCheckFault old new (fault.Script f)
 checking_fault f None new text is short taken h = (taken.0, taken.1, tt)
 checking_fault f (Some all) new text is short taken h =
     (taken.0, taken.1, subst (λ (t : List ℕ). IsScriptFaultIn t (length taken.0) f) is (script_fault f text (length taken.0) short taken.2 h))

@@ -17,7 +17,8 @@ added_and_kept (Some xs) (Some ys) None text added kept = absurd kept
 added_and_kept (Some xs) (Some ys) (Some zs) text added kept = kept ∙ added
 
 -- the report was printed, and then flushed
-pub reported : (made : Made) (report : Report) (status : Option ℕ) (old mid new : Option (List ℕ)) → IsReportOf made report → NoCircle report → IfSome status (λ s. s ≡ 0)
+pub reported : (made : Made) (report : Report) (status : Option ℕ) (old mid new : Option (List ℕ)) → IsReportOf made report → NoCircle report
+    → IfSome status (λ s. s ≡ 0)
     → Appends old mid (report_text made report) → Keeps mid new → IfSome status (IsRunOf made old new)
 reported made report None old mid new delivery order code added kept = tt
 reported made report (Some s) old mid new delivery order code added kept =

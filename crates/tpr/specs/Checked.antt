@@ -6,38 +6,38 @@ use Rattle.tp_syntax.specs.Definitions.{IsReadAs}
 use Rattle.tp_syntax.specs.Refusals.{IsUnread}
 use Rattle.tp_port.specs.Reading.{IsFull}
 use Rattle.tp_port.specs.declared.text.ReadFault.{ReadFault}
-use Rattle.tp_port.specs.declared.text.ReadFault.TheVariants as read
+use Rattle.tp_port.specs.declared.text.ReadFault.TheVariants as read_fault
 use Rattle.tp_refusal.specs.declared.refusal.Refusal.TheVariants as refusal
 use Rattle.tp_token.specs.declared.fault.ScriptFault.{ScriptFault}
-use Rattle.tp_token.specs.declared.fault.ScriptFault.TheVariants as script
+use Rattle.tp_token.specs.declared.fault.ScriptFault.TheVariants as script_fault
 use Rattle.tp_script.specs.TestCases.{Made, IsTestCaseOf, WellFormed}
 use Rattle.tpr.specs.declared.checking.CheckFault.{CheckFault}
-use Rattle.tpr.specs.declared.checking.CheckFault.TheVariants as fault
+use Rattle.tpr.specs.declared.checking.CheckFault.TheVariants as check_fault
 use Rattle.tpr.specs.Outcome.{memory_text, refused_text, unread_text}
 
 -- a text that is too long has its fault at line 0
 abbrev pub check_fault_of : ReadFault → CheckFault
-check_fault_of read.Read = fault.Read
-check_fault_of read.Limit = fault.Script (script.Refused refusal.Limit 0)
-check_fault_of read.Memory = fault.Script (script.Memory (record {}))
+check_fault_of read_fault.Read = check_fault.Read
+check_fault_of read_fault.Limit = check_fault.Script (script_fault.Refused refusal.Limit 0)
+check_fault_of read_fault.Memory = check_fault.Script (script_fault.Memory (record {}))
 
 abbrev pub script_fault_text : ScriptFault → List ℕ
-script_fault_text (script.Refused r line) = refused_text r line
-script_fault_text (script.Memory m) = memory_text
+script_fault_text (script_fault.Refused r line) = refused_text r line
+script_fault_text (script_fault.Memory m) = memory_text
 
 -- what is printed of a fault of mode check
 abbrev pub check_fault_text : CheckFault → List ℕ
-check_fault_text fault.Read = unread_text
-check_fault_text (fault.Script f) = script_fault_text f
+check_fault_text check_fault.Read = unread_text
+check_fault_text (check_fault.Script f) = script_fault_text f
 
 abbrev pub script_fault_status : ScriptFault → ℕ
-script_fault_status (script.Refused r line) = 2
-script_fault_status (script.Memory m) = 3
+script_fault_status (script_fault.Refused r line) = 2
+script_fault_status (script_fault.Memory m) = 3
 
 -- and the status: 2 where the text was refused, 3 where the fault isn't the text's
 abbrev pub check_fault_status : CheckFault → ℕ
-check_fault_status fault.Read = 2
-check_fault_status (fault.Script f) = script_fault_status f
+check_fault_status check_fault.Read = 2
+check_fault_status (check_fault.Script f) = script_fault_status f
 
 -- what is printed of a script that is right
 abbrev pub accepted_text : List ℕ
@@ -61,13 +61,13 @@ IsScriptFaultOf text fault = IsUnread text fault ⊎ ((parsed : Module) × IsRea
 -- the same of a text that is read first, where reading took so many bytes of it: memory may be wanting where the room
 -- for the text is full, whatever the text, and then for a text that isn't too long
 abbrev pub IsScriptFaultIn : List ℕ → ℕ → ScriptFault → Type 0
-IsScriptFaultIn text taken (script.Refused r line) = IsScriptFaultOf text (script.Refused r line)
-IsScriptFaultIn text taken (script.Memory m) = (taken ≤ 1048576) × (IsFull taken ⊎ (length text ≤ 1048576))
+IsScriptFaultIn text taken (script_fault.Refused r line) = IsScriptFaultOf text (script_fault.Refused r line)
+IsScriptFaultIn text taken (script_fault.Memory m) = (taken ≤ 1048576) × (IsFull taken ⊎ (length text ≤ 1048576))
 
 -- and the reader may fail anywhere within the limit
 abbrev pub IsCheckFaultOf : List ℕ → ℕ → CheckFault → Type 0
-IsCheckFaultOf text taken fault.Read = taken ≤ 1048576
-IsCheckFaultOf text taken (fault.Script f) = IsScriptFaultIn text taken f
+IsCheckFaultOf text taken check_fault.Read = taken ≤ 1048576
+IsCheckFaultOf text taken (check_fault.Script f) = IsScriptFaultIn text taken f
 
 -- the same of what the reader has, where that is known
 abbrev pub HasCheckFault : Option (List ℕ) → Option (List ℕ) → CheckFault → Type 0

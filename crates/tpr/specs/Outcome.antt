@@ -6,7 +6,7 @@ use Rattle.tp_refusal.specs.declared.refusal.Refusal.{Refusal}
 use Rattle.tp_refusal.specs.declared.refusal.Refusal.TheVariants as refusal
 use Rattle.tp_refusal.specs.Label.{label}
 use Rattle.tp_port.specs.declared.replay.QueueFault.{QueueFault}
-use Rattle.tp_port.specs.declared.replay.QueueFault.TheVariants as fault
+use Rattle.tp_port.specs.declared.replay.QueueFault.TheVariants as queue_fault
 use Rattle.tp_port.specs.Faults.{Answers, HasFault}
 
 -- the number and the name
@@ -24,27 +24,27 @@ memory_text = codes "fault " ++ label_text refusal.Memory ++ codes "\n"
 
 -- what is printed of a fault of the queue mode
 abbrev pub fault_text : QueueFault → List ℕ
-fault_text (fault.BadLine line) = refused_text refusal.BadLine line
-fault_text fault.Read = unread_text
-fault_text fault.Write = []
-fault_text fault.Limit = refused_text refusal.Limit 0
-fault_text fault.Memory = memory_text
+fault_text (queue_fault.BadLine line) = refused_text refusal.BadLine line
+fault_text queue_fault.Read = unread_text
+fault_text queue_fault.Write = []
+fault_text queue_fault.Limit = refused_text refusal.Limit 0
+fault_text queue_fault.Memory = memory_text
 
 -- and the status: 2 where the text was refused, 3 where the fault isn't the text's
 abbrev pub fault_status : QueueFault → ℕ
-fault_status (fault.BadLine line) = 2
-fault_status fault.Read = 2
-fault_status fault.Write = 3
-fault_status fault.Limit = 2
-fault_status fault.Memory = 3
+fault_status (queue_fault.BadLine line) = 2
+fault_status queue_fault.Read = 2
+fault_status queue_fault.Write = 3
+fault_status queue_fault.Limit = 2
+fault_status queue_fault.Memory = 3
 
 -- a failed write has no line
 abbrev pub HasLine : QueueFault → Type 0
-HasLine fault.Write = ⊥
+HasLine queue_fault.Write = ⊥
 HasLine _ = Unit {0}
 
 -- the line of a fault was added that the text has which was read, and the status is the fault's
-pub record IsRefused (known left old new : Option (List ℕ)) (status : ℕ) : Type 0 where
+pub record IsQueueRefused (known left old new : Option (List ℕ)) (status : ℕ) : Type 0 where
   pub fault : QueueFault
   pub is_told : HasLine fault
   pub found : HasFault known left fault
@@ -55,4 +55,4 @@ pub record IsRefused (known left old new : Option (List ℕ)) (status : ℕ) : T
 -- of its fault
 abbrev pub IsQueueAnswer : Option (List ℕ) → Option (List ℕ) → Option (List ℕ) → Option (List ℕ) → ℕ → Type 0
 IsQueueAnswer known left old new status =
-    ((status ≡ 0) × IfSome known (λ text. Answers text old new)) ⊎ IsRefused known left old new status
+    ((status ≡ 0) × IfSome known (λ text. Answers text old new)) ⊎ IsQueueRefused known left old new status

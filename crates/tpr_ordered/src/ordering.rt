@@ -73,8 +73,8 @@ fn write_order<R: Threads + Wait + Sync, W: Write>(
 
 /// Runs the test case once in each of these orders, one run after the other, and writes for each
 /// the line `order NAMES`, the report as mode `run` of `tpr` prints it, and an empty line. In place
-/// of the report stands `not held`, where the gate gave up after `patience` turns that yield, or
-/// the line of the fault by which there is none.
+/// of the report stands `not held`, where the gate gave up after the trial's `patience` turns that
+/// yield, or the line of the fault by which there is none.
 ///
 /// An error where the writer failed. It may wait for good.
 pub fn write_orders<R: Threads + Wait + Sync, W: Write>(

@@ -11,7 +11,14 @@ use Rattle.tp_behaviour.proofs.acting.all_ports.Goals as goal
 pub loop-port-init : goal.loop-port-init
 loop-port-init g c =
     let e = c.in_ok-look_in.ensures in
-    record { manned = e.manned; same = same_itself c.look_in.new.station; ports = refl; own = e.own; done = grew_start c.args.operation c.look_in.new.station.desk.log }
+    record {
+      manned = e.manned;
+      same = same_itself c.look_in.new.station;
+      ports = refl;
+      own = e.own;
+      done =
+          grew_start c.args.operation c.look_in.new.station.desk.log;
+    }
 
 -- a component of a configuration has few ports
 pub overflow_cast-port : goal.overflow_cast-port

@@ -12,14 +12,17 @@ use Rattle.tp_behaviour.proofs.acting.operate_at.Goals as goal
 pub returns-clause-manned : goal.returns-clause-manned
 returns-clause-manned g c =
     let e = operated c.args.operation c.args.port in
-    (noted (role_of c.args.post.now) c.args.station.now c.operate.new.desk e c.requires.manned c.in_ok-operate.ensures (plain_operated c.args.operation c.args.port) (λ _. c.requires.own)).1
+    (noted (role_of c.args.post.now) c.args.station.now c.operate.new.desk e c.requires.manned c.in_ok-operate.ensures
+    (plain_operated c.args.operation c.args.port) (λ _. c.requires.own)).1
 
 pub returns-clause-trace : goal.returns-clause-trace
 returns-clause-trace g c =
     let e = operated c.args.operation c.args.port in
-    (noted (role_of c.args.post.now) c.args.station.now c.operate.new.desk e c.requires.manned c.in_ok-operate.ensures (plain_operated c.args.operation c.args.port) (λ _. c.requires.own)).0
+    (noted (role_of c.args.post.now) c.args.station.now c.operate.new.desk e c.requires.manned c.in_ok-operate.ensures
+    (plain_operated c.args.operation c.args.port) (λ _. c.requires.own)).0
 
 pub returns-clause-own : goal.returns-clause-own
 returns-clause-own g c =
     subst (HasOwn c.args.post.now.comp) (sym (ap (λ (j : Journal). j.log) c.in_ok-operate.ensures))
-    (own_more c.args.post.now.comp c.args.station.now.desk.log (operated c.args.operation c.args.port) (plain_operated c.args.operation c.args.port) c.requires.own)
+    (own_more c.args.post.now.comp c.args.station.now.desk.log (operated c.args.operation c.args.port)
+    (plain_operated c.args.operation c.args.port) c.requires.own)

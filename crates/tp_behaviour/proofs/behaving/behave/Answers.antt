@@ -9,7 +9,7 @@ use Rattle.tp_behaviour.proofs.Stayed.{waits_from}
 use Rattle.tp_behaviour.proofs.behaving.behave.Goals as goal
 
 pub execute-requires-clause-held : goal.execute-requires-clause-held
-execute-requires-clause-held g c κs within = held_unset c.args.post.now.conduct.body.now c.in_ok-state.state.variables.items c.in_ok-state.ensures.variables
+execute-requires-clause-held g c κs within = held_unset c.args.post.now.behaviour.body.now c.in_ok-state.state.variables.items c.in_ok-state.ensures.variables
 
 -- no loop variable is around the statements of a body
 pub execute-requires-clause-can : goal.execute-requires-clause-can
@@ -23,10 +23,12 @@ execute-requires-clause-lasting g c κs within = subst (AreLasting c.as_slice-st
 
 pub returns-clause-ended : goal.returns-clause-ended
 returns-clause-ended g c =
-    has_ended (role_of c.args.post.now) c.args.post.now.conduct.body.now c.in_ok-outcome.outcome c.in_ok-state.state.turns.items c.in_ok-state.state.variables.items
+    has_ended (role_of c.args.post.now) c.args.post.now.behaviour.body.now c.in_ok-outcome.outcome c.in_ok-state.state.turns.items
+    c.in_ok-state.state.variables.items
     c.as_slice-statements.result.now c.execute.new.state.variables.items c.args.station.now.desk.log c.execute.new.station.desk.log
     c.in_ok-state.ensures.turns c.in_ok-state.ensures.variables c.as_slice-statements.ensures c.requires.begun c.in_ok-outcome.ensures.ended
 
 pub returns-clause-within : goal.returns-clause-within
 returns-clause-within g c =
-    waits_from c.args.post.now c.execute.new.station c.args.station.now c.in_ok-outcome.outcome c.in_ok-outcome.ensures.manned c.requires.manned c.in_ok-outcome.ensures.within
+    waits_from c.args.post.now c.execute.new.station c.args.station.now c.in_ok-outcome.outcome c.in_ok-outcome.ensures.manned c.requires.manned
+    c.in_ok-outcome.ensures.within

@@ -35,5 +35,9 @@ loop-branch-preserved g c =
 
 -- none did something
 pub returns : goal.returns
-returns g c =
-    (subst (NoneOpen c.args.desk.now.log) (take_all c.loop-branch.branch (all_viewed c.args.guards.now) (all_past c.args.guards.now c.loop-branch.branch c.loop-branch-test.false)) c.loop-branch.invariant.1, c.loop-branch.invariant.0)
+returns g c = (
+  subst (NoneOpen c.args.desk.now.log)
+      (take_all c.loop-branch.branch (all_viewed c.args.guards.now) (all_past c.args.guards.now c.loop-branch.branch c.loop-branch-test.false))
+      c.loop-branch.invariant.1,
+  c.loop-branch.invariant.0,
+)

@@ -19,7 +19,8 @@ pub enter-requires-clause-there : goal.enter-requires-clause-there
 enter-requires-clause-there g c =
     chose_within (role_of c.args.scene.now.post.now) (values_of c.args.state.now) c.args.alt.branches.now (all_viewed c.as_slice.result.now)
     c.args.alt.has_else c.in-Branch.place c.in-Branch.env
-    c.args.station.now.desk.log c.choose.new.station.desk.log (ap all_viewed c.as_slice.ensures.value ∙ c.in_ok-views.ensures) (rw c.in-Branch.is at c.in_ok-place.ensures.chose)
+    c.args.station.now.desk.log c.choose.new.station.desk.log (ap all_viewed c.as_slice.ensures.value ∙ c.in_ok-views.ensures)
+    (rw c.in-Branch.is at c.in_ok-place.ensures.chose)
 
 pub returns-in-Branch-clause-decided : goal.returns-in-Branch-clause-decided
 returns-in-Branch-clause-decided g c =

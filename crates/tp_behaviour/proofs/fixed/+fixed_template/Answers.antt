@@ -29,11 +29,13 @@ is_fixed-returns-in-OneOf t c = λ yes.
 
 pub is_fixed-returns-in-NoneOf : goal.is_fixed-returns-in-NoneOf
 is_fixed-returns-in-NoneOf t c = λ yes.
-    subst IsFixed (sym c.in-NoneOf.is) (fixed_none_of c.in-NoneOf.members (subst (All IsFixed) c.as_slice-in-NoneOf.ensures (c.are_fixed-in-NoneOf.ensures yes)))
+    subst IsFixed (sym c.in-NoneOf.is)
+    (fixed_none_of c.in-NoneOf.members (subst (All IsFixed) c.as_slice-in-NoneOf.ensures (c.are_fixed-in-NoneOf.ensures yes)))
 
 pub is_fixed-returns-in-Record : goal.is_fixed-returns-in-Record
 is_fixed-returns-in-Record t c = λ yes.
-    subst IsFixed (sym c.in-Record.is) (fixed_members c.in-Record.members (subst (All IsFixed) c.as_slice-in-Record.ensures (c.are_fixed-in-Record.ensures yes)))
+    subst IsFixed (sym c.in-Record.is)
+    (fixed_members c.in-Record.members (subst (All IsFixed) c.as_slice-in-Record.ensures (c.are_fixed-in-Record.ensures yes)))
 
 pub is_fixed-returns-in-List : goal.is_fixed-returns-in-List
 is_fixed-returns-in-List t c = λ yes.
@@ -48,4 +50,5 @@ are_fixed-loop-template-preserved t c =
     (c.is_fixed.ensures c.if-not-is_fixed.false)
 
 pub are_fixed-returns : goal.are_fixed-returns
-are_fixed-returns t c = λ yes. subst (All IsFixed) (take_all c.loop-template.template-index c.args.templates.now c.loop-template-test.false) c.loop-template.invariant
+are_fixed-returns t c =
+    λ yes. subst (All IsFixed) (take_all c.loop-template.template-index c.args.templates.now c.loop-template-test.false) c.loop-template.invariant

@@ -23,7 +23,8 @@ is_fixed_value-returns-in-Record t c = λ yes.
 
 pub is_fixed_value-returns-in-List : goal.is_fixed_value-returns-in-List
 is_fixed_value-returns-in-List t c = λ yes.
-    subst IsFixedValue (sym c.in-List.is) (fixed_list c.in-List.elements (subst (All IsFixedValue) c.as_slice-in-List.ensures (c.are_fixed_values-in-List.ensures yes)))
+    subst IsFixedValue (sym c.in-List.is)
+    (fixed_list c.in-List.elements (subst (All IsFixedValue) c.as_slice-in-List.ensures (c.are_fixed_values-in-List.ensures yes)))
 
 pub are_fixed_values-loop-value-preserved : goal.are_fixed_values-loop-value-preserved
 are_fixed_values-loop-value-preserved t c =
@@ -34,4 +35,5 @@ are_fixed_values-loop-value-preserved t c =
     (c.is_fixed_value.ensures c.if-not-is_fixed_value.false)
 
 pub are_fixed_values-returns : goal.are_fixed_values-returns
-are_fixed_values-returns t c = λ yes. subst (All IsFixedValue) (take_all c.loop-value.value-index c.args.values.now c.loop-value-test.false) c.loop-value.invariant
+are_fixed_values-returns t c =
+    λ yes. subst (All IsFixedValue) (take_all c.loop-value.value-index c.args.values.now c.loop-value-test.false) c.loop-value.invariant

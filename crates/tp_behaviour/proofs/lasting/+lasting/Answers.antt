@@ -10,20 +10,24 @@ lasting_block-loop-statement-preserved t c =
     let xs = c.args.block.now in
     let i = c.loop-statement.statement-index in
     subst (AreLasting _) (sym c.in_ok-push.ensures.ok)
-    (zipped_more IsLasting xs i c.statement-item.result c.loop-statement.made c.in_ok-one.one c.loop-statement-test.true c.statement-item.is c.loop-statement.invariant c.in_ok-one.ensures)
+    (zipped_more IsLasting xs i c.statement-item.result c.loop-statement.made c.in_ok-one.one c.loop-statement-test.true c.statement-item.is
+    c.loop-statement.invariant c.in_ok-one.ensures)
 
 pub lasting_block-returns : goal.lasting_block-returns
-lasting_block-returns t c = zipped_all IsLasting c.args.block.now c.loop-statement.statement-index c.loop-statement.made c.loop-statement-test.false c.loop-statement.invariant
+lasting_block-returns t c =
+    zipped_all IsLasting c.args.block.now c.loop-statement.statement-index c.loop-statement.made c.loop-statement-test.false c.loop-statement.invariant
 
 pub lasting_branches-loop-branch-preserved : goal.lasting_branches-loop-branch-preserved
 lasting_branches-loop-branch-preserved t c =
     let xs = c.args.branches.now in
     let i = c.loop-branch.branch-index in
     subst (AreLastingBranches _) (sym c.in_ok-push.ensures.ok)
-    (zipped_more IsLastingBranch xs i c.branch-item.result c.loop-branch.made c.in_ok-one.one c.loop-branch-test.true c.branch-item.is c.loop-branch.invariant c.in_ok-one.ensures)
+    (zipped_more IsLastingBranch xs i c.branch-item.result c.loop-branch.made c.in_ok-one.one c.loop-branch-test.true c.branch-item.is c.loop-branch.invariant
+    c.in_ok-one.ensures)
 
 pub lasting_branches-returns : goal.lasting_branches-returns
-lasting_branches-returns t c = zipped_all IsLastingBranch c.args.branches.now c.loop-branch.branch-index c.loop-branch.made c.loop-branch-test.false c.loop-branch.invariant
+lasting_branches-returns t c =
+    zipped_all IsLastingBranch c.args.branches.now c.loop-branch.branch-index c.loop-branch.made c.loop-branch-test.false c.loop-branch.invariant
 
 pub lasting_branch-returns : goal.lasting_branch-returns
 lasting_branch-returns t c =
@@ -44,7 +48,8 @@ lasting_statement-returns-in_ok-block-in-Some t c =
 
 pub lasting_statement-returns-in-None : goal.lasting_statement-returns-in-None
 lasting_statement-returns-in-None t c =
-    make_alt c.args.statement.now None c.in_ok-branches-in-Alt.branches _ c.in-Alt.branches None (c.in-Alt.is ∙ ap (λ o. b.Alt c.in-Alt.branches o) c.in-None.is)
+    make_alt c.args.statement.now None c.in_ok-branches-in-Alt.branches _ c.in-Alt.branches None
+    (c.in-Alt.is ∙ ap (λ o. b.Alt c.in-Alt.branches o) c.in-None.is)
     (subst (λ xs. AreLastingBranches xs c.in_ok-branches-in-Alt.branches) c.as_slice.ensures c.in_ok-branches-in-Alt.ensures) tt
 
 pub lasting_statement-returns-in_ok-block-in-For : goal.lasting_statement-returns-in_ok-block-in-For

@@ -6,4 +6,5 @@ use Rattle.tp_behaviour.proofs.looking.look_in.Goals as goal
 -- what came is of routes into the inbox, and the component's own messages are all there
 pub returns-then-is_level-clause-own : goal.returns-then-is_level-clause-own
 returns-then-is_level-clause-own g c =
-    has_own (role_of c.args.post.now) c.draw.new.station c.in_ok-draw.ensures.manned c.in_ok-draw.ensures.routed.routed (c.is_level.ensures.level c.if-is_level.true)
+    has_own (role_of c.args.post.now) c.draw.new.station c.in_ok-draw.ensures.manned c.in_ok-draw.ensures.routed.routed
+    (c.is_level.ensures.level c.if-is_level.true)

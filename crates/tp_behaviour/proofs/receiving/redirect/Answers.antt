@@ -14,14 +14,16 @@ pub keep-requires-2 : goal.keep-requires-2
 keep-requires-2 c =
     let s = stage_at c.args.post.now in
     let can = c.requires.can in
-    let held = value_held s c.args.state.now.variables.items c.requires.held c.args.receiving.now.wanted c.args.receiving.now.value_to c.args.env.msg can.value_to in
+    let held = value_held s c.args.state.now.variables.items c.requires.held c.args.receiving.now.wanted c.args.receiving.now.value_to c.args.env.msg
+    can.value_to in
     sender_within s c.keep.new.variables.items (subst (AreHeld s.variables) (sym c.keep.ensures) held) c.args.receiving.now.sender_to can.sender_to
 
 pub returns-clause-held : goal.returns-clause-held
 returns-clause-held c =
     let s = stage_at c.args.post.now in
     let can = c.requires.can in
-    let held = value_held s c.args.state.now.variables.items c.requires.held c.args.receiving.now.wanted c.args.receiving.now.value_to c.args.env.msg can.value_to in
+    let held = value_held s c.args.state.now.variables.items c.requires.held c.args.receiving.now.wanted c.args.receiving.now.value_to c.args.env.msg
+    can.value_to in
     let had = subst (AreHeld s.variables) (sym c.keep.ensures) held in
     let sender = sender_held s c.keep.new.variables.items had c.args.receiving.now.sender_to (record { 0 = c.args.env.sender }) can.sender_to in
     subst (AreHeld s.variables) (sym c.keep-2.ensures) sender

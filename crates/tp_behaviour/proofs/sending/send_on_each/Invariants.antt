@@ -10,5 +10,6 @@ abbrev pub invariant-loop-route : goal.invariant-loop-route
 invariant-loop-route g l = record {
   manned : IsManned (role_of l.scene.post.now) l.station;
   same : IsSame l.initial.station l.station;
-  each : (port : ℕ) → IsStarted l.initial.station.desk.log port → IsSentOnEach port l.message (take l.route-index l.routes) l.initial.station.desk.log l.station.desk.log;
+  each : (port : ℕ) → IsStarted l.initial.station.desk.log port
+      → IsSentOnEach port l.message (take l.route-index l.routes) l.initial.station.desk.log l.station.desk.log;
 }

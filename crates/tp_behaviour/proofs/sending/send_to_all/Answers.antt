@@ -33,7 +33,8 @@ returns-clause-sends g c =
     let before = c.args.station.now.desk.log in
     let after = c.send_on_each.new.station.desk.log in
     let long : length routes.items ≡ vec_len routes = omega (arith, routes.ok.0) in
-    let each = subst (λ l. Grew (AllZip (IsSentOn x.port m) l) before after) c.as_slice.ensures.value (c.in_ok-send_on_each.ensures.each x.port c.requires.started) in
+    let each = subst (λ l. Grew (AllZip (IsSentOn x.port m) l) before after) c.as_slice.ensures.value
+    (c.in_ok-send_on_each.ensures.each x.port c.requires.started) in
     sends_all (role_of c.args.scene.now.post.now) (values_of c.args.state.now) x m routes.items before after c.requires.sent c.requires.all
     c.in_ok-routes.ensures.routes
     (some_items routes.items (vec_len routes) long (sym c.is_empty.ensures ∙ c.if-is_empty.false)) each

@@ -10,11 +10,11 @@ use Rattle.tp_body.specs.Playable.{CanEnterAll, CanPlayAll}
 use Rattle.tp_body.specs.Sizes.{turns_between}
 use Rattle.tp_body.proofs.PlayRules.{plays_alt, plays_control, plays_else, plays_for, plays_receive, plays_send}
 use Rattle.tp_behaviour.specs.declared.outcome.Outcome.TheVariants as outcome
-use Rattle.tp_behaviour.specs.declared.deciding.Way.TheVariants as way
+use Rattle.tp_behaviour.specs.declared.deciding.Decision.TheVariants as decision
 use Rattle.tp_behaviour.specs.declared.lasting.Lasting.{out-Lasting}
 use Rattle.tp_behaviour.specs.Lasting.{AreLasting, AreLastingBranches, IsLasting, IsLastingBranch}
 use Rattle.tp_behaviour.specs.Outcomes.{Executed, Stepped, depth_of, stage_at}
-use Rattle.tp_behaviour.specs.Parts.{Decided, ExecutedIn, IsWayOf, Turned}
+use Rattle.tp_behaviour.specs.Parts.{Decided, ExecutedIn, IsDecisionOf, Turned}
 use Rattle.tp_behaviour.proofs.Branched.{step_branch, step_else, step_for, step_waits}
 use Rattle.tp_behaviour.proofs.Executed.{passed_all, passed_more, passed_start, passed_stop}
 use Rattle.tp_behaviour.proofs.LastingRules.{lasts_alt, lasts_block, lasts_else, lasts_for, lasts_receive, zipped_get, zipped_long}
@@ -116,7 +116,7 @@ step-decide-requires-clause-can g t c κs within =
 
 pub step-branch-scene-requires-clause-within : goal.step-branch-scene-requires-clause-within
 step-branch-scene-requires-clause-within g t c κs within =
-    let there : IsWayOf c.as_slice.result.now (way.Branch c.in-Branch.place) = rw c.in-Branch.is at c.in_ok-place-in-Alt.ensures.there in
+    let there : IsDecisionOf c.as_slice.result.now (decision.Branch c.in-Branch.place) = rw c.in-Branch.is at c.in_ok-place-in-Alt.ensures.there in
     slice_get_within c.as_slice.result.now c.in-Branch.place there.0 there.1
 
 pub step-branch-scene-requires-clause-can : goal.step-branch-scene-requires-clause-can
@@ -200,7 +200,8 @@ step-turns-requires-clause-lasting g t c κs within =
 pub step-returns-in-Branch-clause-ended : goal.step-returns-in-Branch-clause-ended
 step-returns-in-Branch-clause-ended g t c =
     let decide = c.in_ok-place-in-Alt.ensures in
-    let decided : Decided c.args.scene.now.post.now c.as_slice.result.now c.is_some.result (way.Branch c.in-Branch.place) c.args.station.now c.args.state.now
+    let decided : Decided c.args.scene.now.post.now c.as_slice.result.now c.is_some.result
+    (decision.Branch c.in-Branch.place) c.args.station.now c.args.state.now
     c.decide.new.station c.decide.new.state
     = rw c.in-Branch.is at decide.decided in
     IfOk-weaker c.branch-scene.result _ _
@@ -213,7 +214,8 @@ step-returns-in-Branch-clause-ended g t c =
 pub step-returns-in-Some-clause-ended : goal.step-returns-in-Some-clause-ended
 step-returns-in-Some-clause-ended g t c =
     let decide = c.in_ok-place-in-Alt.ensures in
-    let decided : Decided c.args.scene.now.post.now c.as_slice.result.now c.is_some.result way.Else c.args.station.now c.args.state.now c.decide.new.station
+    let decided : Decided c.args.scene.now.post.now c.as_slice.result.now c.is_some.result decision.Else c.args.station.now c.args.state.now
+    c.decide.new.station
     c.decide.new.state
     = rw c.in-Else.is at decide.decided in
     IfOk-weaker c.execute.result _ _
@@ -226,7 +228,8 @@ step-returns-in-Some-clause-ended g t c =
 pub step-returns-in-Waits-clause-ended : goal.step-returns-in-Waits-clause-ended
 step-returns-in-Waits-clause-ended g t c =
     let decide = c.in_ok-place-in-Alt.ensures in
-    let decided : Decided c.args.scene.now.post.now c.as_slice.result.now c.is_some.result (way.Waits c.in-Waits.guards) c.args.station.now c.args.state.now
+    let decided : Decided c.args.scene.now.post.now c.as_slice.result.now c.is_some.result
+    (decision.Waits c.in-Waits.guards) c.args.station.now c.args.state.now
     c.decide.new.station c.decide.new.state
     = rw c.in-Waits.is at decide.decided in
     step_waits c.args.scene.now.post.now c.args.statement.now c.in-Alt.branches c.as_slice.result.now c.in-Alt.otherwise c.is_some.result c.in-Waits.guards

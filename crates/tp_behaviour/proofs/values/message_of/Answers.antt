@@ -13,7 +13,9 @@ pub returns-in_ok-filled-in-Written : goal.returns-in_ok-filled-in-Written
 returns-in_ok-filled-in-Written c =
     let vs = values_of c.args.state.now in
     let x = c.in_ok-filled-in-Written in
-    subst (λ (s : Sent). IsSentAs vs s x.filled) (sym c.in-Written.is) (sent_written vs c.in-Written.message x.filled x.ensures.ty (x.ensures.value ∙ ap (λ ts. filled ts c.in-Written.message.value) c.as_slice.ensures.value))
+    subst (λ (s : Sent). IsSentAs vs s x.filled) (sym c.in-Written.is)
+    (sent_written vs c.in-Written.message x.filled x.ensures.ty
+    (x.ensures.value ∙ ap (λ ts. filled ts c.in-Written.message.value) c.as_slice.ensures.value))
 
 pub returns-in_ok-copy-in-Some : goal.returns-in_ok-copy-in-Some
 returns-in_ok-copy-in-Some c =

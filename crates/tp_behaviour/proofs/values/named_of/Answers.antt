@@ -14,7 +14,7 @@ returns-in-Nobody c =
 pub returns-in-Reference : goal.returns-in-Reference
 returns-in-Reference c =
     let below = rw c.in-Reference.is at c.requires in
-    let cs = c.args.post.now.conduct.references.now in
+    let cs = c.args.post.now.behaviour.references.now in
     let k = c.in-Reference.place in
     let none : CompId = record { 0 = 0 } in
     subst (λ (t : Receiver). IsNamed (role_of c.args.post.now) (values_of c.args.state.now) t (Some (get_or cs k none))) (sym c.in-Reference.is)

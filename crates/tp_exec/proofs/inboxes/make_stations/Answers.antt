@@ -12,11 +12,13 @@ hand_out-requires-clause-apart c =
 
 pub returns-clause-stations : goal.returns-clause-stations
 returns-clause-stations c =
-    are_stations c.args.config.now c.open_inboxes.ensures.lawful c.in_ok-stations.field-0 c.in_ok-manned.manned.items c.in_ok-stations.ensures.opened c.in_ok-manned.ensures
+    are_stations c.args.config.now c.open_inboxes.ensures.lawful c.in_ok-stations.field-0 c.in_ok-manned.manned.items c.in_ok-stations.ensures.opened
+    c.in_ok-manned.ensures
 
 pub returns-clause-begun : goal.returns-clause-begun
 returns-clause-begun c =
-    have_not_begun c.args.config.now c.open_inboxes.ensures.lawful c.in_ok-stations.field-0 c.in_ok-manned.manned.items c.in_ok-stations.ensures.opened c.in_ok-manned.ensures
+    have_not_begun c.args.config.now c.open_inboxes.ensures.lawful c.in_ok-stations.field-0 c.in_ok-manned.manned.items c.in_ok-stations.ensures.opened
+    c.in_ok-manned.ensures
 
 pub returns-clause-closers : goal.returns-clause-closers
 returns-clause-closers c = c.in_ok-stations.ensures.opened.closers

@@ -10,4 +10,5 @@ returns c =
     let had = c.args.opened.now in
     opened_next c.args.config.now c.args.comp.0 had _ _ c.in_ok-owner.senders.items c.requires.before
     (record { comp = made.comp; ports = made.ports; routes = made.routes; drained = made.drained; desk = c.in_ok-desk.ensures.desk })
-    c.new-2.ensures made.senders c.in_ok-push.ensures.items c.in_ok-append.ensures.items (ap length c.in_ok-push-2.ensures.items ∙ length_push had.closers.items _)
+    c.new-2.ensures made.senders c.in_ok-push.ensures.items c.in_ok-append.ensures.items
+    (ap length c.in_ok-push-2.ensures.items ∙ length_push had.closers.items _)

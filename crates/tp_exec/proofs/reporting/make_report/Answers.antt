@@ -11,11 +11,13 @@ use Rattle.tp_exec.proofs.reporting.make_report.Goals as goal
 
 pub are_at_rest-at_rest-requires : goal.are_at_rest-at_rest-requires
 are_at_rest-at_rest-requires c =
-    subst (All (λ (e : Ended). WaitsWithin e.desk.ports e.outcome)) (sym c.as_slice.ensures.value) (waits_within c.args.test_case.now c.args.ended.items c.requires)
+    subst (All (λ (e : Ended). WaitsWithin e.desk.ports e.outcome)) (sym c.as_slice.ensures.value)
+    (waits_within c.args.test_case.now c.args.ended.items c.requires)
 
 pub report_components-requires : goal.report_components-requires
 report_components-requires c =
-    subst (λ (s : Setup). All (λ (e : Ended). IsComponent s e.desk.comp) c.args.ended.items) (sym c.config.ensures) (all_there c.args.test_case.now c.args.ended.items c.requires)
+    subst (λ (s : Setup). All (λ (e : Ended). IsComponent s e.desk.comp) c.args.ended.items) (sym c.config.ensures)
+    (all_there c.args.test_case.now c.args.ended.items c.requires)
 
 pub returns-clause-report : goal.returns-clause-report
 returns-clause-report c =

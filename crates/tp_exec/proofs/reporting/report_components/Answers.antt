@@ -18,10 +18,14 @@ loop-component-preserved c =
     record {
       next = tt;
       finite = tt;
-      own = All-rest (λ (e : Ended). IsComponent s e.desk.comp) c.in-Some.component (into_iter_items c.next.new.self) (into_iter_items c.loop-component.component-iterator) steps was.own;
-      room = room_more (into_iter_items c.loop-component.component-iterator) (into_iter_items c.next.new.self) c.loop-component.reports.items c.push_reserved.new.self.items
-          c.in-Some.component c.in_ok-report_component.field-0 (vec_capacity c.loop-component.reports) (vec_capacity c.push_reserved.new.self) steps c.push_reserved.ensures.items c.push_reserved.ensures.capacity was.room;
-      whole = zip_more (IsReportedAs s) (into_iter_items c.loop-component.component-iterator) (into_iter_items c.next.new.self) c.args.components.items c.loop-component.reports.items c.push_reserved.new.self.items
+      own = All-rest (λ (e : Ended). IsComponent s e.desk.comp) c.in-Some.component (into_iter_items c.next.new.self)
+          (into_iter_items c.loop-component.component-iterator) steps was.own;
+      room = room_more (into_iter_items c.loop-component.component-iterator) (into_iter_items c.next.new.self) c.loop-component.reports.items
+          c.push_reserved.new.self.items
+          c.in-Some.component c.in_ok-report_component.field-0 (vec_capacity c.loop-component.reports)
+          (vec_capacity c.push_reserved.new.self) steps c.push_reserved.ensures.items c.push_reserved.ensures.capacity was.room;
+      whole = zip_more (IsReportedAs s) (into_iter_items c.loop-component.component-iterator) (into_iter_items c.next.new.self) c.args.components.items
+          c.loop-component.reports.items c.push_reserved.new.self.items
           c.in-Some.component c.in_ok-report_component.field-0 steps c.push_reserved.ensures.items c.in_ok-report_component.ensures was.whole;
     }
 

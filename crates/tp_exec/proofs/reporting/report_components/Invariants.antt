@@ -17,5 +17,6 @@ invariant-loop-component l =
       finite : (goal.iterator-loop-component).is_finite l.component-iterator;
       own : All (λ (e : Ended). IsComponent l.config e.desk.comp) rest;
       room : length l.reports.items + length rest ≤ vec_capacity l.reports;
-      whole : (more : List CompReport) → AllZip (IsReportedAs l.config) rest more → AllZip (IsReportedAs l.config) l.fn.components.items (l.reports.items ++ more);
+      whole : (more : List CompReport) → AllZip (IsReportedAs l.config) rest more → AllZip (IsReportedAs l.config) l.fn.components.items
+          (l.reports.items ++ more);
     }

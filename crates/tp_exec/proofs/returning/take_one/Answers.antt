@@ -11,7 +11,10 @@ index_mut-requires c =
     omega arith
 
 pub returns-clause-held : goal.returns-clause-held
-returns-clause-held c = λ i. leaves_others c.args.hands.now.items (i, c.args.route) c.index_mut.result.now c.next.new.self c.index_mut.ensures.value c.next.result c.next.ensures.cases
+returns-clause-held c =
+    λ i. leaves_others c.args.hands.now.items (i, c.args.route) c.index_mut.result.now c.next.new.self c.index_mut.ensures.value c.next.result
+    c.next.ensures.cases
 
 pub returns-clause-back : goal.returns-clause-back
-returns-clause-back c = λ i. gives_one c.args.hands.now.items (i, c.args.route) c.index_mut.result.now c.next.new.self c.index_mut.ensures.value c.next.result c.next.ensures.cases
+returns-clause-back c = λ i. gives_one c.args.hands.now.items (i, c.args.route) c.index_mut.result.now c.next.new.self c.index_mut.ensures.value c.next.result
+    c.next.ensures.cases

@@ -43,5 +43,6 @@ returns-clause-come g c = λ logs more h.
     let rest = c.in_ok-sent.field-0.rest.items in
     let grown : c.append.new.desk ≡ adding_all d (rest_arrivals rest) = c.in_ok-append.ensures in
     let sent : c.in_ok-counts.counts.items ≡ counts_of (map put_by ss) = c.in_ok-counts.ensures ∙ ap counts_of c.in_ok-sent.ensures.sent in
-    has_come logs i record { desk = c.append.new.desk; outcome = c.args.idle.outcome; counts = c.in_ok-counts.counts } ss (c.in_ok-senders.ensures.back logs more h) c.settle.ensures.are.apart
+    has_come logs i record { desk = c.append.new.desk; outcome = c.args.idle.outcome; counts = c.in_ok-counts.counts } ss
+    (c.in_ok-senders.ensures.back logs more h) c.settle.ensures.are.apart
     (subst (λ (j : Journal). AreDelivered j.log (map put_by ss)) (sym grown) c.in_ok-sent.ensures.delivered) sent

@@ -22,7 +22,8 @@ loop-seat-preserved-in-Ok g c =
           let both = was.returned made all in
           let left = subst (All (IsSeat made)) steps both.1 in
           let here = c.in-Ok.ensures.returned made (All-head (IsSeat made) s rest left) in (
-            subst (All (HasReturned made)) (sym pushed) (All-append (HasReturned made) c.loop-seat.back.items (x ∷ []) both.0 (All-cons (HasReturned made) x [] here (All-nil (HasReturned made)))),
+            subst (All (HasReturned made)) (sym pushed)
+                (All-append (HasReturned made) c.loop-seat.back.items (x ∷ []) both.0 (All-cons (HasReturned made) x [] here (All-nil (HasReturned made)))),
             All-rest (IsSeat made) s rest _ steps both.1,
           );
       room = let a = c.push_reserved.ensures.len in let b = c.push_reserved.ensures.capacity in let d = ap length steps in let e = was.room in omega arith;

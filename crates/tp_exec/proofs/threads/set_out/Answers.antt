@@ -9,7 +9,8 @@ use Rattle.tp_exec.proofs.threads.set_out.Goals as goal
 pub returns-then-is_none-clause-seat : goal.returns-then-is_none-clause-seat
 returns-then-is_none-clause-seat g c =
     let made = c.args.test_case.now in
-    c.idle.ensures.returned made c.requires (idle_where_none made c.args.station c.comp.result c.body.result c.requires c.comp.ensures c.body.ensures.duty c.if-is_none.ensures)
+    c.idle.ensures.returned made c.requires
+    (idle_where_none made c.args.station c.comp.result c.body.result c.requires c.comp.ensures c.body.ensures.behaviour c.if-is_none.ensures)
 
 pub spawn_with-requires-send-F : goal.spawn_with-requires-send-F
 spawn_with-requires-send-F g c κs within = search (sendable, crosses, station_send, test_case_sync, hall_sync) depth 30 fits 20000
@@ -19,6 +20,10 @@ spawn_with-requires-send-T g c κs within = search (sendable, crosses, played_se
 
 pub spawn_with-requires-clause-runs : goal.spawn_with-requires-clause-runs
 spawn_with-requires-clause-runs g c κs within = (
-  (c.requires, busy_where_some c.args.test_case.now c.args.station c.comp.result c.body.result c.requires c.comp.ensures c.body.ensures.duty c.if-is_none.ensures),
+  (
+    c.requires,
+    busy_where_some c.args.test_case.now c.args.station c.comp.result c.body.result c.requires c.comp.ensures c.body.ensures.behaviour
+        c.if-is_none.ensures,
+  ),
   (search (sendable, c.type_bounds.sync-R), search (sendable, c.type_bounds.sync-G)),
 )

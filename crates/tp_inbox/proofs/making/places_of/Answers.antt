@@ -8,7 +8,9 @@ pub loop-place-init : goal.loop-place-init
 loop-place-init c = filed_none _ _ c.in_ok-places.ensures.empty
 
 pub loop-place-preserved : goal.loop-place-preserved
-loop-place-preserved c = filed_next c.args.routes.now c.loop-place.places c.insert.new.self c.loop-place.place c.requires c.loop-place-test.true c.loop-place.invariant c.in_ok-insert.ensures.updates
+loop-place-preserved c =
+    filed_next c.args.routes.now c.loop-place.places c.insert.new.self c.loop-place.place c.requires c.loop-place-test.true c.loop-place.invariant
+    c.in_ok-insert.ensures.updates
 
 pub returns : goal.returns
 returns c =

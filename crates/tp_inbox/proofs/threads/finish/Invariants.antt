@@ -8,6 +8,8 @@ abbrev pub invariant-loop-child : goal.invariant-loop-child
 invariant-loop-child g l =
     let rest = into_iter_items l.child-iterator in
     record {
-      inboxes : map (λ (s : Sending). s.inbox) l.senders.items ++ map (λ h. h.promise.0.value.inbox) rest ≡ map (λ h. h.promise.0.value.inbox) l.fn.children.items;
-      routes : map (λ (s : Sending). s.route) l.senders.items ++ map (λ h. h.promise.0.value.route) rest ≡ map (λ h. h.promise.0.value.route) l.fn.children.items;
+      inboxes : map (λ (s : Sending). s.inbox) l.senders.items ++ map (λ h. h.promise.0.value.inbox) rest ≡ map
+          (λ h. h.promise.0.value.inbox) l.fn.children.items;
+      routes : map (λ (s : Sending). s.route) l.senders.items ++ map (λ h. h.promise.0.value.route) rest ≡ map
+          (λ h. h.promise.0.value.route) l.fn.children.items;
     }

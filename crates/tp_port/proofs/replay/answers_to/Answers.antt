@@ -13,7 +13,8 @@ loop-rest-preserved c =
         arrivals = omega (arith, c.in-Ok.ensures.arrivals, c.loop-rest.invariant.within.arrivals, c.loop-rest.invariant.fits, c.first_line.ensures.shorter);
         senders = omega (arith, c.in-Ok.ensures.senders, c.loop-rest.invariant.within.senders, c.loop-rest.invariant.fits, c.first_line.ensures.shorter);
       };
-      goes = Goes-more _ _ _ _ _ _ _ _ _ c.first_line.ensures.lines c.in-Some.ensures c.in-Ok.ensures.stage c.in-Ok.ensures.answers c.loop-rest.invariant.goes;
+      goes = Goes-more _ _ _ _ _ _ _ _ _ c.first_line.ensures.lines c.in-Some.ensures c.in-Ok.ensures.progress c.in-Ok.ensures.answers
+          c.loop-rest.invariant.goes;
     }
 
 pub returns-in-Ok-finish-clause-ok : goal.returns-in-Ok-finish-clause-ok

@@ -1,7 +1,7 @@
 -- The answers so far, and then those to the rest, are the answers to the whole text.
 use Rattle.std.proofs.Common.{◌-◌, ◌≤◌, length}
 use Rattle.std.specs.Prelude.{string_bytes}
-use Rattle.tp_port.specs.Carried.{IsWithin, stage_of}
+use Rattle.tp_port.specs.Carried.{HasCounted, progress_of}
 use Rattle.tp_port.proofs.Judging.{Goes}
 use Rattle.tp_port.proofs.replay.answers_to.Given as goal
 
@@ -9,8 +9,8 @@ abbrev pub invariant-loop-rest : goal.invariant-loop-rest
 invariant-loop-rest l =
     record {
       fits : length l.rest ≤ length l.text;
-      within : IsWithin l.engine (length l.text - length l.rest);
-      goes : Goes l.text l.rest (stage_of l.engine) (string_bytes l.engine.answers);
+      within : HasCounted l.engine (length l.text - length l.rest);
+      goes : Goes l.text l.rest (progress_of l.engine) (string_bytes l.engine.answers);
     }
 
 abbrev pub decreases-loop-rest : goal.decreases-loop-rest

@@ -18,14 +18,17 @@ overflow_cast-port g c =
 pub write_queued-requires-clause-port : goal.write_queued-requires-clause-port
 write_queued-requires-clause-port g c =
     let s = c.args.test_case.now.config in
-    let within : c.loop-place.place < length (ports_at s.types s.components c.args.desk.now.comp) = omega (arith, c.requires.own.ports, c.port_count-place-end.ensures) in
+    let within : c.loop-place.place < length (ports_at s.types s.components c.args.desk.now.comp) =
+    omega (arith, c.requires.own.ports, c.port_count-place-end.ensures) in
     subst (λ comp. IsPort s (port_of comp c.loop-place.place)) (sym c.comp-comp.ensures) (port_there s c.args.desk.now.comp c.loop-place.place within)
 
 pub write_queued-requires-clause-senders : goal.write_queued-requires-clause-senders
 write_queued-requires-clause-senders g c =
     let s = c.args.test_case.now.config in
-    subst (λ h. All (λ e. IsComponent s (sender_of e)) (queued h)) (sym c.queue.ensures) (senders s c.args.desk.now.comp c.loop-place.place c.args.desk.now.log c.requires.own.known)
+    subst (λ h. All (λ e. IsComponent s (sender_of e)) (queued h)) (sym c.queue.ensures)
+    (senders s c.args.desk.now.comp c.loop-place.place c.args.desk.now.log c.requires.own.known)
 
 pub loop-place-preserved : goal.loop-place-preserved
 loop-place-preserved g c =
-    left_more c.args.test_case.now c.args.desk.now c.loop-place.place c.comp-comp.result c.queue.result.now c.comp-comp.ensures c.queue.ensures _ _ _ c.loop-place.invariant c.in_ok-write_queued.ensures
+    left_more c.args.test_case.now c.args.desk.now c.loop-place.place c.comp-comp.result c.queue.result.now c.comp-comp.ensures c.queue.ensures _ _ _
+    c.loop-place.invariant c.in_ok-write_queued.ensures

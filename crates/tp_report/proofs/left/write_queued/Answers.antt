@@ -9,6 +9,8 @@ use Rattle.tp_report.proofs.left.write_queued.Goals as goal
 pub loop-place-preserved : goal.loop-place-preserved
 loop-place-preserved g c =
     elim c.match-queued_at.branch [
-      | in-Some+in_ok-write_envelope w ↦ rw (w.out-is) (one_more_at (envelope_line c.args.test_case.now (codes "left") c.args.port) (queued c.args.queue.now) c.loop-place.place _ (sym w.in-Some.ensures) _ _ _ c.loop-place.invariant w.in_ok-write_envelope.ensures)
+      | in-Some+in_ok-write_envelope w ↦ rw (w.out-is)
+          (one_more_at (envelope_line c.args.test_case.now (codes "left") c.args.port) (queued c.args.queue.now) c.loop-place.place _
+          (sym w.in-Some.ensures) _ _ _ c.loop-place.invariant w.in_ok-write_envelope.ensures)
       | in_default w ↦ absurd (not_past (queued c.args.queue.now) c.loop-place.place (sym w.in_default.ensures) (omega arith))
     ]

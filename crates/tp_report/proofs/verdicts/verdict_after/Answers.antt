@@ -8,7 +8,8 @@ use Rattle.tp_report.proofs.verdicts.verdict_after.Goals as goal
 
 pub returns-in-Verdict : goal.returns-in-Verdict
 returns-in-Verdict c before is =
-    c.join.ensures ∙ ap (λ v. worse v c.in-Verdict.set) is ∙ sym (after_set before c.in-Verdict.set) ∙ ap (λ (e : Entry). local_verdict (before ++ e ∷ [])) (sym c.in-Verdict.is)
+    c.join.ensures ∙ ap (λ v. worse v c.in-Verdict.set) is ∙ sym (after_set before c.in-Verdict.set) ∙ ap (λ (e : Entry). local_verdict (before ++ e ∷ []))
+    (sym c.in-Verdict.is)
 
 pub returns-in-Failed : goal.returns-in-Failed
 returns-in-Failed c before is = after_failure before c.in-Failed.field-0 ∙ ap (λ (e : Entry). local_verdict (before ++ e ∷ [])) (sym c.in-Failed.is)

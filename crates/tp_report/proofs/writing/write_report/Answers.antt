@@ -7,7 +7,10 @@ use Rattle.tp_report.proofs.Pieces.{whole_report}
 use Rattle.tp_report.proofs.writing.write_report.Goals as goal
 
 pub write_components-requires : goal.write_components-requires
-write_components-requires g c = subst (All (IsPresent c.args.test_case.now.config)) (sym c.as_slice.ensures.value) (present c.args.test_case.now.config c.args.report.now c.requires)
+write_components-requires g c = subst (All (IsPresent c.args.test_case.now.config)) (sym c.as_slice.ensures.value)
+    (present c.args.test_case.now.config c.args.report.now c.requires)
 
 pub returns : goal.returns
-returns g c = whole_report c.write_verdict.result c.args.test_case.now c.args.report.now c.as_slice.result.now c.as_slice.ensures.value _ _ _ c.in_ok-write_components.ensures c.write_verdict.ensures
+returns g c =
+    whole_report c.write_verdict.result c.args.test_case.now c.args.report.now c.as_slice.result.now c.as_slice.ensures.value _ _ _
+    c.in_ok-write_components.ensures c.write_verdict.ensures

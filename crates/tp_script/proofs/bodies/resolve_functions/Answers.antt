@@ -1,7 +1,7 @@
 -- The next definition is no function, or its body stands behind the others.
 use Rattle.std.proofs.Common.{arith, sym, subst}
 use Rattle.std.specs.List.{AllZip}
-use Rattle.tp_script.specs.Parts.{known_in}
+use Rattle.tp_script.specs.Instances.{known_in}
 use Rattle.tp_script.specs.Scopes.{IsFunctionBody}
 use Rattle.tp_script.proofs.Functions.{no_function, one_function}
 use Rattle.tp_script.proofs.bodies.resolve_functions.Goals as goal

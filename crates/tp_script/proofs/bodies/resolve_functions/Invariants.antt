@@ -2,7 +2,7 @@
 use Rattle.std.proofs.Common.{take}
 use Rattle.std.specs.List.{AllZip}
 use Rattle.tp_setup.specs.Definitions.{among, function_of}
-use Rattle.tp_script.specs.Parts.{known_in}
+use Rattle.tp_script.specs.Instances.{known_in}
 use Rattle.tp_script.specs.Scopes.{IsFunctionBody}
 use Rattle.tp_script.proofs.bodies.resolve_functions.Given as goal
 

@@ -14,14 +14,14 @@ new-requires c =
     let made = c.in_ok-behaviours.ensures in
     ready c.args.parsed.now _ c.in_ok-prepared.ensures.rules
     (test_case_of c.args.parsed.now c.in_ok-prepared.prepared c.in_ok-prepared.ensures.made c.in_ok-behaviours.behaviours.bodies made.main made.functions
-    c.in_ok-behaviours.behaviours.parts.items made.parts made.count)
+    c.in_ok-behaviours.behaviours.instances.items made.instances made.count)
 
 pub returns-clause-made : goal.returns-clause-made
 returns-clause-made c =
     let made = c.in_ok-behaviours.ensures in
     subst (IsTestCaseOf c.args.parsed.now) (sym c.new.ensures)
     (test_case_of c.args.parsed.now c.in_ok-prepared.prepared c.in_ok-prepared.ensures.made c.in_ok-behaviours.behaviours.bodies made.main made.functions
-    c.in_ok-behaviours.behaviours.parts.items made.parts made.count)
+    c.in_ok-behaviours.behaviours.instances.items made.instances made.count)
 
 pub returns-clause-well_formed : goal.returns-clause-well_formed
 returns-clause-well_formed c =

@@ -17,11 +17,11 @@ loop-i-preserved c =
     (record {
       names = c.in_default-create.ensures.added ∙ ap (λ l. l ++ variable one ∷ []) c.loop-i.invariant.names ∙ sym (map_push variable before one);
       distinct = c.in_default-create.ensures.distinct;
-      sound = sound_more c.args.checks.now.types.now c.args.checks.now.ports.now c.loop-i.variables c.create.new.variables c.args.checks.now.most before one
+      sound = sound_more c.args.rules.now.types.now c.args.rules.now.ports.now c.loop-i.variables c.create.new.variables c.args.rules.now.most before one
           c.loop-i.invariant.sound c.loop-i.invariant.names c.in_default-create.ensures.added
           c.in_default-create.ensures.distinct c.in_default-create.ensures.no_port c.in_default-create.ensures.known c.in_default-create.ensures.same
           c.in_default-create.ensures.few;
-      added = subst (λ l. AddsAll c.args.checks.now.types.now l c.args.config.now c.create.new.config) (sym (map_push created before one))
-          (adds_more c.args.checks.now.types.now (map created before) (created one) c.args.config.now c.loop-i.config c.create.new.config
+      added = subst (λ l. AddsAll c.args.rules.now.types.now l c.args.config.now c.create.new.config) (sym (map_push created before one))
+          (adds_more c.args.rules.now.types.now (map created before) (created one) c.args.config.now c.loop-i.config c.create.new.config
           c.loop-i.invariant.added c.in_default-create.ensures.component);
     })

@@ -8,6 +8,6 @@ abbrev pub invariant-loop-i : goal.invariant-loop-i
 invariant-loop-i l = record {
   names : l.variables ≡ map variable (creations (take l.i l.setups));
   distinct : AreDistinct l.variables;
-  sound : HasSoundVariables l.checks.types.now l.checks.ports.now l.checks.most (creations (take l.i l.setups));
-  added : AddsAll l.checks.types.now (map created (creations (take l.i l.setups))) l.fn.config l.config;
+  sound : HasSoundVariables l.rules.types.now l.rules.ports.now l.rules.most (creations (take l.i l.setups));
+  added : AddsAll l.rules.types.now (map created (creations (take l.i l.setups))) l.fn.config l.config;
 }

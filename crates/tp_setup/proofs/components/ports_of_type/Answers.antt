@@ -9,9 +9,9 @@ use Rattle.tp_setup.proofs.components.ports_of_type.Goals as goal
 pub returns : goal.returns
 returns c =
     let xs = component_types_in c.args.sorted.now in
-    let one = c.in-Some-component_at.component.now in
+    let one = c.in-Some-definition_at.component.now in
     let there : slice_get xs c.in-Some.place ≡ Some one =
-    ap (λ l. slice_get (map (λ c. c.now) l) c.in-Some.place) (sym c.deref.ensures.value) ∙ sym c.in-Some-component_at.ensures in
+    ap (λ l. slice_get (map (λ c. c.now) l) c.in-Some.place) (sym c.deref.ensures.value) ∙ sym c.in-Some-definition_at.ensures in
     record {
       component = one;
       there = contains_at xs c.in-Some.place one there;

@@ -9,13 +9,13 @@ use Rattle.tp_setup.specs.Starting.{AreStarts}
 use Rattle.tp_setup.specs.Prepared.{IsConfigOf}
 use Rattle.tp_setup.proofs.preparing.prepare.Goals as goal
 
-pub configure-requires-clause-components : goal.configure-requires-clause-components
-configure-requires-clause-components c =
+pub set_up_and_start-requires-clause-components : goal.set_up_and_start-requires-clause-components
+set_up_and_start-requires-clause-components c =
     c.in_ok-case.ensures.defined.sorted.components.names_are
     ∙ ap (map (λ (x : ComponentType). string_bytes x.name)) (sym c.in_ok-case.ensures.defined.sorted.components.items_are)
 
-pub configure-requires-clause-functions : goal.configure-requires-clause-functions
-configure-requires-clause-functions c =
+pub set_up_and_start-requires-clause-functions : goal.set_up_and_start-requires-clause-functions
+set_up_and_start-requires-clause-functions c =
     c.in_ok-case.ensures.defined.sorted.functions.names_are
     ∙ ap (map (λ (x : Function). string_bytes x.name)) (sym c.in_ok-case.ensures.defined.sorted.functions.items_are)
 

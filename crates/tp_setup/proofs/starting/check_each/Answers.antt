@@ -3,7 +3,7 @@ use Rattle.std.proofs.Common.{◌++◌, ◌∷◌, [], ◌∙◌, ap, arith, map
 use Rattle.std.proofs.lemmas.List.{map_push}
 use Rattle.tp_syntax.specs.declared.tree.ComponentStart.{ComponentStart}
 use Rattle.tp_setup.specs.Sorted.{functions_in}
-use Rattle.tp_setup.specs.Starting.{IsStarted}
+use Rattle.tp_setup.specs.Starting.{IsStartOf}
 use Rattle.tp_setup.proofs.Steps.{pushed, zip_more}
 use Rattle.tp_setup.proofs.starting.check_each.Goals as goal
 
@@ -15,7 +15,7 @@ loop-start-preserved c =
     let name = λ (x : ComponentStart). string_bytes x.component in
     rw c.in_ok-push.ensures.items
     (record {
-      started = zip_more (IsStarted (functions_in c.args.sorted.now) c.args.variables.now (map (λ t. t.now) c.args.types.now)) xs c.loop-start.started.items i x
+      started = zip_more (IsStartOf (functions_in c.args.sorted.now) c.args.variables.now (map (λ t. t.now) c.args.types.now)) xs c.loop-start.started.items i x
           c.in_ok-one.one (omega arith) c.start-item.is
           c.loop-start.invariant.started c.in_ok-one.ensures;
       names = c.in_ok-add_started.ensures.added ∙ ap (λ l. l ++ string_bytes x.component ∷ []) c.loop-start.invariant.names

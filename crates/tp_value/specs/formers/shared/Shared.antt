@@ -56,8 +56,10 @@ module _ (R S : RattleType) (h : R.Denot → S.Denot) where
   unfolding part_of
   arc_places a = record {
     mir_same = λ i. (arc_of (one_value R (a.mir_same i) (λ _. ftrue) (λ _ _. nothing) gnil)).mir;
-    own_same = λ b i. (arc_of (one_value R (a.mir_same i) (a.own_same b.value i) (a.shr_same b.value i) gnil)).own_val (with_value b tt);
-    shr_same = λ b i. (arc_of (one_value R (a.mir_same i) (a.own_same b.value i) (a.shr_same b.value i) gnil)).shr_at (with_value b tt);
+    own_same = λ b i. (arc_of (one_value R (a.mir_same i) (a.own_same b.value i) (a.shr_same b.value i) gnil)).own_val
+        (with_value b tt);
+    shr_same = λ b i. (arc_of (one_value R (a.mir_same i) (a.own_same b.value i) (a.shr_same b.value i) gnil)).shr_at
+        (with_value b tt);
   }
 
 module _ (R S : RattleType) (h : R.Denot → S.Denot) where
@@ -65,7 +67,8 @@ module _ (R S : RattleType) (h : R.Denot → S.Denot) where
   mapped = (items.the_former this).map R.Denot S.Denot h
 
   pub the_places : Alike R S h → Alike (C.the_row R) (C.the_row S) ((the_former this).map R.Denot S.Denot h)
-  the_places a = view_places fields (list this) view (λ X Y k u. refl) (λ X u. refl) R.Denot S.Denot h (C.the_row R).coded (C.the_row S).coded
+  the_places a = view_places fields (list this) view (λ X Y k u. refl) (λ X u. refl) R.Denot S.Denot h
+      (C.the_row R).coded (C.the_row S).coded
       (invariant R.Denot) (invariant S.Denot) (λ u p q. refl) (λ u p q. refl) (λ u e. tt) (λ u e. tt)
       (over (J.the_row R)) (over (J.the_row S))
       (struct_places (J.the_type R) (J.the_type S) ((λ b. with_value b (mapped b.value)), tt) _ (λ d. refl) refl

@@ -4,4 +4,5 @@ use Rattle.tpr.proofs.running.answer_test_case.Goals as goal
 
 pub returns-in-Ok-write_report : goal.returns-in-Ok-write_report
 returns-in-Ok-write_report g c =
-    reported c.args.test_case.now c.in-Ok.report _ _ _ _ c.in-Ok.ensures.report c.in-Ok.ensures.order c.flushed.ensures.status c.in-Ok-write_report.ensures c.flushed.ensures.kept
+    reported c.args.test_case.now c.in-Ok.report _ _ _ _ c.in-Ok.ensures.report c.in-Ok.ensures.order c.flushed.ensures.status c.in-Ok-write_report.ensures
+    c.flushed.ensures.kept

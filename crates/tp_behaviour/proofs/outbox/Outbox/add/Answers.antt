@@ -4,7 +4,7 @@ use Rattle.std.specs.Prelude.{◌≢◌}
 use Rattle.indexmap.specs.IndexMap.{Updates}
 use Rattle.tp_config.specs.declared.port_type.RouteId.{RouteId}
 use Rattle.tp_inbox.specs.Ledgers.{Sending}
-use Rattle.tp_behaviour.specs.Outboxes.{AreFiled, IsListed, route_eq}
+use Rattle.tp_behaviour.specs.Outboxes.{AreSendersFiled, IsListed, route_eq}
 use Rattle.tp_behaviour.proofs.Outboxes.{filed_more}
 use Rattle.tp_behaviour.proofs.outbox.Outbox.add.Goals as goal
 
@@ -23,5 +23,5 @@ invariant_of-self-2 c =
     let before = subst (λ (l : List ℕ). IsListed c.route-route.result k l c.list.new.loops.items) c.reserve-2.ensures.items c.list.ensures in
     let listed = subst (λ (r : RouteId). IsListed r k loops c.list.new.loops.items) way before in
     let items : c.push_reserved.new.self.items ≡ ss ++ s ∷ [] = c.push_reserved.ensures.items ∙ ap (λ l. l ++ s ∷ []) c.reserve.ensures.items in
-    subst (λ l. AreFiled l c.insert.new.self c.list.new.loops.items) (sym items)
+    subst (λ l. AreSendersFiled l c.insert.new.self c.list.new.loops.items) (sym items)
     (filed_more ss places c.insert.new.self loops c.list.new.loops.items k s c.self.invariant apart last updates listed)

@@ -1,13 +1,15 @@
 -- The tables stay true while one sender puts a message, and no other sender changes.
 use Rattle.std.proofs.Common.{◌≡◌, ◌∙◌, ap, sym, subst, Some, ℕ, slice_get}
-use Rattle.std.specs.Prelude.{OnOk, slice_set}
+use Rattle.std.specs.Prelude.{◌≤◌, IfErr, OnOk, length, slice_set}
 use Rattle.std.proofs.lemmas.Option.{get_or_from_slice_get}
 use Rattle.tp_inbox.specs.declared.entry.Entry.TheVariants as entry
 use Rattle.tp_inbox.specs.History.{next_of}
 use Rattle.tp_inbox.specs.Desks.{adding}
 use Rattle.tp_inbox.specs.Ledgers.{Sending}
 use Rattle.tp_behaviour.specs.Outboxes.{HasPut}
-use Rattle.tp_behaviour.proofs.Outboxes.{filed_put, has_put, same_way}
+use Rattle.tp_inbox.specs.declared.sender.PutFault.{PutFault}
+use Rattle.tp_inbox.specs.declared.sender.PutFault.TheVariants as put_fault
+use Rattle.tp_behaviour.proofs.Outboxes.{contained, filed_put, full_on, has_put, same_way}
 use Rattle.tp_behaviour.proofs.outbox.Outbox.send.Goals as goal
 
 -- the sender that was found stands on the route, and only what it has put changes
@@ -20,7 +22,8 @@ invariant_of-self g c =
     let found = subst (λ l. slice_get l place ≡ Some p.0) (sym c.self.view_is) p.1 in
     let this = c.index_mut.ensures.value ∙ get_or_from_slice_get ss place p.0 c.index_mut.result.now found in
     filed_put ss c.self.inside.places c.self.inside.loops.items place c.index_mut.result.now c.send.new.sender (found ∙ ap (λ (s : Sending). Some s) (sym this))
-    (same_way (c.send.new.self ≡ c.args.desk.now) c.index_mut.result.now c.send.new.sender m c.send.result c.send.ensures.sender c.send.ensures.err) c.self.invariant
+    (same_way (c.send.new.self ≡ c.args.desk.now) c.index_mut.result.now c.send.new.sender m c.send.result c.send.ensures.sender c.send.ensures.err)
+    c.self.invariant
 
 pub returns-clause-ok : goal.returns-clause-ok
 returns-clause-ok g c =
@@ -32,6 +35,18 @@ returns-clause-ok g c =
     let m = next_of d.log c.args.message.now in
     let found = subst (λ l. slice_get l place ≡ Some p.0) (sym c.self.view_is) p.1 in
     let this = c.index_mut.ensures.value ∙ get_or_from_slice_get ss place p.0 c.index_mut.result.now found in
-    subst (λ l. OnOk c.send.result ((n : ℕ) × HasPut q m n l (slice_set ss place c.send.new.sender) × (c.send.new.self ≡ adding d (entry.Sent q n m)))) c.self.view_is
-    (has_put ss c.self.inside.places c.self.inside.loops.items place c.index_mut.result.now c.send.new.sender q m d c.send.new.self c.send.result (found ∙ ap (λ (s : Sending). Some s) (sym this))
+    subst (λ l. OnOk c.send.result ((n : ℕ) × HasPut q m n l (slice_set ss place c.send.new.sender) × (c.send.new.self ≡ adding d (entry.Sent q n m))))
+    c.self.view_is
+    (has_put ss c.self.inside.places c.self.inside.loops.items place c.index_mut.result.now c.send.new.sender q m d c.send.new.self c.send.result
+    (found ∙ ap (λ (s : Sending). Some s) (sym this))
     (ap (λ (s : Sending). s.route) this ∙ p.2) c.self.invariant c.send.ensures.desk c.send.ensures.sender)
+
+pub returns-clause-limit : goal.returns-clause-limit
+returns-clause-limit g c =
+    let p = c.place_of-place.ensures in
+    let ss = c.self.inside.senders.items in
+    let place = c.place_of-place.result in
+    let found = subst (λ l. slice_get l place ≡ Some p.0) (sym c.self.view_is) p.1 in
+    let this = c.index_mut.ensures.value ∙ get_or_from_slice_get ss place p.0 c.index_mut.result.now found in
+    full_on (λ (f : PutFault). f ≡ put_fault.Limit) _ c.args.route p.0 c.send.result (contained _ place p.0 p.1) p.2
+    (subst (λ (s : Sending). IfErr c.send.result (λ f. f ≡ put_fault.Limit → 100000 ≤ length s.ledger)) this c.send.ensures.limit)

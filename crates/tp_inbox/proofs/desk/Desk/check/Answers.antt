@@ -7,5 +7,6 @@ use Rattle.tp_inbox.proofs.desk.Desk.check.Goals as goal
 pub returns-then-branch : goal.returns-then-branch
 returns-then-branch g c =
     let n = rw c.if-branch.true at c.in_ok-find.ensures.ok in
-    let both = check_done (g.W.Wanted.admits c.args.wanted.now) c.args.from c.args.port c.args.branch c.args.self.now c.find.new.self (option_copied c.top.result) n c.top.ensures in
+    let both = check_done (g.W.Wanted.admits c.args.wanted.now) c.args.from c.args.port c.args.branch c.args.self.now c.find.new.self
+    (option_copied c.top.result) n c.top.ensures in
     ((refl, λ _. tt, both.0), record { after = tt; found = both.1 })

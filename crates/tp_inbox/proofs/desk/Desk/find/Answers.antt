@@ -23,8 +23,10 @@ pub returns-in-Some-clause-ok : goal.returns-in-Some-clause-ok
 returns-in-Some-clause-ok g c =
     let found = rw c.in-Some.is at c.in_ok-twin.ensures.ok in
     let low : c.args.port < length c.self.inside.ports.items = omega (arith, c.requires, ap (λ (d : Journal). d.ports) c.self.view_is) in
-    let history = history_is _ _ _ c.args.port _ c.self.invariant low c.index_mut-queue.ensures.value ∙ ap (λ (d : Journal). at_port d c.args.port) c.self.view_is in (
+    let history = history_is _ _ _ c.args.port _ c.self.invariant low c.index_mut-queue.ensures.value
+    ∙ ap (λ (d : Journal). at_port d c.args.port) c.self.view_is in (
       c.in-Some.twin,
       subst (λ (h : List (Event Message)). Finds (g.W.Wanted.admits c.args.wanted.now) c.args.from h c.in-Some.twin) history found.0,
-      adding_is _ _ _ _ _ c.self.view_is (length-set c.self.inside.ports.items c.args.port c.check.new.queue) (grown_by _ _ _ _ _ c.push_reserved.ensures.items c.reserve.ensures.items refl),
+      adding_is _ _ _ _ _ c.self.view_is (length-set c.self.inside.ports.items c.args.port c.check.new.queue)
+          (grown_by _ _ _ _ _ c.push_reserved.ensures.items c.reserve.ensures.items refl),
     )

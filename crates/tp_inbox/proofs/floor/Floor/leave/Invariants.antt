@@ -1,3 +1,4 @@
+-- At each turn the pass is of this floor's counts, and its own place doesn't rest.
 use Rattle.std.proofs.Common.{◌≡◌}
 use Rattle.crossbeam_utils.specs.Seq.{cell_view}
 use Rattle.tp_inbox.proofs.floor.Floor.leave.Given as goal

@@ -1,3 +1,4 @@
+-- A look at the counts keeps the floor's rule.
 use Rattle.std.proofs.Common.{rules}
 use Rattle.tp_inbox.proofs.Standing.{looks}
 use Rattle.tp_inbox.proofs.floor.Floor.look.Goals as goal

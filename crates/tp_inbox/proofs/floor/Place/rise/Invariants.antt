@@ -1,3 +1,4 @@
+-- At each turn the pass is of this floor's counts, and the place still rests.
 use Rattle.std.proofs.Common.{◌≡◌}
 use Rattle.crossbeam_utils.specs.Seq.{cell_view}
 use Rattle.std.specs.Arc.{arc_value}

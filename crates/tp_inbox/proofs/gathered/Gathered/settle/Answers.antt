@@ -16,7 +16,8 @@ returns-then-is_err-clause-begun g c =
     let v = c.loop.pass.me.view.client in
     let rest = rest_arrivals c.reserve.new.self.items in
     let taken = was.taken ∙ ap (λ l. c.args.self.drained ++ rest_arrivals l) (sym c.reserve.ensures.items) in
-    let know : Knowing hub v (seen_sent c.self.inside.sent.items) = record { sound = was.sound; made = was.made; known = was.known; routes = c.self.invariant.routes } in
+    let know : Knowing hub v (seen_sent c.self.inside.sent.items) =
+    record { sound = was.sound; made = was.made; known = was.known; routes = c.self.invariant.routes } in
     begun_at hub v _ _ know (front_and_back _ c.args.self.drained rest taken)
 
 pub returns-in-None-take_out-clause-delivered : goal.returns-in-None-take_out-clause-delivered
@@ -27,7 +28,8 @@ returns-in-None-take_out-clause-delivered g c =
     let rest = rest_arrivals c.reserve.new.self.items in
     let found = c.in-None-take_out.ensures.found in
     let same = c.take_out.ensures.same in
-    let know : Knowing hub v (seen_sent c.self.inside.sent.items) = record { sound = c.take_out.ensures.sound; made = same.0 ∙ was.made; known = same.1 ∙ was.known; routes = c.self.invariant.routes } in
+    let know : Knowing hub v (seen_sent c.self.inside.sent.items) =
+    record { sound = c.take_out.ensures.sound; made = same.0 ∙ was.made; known = same.1 ∙ was.known; routes = c.self.invariant.routes } in
     subst (AreDelivered (c.args.desk.now.log ++ rest)) (ap (λ (x : Gathering). x.sent) c.self.view_is)
     (delivered_at hub v (seen_sent c.self.inside.sent.items) c.args.self.drained rest c.args.desk.now.log know found.1
     (ap (arrivals_of hub.routes.items) found.0 ∙ was.taken ∙ ap (λ l. c.args.self.drained ++ rest_arrivals l) (sym c.reserve.ensures.items))
@@ -38,7 +40,8 @@ returns-in-None-take_out-clause-routed g c =
     let was = c.loop.invariant in
     let hub = arc_value c.self.inside.hub in
     let found = c.in-None-take_out.ensures.found in
-    rest_at hub c.take_out.new.pass.me.view.client c.args.self.inbox c.args.self.drained (rest_arrivals c.reserve.new.self.items) c.take_out.ensures.sound (c.take_out.ensures.same.0 ∙ was.made)
+    rest_at hub c.take_out.new.pass.me.view.client c.args.self.inbox c.args.self.drained (rest_arrivals c.reserve.new.self.items) c.take_out.ensures.sound
+    (c.take_out.ensures.same.0 ∙ was.made)
     (ap (λ (x : Gathering). x.inbox) c.self.view_is)
     (ap (arrivals_of hub.routes.items) found.0 ∙ was.taken ∙ ap (λ l. c.args.self.drained ++ rest_arrivals l) (sym c.reserve.ensures.items))
 
@@ -46,5 +49,6 @@ pub addressed-requires : goal.addressed-requires
 addressed-requires g c =
     let was = c.loop.invariant in
     let e = c.in-Some-take_out.envelope in
-    let routed = routed_rest _ _ c.take_out.new.pass.me.view.client.taken c.loop.pass.me.view.client.taken (e ∷ []) (c.take_out.ensures.same.0 ∙ was.made) c.in-Some-take_out.ensures.found c.take_out.ensures.sound.routed in
+    let routed = routed_rest _ _ c.take_out.new.pass.me.view.client.taken c.loop.pass.me.view.client.taken (e ∷ [])
+    (c.take_out.ensures.same.0 ∙ was.made) c.in-Some-take_out.ensures.found c.take_out.ensures.sound.routed in
     subst (λ (h : Hub). e.place < length h.routes.items) (sym c.deref-in-Some-take_out.ensures) routed.0

@@ -20,14 +20,16 @@ addressed-port-requires c =
 pub arrive-requires : goal.arrive-requires
 arrive-requires c =
     let h = in_hand c.self.inside c.in-Some.envelope c.self.invariant c.in-Some.ensures.value in
-    port_within (arc_value c.self.inside.hub) c.deref.result.now c.args.self.now.inbox c.args.desk.now _ _ c.deref.ensures (ap (λ (d : Draining). d.inbox) c.self.view_is) c.requires.desk h.0 c.addressed-port.ensures.port
+    port_within (arc_value c.self.inside.hub) c.deref.result.now c.args.self.now.inbox c.args.desk.now _ _ c.deref.ensures
+    (ap (λ (d : Draining). d.inbox) c.self.view_is) c.requires.desk h.0 c.addressed-port.ensures.port
 
 pub overflow_add-number : goal.overflow_add-number
 overflow_add-number c =
     let h = in_hand c.self.inside c.in-Some.envelope c.self.invariant c.in-Some.ensures.value in
     let number = h.1 in
     let few = drained_within c.self.inside c.args.self.now c.args.desk.now c.in-Some.envelope.place c.self.view_is c.requires.arrivals in
-    let grown : length c.arrive.new.self.log ≡ length c.args.desk.now.log + 1 = ap (λ (d : Journal). length d.log) c.in-Ok.ensures.ok ∙ length-append c.args.desk.now.log _ in
+    let grown : length c.arrive.new.self.log ≡ length c.args.desk.now.log + 1 = ap (λ (d : Journal). length d.log) c.in-Ok.ensures.ok
+    ∙ length-append c.args.desk.now.log _ in
     let held = c.entries-held.ensures in
     omega (arith, c.entries-held.type_inv)
 
@@ -76,7 +78,8 @@ returns-in_default-clause-ok c =
     let taken = c.self.inside.pass.me.view.client.taken in (
       [],
       adding_nothing c.args.desk.now,
-      ap (λ o. arrivals_of routes (before taken (one_of o))) (c.in_default.ensures.after ∙ c.in_default.ensures.value) ∙ ap (λ (d : Draining). d.drained) c.self.view_is
+      ap (λ o. arrivals_of routes (before taken (one_of o))) (c.in_default.ensures.after ∙ c.in_default.ensures.value)
+          ∙ ap (λ (d : Draining). d.drained) c.self.view_is
           ∙ sym (append_nil c.args.self.now.drained),
       arrivals_none,
     )

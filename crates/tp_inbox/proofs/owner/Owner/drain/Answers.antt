@@ -21,5 +21,6 @@ loop-preserved g c =
         desk ∙ ap (λ (d : Journal). adding_all d ok.0) was.moved.1 ∙ adding_twice c.args.desk.now was.moved.0 ok.0,
         drained ∙ ap (λ l. l ++ ok.0) was.moved.2 ∙ append_assoc c.args.self.now.drained was.moved.0 ok.0,
       );
-      arrivals = ap (λ (d : Journal). arrivals d.log) desk ∙ arrivals-append c.loop.desk.log ok.0 ∙ ap (λ l. l ++ arrivals ok.0) was.arrivals ∙ ap (λ l. c.loop.self.drained ++ l) ok.3 ∙ sym drained;
+      arrivals = ap (λ (d : Journal). arrivals d.log) desk ∙ arrivals-append c.loop.desk.log ok.0 ∙ ap (λ l. l ++ arrivals ok.0) was.arrivals
+          ∙ ap (λ l. c.loop.self.drained ++ l) ok.3 ∙ sym drained;
     }

@@ -1,6 +1,6 @@
 -- A sender's number is its place by first sight; a new name goes behind the others.
 use Rattle.std.proofs.Common.{◌∙◌, ap, map, sym}
-use Rattle.tp_port.specs.Replay.{number_of, seen}
+use Rattle.tp_port.specs.Replay.{sender_number, seen}
 use Rattle.tp_port.proofs.Sightings.{seen_keys, number_key}
 use Rattle.tp_port.proofs.senders.Senders.number.Goals as goal
 
@@ -14,5 +14,5 @@ pub returns-clause-number : goal.returns-clause-number
 returns-clause-number c =
     c.in_ok-number.number-is ∙ c.in_ok-number.ensures.index
     ∙ number_key (λ name. name.now) c.self.inside.names.keys c.args.name
-    ∙ ap (λ l. number_of (seen l c.args.name.now) c.args.name.now) c.self.view_is
-    ∙ ap (λ l. number_of l c.args.name.now) (sym (returns-clause-seen c))
+    ∙ ap (λ l. sender_number (seen l c.args.name.now) c.args.name.now) c.self.view_is
+    ∙ ap (λ l. sender_number l c.args.name.now) (sym (returns-clause-seen c))

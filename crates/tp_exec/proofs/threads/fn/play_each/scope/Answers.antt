@@ -25,7 +25,9 @@ loop-station-preserved-in-Some-set_out g c =
     let b = c.push_reserved.ensures.capacity in
     record {
       badges = λ fresh. moved badge_at badge_of _ _ _ _ _ _ _ pushed steps c.in-Some-set_out.ensures.badge (was.badges fresh);
-      seats = subst (All (IsSeat made)) (sym pushed) (All-append (IsSeat made) c.loop-station.seats.items (seat ∷ []) was.seats (All-cons (IsSeat made) seat [] c.in-Some-set_out.ensures.seat (All-nil (IsSeat made))));
+      seats = subst (All (IsSeat made)) (sym pushed)
+          (All-append (IsSeat made) c.loop-station.seats.items (seat ∷ []) was.seats
+          (All-cons (IsSeat made) seat [] c.in-Some-set_out.ensures.seat (All-nil (IsSeat made))));
       stations = All-rest (IsWaiting made) c.in-Some.station rest _ steps was.stations;
       room = let e = was.room in omega arith;
       empty = was.empty;
@@ -63,7 +65,8 @@ returns g c =
     let gives : into_iter_items c.into_iter-station-iterator.result ≡ c.captures.stations.items = c.into_iter-station-iterator.ensures.into_iter_gives.0 in
     let none = no_rest c.loop-station.station-iterator c.in-None.ensures.steps.0 in
     let all : map badge_at seats ≡ map badge_of c.captures.stations.items =
-    sym (append-nil (map badge_at seats)) ∙ ap (λ (l : List Station). map badge_at seats ++ map badge_of l) (sym none) ∙ was.badges c.if-refused.false ∙ ap (map badge_of) gives in
+    sym (append-nil (map badge_at seats)) ∙ ap (λ (l : List Station). map badge_at seats ++ map badge_of l) (sym none) ∙ was.badges c.if-refused.false
+    ∙ ap (map badge_of) gives in
     record {
       badges = IfOk-weaker c.join_all-joined.result _ _ (λ back h. h ∙ all) c.join_all-joined.ensures.badges;
       returned = IfOk-weaker c.join_all-joined.result _ _ (λ back h. h c.captures.test_case.now was.seats) c.join_all-joined.ensures.returned;

@@ -2,7 +2,7 @@
 use Rattle.std.proofs.Common.{◌∙◌, ap, map}
 use Rattle.std.proofs.lemmas.List.{map_push}
 use Rattle.tp_script.proofs.Numbering.{numbers_more}
-use Rattle.tp_script.proofs.parts.add_variables.Goals as goal
+use Rattle.tp_script.proofs.instances.add_variables.Goals as goal
 
 pub loop-place-preserved : goal.loop-place-preserved
 loop-place-preserved c =

@@ -1,7 +1,7 @@
 -- The components of the variables so far stand behind the others, numbered from 1.
 use Rattle.std.proofs.Common.{map}
-use Rattle.tp_script.specs.Duties.{Numbers}
-use Rattle.tp_script.proofs.parts.add_variables.Given as goal
+use Rattle.tp_script.specs.Behaviours.{Numbers}
+use Rattle.tp_script.proofs.instances.add_variables.Given as goal
 
 abbrev pub invariant-loop-place : goal.invariant-loop-place
 invariant-loop-place l = Numbers l.place (map (λ c. c.0) l.fn.references.items) (map (λ c. c.0) l.references.items)

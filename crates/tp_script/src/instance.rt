@@ -1,4 +1,4 @@
-//! What one component does.
+//! Which body one component has.
 use tp_config::port_type::CompId;
 
 /// Which body.
@@ -10,9 +10,10 @@ pub enum Source {
     Function(u32),
 }
 
-/// A body, and the components that its references name.
+/// A body as one component has it: which body, and the components that its references name. What
+/// the component does is the `Behaviour` that a test case makes of it.
 #[derive(Drop)]
-pub struct Part {
+pub struct Instance {
     /// The body.
     pub source: Source,
     /// The components: `mtc`, the component itself, the arguments of its start, and those of the

@@ -12,7 +12,7 @@ use Rattle.tp_body.specs.Sizes.{size_of_body}
 use Rattle.tp_script.specs.Scopes.{Known, IsMainBody, IsFunctionBody}
 
 -- what a component does: a body, and the numbers of the components that its references name
-pub record Duty : Type 0 where
+pub record Behaviour : Type 0 where
   pub body : Body
   pub references : List ℕ
 
@@ -30,18 +30,18 @@ AreReferences itself arguments count references = Numbers count (0 ∷ itself �
 
 -- what the component of this number does, where these are the functions and the starts
 pub data Does (known : Known) (functions : List Function) (case : TestCase) (starts : Starts)
-    : ℕ → Option Duty → Type 0 where
+    : ℕ → Option Behaviour → Type 0 where
   -- `mtc`: the test case's own body
-  main : (d : Duty) → IsMainBody known case d.body → AreReferences 0 [] (length known.components) d.references
+  main : (d : Behaviour) → IsMainBody known case d.body → AreReferences 0 [] (length known.components) d.references
       → Does known functions case starts 0 (Some d)
   -- a component that is made: the body of the function that its start names, with the arguments of this start
-  started : (k place : ℕ) (x : Started) (f : Function) (d : Duty) → slice_get starts.places.items k ≡ Some place
+  started : (k place : ℕ) (x : Started) (f : Function) (d : Behaviour) → slice_get starts.places.items k ≡ Some place
       → slice_get starts.starts.items place ≡ Some x → slice_get functions x.function ≡ Some f
       → IsFunctionBody known f d.body
       → AreReferences (k + 1) (map (λ c. c.0) x.arguments.items) (length known.components) d.references
       → Does known functions case starts (k + 1) (Some d)
   -- the test system interface: the body of `sut`
-  system : (n : ℕ) (f : Function) (d : Duty) → interface_number case ≡ Some n → Contains functions f
+  system : (n : ℕ) (f : Function) (d : Behaviour) → interface_number case ≡ Some n → Contains functions f
       → string_bytes f.name ≡ sut → IsFunctionBody known f d.body
       → AreReferences n [] (length known.components) d.references
       → Does known functions case starts n (Some d)
@@ -51,5 +51,5 @@ pub data Does (known : Known) (functions : List Function) (case : TestCase) (sta
       → Does known functions case starts n None
 
 -- how many statements a component has to carry out at most, once each `for` stands for its copies
-abbrev pub size_of_duty : Option Duty → ℕ
-size_of_duty d = option_map_or (λ (d : Duty). size_of_body d.body) d 0
+abbrev pub size_of_behaviour : Option Behaviour → ℕ
+size_of_behaviour d = option_map_or (λ (d : Behaviour). size_of_body d.body) d 0

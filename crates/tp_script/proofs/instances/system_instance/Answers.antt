@@ -1,8 +1,8 @@
 -- The test system interface has the body of `sut`, or none where no function has that name.
 use Rattle.std.proofs.Common.{◌+◌, ◌∙◌, [], ap, map, sym, subst, length, refl}
-use Rattle.tp_script.specs.Duties.{AreReferences}
-use Rattle.tp_script.specs.Parts.{system, nobody}
-use Rattle.tp_script.proofs.parts.system_part.Goals as goal
+use Rattle.tp_script.specs.Behaviours.{AreReferences}
+use Rattle.tp_script.specs.Instances.{system, nobody}
+use Rattle.tp_script.proofs.instances.system_instance.Goals as goal
 
 pub returns-in_default : goal.returns-in_default
 returns-in_default c = nobody (length c.args.prepared.now.starts.places.items + 1) c.requires.system refl (sym c.in_default.ensures.place)

@@ -1,8 +1,8 @@
 -- The component has the body of the function that its start names, and the arguments of this start.
 use Rattle.std.proofs.Common.{◌+◌, map, sym, subst, length, refl}
-use Rattle.tp_script.specs.Duties.{AreReferences}
-use Rattle.tp_script.specs.Parts.{started}
-use Rattle.tp_script.proofs.parts.started_part.Goals as goal
+use Rattle.tp_script.specs.Behaviours.{AreReferences}
+use Rattle.tp_script.specs.Instances.{started}
+use Rattle.tp_script.proofs.instances.started_instance.Goals as goal
 
 pub returns : goal.returns
 returns c =

@@ -1,11 +1,11 @@
 //! What the components of a test case do.
 ghost use Rattle.std.specs.Prelude.{◌≡◌, ◌<◌, ◌+◌, [], Some, IfOk, IfSome, IsSome, OnOk, length, map, slice_get};
 ghost use Rattle.std.specs.Option.{option_copied};
-ghost use Rattle.tp_script.specs.declared.part.Source.TheVariants as source;
-ghost use Rattle.tp_script.specs.Duties.{AreReferences, Numbers};
-ghost use Rattle.tp_script.specs.Parts.{AreParts, IsPart, part_count};
+ghost use Rattle.tp_script.specs.declared.instance.Source.TheVariants as source;
+ghost use Rattle.tp_script.specs.Behaviours.{AreReferences, Numbers};
+ghost use Rattle.tp_script.specs.Instances.{AreInstances, IsInstance, instance_count};
 
-use crate::part::{Part, Source};
+use crate::instance::{Instance, Source};
 use std::alloc::Global;
 use tp_config::port_type::CompId;
 use tp_name::fault::refused;
@@ -79,29 +79,29 @@ fn start_at(starts: &Starts, place: u32) -> Option<&Started>
 }
 
 /// What `mtc` does.
-fn main_part(alloc: Global, count: u32) -> Result<Part, ScriptFault>
-    ensures source { IfOk result (λ part. part.source ≡ source.TestCase) }
-    ensures references { IfOk result (λ part.
-        AreReferences 0 [] count (map (λ c. c.0) part.references.items)) }
+fn main_instance(alloc: Global, count: u32) -> Result<Instance, ScriptFault>
+    ensures source { IfOk result (λ instance. instance.source ≡ source.TestCase) }
+    ensures references { IfOk result (λ instance.
+        AreReferences 0 [] count (map (λ c. c.0) instance.references.items)) }
 {
     let references = references(alloc, CompId(0), &[], count)?;
-    Ok(Part {
+    Ok(Instance {
         source: Source::TestCase,
         references,
     })
 }
 
 /// What the component of the variable at this place does, which the start at that place starts.
-fn started_part(
+fn started_instance(
     alloc: Global,
     prepared: &Prepared,
     place: usize,
     start: u32,
     count: u32,
-) -> Result<Part, ScriptFault>
+) -> Result<Instance, ScriptFault>
     requires count { count ≡ length prepared.now.variables }
     requires start { slice_get prepared.now.starts.places.items place ≡ Some start }
-    ensures { IfOk result (λ part. IsPart prepared.now (place + 1) (Some part)) }
+    ensures { IfOk result (λ instance. IsInstance prepared.now (place + 1) (Some instance)) }
 {
     let Some(itself) = component_behind(place) else {
         return Err(ScriptFault::limit(prepared.case.line));
@@ -110,7 +110,7 @@ fn started_part(
         return Err(refused(Refusal::NotStarted, prepared.case.line));
     };
     let references = references(alloc, itself, &started.arguments, count)?;
-    Ok(Part {
+    Ok(Instance {
         source: Source::Function(started.function),
         references,
     })
@@ -118,10 +118,14 @@ fn started_part(
 
 /// What the test system interface does, which stands behind all other components: nothing where no
 /// function is named `sut`.
-fn system_part(alloc: Global, prepared: &Prepared, count: u32) -> Result<Option<Part>, ScriptFault>
+fn system_instance(
+    alloc: Global,
+    prepared: &Prepared,
+    count: u32,
+) -> Result<Option<Instance>, ScriptFault>
     requires count { count ≡ length prepared.now.variables }
     requires system { IsSome prepared.now.case.case.now.system }
-    ensures { IfOk result (IsPart prepared.now (length prepared.now.starts.places.items + 1)) }
+    ensures { IfOk result (IsInstance prepared.now (length prepared.now.starts.places.items + 1)) }
 {
     let Some(place) = prepared.sorted.function_names.find("sut") else {
         return Ok(None);
@@ -130,46 +134,50 @@ fn system_part(alloc: Global, prepared: &Prepared, count: u32) -> Result<Option<
         return Err(ScriptFault::limit(prepared.case.line));
     };
     let references = references(alloc, itself, &[], count)?;
-    Ok(Some(Part {
+    Ok(Some(Instance {
         source: Source::Function(place),
         references,
     }))
 }
 
 /// What `mtc` and the components of the component variables do.
-fn test_parts(
+fn test_instances(
     alloc: Global,
     prepared: &Prepared,
     count: u32,
-) -> Result<Vec<Option<Part>>, ScriptFault>
+) -> Result<Vec<Option<Instance>>, ScriptFault>
     requires { count ≡ length prepared.now.variables }
-    ensures parts { IfOk result (λ parts. AreParts prepared.now parts.items) }
-    ensures count { IfOk result (λ parts.
-        length parts.items ≡ length prepared.now.starts.places.items + 1) }
+    ensures instances { IfOk result (λ instances. AreInstances prepared.now instances.items) }
+    ensures count { IfOk result (λ instances.
+        length instances.items ≡ length prepared.now.starts.places.items + 1) }
 {
-    let mut parts = Vec::new(alloc);
-    let main = main_part(alloc, count)?;
-    parts.push(Some(main))?;
+    let mut instances = Vec::new(alloc);
+    let main = main_instance(alloc, count)?;
+    instances.push(Some(main))?;
     for (place, start) in prepared.starts.places.iter().enumerate() {
-        let part = started_part(alloc, prepared, place, *start, count)?;
-        parts.push(Some(part))?;
+        let instance = started_instance(alloc, prepared, place, *start, count)?;
+        instances.push(Some(instance))?;
     }
-    Ok(parts)
+    Ok(instances)
 }
 
 /// What each component of a test case does, by its number: `mtc`, the components of the component
 /// variables, and the test system interface where there is a `system` clause.
 ///
 /// 50 `Memory` only where an allocation was refused.
-pub fn make_parts(alloc: Global, prepared: &Prepared) -> Result<Vec<Option<Part>>, ScriptFault>
-    ensures parts { IfOk result (λ parts. AreParts prepared.now parts.items) }
-    ensures count { IfOk result (λ parts. length parts.items ≡ part_count prepared.now) }
+pub fn make_instances(
+    alloc: Global,
+    prepared: &Prepared,
+) -> Result<Vec<Option<Instance>>, ScriptFault>
+    ensures instances { IfOk result (λ instances. AreInstances prepared.now instances.items) }
+    ensures count { IfOk result (λ instances.
+        length instances.items ≡ instance_count prepared.now) }
 {
     let count = variable_count(prepared)?;
-    let mut parts = test_parts(alloc, prepared, count)?;
+    let mut instances = test_instances(alloc, prepared, count)?;
     if prepared.case.case.system.is_some() {
-        let part = system_part(alloc, prepared, count)?;
-        parts.push(part)?;
+        let instance = system_instance(alloc, prepared, count)?;
+        instances.push(instance)?;
     }
-    Ok(parts)
+    Ok(instances)
 }

@@ -1,0 +1,121 @@
+//! Makes configurations, and connects and maps their ports by names.
+ghost use Rattle.std.specs.Prelude.{◌≤◌, IfOk, IfSome, length};
+ghost use Rattle.tp_config.specs.Setup.{IsPort};
+
+use indexmap::IndexMap;
+use std::alloc::Global;
+use tp_config::config::Config;
+use tp_config::connecting::ConnectFault;
+use tp_config::creating::CreateFault;
+use tp_config::mapping::MapFault;
+use tp_config::port_type::{CompId, CompType, PORT_LIMIT, PortRef, PortType, Role, RouteId};
+use tp_config::type_list::TypeList;
+use tp_refusal::memory::Memory;
+use tp_value::items::Items;
+use tp_value::types::Ty;
+
+/// A component type with ports of these names, each of which receives and sends these types.
+fn comp_type(alloc: Global, names: &[&str], ins: &[Ty], outs: &[Ty]) -> Result<CompType, Memory>
+    ensures { IfOk result (λ t. length t.ports.entries ≤ PORT_LIMIT) }
+{
+    let mut ports = IndexMap::new(alloc);
+    for name in names {
+        let port_type = PortType {
+            ins: TypeList::from_items(alloc, Items::from_slice(alloc, ins)?)?,
+            outs: TypeList::from_items(alloc, Items::from_slice(alloc, outs)?)?,
+        };
+        ports.insert(String::from_str(alloc, *name)?, port_type)?;
+    }
+    if ports.len() > PORT_LIMIT {
+        return Err(Memory);
+    }
+    Ok(CompType { ports })
+}
+
+/// No component. Type 0 has the ports p and q, which take integers both ways. Type 1 has the port
+/// s, which receives and sends these types.
+pub fn empty(alloc: Global, ins: &[Ty], outs: &[Ty]) -> Result<Config, Memory> {
+    let both = [Ty::Integer];
+    let first = comp_type(
+        alloc,
+        ["p", "q"].as_slice(),
+        both.as_slice(),
+        both.as_slice(),
+    )?;
+    let second = comp_type(alloc, ["s"].as_slice(), ins, outs)?;
+    let mut types = Vec::new(alloc);
+    types.push(first)?;
+    types.push(second)?;
+    Ok(Config::new(alloc, types))
+}
+
+/// Creates a component of this name, where there is a type of that number.
+pub fn add(
+    alloc: Global,
+    config: &mut Config,
+    name: &str,
+    kind: u32,
+    role: Role,
+) -> Result<CompId, CreateFault> {
+    let Ok(name) = String::from_str(alloc, name) else {
+        return Err(CreateFault::Memory);
+    };
+    if kind as usize >= config.types().len() {
+        return Err(CreateFault::Memory);
+    }
+    config.create(name, kind, role)
+}
+
+/// The port of this name of the component of that name.
+pub fn port(config: &Config, comp: &str, port: &str) -> Option<PortRef>
+    ensures { IfSome result (λ p. IsPort config.now p) }
+{
+    let comp = config.comp_of(comp)?;
+    config.port_of(comp, port)
+}
+
+/// Connects two ports by the names of their components and their own.
+pub fn connect(
+    config: &mut Config,
+    p: (&str, &str),
+    q: (&str, &str),
+) -> Option<Result<(), ConnectFault>> {
+    let p = port(config, p.0, p.1)?;
+    let q = port(config, q.0, q.1)?;
+    Some(config.connect(p, q))
+}
+
+/// Maps two ports by the names of their components and their own.
+pub fn map(config: &mut Config, p: (&str, &str), q: (&str, &str)) -> Option<Result<(), MapFault>> {
+    let p = port(config, p.0, p.1)?;
+    let q = port(config, q.0, q.1)?;
+    Some(config.map(p, q))
+}
+
+/// The components mtc, a, b and c of type 0, and none of their ports connected.
+pub fn four(alloc: Global) -> Result<Config, CreateFault> {
+    let both = [Ty::Integer];
+    let Ok(mut config) = empty(alloc, both.as_slice(), both.as_slice()) else {
+        return Err(CreateFault::Memory);
+    };
+    for name in ["mtc", "a", "b", "c"] {
+        add(alloc, &mut config, name, 0, Role::Test)?;
+    }
+    Ok(config)
+}
+
+/// The port of this number of the component of this number.
+pub fn at(comp: u32, port: u32) -> PortRef {
+    PortRef {
+        comp: CompId(comp),
+        port,
+    }
+}
+
+/// The route from a component to a port, all by their numbers.
+pub fn route(source: u32, comp: u32, port: u32) -> RouteId {
+    RouteId {
+        source: CompId(source),
+        to: at(comp, port),
+    }
+}
