@@ -18,8 +18,8 @@ RT
     chmod +x "$1"
 }
 
-# A tree in which `tpr` stands on `low`, and `beside` doesn't matter to it; and two folders of commands,
-# one of which has no `rt`.
+# A tree in which `tpr` stands on `low`, and `beside` doesn't matter to it; and folders of commands, two of
+# which lack one that a build needs.
 make_tree() {
     local crate command
     mkdir -p "a tree" commands/without_rt commands/rt || return
@@ -33,10 +33,14 @@ make_tree() {
         ln -s -- "$(command -v "$command")" "commands/without_rt/$command" || return
     done
     write_rt commands/rt/rt
+    cp -R -- commands/without_rt commands/without_flock && write_rt commands/without_flock/rt || return
+    rm commands/without_flock/flock
 }
 
 call_tpr() { # FOLDER OF rt, PROGRAM
-    PATH=$PWD/commands/$1:$PWD/commands/without_rt observe "$2" run "a file"
+    local path=$PWD/commands/$1
+    if [[ $1 == rt ]]; then path+=:$PWD/commands/without_rt; fi
+    PATH=$path observe "$2" run "a file"
 }
 
 # The program was built so, and ran.
@@ -67,6 +71,8 @@ builds_what_is_newer() {
     set_up "there is a tree of three crates" make_tree || return
     fails_to_build "a first build without the toolchain" without_rt \
         "tpr: the program has to be built, and the toolchain's command rt is not on PATH"
+    fails_to_build "a first build without flock" without_flock \
+        "tpr: the program has to be built, and the command flock is not on PATH"
     builds "a first build" "$tpr" "$first" "$log" "$low" "$last"
     observe cat "a tree/out/build.log"
     must "what rt was asked" 0 "$asked_low"$'\n'"$asked_last"$'\n' ''
@@ -105,6 +111,6 @@ builds_what_is_newer() {
 
 building() {
     mkdir "$room/building" && cd -- "$room/building" || exit 1
-    at_least 19 builds_what_is_newer
+    at_least 20 builds_what_is_newer
     cd -- "$root" || exit 1
 }

@@ -148,7 +148,7 @@ impl Floor {
                 return all_rest;
             }
         }
-        // The loop ends where nobody changed the counts in between.
+        // The loop ends by a return alone.
         unreachable!()
     }
 
@@ -199,7 +199,7 @@ impl Place {
                 return true;
             }
         }
-        // The loop ends where nobody changed the counts in between.
+        // The loop ends by a return alone.
         unreachable!()
     }
 
@@ -220,7 +220,7 @@ impl Place {
                 return;
             }
         }
-        // The loop ends where nobody changed the counts in between.
+        // The loop ends by a return alone.
         unreachable!()
     }
 }

@@ -122,11 +122,11 @@ answer s start = counted_text (codes "cleared ") (length (queued s.history))
 answer s stop = codes "stopped\n"
 answer s halt = halted_text (halted_count (status_of s.history) s.history)
 
--- the progress at which a line is carried out: its senders are seen
+-- how far it has come where a line is carried out: its senders are seen
 abbrev pub sighted : Progress → Line → Progress
 sighted s line = record { senders = seen_in s.senders line; history = s.history }
 
--- the progress after a line
+-- how far it has come after a line
 abbrev pub after : Progress → Line → Progress
 after s line = record { senders = seen_in s.senders line; history = s.history ++ events_of (sighted s line) line }
 
@@ -134,7 +134,7 @@ after s line = record { senders = seen_in s.senders line; history = s.history ++
 abbrev pub left_text : List (List ℕ) → List (Event ℤ) → List ℕ
 left_text senders h = counted_text (codes "left ") (length (queued h)) ++ flat_map (entry_text senders) (queued h)
 
--- the answers to the lines from this progress on, and then what is left
+-- the answers to the lines from there on, and then what is left
 abbrev pub text_from : Progress → List Line → List ℕ
 text_from s [] = left_text s.senders s.history
 text_from s (line ∷ lines) = answer (sighted s line) line ++ text_from (after s line) lines
