@@ -28,7 +28,8 @@ AT_ONCE = 16
 # A line that says where a proof is wanting: in the code, or in a file of a function's proof.
 TOLD = re.compile(
     r"(?:so far: )?(?:note: (?:\./)?(?P<file>src/\S+?):(?P<line>\d+):\d+: it is not proved"
-    r"|(?:\./)?proofs/(?P<proof>\S+)/[^/]+:\d+:\d+: error)"
+    r"|(?:fn \S+: no proof: expected answers in )?(?:\./)?proofs/(?P<proof>\S+)/"
+    r"(?:[^/]+:\d+:\d+: error|\S+; `search` did not prove))"
 )
 # What such a line says of a proof whose body has another shape.
 SHAPE = re.compile(r"has no field |has no `[^`]*` that can be named")

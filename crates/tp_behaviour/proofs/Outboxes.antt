@@ -13,7 +13,8 @@ use Rattle.tp_inbox.specs.declared.entry.Entry.TheVariants as entry
 use Rattle.tp_inbox.specs.Desks.{Journal, adding}
 use Rattle.tp_inbox.specs.History.{same_route}
 use Rattle.tp_inbox.specs.Ledgers.{Sending, putting}
-use Rattle.tp_behaviour.specs.Outboxes.{AreSendersFiled, HasPut, IsFull, IsListed, LeadsBack, put_on, route_eq, routes_of}
+use Rattle.tp_inbox.specs.Places.{route_eq}
+use Rattle.tp_behaviour.specs.Outboxes.{AreSendersFiled, HasPut, IsRouteFull, IsListed, LeadsBack, put_on, routes_of}
 
 -- routes of which the test says that they are the same
 pub route_same : (r q : RouteId) → same_route r q ≡ true → r ≡ q
@@ -110,7 +111,7 @@ same_way B s y m (Err e) put same = ap (λ (z : Sending). z.route) (sym same.1)
 
 -- where the sender that was found is full, the one on the route is
 pub full_on : {A E : Type 0} (p : E → Type 0) (senders : List Sending) (q : RouteId) (s : Sending) (res : Result A E)
-    → Contains senders s → s.route ≡ q → IfErr res (λ f. p f → 100000 ≤ length s.ledger) → IfErr res (λ f. p f → IsFull q senders)
+    → Contains senders s → s.route ≡ q → IfErr res (λ f. p f → 100000 ≤ length s.ledger) → IfErr res (λ f. p f → IsRouteFull q senders)
 full_on p senders q s (Ok x) there on full = tt
 full_on p senders q s (Err f) there on full = λ met. (s, there, on, full met)
 

@@ -27,7 +27,7 @@ use Rattle.tp_behaviour.specs.Held.{IsNamed, IsSentAs, NamesUnset, Actor, SendsU
 use Rattle.tp_behaviour.specs.Looks.{moment}
 use Rattle.tp_behaviour.specs.Moments.{Moment, moments}
 use Rattle.tp_behaviour.specs.Outboxes.{routes_of}
-use Rattle.tp_behaviour.specs.Paths.{IsSentOn, IsStarted, IsStep, port_of}
+use Rattle.tp_behaviour.specs.Paths.{IsSentOn, IsStarted, IsStep, own_port}
 use Rattle.tp_behaviour.specs.Seen.{Grew}
 use Rattle.tp_behaviour.specs.Sends.{Sends}
 use Rattle.tp_behaviour.specs.Stations.{IsSame, end_of}
@@ -45,7 +45,7 @@ is_named r vs _ _ (IsNamed.variable k c holds) unset = let no_ = sym holds ∙ u
 -- a message that went out
 pub sends_one : (r : Actor) (vs : Values) (x : SendOperation) (m : Message) (named : Option CompId) (q : RouteId) (d : Journal) (n : List Entry)
     → IsStarted d.log x.port → IsSentAs vs x.sent m
-    → IsNamed r vs x.to named → IsRoute r.config (port_of r x.port) named q → moments n ≡ moments d.log
+    → IsNamed r vs x.to named → IsRoute r.config (own_port r x.port) named q → moments n ≡ moments d.log
     ++ moment d (entry.Sent q (length (sent_on q d.log)) (next_of d.log m)) ∷ [] → Sends r vs x None d.log n
 sends_one r vs x m named q d n started sent to route more = (
   moment d (entry.Sent q (length (sent_on q d.log)) (next_of d.log m)) ∷ [],
@@ -57,7 +57,7 @@ sends_one r vs x m named q d n started sent to route more = (
 -- and one that has no way
 pub cause_route : (r : Actor) (vs : Values) (x : SendOperation) (m : Message) (named : Option CompId) (f : RouteFault) (code : ℕ) (k : List Entry)
     → IsStarted k x.port → IsSentAs vs x.sent m
-    → IsNamed r vs x.to named → RouteCause r.config (port_of r x.port) named f → code ≡ route_number f → IsFailure r vs x k code
+    → IsNamed r vs x.to named → RouteCause r.config (own_port r x.port) named f → code ≡ route_number f → IsFailure r vs x k code
 cause_route r vs x m named f code k started sent to cause is = subst (IsFailure r vs x k) (sym is) (IsFailure.no_single_route named f started set to cause)
   where
     set : SendsUnset vs x.sent ⊎ NamesUnset vs x.to → ⊥
@@ -82,7 +82,7 @@ some_items xs n is e none = let zero : n ≡ 0 = sym is ∙ ap length none in tr
 -- one to all that has no way at all
 pub cause_none : (r : Actor) (vs : Values) (x : SendOperation) (m : Message) (routes : List RouteId) (k : List Entry) → IsStarted k x.port
     → IsSentAs vs x.sent m → x.to ≡ to.All
-    → routes ≡ routes_from r.config (port_of r x.port) → routes ≡ [] → IsFailure r vs x k 41
+    → routes ≡ routes_from r.config (own_port r x.port) → routes ≡ [] → IsFailure r vs x k 41
 cause_none r vs x m routes k started sent all are none = IsFailure.no_route_at_all started set all (sym are ∙ none)
   where
     set : SendsUnset vs x.sent ⊎ NamesUnset vs x.to → ⊥
@@ -132,7 +132,7 @@ some_moment port m (q ∷ qs) (t ∷ ts) zip some none = absurd (cc)
 
 -- a message that went out on each route of the port
 pub sends_all : (r : Actor) (vs : Values) (x : SendOperation) (m : Message) (routes : List RouteId) (k n : List Entry) → IsSentAs vs x.sent m → x.to ≡ to.All
-    → routes ≡ routes_from r.config (port_of r x.port) → (routes ≡ [] → ⊥) → Grew (AllZip (IsSentOn x.port m) routes) k n → Sends r vs x None k n
+    → routes ≡ routes_from r.config (own_port r x.port) → (routes ≡ [] → ⊥) → Grew (AllZip (IsSentOn x.port m) routes) k n → Sends r vs x None k n
 sends_all r vs x m routes k n sent all are some (ts, grown, zip) = (
   ts,
   grown,

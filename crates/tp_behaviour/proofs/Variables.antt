@@ -17,7 +17,7 @@ use Rattle.tp_behaviour.specs.declared.held.Held.{Held}
 use Rattle.tp_behaviour.specs.declared.held.Held.TheVariants as held
 use Rattle.tp_behaviour.specs.Held.{IsSentAs, Values}
 use Rattle.tp_behaviour.specs.Sends.{CanFill, CanName}
-use Rattle.tp_behaviour.specs.Stations.{AreHeld, HoldsComponents, HoldsMessages, IsHeldAs}
+use Rattle.tp_behaviour.specs.Stations.{AreHeld, HoldsNoMessage, HoldsMessages, IsHeldAs}
 
 -- what was read at a place stands there
 pub read_at : {X : Type 0} (xs : List X) (k : ℕ) (x y : X) → slice_get xs k ≡ Some x → y ≡ get_or xs k y → slice_get xs k ≡ Some y
@@ -58,7 +58,7 @@ pub holds_messages : (types : List VariableType) (vs : List (Option Held)) (k : 
 holds_messages types vs k u held at = let h = held_at types vs k (kind.Message u) held at in (h.0, h.1, λ c e. no_component u h.0 c h.2 e)
 
 pub holds_components : (types : List VariableType) (vs : List (Option Held)) (k : ℕ) → AreHeld types vs → slice_get types k ≡ Some kind.Component
-    → HoldsComponents vs k
+    → HoldsNoMessage vs k
 holds_components types vs k held at = let h = held_at types vs k kind.Component held at in (h.0, h.1, λ m e. no_message h.0 m h.2 e)
 
 -- so what is sent can be made

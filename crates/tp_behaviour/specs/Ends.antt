@@ -22,7 +22,7 @@ use Rattle.tp_behaviour.specs.Moments.{Moment, moments}
 use Rattle.tp_behaviour.specs.Choices.{IsChoice, IsDrop, NoneOpen}
 use Rattle.tp_value.specs.declared.message.Message.{Message}
 use Rattle.tp_behaviour.specs.Held.{Actor, Values, SendsUnset, NamesUnset, IsNamed, guard_of, redirected, unset}
-use Rattle.tp_behaviour.specs.Paths.{IsPath, AreTurns, IsStarted, guards_of, port_of}
+use Rattle.tp_behaviour.specs.Paths.{IsPath, AreTurns, IsStarted, guards_of, own_port}
 
 -- the numbers of the refusals by which a send ends a behaviour
 abbrev pub not_sending : ℕ
@@ -49,9 +49,9 @@ pub data IsFailure (r : Actor) (vs : Values) (x : SendOperation) (k : List Entry
   not_set : IsStarted k x.port → SendsUnset vs x.sent ⊎ NamesUnset vs x.to → IsFailure r vs x k unset_variable
   no_single_route : (named : Option CompId) (f : RouteFault) → IsStarted k x.port
       → ¬ (SendsUnset vs x.sent ⊎ NamesUnset vs x.to)
-      → IsNamed r vs x.to named → RouteCause r.config (port_of r x.port) named f → IsFailure r vs x k (route_number f)
+      → IsNamed r vs x.to named → RouteCause r.config (own_port r x.port) named f → IsFailure r vs x k (route_number f)
   no_route_at_all : IsStarted k x.port → ¬ (SendsUnset vs x.sent ⊎ NamesUnset vs x.to) → x.to ≡ receiver.All
-      → routes_from r.config (port_of r x.port) ≡ [] → IsFailure r vs x k no_route
+      → routes_from r.config (own_port r x.port) ≡ [] → IsFailure r vs x k no_route
 
 mutual
   -- the moments lead to a statement within this one, or to itself, and the behaviour stops there with this end, the

@@ -1,12 +1,12 @@
 -- The senders of a component.
-use Rattle.std.specs.Prelude.{◌≡◌, ◌≤◌, ◌<◌, ◌==◌, ℕ, Bool, cond, Some, List, [], ◌∷◌, ◌++◌, All, Contains, length, map, slice_get}
+use Rattle.std.specs.Prelude.{◌≡◌, ◌≤◌, ◌<◌, ◌==◌, ℕ, cond, Some, List, [], ◌∷◌, ◌++◌, All, Contains, length, map, slice_get}
 use Rattle.indexmap.specs.IndexMap.{IndexMap, get}
 use Rattle.tp_config.specs.declared.port_type.RouteId.{RouteId}
-use Rattle.tp_config.specs.contracts.port_type.RouteIdPartialEq.TheImpl.{eq-value}
 use Rattle.tp_inbox.specs.declared.stamped.Stamped.{Stamped}
 use Rattle.tp_inbox.specs.declared.entry.Entry.{Entry}
 use Rattle.tp_inbox.specs.History.{arrived_on, same_route}
 use Rattle.tp_inbox.specs.Ledgers.{Inbox, Sending, putting}
+use Rattle.tp_inbox.specs.Places.{route_eq}
 
 -- the routes of these senders
 abbrev pub routes_of : List Sending → List RouteId
@@ -23,8 +23,8 @@ HasPut route m n before after =
     × (after ≡ map (put_on route m) before)
 
 -- the sender on this route has put as many messages as a route takes
-abbrev pub IsFull : RouteId → List Sending → Type 0
-IsFull route senders =
+abbrev pub IsRouteFull : RouteId → List Sending → Type 0
+IsRouteFull route senders =
     (s : Sending) × Contains senders s × (s.route ≡ route) × (100000 ≤ length s.ledger)
 
 -- a sender from a component to itself
@@ -42,10 +42,6 @@ IsHome inbox s = LeadsBack s → s.route.to.comp ≡ inbox.comp
 -- as many of the arrivals came on the sender's route as it has put
 abbrev pub IsLevel : List Entry → Sending → Type 0
 IsLevel es s = length (arrived_on s.route es) ≡ length s.ledger
-
--- what `==` answers of two routes
-abbrev pub route_eq : RouteId → RouteId → Bool
-route_eq = eq-value.it
 
 -- each sender is found by its route, and those that lead back are listed, and no others
 pub record AreSendersFiled {S : Type 0} (senders : List Sending) (places : IndexMap RouteId ℕ S)

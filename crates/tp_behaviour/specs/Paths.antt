@@ -32,8 +32,8 @@ use Rattle.tp_behaviour.specs.Choices.{IsChoice, IsDrop}
 use Rattle.tp_behaviour.specs.Held.{Actor, Values, IsSentAs, IsNamed, guard_of, redirected}
 
 -- the port of the behaviour's component at this place
-abbrev pub port_of : Actor → ℕ → PortRef
-port_of r port = record { comp = r.comp; port = port }
+abbrev pub own_port : Actor → ℕ → PortRef
+own_port r port = record { comp = r.comp; port = port }
 
 -- the port is started
 abbrev pub IsStarted : List Entry → ℕ → Type 0
@@ -78,13 +78,13 @@ mutual
         (route : RouteId) (t : Moment)
         → IsSentAs (record { turns = turns; variables = vs }) x.sent m
         → IsNamed r (record { turns = turns; variables = vs }) x.to named
-        → IsRoute r.config (port_of r x.port) named route → IsSentOn x.port m route t
+        → IsRoute r.config (own_port r x.port) named route → IsSentOn x.port m route t
         → IsStep r turns vs (statement.Send x) (t ∷ []) vs
     -- `to all component`: one entry for each route of the port, of which there is one at least, in the order of the
     -- connections
     send_to_all : (turns : List ℤ) (vs : List (Option Held)) (x : SendOperation) (m : Message) (ts : List Moment)
         → IsSentAs (record { turns = turns; variables = vs }) x.sent m → x.to ≡ receiver.All → ts ≢ []
-        → AllZip (IsSentOn x.port m) (routes_from r.config (port_of r x.port)) ts
+        → AllZip (IsSentOn x.port m) (routes_from r.config (own_port r x.port)) ts
         → IsStep r turns vs (statement.Send x) ts vs
     -- 22.2.2 to 22.2.4: any number of messages that a `trigger` discards, and then the one that is taken or found
     receive : (turns : List ℤ) (vs : List (Option Held)) (x : Receiving) (drops : List Moment) (t : Moment)

@@ -20,7 +20,7 @@ use Rattle.tp_behaviour.specs.declared.station.State.{State}
 use Rattle.tp_behaviour.specs.Held.{Actor, Values}
 use Rattle.tp_behaviour.specs.Paths.{IsStep}
 use Rattle.tp_behaviour.specs.Seen.{Grew, One}
-use Rattle.tp_behaviour.specs.Stations.{HoldsComponents, HoldsMessages, role_of, values_of}
+use Rattle.tp_behaviour.specs.Stations.{HoldsNoMessage, HoldsMessages, role_of, values_of}
 
 -- what is sent speaks of so many loop variables at most, or of a variable for messages
 abbrev pub CanFill : List (Option Held) → ℕ → Sent → Type 0
@@ -31,7 +31,7 @@ CanFill variables turns (sent.Variable k) = HoldsMessages variables k
 abbrev pub CanName : List (Option Held) → ℕ → Receiver → Type 0
 CanName variables references receiver.Nobody = ⊤
 CanName variables references (receiver.Reference k) = k < references
-CanName variables references (receiver.Variable k) = HoldsComponents variables k
+CanName variables references (receiver.Variable k) = HoldsNoMessage variables k
 CanName variables references receiver.All = ⊥
 
 -- a send comes to this: it is carried out, or the behaviour ends by the refusal of this number

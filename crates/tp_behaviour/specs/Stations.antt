@@ -20,7 +20,7 @@ use Rattle.tp_behaviour.specs.declared.station.State.{State}
 use Rattle.tp_behaviour.specs.Fresh.{Fresh}
 use Rattle.tp_behaviour.specs.Held.{Actor, Values}
 use Rattle.tp_behaviour.specs.Outboxes.{IsHome, routes_of}
-use Rattle.tp_behaviour.specs.Paths.{port_of}
+use Rattle.tp_behaviour.specs.Paths.{own_port}
 
 -- who the behaviour is
 abbrev pub role_of : Post → Actor
@@ -38,7 +38,7 @@ pub record IsPosted (r : Actor) (inbox : Inbox) (out : List RouteId) : Type 0 wh
   pub here : All (λ (x : RouteId). x.to.comp ≡ r.comp) inbox.routes
   -- it has a sender on each of its routes: on those into its own inbox, and on those from its ports
   pub loops : All (λ (x : RouteId). x.source ≡ r.comp → Contains out x) inbox.routes
-  pub ways : (port : ℕ) (x : RouteId) → Contains (routes_from r.config (port_of r port)) x → Contains out x
+  pub ways : (port : ℕ) (x : RouteId) → Contains (routes_from r.config (own_port r port)) x → Contains out x
 
 -- what the entry sent went out on one of these routes
 abbrev pub IsSentBy : List RouteId → Entry → Type 0
@@ -88,8 +88,8 @@ HoldsMessages variables k = (x : Option Held) × (slice_get variables k ≡ Some
     × ((c : CompId) → x ≢ Some (held.Component c))
 
 -- there is a variable at this place, and it holds no message
-abbrev pub HoldsComponents : List (Option Held) → ℕ → Type 0
-HoldsComponents variables k = (x : Option Held) × (slice_get variables k ≡ Some x)
+abbrev pub HoldsNoMessage : List (Option Held) → ℕ → Type 0
+HoldsNoMessage variables k = (x : Option Held) × (slice_get variables k ≡ Some x)
     × ((m : Message) → x ≢ Some (held.Value m))
 
 -- each variable holds what its type says

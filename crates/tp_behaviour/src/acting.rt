@@ -123,9 +123,14 @@ pub(crate) fn all_ports<R: Wait, G: Gate>(
     look_in(scene.rt, scene.post, &mut *station)?;
     // A component of a configuration has at most 64 ports.
     let _lawful = scene.post.config.len();
-    let (gate, post) = (scene.gate, scene.post);
     for port in 0..station.desk.port_count() {
-        operate_at(gate, post, &mut *station, port as u32, operation)?;
+        operate_at(
+            scene.gate,
+            scene.post,
+            &mut *station,
+            port as u32,
+            operation,
+        )?;
     }
     Ok(())
 }

@@ -6,7 +6,7 @@ ghost use Rattle.tp_behaviour.specs.Views.{all_viewed};
 
 use crate::choice::{GuardView, Sight};
 use crate::gate::Gate;
-use crate::looking::{look, note};
+use crate::looking::{look_at_branches, note};
 use crate::post::Post;
 use crate::scene::Scene;
 use crate::station::Station;
@@ -31,7 +31,7 @@ pub enum Choice {
 
 /// Waits until something comes into the inbox, or nothing can come any more: that is the answer.
 /// Where all wait, it closes all inboxes.
-fn rest<R: Wait>(rt: &R, post: &Post<'_>, owner: &Owner) -> bool {
+fn wait_for_more<R: Wait>(rt: &R, post: &Post<'_>, owner: &Owner) -> bool {
     match owner.wait(rt) {
         Woken::Arrived => false,
         Woken::Closed => true,
@@ -64,7 +64,7 @@ pub(crate) fn choose<R: Wait, G: Gate>(
 {
     let mut last = false;
     for _ in scene.rt.forever() {
-        match look(scene, &mut *station, guards)? {
+        match look_at_branches(scene, &mut *station, guards)? {
             Sight::Taken(branch, env) => return Ok(Choice::Branch(branch, env)),
             Sight::Discarded => {}
             Sight::Nothing => {
@@ -75,7 +75,7 @@ pub(crate) fn choose<R: Wait, G: Gate>(
                 if last {
                     return Ok(Choice::Waits);
                 }
-                last = rest(scene.rt, scene.post, &station.owner);
+                last = wait_for_more(scene.rt, scene.post, &station.owner);
             }
         }
     }

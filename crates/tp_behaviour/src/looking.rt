@@ -80,7 +80,7 @@ pub(crate) fn note(post: &Post<'_>, station: &mut Station, entry: Entry) -> Resu
 /// tried from the top (20.2).
 ///
 /// 50 `Memory` only where an allocation was refused.
-pub(crate) fn look<R: Wait, G: Gate>(
+pub(crate) fn look_at_branches<R: Wait, G: Gate>(
     scene: &Scene<'_, R, G>,
     station: &mut Station,
     guards: &[GuardView<'_>],

@@ -4,7 +4,7 @@ ghost use Rattle.tp_inbox.specs.declared.entry.Entry.TheVariants as entry;
 ghost use Rattle.tp_inbox.specs.History.{next_of};
 ghost use Rattle.tp_inbox.specs.Desks.{adding};
 ghost use Rattle.tp_inbox.specs.Ledgers.{Sending};
-ghost use Rattle.tp_behaviour.specs.Outboxes.{HasPut, IsFull, IsHome, IsLevel, IsListed, LeadsBack, routes_of};
+ghost use Rattle.tp_behaviour.specs.Outboxes.{HasPut, IsRouteFull, IsHome, IsLevel, IsListed, LeadsBack, routes_of};
 
 use indexmap::IndexMap;
 use std::alloc::Global;
@@ -122,7 +122,7 @@ impl Outbox {
     }
 
     /// The place of the sender on this route.
-    fn place_of(&self, route: RouteId) -> usize
+    fn sender_place(&self, route: RouteId) -> usize
         requires { Contains (routes_of self.now) route }
         ensures { (s : Sending) × (slice_get self.now result ≡ Some s) × (s.route ≡ route) }
     {
@@ -150,9 +150,10 @@ impl Outbox {
             × (desk.new
             ≡ adding desk.old (entry.Sent route n (next_of desk.old.log message.now)))) }
         ensures err { OnErr result ((self.new ≡ self.old) × (desk.new ≡ desk.old)) }
-        ensures limit { IfErr result (λ fault. fault ≡ PutFault.Limit → IsFull route self.old) }
+        ensures limit { IfErr result (λ fault.
+            fault ≡ PutFault.Limit → IsRouteFull route self.old) }
     {
-        let place = self.place_of(route);
+        let place = self.sender_place(route);
         desk.send(rt, &mut self.senders[place], message)
     }
 }

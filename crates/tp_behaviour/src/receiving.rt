@@ -31,7 +31,7 @@ use tp_refusal::memory::Memory;
 use tp_value::message::{Message, MsgTemplate};
 
 /// The number of the component that a reference names, if one is given. Takes no memory.
-fn sender_of(post: &Post<'_>, place: Option<usize>) -> Option<u32>
+fn expected_sender(post: &Post<'_>, place: Option<usize>) -> Option<u32>
     requires { CanExpect (stage_at post.now) place }
     ensures { result ≡ option_map (λ k. slice_index_or (role_of post.now).references k 0) place }
 {
@@ -84,7 +84,7 @@ fn view_guard<'t>(
         port: receiving.port,
         kind: receiving.kind,
         wanted,
-        sender: sender_of(post, receiving.sender),
+        sender: expected_sender(post, receiving.sender),
     })
 }
 
@@ -124,7 +124,7 @@ fn fill_guard(post: &Post<'_>, state: &State, receiving: &Receiving) -> Result<G
         port: receiving.port,
         kind: receiving.kind,
         wanted,
-        sender: sender_of(post, receiving.sender),
+        sender: expected_sender(post, receiving.sender),
     })
 }
 

@@ -3,7 +3,7 @@ ghost use Rattle.std.specs.Prelude.{IfOk, MatchOption, length};
 ghost use Rattle.tp_behaviour.specs.declared.held.Held.TheVariants as held;
 ghost use Rattle.tp_behaviour.specs.Held.{Holds, IsNamed, IsSentAs, IsUnset, NamesUnset, SendsUnset};
 ghost use Rattle.tp_behaviour.specs.Sends.{CanFill, CanName};
-ghost use Rattle.tp_behaviour.specs.Stations.{HoldsComponents, HoldsMessages, role_of, values_of};
+ghost use Rattle.tp_behaviour.specs.Stations.{HoldsNoMessage, HoldsMessages, role_of, values_of};
 
 use crate::held::Held;
 use crate::post::Post;
@@ -34,7 +34,7 @@ fn message_in(state: &State, place: usize) -> Option<&Message>
 
 /// The component that the variable at this place holds, where it is set.
 fn component_in(state: &State, place: usize) -> Option<CompId>
-    requires { HoldsComponents state.now.variables.items place }
+    requires { HoldsNoMessage state.now.variables.items place }
     ensures { MatchOption result (IsUnset (values_of state.now) place)
         (λ c. Holds (values_of state.now) place (held.Component c)) }
 {

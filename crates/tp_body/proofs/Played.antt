@@ -30,7 +30,7 @@ use Rattle.tp_body.specs.declared.body.Body.{Body}
 use Rattle.tp_body.specs.declared.scope.Scope.{Scope}
 use Rattle.tp_body.specs.declared.scope.Variables.{Variables}
 use Rattle.tp_body.specs.Scoping as n
-use Rattle.tp_body.specs.Scoping.{IsPortNamed, IsReference, port_names}
+use Rattle.tp_body.specs.Scoping.{IsPortNamed, IsReference, declared_port_names}
 use Rattle.tp_body.specs.Bodies as b
 use Rattle.tp_body.specs.Bodies.{IsSent, IsReceiver, IsSend, IsWanted, IsFrom, IsValueTarget, IsSenderTarget, IsReceive, IsStatement, IsBlock, IsBranch, IsAfter, AreBranches, IsBody}
 use Rattle.tp_body.specs.Playable.{Stage, IsAlwaysFitting, CanSay, CanAddress, CanSend, CanWant, CanExpect, CanKeepValue, CanKeepSender, CanReceive, CanPlay, CanEnter, CanPlayAll, CanEnterAll, reference_count, IsPlayable}
@@ -47,7 +47,11 @@ module _ (scope : Scope) (variables : Variables) where
 
   port_there : (name : List ℕ) (place : ℕ) (port : PortType) → IsPortNamed scope.ports.now name place port → place < length scope.ports.now.ports.entries
   port_there name place port h =
-      omega (arith, slice_get_within (port_names scope.ports.now) place name h.named.there, length-map scope.ports.now.ports.entries (λ e. string_bytes e.0))
+      omega (
+        arith,
+        slice_get_within (declared_port_names scope.ports.now) place name h.named.there,
+        length-map scope.ports.now.ports.entries (λ e. string_bytes e.0),
+      )
 
   module _ (turns : List (List ℕ)) where
     reference_there : (x : ComponentName) (k : ℕ) → IsReference scope variables turns x k → k < reference_count scope

@@ -55,7 +55,7 @@ use Rattle.tp_body.specs.declared.scope.BehaviourKind.TheVariants as behaviour_k
 use Rattle.tp_body.specs.declared.scope.Scope.{Scope}
 use Rattle.tp_body.specs.declared.scope.Variables.{Variables}
 use Rattle.tp_name.specs.Named.{IsPlace, IsAbsent}
-use Rattle.tp_body.specs.Scoping.{IsPortNamed, sends, receives, IsType, IsVariable, IsReference, IsNew, port_names}
+use Rattle.tp_body.specs.Scoping.{IsPortNamed, sends, receives, IsType, IsVariable, IsReference, IsNew, declared_port_names}
 use Rattle.tp_body.specs.Messages.{IsMessage, IsTemplate}
 
 -- what is sent, where this is the list of the types that can be sent there
@@ -216,7 +216,7 @@ pub data AreVariables (scope : Scope) : List Variable → Variables → Type 0 w
 -- a body: no parameter has the name of a port, the variables come first, and the statements may speak of them
 pub record IsBody (scope : Scope) (xs : List Variable) (statements : List StatementText) (body : Body) : Type 0 where
   pub variables : Variables
-  pub no_port : (k : ℕ) (name : List ℕ) → slice_get (port_names scope.ports.now) k ≡ Some name
+  pub no_port : (k : ℕ) (name : List ℕ) → slice_get (declared_port_names scope.ports.now) k ≡ Some name
       → IsAbsent scope.parameters.now name
   pub declared : AreVariables scope xs variables
   pub same_types : body.variables ≡ variables.types

@@ -20,17 +20,17 @@ use Rattle.tp_body.specs.declared.scope.Variables.{Variables}
 use Rattle.tp_name.specs.Named.{IsPlace, IsAbsent}
 
 -- the names of the ports of a component type, in declared order
-abbrev pub port_names : CompType → List (List ℕ)
-port_names ports = map (λ e. string_bytes e.0) ports.ports.entries
+abbrev pub declared_port_names : CompType → List (List ℕ)
+declared_port_names ports = map (λ e. string_bytes e.0) ports.ports.entries
 
 -- the ports of a component type, in declared order
-abbrev pub port_types : CompType → List PortType
-port_types ports = map (λ e. e.1) ports.ports.entries
+abbrev pub declared_port_types : CompType → List PortType
+declared_port_types ports = map (λ e. e.1) ports.ports.entries
 
 -- the port of this name stands at this place
 pub record IsPortNamed (ports : CompType) (name : List ℕ) (place : ℕ) (port : PortType) : Type 0 where
-  pub named : IsPlace (port_names ports) name place
-  pub typed : slice_get (port_types ports) place ≡ Some port
+  pub named : IsPlace (declared_port_names ports) name place
+  pub typed : slice_get (declared_port_types ports) place ≡ Some port
 
 -- what a behaviour sends at a port: in the system under test the two lists are exchanged
 abbrev pub sends : BehaviourKind → PortType → List Ty
@@ -71,7 +71,7 @@ pub data IsReference (scope : Scope) (variables : Variables) (turns : List (List
 -- a new name for a variable or a loop variable: no port, parameter, variable or loop variable has it, and in the
 -- test case no component variable
 pub record IsNew (scope : Scope) (variables : Variables) (turns : List (List ℕ)) (name : List ℕ) : Type 0 where
-  pub no_port : IsAbsent (port_names scope.ports.now) name
+  pub no_port : IsAbsent (declared_port_names scope.ports.now) name
   pub no_parameter : IsAbsent scope.parameters.now name
   pub no_variable : IsAbsent variables.names name
   pub no_turn : IsAbsent turns name

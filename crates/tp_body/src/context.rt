@@ -1,5 +1,5 @@
 //! Where a statement stands: what its names may mean, and its refusals.
-use crate::scope::{Scope, Variables};
+use crate::scope::{BehaviourKind, Scope, Variables};
 use tp_name::fault::refused;
 use tp_name::name::Name;
 use tp_refusal::refusal::Refusal;
@@ -21,7 +21,7 @@ pub struct Context<'a, 'v, 'm> {
 }
 
 impl<'a, 'v, 'm> Context<'a, 'v, 'm> {
-    ghost use Rattle.std.specs.Prelude.{◌≡◌, Contains};
+    ghost use Rattle.std.specs.Prelude.{◌≡◌, ◌≢◌, Contains, IfErr, OnOk};
 
     /// 11 `Unknown`.
     pub fn unknown(&self) -> ScriptFault
@@ -51,11 +51,16 @@ impl<'a, 'v, 'm> Context<'a, 'v, 'm> {
         refused(Refusal::Direction, self.line)
     }
 
-    /// 16 `NotInSut`.
-    pub fn not_in_sut(&self) -> ScriptFault
-        ensures { result ≡ ScriptFault.Refused Refusal.NotInSut self.now.line }
+    /// 16 `NotInSut` in the system under test, for what can't stand there.
+    pub fn check_not_in_sut(&self) -> Result<(), ScriptFault>
+        ensures ok { OnOk result (self.now.scope.now.behaviour ≢ BehaviourKind.SystemUnderTest) }
+        ensures err { IfErr result (λ fault.
+            fault ≡ ScriptFault.Refused Refusal.NotInSut self.now.line) }
     {
-        refused(Refusal::NotInSut, self.line)
+        if self.scope.behaviour == BehaviourKind::SystemUnderTest {
+            return Err(refused(Refusal::NotInSut, self.line));
+        }
+        Ok(())
     }
 
     /// What a name is refused with that may not stand there: 13 `WrongType` for a variable of the

@@ -1,7 +1,7 @@
 //! Looking names up.
 ghost use Rattle.std.specs.Prelude.{◌≡◌, ◌++◌, ◌↔◌, Contains, IsTrue, IfNone, IfSome};
 ghost use Rattle.tp_name.specs.Named.{IsAbsent, IsPlace, texts};
-ghost use Rattle.tp_body.specs.Scoping.{IsPortNamed, IsReference, IsType, IsVariable, port_names, receives, sends};
+ghost use Rattle.tp_body.specs.Scoping.{IsPortNamed, IsReference, IsType, IsVariable, declared_port_names, receives, sends};
 
 use crate::body::VariableType;
 use crate::context::Context;
@@ -15,8 +15,9 @@ use tp_value::types::{Ty, Types};
 
 /// The place of the port of this name, or `None` where no port has it. Takes no memory.
 pub fn place_of_port(ports: &CompType, name: &str) -> Option<usize>
-    ensures there { IfSome result (λ place. IsPlace (port_names ports.now) name.now place) }
-    ensures absent { IfNone result (IsAbsent (port_names ports.now) name.now) }
+    ensures there { IfSome result (λ place.
+        IsPlace (declared_port_names ports.now) name.now place) }
+    ensures absent { IfNone result (IsAbsent (declared_port_names ports.now) name.now) }
 {
     match ports.ports.get_index_of(name) {
         Some(place) => Some(place),

@@ -1,5 +1,5 @@
 //! What the values of messages stand for.
-ghost use Rattle.std.specs.Prelude.{◌≡◌, IfOk, length, map, string_bytes};
+ghost use Rattle.std.specs.Prelude.{◌≡◌, IfOk, length};
 ghost use Rattle.tp_name.specs.Named.{texts};
 ghost use Rattle.tp_body.specs.Messages.{AreElements, AreFields, AreNamed, IsValue};
 
@@ -7,7 +7,7 @@ use crate::body::SendValue;
 use crate::context::Context;
 use crate::placing::field_places;
 use std::alloc::Global;
-use tp_name::name::{Name, find};
+use tp_name::name::find;
 use tp_syntax::message::{Value, ValueField};
 use tp_token::fault::ScriptFault;
 use tp_value::items::Items;
@@ -123,20 +123,6 @@ fn resolve_fields(
     Ok(made)
 }
 
-/// The names of the entries.
-fn entry_names<'v>(alloc: Global, entries: &'v [ValueField]) -> Result<Vec<Name<'v>>, ScriptFault>
-    ensures { IfOk result (λ names.
-        texts names.items ≡ map (λ x. string_bytes x.name) entries.now) }
-{
-    let mut names = Vec::new(alloc);
-    for entry in entries {
-        names.push(Name {
-            text: entry.name.as_str(),
-        })?;
-    }
-    Ok(names)
-}
-
 /// What the fields of a record stand for, which are given by their names: in declared order.
 #[cycle(value)]
 #[tactic(auto, using(crate::proofs::ValueRules::cases))]
@@ -150,8 +136,7 @@ fn resolve_named(
         context.now.scope.now.types.now (texts context.now.turns.now) entries.now fields.now made) }
     ensures count { IfOk result (λ _. length entries.now ≡ length fields.now) }
 {
-    let names = entry_names(alloc, entries)?;
-    let places = field_places(alloc, fields, &names, context.line)?;
+    let places = field_places(alloc, fields, entries, context.line)?;
     let mut made = Vec::new(alloc);
     made.resize_with(fields.len(), || SendValue::Bool(false))?;
     for (index, entry) in entries.iter().enumerate() {

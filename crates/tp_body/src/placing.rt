@@ -1,16 +1,41 @@
 //! Which entry stands for which field.
-ghost use Rattle.std.specs.Prelude.{◌≡◌, ◌<◌, ℕ, true, IfOk, IfSome, IsTrue, length, slice_get, slice_set};
-ghost use Rattle.tp_name.specs.Named.{texts};
+ghost use Rattle.std.specs.Prelude.{◌≡◌, ◌<◌, ℕ, List, true, IfOk, IfSome, IsTrue, length, map, slice_get, slice_set, string_bytes};
 ghost use Rattle.tp_body.specs.Placing.{IsPlacing, field_names};
 
 use indexmap::IndexSet;
 use std::alloc::Global;
 use tp_name::fault::refused;
-use tp_name::name::Name;
 use tp_refusal::memory::Memory;
 use tp_refusal::refusal::Refusal;
+use tp_syntax::message::{TemplateField, ValueField};
 use tp_token::fault::ScriptFault;
 use tp_value::types::Field;
+
+/// An entry that says by its name which field of a record it is for (ES 201 873-1, 6.2.1.1).
+pub trait NamedField {
+    /// The bytes of its name.
+    ghost name: { Self → List ℕ };
+
+    /// Its name. Takes no memory.
+    fn name(&self) -> &str
+        ensures { result.now ≡ name self.now };
+}
+
+impl NamedField for ValueField {
+    ghost name = { λ entry. string_bytes entry.name };
+
+    fn name(&self) -> &str {
+        self.name.as_str()
+    }
+}
+
+impl NamedField for TemplateField {
+    ghost name = { λ entry. string_bytes entry.name };
+
+    fn name(&self) -> &str {
+        self.name.as_str()
+    }
+}
 
 /// Whether the field at this place has this name.
 fn is_field(fields: &[Field], place: usize, name: &str) -> bool
@@ -84,27 +109,26 @@ fn are_all(taken: &[bool]) -> bool
     true
 }
 
-/// The places of the fields that the entries of these names stand for: each field has exactly one
-/// entry.
+/// The places of the fields that these entries stand for: each field has exactly one entry.
 ///
 /// 13 `WrongType` at the line where there are more or fewer entries than fields, a name that no
 /// field has, or a name given twice; 50.
-pub fn field_places(
+pub fn field_places<E: NamedField>(
     alloc: Global,
     fields: &[Field],
-    names: &[Name],
+    entries: &[E],
     line: u32,
 ) -> Result<Vec<usize>, ScriptFault>
-    ensures { IfOk result (λ places. IsPlacing fields.now (texts names.now) places.items) }
+    ensures { IfOk result (λ places. IsPlacing fields.now (map E.name entries.now) places.items) }
 {
-    if names.len() != fields.len() {
+    if entries.len() != fields.len() {
         return Err(refused(Refusal::WrongType, line));
     }
     let mut taken = vec![in alloc; false; fields.len()]?;
     let mut table = IndexSet::new(alloc);
     let mut places = Vec::new(alloc);
-    for (index, name) in names.iter().enumerate() {
-        let found = find_field(fields, &mut table, index, name.text)?;
+    for (index, entry) in entries.iter().enumerate() {
+        let found = find_field(fields, &mut table, index, entry.name())?;
         let Some(place) = found else {
             return Err(refused(Refusal::WrongType, line));
         };

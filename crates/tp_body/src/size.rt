@@ -15,7 +15,7 @@ pub fn cap(number: u64) -> u64
 }
 
 /// The turns of a `for` from this first value to this bound.
-fn turns(first: &i64, bound: &i64) -> u64
+fn turn_count(first: &i64, bound: &i64) -> u64
     ensures { result ≡ turns_between first.now bound.now }
 {
     if *first < *bound {
@@ -44,7 +44,7 @@ fn count_statement(statement: &Statement) -> u64
             cap(1 + inner + count_block(block.as_slice()))
         }
         Statement::For(first, bound, block) => {
-            cap(1 + cap(turns(first, bound)) * count_block(block.as_slice()))
+            cap(1 + cap(turn_count(first, bound)) * count_block(block.as_slice()))
         }
     }
 }

@@ -9,7 +9,7 @@ use crate::body::{Body, Branch, Statement};
 use crate::context::Context;
 use crate::lookup::find_port;
 use crate::operations::{resolve_receive, resolve_send, resolve_verdict};
-use crate::scope::{BehaviourKind, Scope};
+use crate::scope::Scope;
 use crate::variables::{are_no_ports, is_new, resolve_variables};
 use std::alloc::Global;
 use tp_name::fault::refused;
@@ -35,7 +35,7 @@ fn turns_inside<'m>(
 }
 
 /// A counted `for`.
-fn counted(turns: &Turns, block: Items<Statement>) -> Statement
+fn counted_for(turns: &Turns, block: Items<Statement>) -> Statement
     ensures { result ≡ Statement.For turns.now.first turns.now.bound block }
 {
     Statement::For(turns.first, turns.bound, block)
@@ -49,9 +49,7 @@ fn resolve_control(context: &Context, control: &Control) -> Result<Statement, Sc
         context.now.scope.now context.now.variables.now (texts context.now.turns.now)
         (Action.Control control.now)) }
 {
-    if context.scope.behaviour == BehaviourKind::SystemUnderTest {
-        return Err(context.not_in_sut());
-    }
+    context.check_not_in_sut()?;
     let Some((place, _)) = find_port(context.scope.ports, control.port.as_str()) else {
         return Err(context.unknown());
     };
@@ -65,9 +63,7 @@ fn resolve_all_ports(context: &Context, operation: PortOperation) -> Result<Stat
         context.now.scope.now context.now.variables.now (texts context.now.turns.now)
         (Action.AllPorts operation)) }
 {
-    if context.scope.behaviour == BehaviourKind::SystemUnderTest {
-        return Err(context.not_in_sut());
-    }
+    context.check_not_in_sut()?;
     Ok(Statement::AllPorts(operation))
 }
 
@@ -79,9 +75,7 @@ fn resolve_set_verdict(context: &Context, name: VerdictName) -> Result<Statement
         context.now.scope.now context.now.variables.now (texts context.now.turns.now)
         (Action.SetVerdict name)) }
 {
-    if context.scope.behaviour == BehaviourKind::SystemUnderTest {
-        return Err(context.not_in_sut());
-    }
+    context.check_not_in_sut()?;
     let verdict = resolve_verdict(context, name)?;
     Ok(Statement::SetVerdict(verdict))
 }
@@ -142,7 +136,7 @@ fn resolve_statement<'m>(
                 ..*context
             };
             let block = resolve_block(alloc, &around, &looped.block)?;
-            Ok(counted(&looped.turns, block))
+            Ok(counted_for(&looped.turns, block))
         }
     }
 }

@@ -1,5 +1,5 @@
 //! What the templates of receiving operations stand for.
-ghost use Rattle.std.specs.Prelude.{◌≡◌, IfOk, length, map, string_bytes};
+ghost use Rattle.std.specs.Prelude.{◌≡◌, IfOk, length, map};
 ghost use Rattle.tp_name.specs.Named.{texts};
 ghost use Rattle.tp_body.specs.Messages.{AreElementTemplates, AreFieldTemplates, AreMembers, AreNamedTemplates, IsElementTemplate, IsTemplate, part_of};
 
@@ -7,7 +7,7 @@ use crate::body::{RecvTemplate, SendValue};
 use crate::context::Context;
 use crate::placing::field_places;
 use std::alloc::Global;
-use tp_name::name::{Name, find};
+use tp_name::name::find;
 use tp_syntax::message::{Template, TemplateField};
 use tp_token::fault::ScriptFault;
 use tp_value::fitting::are_ordered;
@@ -18,7 +18,7 @@ use tp_value::types::{Field, Ty, TypeDef};
 use tp_value::typing::are_printable;
 
 /// What a character of a pattern stands for.
-fn part(character: u8) -> PatternPart
+fn pattern_part(character: u8) -> PatternPart
     ensures { result ≡ part_of character }
 {
     if character == b'?' {
@@ -36,7 +36,7 @@ fn parts(alloc: Global, text: &[u8]) -> Result<Items<PatternPart>, ScriptFault>
 {
     let mut parts = Items::new(alloc);
     for character in text {
-        parts.push(part(*character))?;
+        parts.push(pattern_part(*character))?;
     }
     Ok(parts)
 }
@@ -215,23 +215,6 @@ fn resolve_field_templates(
     Ok(made)
 }
 
-/// The names of the entries.
-fn entry_names<'v>(
-    alloc: Global,
-    entries: &'v [TemplateField],
-) -> Result<Vec<Name<'v>>, ScriptFault>
-    ensures { IfOk result (λ names.
-        texts names.items ≡ map (λ x. string_bytes x.name) entries.now) }
-{
-    let mut names = Vec::new(alloc);
-    for entry in entries {
-        names.push(Name {
-            text: entry.name.as_str(),
-        })?;
-    }
-    Ok(names)
-}
-
 /// What the templates of the fields of a record stand for, which are given by their names: in
 /// declared order.
 #[cycle(template)]
@@ -246,8 +229,7 @@ fn resolve_named_templates(
         context.now.scope.now.types.now (texts context.now.turns.now) entries.now fields.now made) }
     ensures count { IfOk result (λ _. length entries.now ≡ length fields.now) }
 {
-    let names = entry_names(alloc, entries)?;
-    let places = field_places(alloc, fields, &names, context.line)?;
+    let places = field_places(alloc, fields, entries, context.line)?;
     let mut made = Vec::new(alloc);
     made.resize_with(fields.len(), || RecvTemplate::Any)?;
     for (index, entry) in entries.iter().enumerate() {

@@ -1,7 +1,7 @@
 //! The variables of a body, and which names are new.
 ghost use Rattle.std.specs.Prelude.{◌≡◌, ◌∷◌, ◌++◌, [], ℕ, List, IfOk, IfSome, IsTrue, OnOk, Some, slice_get};
 ghost use Rattle.tp_name.specs.Named.{IsAbsent, texts};
-ghost use Rattle.tp_body.specs.Scoping.{IsNew, port_names};
+ghost use Rattle.tp_body.specs.Scoping.{IsNew, declared_port_names};
 ghost use Rattle.tp_body.specs.Bodies.{AreVariables, IsHeld};
 
 use crate::body::VariableType;
@@ -65,7 +65,7 @@ fn find_held(scope: &Scope, name: &TypeName) -> Option<VariableType>
 
 /// Adds a variable behind the others. 12 `Duplicate` for a name that is there; 15 `Limit` for more
 /// than 4,294,967,295 variables; 50.
-fn declare<'m>(
+fn add_variable<'m>(
     variables: &mut Variables<'m>,
     name: &'m str,
     held: VariableType,
@@ -111,7 +111,7 @@ pub fn resolve_variables<'m>(
         if !is_new(&context, name) {
             return Err(context.duplicate());
         }
-        declare(&mut variables, name, held, variable.line)?;
+        add_variable(&mut variables, name, held, variable.line)?;
     }
     Ok(variables)
 }
@@ -119,7 +119,7 @@ pub fn resolve_variables<'m>(
 /// Whether no parameter has the name of a port. Takes no memory.
 pub fn are_no_ports(scope: &Scope) -> bool
     ensures { IsTrue result → (k : ℕ) (name : List ℕ)
-        → slice_get (port_names scope.now.ports.now) k ≡ Some name
+        → slice_get (declared_port_names scope.now.ports.now) k ≡ Some name
         → IsAbsent scope.now.parameters.now name }
 {
     for place in 0..scope.ports.ports.len() {

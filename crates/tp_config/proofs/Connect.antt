@@ -11,7 +11,7 @@ use Rattle.tp_config.specs.Pairs.{partner, partners, same_port}
 use Rattle.tp_config.specs.Setup.{Setup, is_system, ins, outs, connecting}
 use Rattle.tp_config.specs.Allowed.{Allowed, CanConnect, Directed, MayConnect}
 use Rattle.tp_config.specs.Causes.{ConnectCause, ConnectRefused, IsFirst, Stands, HasOther, connect_order}
-use Rattle.tp_config.specs.Kept.{Keeps}
+use Rattle.tp_config.specs.Kept.{KeepsPairs}
 use Rattle.tp_config.specs.Tests.{connect_test, are_among}
 use Rattle.tp_config.proofs.Order.{first_guarded, none_guarded}
 use Rattle.tp_config.proofs.Decide.{port_decides, directed_decides}
@@ -191,20 +191,20 @@ refused_at s a b fault.Memory h = absurd (first_cause (ConnectCause s a b) conne
 pub stable : {P : Type 0} (b : Bool) → Decides b P → ¬ (¬ P) → P
 stable b d h = elim (by_decides b d) [ inl p ↦ p | inr n ↦ absurd (h n) ]
 
-pub connect_refused : (s : Setup) (links : List (List (List PortRef))) (a b : PortRef) (f : ConnectFault) → Keeps s links
+pub connect_refused : (s : Setup) (links : List (List (List PortRef))) (a b : PortRef) (f : ConnectFault) → KeepsPairs s links
     → Some f ≡ find (connect_test s.types s.components links a b) connect_order → ConnectRefused s a b f
 connect_refused s links a b f k h =
     refused_at s a b f (first_guarded (connect_test s.types s.components links a b) (ConnectCause s a b) fault.SystemPort own_order f
     (system_decides s links k a b) (cause_decides s links k a b) (sym h))
 
 -- where no test passes no cause holds
-pub no_cause : (s : Setup) (links : List (List (List PortRef))) (a b : PortRef) → Keeps s links
+pub no_cause : (s : Setup) (links : List (List (List PortRef))) (a b : PortRef) → KeepsPairs s links
     → None ≡ find (connect_test s.types s.components links a b) connect_order → AllByRecursion (λ f. ¬ ConnectCause s a b f) connect_order
 no_cause s links a b k h =
     none_guarded (connect_test s.types s.components links a b) (ConnectCause s a b) fault.SystemPort own_order (system_decides s links k a b)
     (cause_decides s links k a b) (sym h)
 
-pub can_connect : (s : Setup) (links : List (List (List PortRef))) (a b : PortRef) → Keeps s links
+pub can_connect : (s : Setup) (links : List (List (List PortRef))) (a b : PortRef) → KeepsPairs s links
     → None ≡ find (connect_test s.types s.components links a b) connect_order → CanConnect s a b
 can_connect s links a b k h =
     let none : AllByRecursion (λ f. ¬ ConnectCause s a b f) connect_order = no_cause s links a b k h in (

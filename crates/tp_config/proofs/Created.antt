@@ -18,13 +18,13 @@ use Rattle.tp_config.specs.Causes.{CanCreate, CreateCause, CreateRefused, IsFirs
 use Rattle.tp_config.specs.Tests.{create_test}
 use Rattle.tp_config.specs.Routes.{beside}
 use Rattle.tp_config.specs.Links.{row, links_at}
-use Rattle.tp_config.specs.Kept.{Keeps}
+use Rattle.tp_config.specs.Kept.{KeepsPairs}
 use Rattle.tp_config.proofs.Look.{length_ports}
 use Rattle.tp_config.proofs.Order.{first_from_find, none_from_find}
 use Rattle.tp_config.proofs.Decide.{create_decides}
 use Rattle.tp_config.proofs.Grown.{create_allowed, ports_before, ports_kept, ports_past}
 
-pub keeps_empty : (types : List CompType) → All (λ t. length t.ports.entries ≤ 64) types → Keeps (empty_setup (map ports_of types)) []
+pub keeps_empty : (types : List CompType) → All (λ t. length t.ports.entries ≤ 64) types → KeepsPairs (empty_setup (map ports_of types)) []
 unfolding ports_at beside
 keeps_empty types few =
     record {
@@ -101,7 +101,7 @@ ports_last t ms m c e =
     ap (λ k. option_map_or (λ (x : Member). get_or t x.kind []) (slice_get (ms ++ m ∷ []) k) []) e
     ∙ ap (λ o. option_map_or (λ (x : Member). get_or t x.kind []) o []) (slice_get_last ms m)
 
-module _ (s : Setup) (links : List (List (List PortRef))) (m : Member) (n : ℕ) (k : Keeps s links) (same : length links ≡ length s.components) where
+module _ (s : Setup) (links : List (List (List PortRef))) (m : Member) (n : ℕ) (k : KeepsPairs s links) (same : length links ≡ length s.components) where
   row_past : (c : CompId) → length links ≤ c.0 → row links c ≡ []
   row_past c past = get_or_past links c.0 [] past
 
@@ -149,8 +149,8 @@ name_among s m i d n e =
     subst (Contains (names s)) (get_or-map (λ (x : Member). x.name) s.components i d m.name n ∙ e)
     (Contains-get_or (names s) i m.name (omega (arith, n, length-map s.components (λ (x : Member). x.name))))
 
-keeps_creating : (s : Setup) (links : List (List (List PortRef))) (m : Member) (n : ℕ) → Keeps s links → length links ≡ length s.components
-    → m.kind < length s.types → n ≡ length (get_or s.types m.kind []) → CanCreate s m → Keeps (creating s m) (links ++ replicate n [] ∷ [])
+keeps_creating : (s : Setup) (links : List (List (List PortRef))) (m : Member) (n : ℕ) → KeepsPairs s links → length links ≡ length s.components
+    → m.kind < length s.types → n ≡ length (get_or s.types m.kind []) → CanCreate s m → KeepsPairs (creating s m) (links ++ replicate n [] ∷ [])
 keeps_creating s links m n k same kind count can =
     record {
       setup = record {
@@ -171,15 +171,15 @@ keeps_creating s links m n k same kind count can =
     }
 
 -- the configuration after a create, by its parts
-pub after_create : (s now : Setup) (links more : List (List (List PortRef))) (members : List Member) (m : Member) (n : ℕ) → s ≡ now → Keeps s links
+pub after_create : (s now : Setup) (links more : List (List (List PortRef))) (members : List Member) (m : Member) (n : ℕ) → s ≡ now → KeepsPairs s links
     → length links ≡ length s.components → m.kind < length now.types → n ≡ length (get_or s.types m.kind [])
     → None ≡ find (create_test s.components m.name m.role) create_order → members ≡ s.components ++ m ∷ [] → more ≡ links ++ replicate n [] ∷ []
-    → Keeps (record s { components = members }) more × (CanCreate now m × (record s { components = members } ≡ creating now m))
+    → KeepsPairs (record s { components = members }) more × (CanCreate now m × (record s { components = members } ≡ creating now m))
 after_create s now links more members m n whole k same kind count h e l =
     let can : CanCreate s m = can_create s m h in
-    let kept : Keeps (creating s m) (links ++ replicate n [] ∷ []) =
+    let kept : KeepsPairs (creating s m) (links ++ replicate n [] ∷ []) =
     keeps_creating s links m n k same (subst (λ t. m.kind < length t.types) (sym whole) kind) count can in
     let made : record s { components = members } ≡ creating s m = ap (λ x. record s { components = x }) e in (
-      subst (λ t. Keeps t more) (sym made) (subst (Keeps (creating s m)) (sym l) kept),
+      subst (λ t. KeepsPairs t more) (sym made) (subst (KeepsPairs (creating s m)) (sym l) kept),
       (subst (λ t. CanCreate t m) whole can, made ∙ ap (λ t. creating t m) whole),
     )

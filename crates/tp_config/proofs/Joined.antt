@@ -15,8 +15,8 @@ use Rattle.tp_config.specs.Allowed.{ArePorts, CanConnect, CanMap}
 use Rattle.tp_config.specs.Causes.{ConnectCause, MapCause, Stands, connect_order, map_order}
 use Rattle.tp_config.specs.Tests.{connect_test, map_test}
 use Rattle.tp_config.specs.Routes.{beside}
-use Rattle.tp_config.specs.Links.{row, links_at, with_links, joined}
-use Rattle.tp_config.specs.Kept.{Keeps}
+use Rattle.tp_config.specs.Links.{row, links_at, with_links, links_joined}
+use Rattle.tp_config.specs.Kept.{KeepsPairs}
 use Rattle.tp_config.proofs.Decide.{port_decides}
 use Rattle.tp_config.proofs.Connect as connect
 use Rattle.tp_config.proofs.Connect.{can_connect, partners_push, same_or_not}
@@ -37,7 +37,7 @@ port_within t m p h =
     slice_get_within (ports_at t m p.comp) p.port w.0 w.1
 
 -- a port has a list
-pub port_in_row : (s : Setup) (links : List (List (List PortRef))) (p : PortRef) → Keeps s links → IsPort s p → p.port < length (row links p.comp)
+pub port_in_row : (s : Setup) (links : List (List (List PortRef))) (p : PortRef) → KeepsPairs s links → IsPort s p → p.port < length (row links p.comp)
 port_in_row s links p k h = omega (arith, port_within s.types s.components p h, k.shape p.comp)
 
 no_partner_at : (a b r : PortRef) (s t : Bool) → same_port r a ≡ s → same_port r b ≡ t → r ≢ a → r ≢ b → cond s (Some b) (cond t (Some a) None) ≡ None
@@ -50,12 +50,12 @@ no_partner a b r na nb = no_partner_at a b r (same_port r a) (same_port r b) ref
 
 -- each list has grown by the port's partner in the new pair
 pub joined_at : (links : List (List (List PortRef))) (p q r : PortRef) → p ≢ q → p.port < length (row links p.comp)
-    → q.port < length (row links q.comp) → links_at (joined links p q) r ≡ links_at links r ++ cons_option (partner r (p, q)) []
+    → q.port < length (row links q.comp) → links_at (links_joined links p q) r ≡ links_at links r ++ cons_option (partner r (p, q)) []
 joined_at links p q r differ np nq =
     let first : List (List (List PortRef)) = with_links links p (links_at links p ++ q ∷ []) in
     let mq : q.port < length (row first q.comp) = omega (arith, nq, rows_kept links p (links_at links p ++ q ∷ []) np q.comp) in
     elim (same_or_not r q) [
-      | inl at_q ↦ ap (links_at (joined links p q)) at_q ∙ links_same first q (links_at links q ++ p ∷ []) mq
+      | inl at_q ↦ ap (links_at (links_joined links p q)) at_q ∙ links_same first q (links_at links q ++ p ∷ []) mq
           ∙ ap (λ x. links_at links q ++ cons_option x []) (sym (partner_second p q))
           ∙ ap (λ x. links_at links x ++ cons_option (partner x (p, q)) []) (sym at_q)
       | inr not_q ↦ elim (same_or_not r p) [
@@ -68,7 +68,7 @@ joined_at links p q r differ np nq =
     ]
 
 pub joined_rows : (links : List (List (List PortRef))) (p q : PortRef) → p.port < length (row links p.comp) → q.port < length (row links q.comp)
-    → (c : CompId) → length (row (joined links p q) c) ≡ length (row links c)
+    → (c : CompId) → length (row (links_joined links p q) c) ≡ length (row links c)
 joined_rows links p q np nq c =
     let first : List (List (List PortRef)) = with_links links p (links_at links p ++ q ∷ []) in
     let mq : q.port < length (row first q.comp) = omega (arith, nq, rows_kept links p (links_at links p ++ q ∷ []) np q.comp) in
@@ -119,8 +119,8 @@ beside_mapping s p q r =
     ∙ sym (append_assoc (partners s.connected r) (partners s.mapped r) (cons_option (partner r (p, q)) []))
     ∙ ap (λ l. l ++ cons_option (partner r (p, q)) []) (sym (beside_parts s r))
 
-keeps_connecting : (s : Setup) (links : List (List (List PortRef))) (p q : PortRef) → Keeps s links → IsPort s p → IsPort s q
-    → None ≡ find (connect_test s.types s.components links p q) connect_order → Keeps (connecting s p q) (joined links p q)
+keeps_connecting : (s : Setup) (links : List (List (List PortRef))) (p q : PortRef) → KeepsPairs s links → IsPort s p → IsPort s q
+    → None ≡ find (connect_test s.types s.components links p q) connect_order → KeepsPairs (connecting s p q) (links_joined links p q)
 keeps_connecting s links p q k hp hq h =
     let none : AllByRecursion (λ f. ¬ ConnectCause s p q f) connect_order = connect.no_cause s links p q k h in
     let can : CanConnect s p q = can_connect s links p q k h in
@@ -143,8 +143,8 @@ keeps_connecting s links p q k hp hq h =
           ∙ sym (beside_connecting s p q r (λ w. none.1.1.1.0 (inl w)) (λ w. none.1.1.1.0 (inr w)));
     }
 
-keeps_mapping : (s : Setup) (links : List (List (List PortRef))) (p q : PortRef) → Keeps s links → IsPort s p → IsPort s q
-    → None ≡ find (map_test s.types s.components links p q) map_order → Keeps (mapping s p q) (joined links p q)
+keeps_mapping : (s : Setup) (links : List (List (List PortRef))) (p q : PortRef) → KeepsPairs s links → IsPort s p → IsPort s q
+    → None ≡ find (map_test s.types s.components links p q) map_order → KeepsPairs (mapping s p q) (links_joined links p q)
 keeps_mapping s links p q k hp hq h =
     let none : AllByRecursion (λ f. ¬ MapCause s p q f) map_order = map.no_cause s links p q k h in
     let can : CanMap s p q = can_map s links p q k h in
@@ -169,32 +169,32 @@ keeps_mapping s links p q k hp hq h =
 
 -- the configuration after a connect, by its parts
 pub after_connect : (s now : Setup) (links more : List (List (List PortRef))) (members : List Member) (pairs : List (PortRef × PortRef))
-    (p q : PortRef) (r : Option ConnectFault) → s ≡ now → Keeps s links → IsPort now p → IsPort now q → r ≡ None
+    (p q : PortRef) (r : Option ConnectFault) → s ≡ now → KeepsPairs s links → IsPort now p → IsPort now q → r ≡ None
     → r ≡ find (connect_test s.types s.components links p q) connect_order → members ≡ s.components → pairs ≡ s.connected ++ (p, q) ∷ []
-    → more ≡ joined links p q → Keeps (record s { components = members; connected = pairs }) more
+    → more ≡ links_joined links p q → KeepsPairs (record s { components = members; connected = pairs }) more
     × (CanConnect now p q × (record s { components = members; connected = pairs } ≡ connecting now p q))
 after_connect s now links more members pairs p q r same k hp hq e is m c l =
     let h : None ≡ find (connect_test s.types s.components links p q) connect_order = sym e ∙ is in
-    let kept : Keeps (connecting s p q) (joined links p q) =
+    let kept : KeepsPairs (connecting s p q) (links_joined links p q) =
     keeps_connecting s links p q k (subst (λ t. IsPort t p) (sym same) hp) (subst (λ t. IsPort t q) (sym same) hq) h in
     let whole : record s { components = members; connected = pairs } ≡ connecting s p q =
     ap (λ x. record s { components = x; connected = pairs }) m ∙ ap (λ x. record s { connected = x }) c in (
-      subst (λ t. Keeps t more) (sym whole) (subst (Keeps (connecting s p q)) (sym l) kept),
+      subst (λ t. KeepsPairs t more) (sym whole) (subst (KeepsPairs (connecting s p q)) (sym l) kept),
       (subst (λ t. CanConnect t p q) same (can_connect s links p q k h), whole ∙ ap (λ t. connecting t p q) same),
     )
 
 -- the configuration after a map, by its parts
 pub after_map : (s now : Setup) (links more : List (List (List PortRef))) (members : List Member) (pairs : List (PortRef × PortRef)) (p q : PortRef)
-    (r : Option MapFault) → s ≡ now → Keeps s links → IsPort now p → IsPort now q → r ≡ None
+    (r : Option MapFault) → s ≡ now → KeepsPairs s links → IsPort now p → IsPort now q → r ≡ None
     → r ≡ find (map_test s.types s.components links p q) map_order → members ≡ s.components → pairs ≡ s.mapped ++ (p, q) ∷ []
-    → more ≡ joined links p q → Keeps (record s { components = members; mapped = pairs }) more
+    → more ≡ links_joined links p q → KeepsPairs (record s { components = members; mapped = pairs }) more
     × (CanMap now p q × (record s { components = members; mapped = pairs } ≡ mapping now p q))
 after_map s now links more members pairs p q r same k hp hq e is m c l =
     let h : None ≡ find (map_test s.types s.components links p q) map_order = sym e ∙ is in
-    let kept : Keeps (mapping s p q) (joined links p q) =
+    let kept : KeepsPairs (mapping s p q) (links_joined links p q) =
     keeps_mapping s links p q k (subst (λ t. IsPort t p) (sym same) hp) (subst (λ t. IsPort t q) (sym same) hq) h in
     let whole : record s { components = members; mapped = pairs } ≡ mapping s p q =
     ap (λ x. record s { components = x; mapped = pairs }) m ∙ ap (λ x. record s { mapped = x }) c in (
-      subst (λ t. Keeps t more) (sym whole) (subst (Keeps (mapping s p q)) (sym l) kept),
+      subst (λ t. KeepsPairs t more) (sym whole) (subst (KeepsPairs (mapping s p q)) (sym l) kept),
       (subst (λ t. CanMap t p q) same (can_map s links p q k h), whole ∙ ap (λ t. mapping t p q) same),
     )

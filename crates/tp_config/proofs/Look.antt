@@ -11,7 +11,7 @@ use Rattle.tp_config.specs.declared.port_type.PortType.{PortType}
 use Rattle.tp_config.specs.declared.port_type.CompType.{CompType}
 use Rattle.tp_config.specs.declared.component.Component.{Component}
 use Rattle.tp_config.specs.Setup.{PortDecl, Member, is_system, is_system_member, is_system_role, ports_at, decl_at, ins, outs}
-use Rattle.tp_config.specs.Shape.{ports_of, member_of, decl_of, type_of, types_of_decl}
+use Rattle.tp_config.specs.Shape.{ports_of, member_of, decl_of, types_of_port_type, types_of_decl}
 
 pub system_some : (cs : List Component) (p : PortRef) (c : Component) → slice_get cs p.comp.0 ≡ Some c → is_system_role c.role ≡ is_system (map member_of cs) p
 unfolding is_system member_of
@@ -47,38 +47,39 @@ pub types_none : (ts : List (List PortDecl)) (ms : List Member) (p : PortRef) �
 unfolding decl_at
 types_none ts ms p e = ap (λ (l : List PortDecl). option_map types_of_decl (slice_get l p.port)) e
 
-types_in : {A : Type 0} (o : Option (String A × PortType)) → option_map type_of (option_map (λ e. e.1) o) ≡ option_map types_of_decl (option_map decl_of o)
+types_in : {A : Type 0} (o : Option (String A × PortType))
+    → option_map types_of_port_type (option_map (λ e. e.1) o) ≡ option_map types_of_decl (option_map decl_of o)
 types_in None = refl
 types_in (Some e) = refl
 
 pub types_entry : (ts : List (List PortDecl)) (ms : List Member) (p : PortRef) (t : CompType) (o : Option PortType)
     → ports_of t ≡ ports_at ts ms p.comp → o ≡ option_map (λ e. e.1) (slice_get t.ports.entries p.port)
-    → option_map type_of o ≡ option_map types_of_decl (decl_at ts ms p)
+    → option_map types_of_port_type o ≡ option_map types_of_decl (decl_at ts ms p)
 unfolding decl_at ports_of
 types_entry ts ms p t o e is =
-    ap (option_map type_of) is ∙ types_in (slice_get t.ports.entries p.port)
+    ap (option_map types_of_port_type) is ∙ types_in (slice_get t.ports.entries p.port)
     ∙ ap (option_map types_of_decl) (sym (slice_get-map decl_of t.ports.entries p.port) ∙ ap (λ (l : List PortDecl). slice_get l p.port) e)
 
-ins_in : (o : Option PortType) (d : Option PortDecl) → option_map type_of o ≡ option_map types_of_decl d
+ins_in : (o : Option PortType) (d : Option PortDecl) → option_map types_of_port_type o ≡ option_map types_of_decl d
     → option_map_or (λ (t : PortType). t.ins) o [] ≡ option_map_or (λ (e : PortDecl). e.ins) d []
 ins_in None None h = refl
 ins_in None (Some d) h = absurd (cc)
 ins_in (Some t) None h = absurd (cc)
-ins_in (Some t) (Some d) h = let x : type_of t ≡ types_of_decl d = cc in ap (λ (y : List Ty × List Ty). y.0) x
+ins_in (Some t) (Some d) h = let x : types_of_port_type t ≡ types_of_decl d = cc in ap (λ (y : List Ty × List Ty). y.0) x
 
-outs_in : (o : Option PortType) (d : Option PortDecl) → option_map type_of o ≡ option_map types_of_decl d
+outs_in : (o : Option PortType) (d : Option PortDecl) → option_map types_of_port_type o ≡ option_map types_of_decl d
     → option_map_or (λ (t : PortType). t.outs) o [] ≡ option_map_or (λ (e : PortDecl). e.outs) d []
 outs_in None None h = refl
 outs_in None (Some d) h = absurd (cc)
 outs_in (Some t) None h = absurd (cc)
-outs_in (Some t) (Some d) h = let x : type_of t ≡ types_of_decl d = cc in ap (λ (y : List Ty × List Ty). y.1) x
+outs_in (Some t) (Some d) h = let x : types_of_port_type t ≡ types_of_decl d = cc in ap (λ (y : List Ty × List Ty). y.1) x
 
 pub ins_by : (ts : List (List PortDecl)) (cs : List Member) (p : PortRef) (o : Option PortType)
-    → option_map type_of o ≡ option_map types_of_decl (decl_at ts cs p) → option_map_or (λ (t : PortType). t.ins) o [] ≡ ins ts cs p
+    → option_map types_of_port_type o ≡ option_map types_of_decl (decl_at ts cs p) → option_map_or (λ (t : PortType). t.ins) o [] ≡ ins ts cs p
 unfolding ins
 ins_by ts cs p o h = ins_in o (decl_at ts cs p) h
 
 pub outs_by : (ts : List (List PortDecl)) (cs : List Member) (p : PortRef) (o : Option PortType)
-    → option_map type_of o ≡ option_map types_of_decl (decl_at ts cs p) → option_map_or (λ (t : PortType). t.outs) o [] ≡ outs ts cs p
+    → option_map types_of_port_type o ≡ option_map types_of_decl (decl_at ts cs p) → option_map_or (λ (t : PortType). t.outs) o [] ≡ outs ts cs p
 unfolding outs
 outs_by ts cs p o h = outs_in o (decl_at ts cs p) h

@@ -12,7 +12,7 @@ use Rattle.tp_config.specs.Pairs.{partner, partners, same_port}
 use Rattle.tp_config.specs.Setup.{Setup, is_system, ins, outs, mapping}
 use Rattle.tp_config.specs.Allowed.{Allowed, CanMap, MapDirected, MayMap}
 use Rattle.tp_config.specs.Causes.{MapCause, MapRefused, IsFirst, Stands, map_order}
-use Rattle.tp_config.specs.Kept.{Keeps}
+use Rattle.tp_config.specs.Kept.{KeepsPairs}
 use Rattle.tp_config.specs.Tests.{map_test, map_directed, are_among, is_connected, is_mapped}
 use Rattle.tp_config.proofs.Order.{first_from_find, none_from_find}
 use Rattle.tp_config.proofs.Decide.{port_decides, among_decides, Contains-here}
@@ -45,7 +45,7 @@ fits_decides s p q =
     (implies_decides (is_system s.components q) (map_directed s.types s.components p q) (map_directed_decides s p q))
     (implies_decides (is_system s.components p) (map_directed s.types s.components q p) (map_directed_decides s q p))
 
-pub map_decides : (s : Setup) (links : List (List (List PortRef))) (p q : PortRef) → Keeps s links → (f : MapFault)
+pub map_decides : (s : Setup) (links : List (List (List PortRef))) (p q : PortRef) → KeepsPairs s links → (f : MapFault)
     → Decides (map_test s.types s.components links p q f) (MapCause s p q f)
 unfolding Fits
 map_decides s links p q k refusal.NotSystem = same_decides (is_system s.components p) (is_system s.components q)
@@ -151,17 +151,17 @@ refused_at s a b refusal.NotOneToOne h = (h, cause_refuses s a b refusal.NotOneT
 refused_at s a b refusal.MapDirections h = (h, cause_refuses s a b refusal.MapDirections (first_cause (MapCause s a b) map_order refusal.MapDirections h))
 refused_at s a b refusal.Memory h = absurd (first_cause (MapCause s a b) map_order refusal.Memory h)
 
-pub map_refused : (s : Setup) (links : List (List (List PortRef))) (a b : PortRef) (f : MapFault) → Keeps s links
+pub map_refused : (s : Setup) (links : List (List (List PortRef))) (a b : PortRef) (f : MapFault) → KeepsPairs s links
     → Some f ≡ find (map_test s.types s.components links a b) map_order → MapRefused s a b f
 map_refused s links a b f k h =
     refused_at s a b f (first_from_find (map_test s.types s.components links a b) (MapCause s a b) (map_decides s links a b k) map_order f (sym h))
 
 -- where no test passes no cause holds
-pub no_cause : (s : Setup) (links : List (List (List PortRef))) (a b : PortRef) → Keeps s links
+pub no_cause : (s : Setup) (links : List (List (List PortRef))) (a b : PortRef) → KeepsPairs s links
     → None ≡ find (map_test s.types s.components links a b) map_order → AllByRecursion (λ f. ¬ MapCause s a b f) map_order
 no_cause s links a b k h = none_from_find (map_test s.types s.components links a b) (MapCause s a b) (map_decides s links a b k) map_order (sym h)
 
-pub can_map : (s : Setup) (links : List (List (List PortRef))) (a b : PortRef) → Keeps s links
+pub can_map : (s : Setup) (links : List (List (List PortRef))) (a b : PortRef) → KeepsPairs s links
     → None ≡ find (map_test s.types s.components links a b) map_order → CanMap s a b
 can_map s links a b k h =
     let none : AllByRecursion (λ f. ¬ MapCause s a b f) map_order = no_cause s links a b k h in

@@ -16,7 +16,7 @@ use Rattle.tp_config.specs.Allowed.{Allowed, MayConnect, MayMap}
 use Rattle.tp_config.specs.Causes.{ConnectCause, Stands, HasOther}
 use Rattle.tp_config.specs.Routes.{beside}
 use Rattle.tp_config.specs.Links.{links_at}
-use Rattle.tp_config.specs.Kept.{Keeps}
+use Rattle.tp_config.specs.Kept.{KeepsPairs}
 use Rattle.tp_config.specs.Tests.{connect_test, are_among, has_other, is_beside, is_connected, is_mapped, same_bool}
 use Rattle.tp_config.proofs.Decide.{Contains-here, Contains-later, any_decides, comp_decides, contains_by, directed_decides, itself, port_decides}
 use Rattle.tp_config.proofs.Beside.{beside_cases, beside_parts, cons_cases, pair_cases}
@@ -85,7 +85,7 @@ both_false true b e = absurd (cc)
 both_false false true e = absurd (cc)
 both_false false false e = refl
 
-module _ (s : Setup) (links : List (List (List PortRef))) (k : Keeps s links) where
+module _ (s : Setup) (links : List (List (List PortRef))) (k : KeepsPairs s links) where
   -- a test of the ports in the list beside p decides whether one beside it has P
   kept_decides : (test : PortRef → Bool) (P : PortRef → Type 0) → ((r : PortRef) → Decides (test r) (P r)) → (p : PortRef)
       → Decides (list_any test (links_at links p)) ((r : PortRef) × Contains (beside s p) r × P r)

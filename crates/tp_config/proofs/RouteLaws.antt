@@ -14,7 +14,7 @@ use Rattle.tp_config.specs.Setup.{Setup, PortDecl, Member, IsPort, ports_at}
 use Rattle.tp_config.specs.Allowed.{ArePorts, IsSetup}
 use Rattle.tp_config.specs.Routes.{AreDistinct, AreRoutesInto, IsRouteOf, RouteCauseOf, SendersAreDetermined, beside, route_to, routes_below, routes_from, routes_into}
 use Rattle.tp_config.specs.Links.{links_at, routes_kept}
-use Rattle.tp_config.specs.Kept.{Keeps}
+use Rattle.tp_config.specs.Kept.{KeepsPairs}
 use Rattle.tp_config.proofs.Decide.{Contains-here, Contains-later, Contains-split}
 use Rattle.tp_config.proofs.Beside.{beside_back, beside_distinct, beside_of_one, cons_cases, pair_cases}
 use Rattle.tp_config.proofs.Joined.{port_within}
@@ -174,21 +174,21 @@ unfolding routes_into
 both_ways s l c = λ r. (into_from s c (length (ports_at s.types s.components c)) r, λ w. from_into s l c w.1.0 r w.0 w.1.1)
 
 -- by what is kept
-kept_below : (s : Setup) (links : List (List (List PortRef))) → Keeps s links → (c : CompId) (n : ℕ) → routes_kept links c n ≡ routes_below s c n
+kept_below : (s : Setup) (links : List (List (List PortRef))) → KeepsPairs s links → (c : CompId) (n : ℕ) → routes_kept links c n ≡ routes_below s c n
 unfolding port_at
 kept_below s links k c zero = refl
 kept_below s links k c (suc n) =
     ap (λ l. l ++ map (λ q. route_to q (port_at c n)) (links_at links (port_at c n))) (kept_below s links k c n)
     ∙ ap (λ l. routes_below s c n ++ map (λ q. route_to q (port_at c n)) l) (k.kept (port_at c n))
 
-pub kept_into : (s now : Setup) (links more : List (List (List PortRef))) → Keeps s links → s ≡ now → more ≡ links → (c : CompId) (n : ℕ)
+pub kept_into : (s now : Setup) (links more : List (List (List PortRef))) → KeepsPairs s links → s ≡ now → more ≡ links → (c : CompId) (n : ℕ)
     → n ≡ length (ports_at s.types s.components c) → routes_kept more c n ≡ routes_into now c
 unfolding routes_into
 kept_into s now links more k same e c n f =
     ap (λ l. routes_kept l c n) e ∙ kept_below s links k c n ∙ ap (routes_below s c) f
     ∙ ap (λ t. routes_below t c (length (ports_at t.types t.components c))) same
 
-pub kept_from : (s now : Setup) (links more : List (List (List PortRef))) → Keeps s links → s ≡ now → more ≡ links → (p : PortRef)
+pub kept_from : (s now : Setup) (links more : List (List (List PortRef))) → KeepsPairs s links → s ≡ now → more ≡ links → (p : PortRef)
     → map (route_to p) (links_at more p) ≡ routes_from now p
 unfolding routes_from
 kept_from s now links more k same e p =

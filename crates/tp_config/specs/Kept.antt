@@ -8,7 +8,7 @@ use Rattle.tp_config.specs.Links.{row, links_at}
 use Rattle.tp_config.specs.Routes.{beside}
 
 -- the lists beside the ports are those of the configuration's pairs
-pub record Keeps (s : Setup) (links : List (List (List PortRef))) : Type 0 where
+pub record KeepsPairs (s : Setup) (links : List (List (List PortRef))) : Type 0 where
   pub setup : IsSetup s
   -- each component has a list for each of its ports
   pub shape : (c : CompId) → length (row links c) ≡ length (ports_at s.types s.components c)

@@ -19,8 +19,8 @@ abbrev pub with_links : List (List (List PortRef)) → PortRef → List PortRef 
 with_links links p beside = slice_set links p.comp.0 (slice_set (row links p.comp) p.port beside)
 
 -- with q at the end of what stands beside p, and p at the end of what stands beside q
-abbrev pub joined : List (List (List PortRef)) → PortRef → PortRef → List (List (List PortRef))
-joined links p q = with_links (with_links links p (links_at links p ++ q ∷ [])) q (links_at links q ++ p ∷ [])
+abbrev pub links_joined : List (List (List PortRef)) → PortRef → PortRef → List (List (List PortRef))
+links_joined links p q = with_links (with_links links p (links_at links p ++ q ∷ [])) q (links_at links q ++ p ∷ [])
 
 -- the routes to the first n ports of the component, by what stands beside them
 abbrev pub routes_kept : List (List (List PortRef)) → CompId → ℕ → List RouteId

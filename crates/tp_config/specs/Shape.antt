@@ -31,8 +31,8 @@ abbrev pub links_of : Component → List (List PortRef)
 links_of c = c.links
 
 -- what a port type receives and sends
-abbrev pub type_of : PortType → List Ty × List Ty
-type_of t = (t.ins, t.outs)
+abbrev pub types_of_port_type : PortType → List Ty × List Ty
+types_of_port_type t = (t.ins, t.outs)
 
 -- what a declared port receives and sends
 abbrev pub types_of_decl : PortDecl → List Ty × List Ty

@@ -18,5 +18,5 @@ abbrev pub HaveSame : List Ty → List Ty → Type 0
 HaveSame xs ys = (ty : Ty) → list_any (λ other. same_type other ty) xs ≡ list_any (λ other. same_type other ty) ys
 
 -- the types of the list, and none where there is no list
-abbrev pub listed : Option (List Ty) → List Ty
-listed o = option_map_or (λ (types : List Ty). types) o []
+abbrev pub listed_types : Option (List Ty) → List Ty
+listed_types o = option_map_or (λ (types : List Ty). types) o []

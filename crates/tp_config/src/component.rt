@@ -2,9 +2,9 @@
 ghost use Rattle.std.specs.Prelude.{◌≡◌, ◌<◌, ◌++◌, ◌∷◌, [], map, length, option_map, slice_get, IfOk, OnErr, OnOk};
 ghost use Rattle.std.specs.Option.{option_copied, option_map_or};
 ghost use Rattle.tp_config.specs.Setup.{decl_at, ins, is_system, outs, ports_at};
-ghost use Rattle.tp_config.specs.Shape.{links_of, member_of, ports_of, type_of, types_of_decl};
-ghost use Rattle.tp_config.specs.Types.{listed};
-ghost use Rattle.tp_config.specs.Links.{joined, links_at, row, with_links};
+ghost use Rattle.tp_config.specs.Shape.{links_of, member_of, ports_of, types_of_port_type, types_of_decl};
+ghost use Rattle.tp_config.specs.Types.{listed_types};
+ghost use Rattle.tp_config.specs.Links.{links_joined, links_at, row, with_links};
 
 use crate::links::Links;
 use crate::port_type::{CompId, CompType, PortRef, PortType, Role};
@@ -76,7 +76,8 @@ fn port_type<'a>(
     components: &[Component],
     p: PortRef,
 ) -> Option<&'a PortType>
-    ensures { let m = map member_of components.now in option_map type_of (option_copied result)
+    ensures { let m = map member_of components.now in
+        option_map types_of_port_type (option_copied result)
         ≡ option_map types_of_decl (decl_at (map ports_of types.now) m p) }
 {
     let Some(kind) = type_in(types, components, p.comp) else {
@@ -91,7 +92,7 @@ pub(crate) fn ins<'a>(
     components: &[Component],
     p: PortRef,
 ) -> Option<&'a TypeList>
-    ensures { listed (option_copied result)
+    ensures { listed_types (option_copied result)
         ≡ ins (map ports_of types.now) (map member_of components.now) p }
 {
     match port_type(types, components, p) {
@@ -106,7 +107,7 @@ pub(crate) fn outs<'a>(
     components: &[Component],
     p: PortRef,
 ) -> Option<&'a TypeList>
-    ensures { listed (option_copied result)
+    ensures { listed_types (option_copied result)
         ≡ outs (map ports_of types.now) (map member_of components.now) p }
 {
     match port_type(types, components, p) {
@@ -161,7 +162,7 @@ fn with_last(alloc: Global, ports: &[PortRef], last: PortRef) -> Result<Items<Po
 /// list has 64 ports at most, one for each component.
 ///
 /// 50 `Memory` only where an allocation was refused; everything is then as before.
-pub(crate) fn join(
+pub(crate) fn join_ports(
     alloc: Global,
     components: &mut Vec<Component>,
     pairs: &mut Vec<(PortRef, PortRef)>,
@@ -174,7 +175,7 @@ pub(crate) fn join(
     ensures members { OnOk result
         (map member_of components.new.items ≡ map member_of components.old.items) }
     ensures links { OnOk result (map links_of components.new.items
-        ≡ joined (map links_of components.old.items) p q) }
+        ≡ links_joined (map links_of components.old.items) p q) }
     ensures no_pair { OnErr result (pairs.new.items ≡ pairs.old.items) }
     ensures no_link { OnErr result (components.new.items ≡ components.old.items) }
 {

@@ -6,13 +6,13 @@ ghost use Rattle.tp_config.specs.Allowed.{CanConnect, CanMap, IsSetup};
 ghost use Rattle.tp_config.specs.Causes.{CanCreate, ConnectRefused, CreateRefused, MapRefused};
 ghost use Rattle.tp_config.specs.Routes.{AreDistinct, AreRoutesInto, IsRoute, RouteCause, SendersAreDetermined, routes_from, routes_into};
 
-use crate::component::{Component, beside, join, port_count, type_in};
+use crate::component::{Component, beside, join_ports, port_count, type_in};
 use crate::connecting::{ConnectFault, connect_fault};
-use crate::creating::{CreateFault, create_fault, place_of};
+use crate::creating::{CreateFault, component_place, create_fault};
 use crate::links::Links;
 use crate::mapping::{MapFault, map_fault};
 use crate::port_type::{CompId, CompType, PortRef, Role, RouteId};
-use crate::routes::{RouteFault, choose, routes_in, routes_out};
+use crate::routes::{RouteFault, choose_route, routes_in, routes_out};
 use std::alloc::Global;
 use std::marker::Model;
 use tp_refusal::memory::Memory;
@@ -44,12 +44,12 @@ impl Model for Config {
     ghost Value = { Setup };
 
     ghost use Rattle.tp_config.specs.Shape.{links_of, setup_of};
-    ghost use Rattle.tp_config.specs.Kept.{Keeps};
+    ghost use Rattle.tp_config.specs.Kept.{KeepsPairs};
 
     ghost view = { λ c.
         setup_of c.types.items c.components.items c.connected.items c.mapped.items };
 
-    ghost invariant = { λ c. Keeps
+    ghost invariant = { λ c. KeepsPairs
         (setup_of c.types.items c.components.items c.connected.items c.mapped.items)
         (map links_of c.components.items) };
 }
@@ -160,7 +160,7 @@ impl Config {
         ensures there { IfSome result (λ comp. slice_get (names self.now) comp.0 ≡ Some name.now) }
         ensures known { IsSome result ↔ Contains (names self.now) name.now }
     {
-        match place_of(self.components.as_slice(), name) {
+        match component_place(self.components.as_slice(), name) {
             Some(place) => Some(CompId(place as u32)),
             None => None,
         }
@@ -203,7 +203,7 @@ impl Config {
         if let Some(fault) = connect_fault(types, components, p, q) {
             return Err(fault);
         }
-        let Ok(()) = join(self.alloc, &mut self.components, &mut self.connected, p, q) else {
+        let Ok(()) = join_ports(self.alloc, &mut self.components, &mut self.connected, p, q) else {
             return Err(ConnectFault::Memory);
         };
         Ok(())
@@ -229,7 +229,7 @@ impl Config {
         if let Some(fault) = map_fault(types, components, p, q) {
             return Err(fault);
         }
-        let Ok(()) = join(self.alloc, &mut self.components, &mut self.mapped, p, q) else {
+        let Ok(()) = join_ports(self.alloc, &mut self.components, &mut self.mapped, p, q) else {
             return Err(MapFault::Memory);
         };
         Ok(())
@@ -275,6 +275,6 @@ impl Config {
         ensures source { IfOk result (λ r. r.source ≡ p.comp) }
         ensures among { IfOk result (Contains (routes_from self.now p)) }
     {
-        choose(p, beside(self.components.as_slice(), p), to)
+        choose_route(p, beside(self.components.as_slice(), p), to)
     }
 }

@@ -70,7 +70,7 @@ fn has_system(components: &[Component]) -> bool
 }
 
 /// The place of the component with the name.
-pub(crate) fn place_of(components: &[Component], name: &str) -> Option<usize>
+pub(crate) fn component_place(components: &[Component], name: &str) -> Option<usize>
     ensures { result ≡ position (λ c. bytes_eq (string_bytes c.name) name.now) components.now }
 {
     components.iter().position(|c| c.name.as_str() == name)

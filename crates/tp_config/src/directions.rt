@@ -3,14 +3,14 @@ ghost use Rattle.std.specs.Prelude.{◌≡◌};
 ghost use Rattle.std.specs.Option.{option_copied};
 ghost use Rattle.std.specs.List.{list_any};
 ghost use Rattle.tp_config.specs.Tests.{are_among};
-ghost use Rattle.tp_config.specs.Types.{listed, same_type};
+ghost use Rattle.tp_config.specs.Types.{listed_types, same_type};
 
 use crate::type_list::TypeList;
 use tp_value::types::Ty;
 
 /// The types of the list, and none where there is no list.
 fn types_of(list: Option<&TypeList>) -> &[Ty]
-    ensures { result.now ≡ listed (option_copied list.entry) }
+    ensures { result.now ≡ listed_types (option_copied list.entry) }
 {
     match list {
         Some(list) => list.as_slice(),
@@ -20,7 +20,8 @@ fn types_of(list: Option<&TypeList>) -> &[Ty]
 
 /// Whether the type is among these.
 fn is_among(ty: Ty, these: Option<&TypeList>) -> bool
-    ensures { result ≡ list_any (λ other. same_type other ty) (listed (option_copied these.entry)) }
+    ensures { result ≡ list_any (λ other. same_type other ty)
+        (listed_types (option_copied these.entry)) }
 {
     match these {
         Some(list) => list.has(ty),
@@ -31,7 +32,7 @@ fn is_among(ty: Ty, these: Option<&TypeList>) -> bool
 /// Whether each type of `these` is among those of the slice.
 #[tactic(auto, unfolding(crate::specs::Tests::are_among))]
 fn are_all_among(these: &[Ty], those: Option<&TypeList>) -> bool
-    ensures { result ≡ are_among these.now (listed (option_copied those.entry)) }
+    ensures { result ≡ are_among these.now (listed_types (option_copied those.entry)) }
 {
     these.iter().all(|ty| is_among(*ty, those))
 }
@@ -39,7 +40,8 @@ fn are_all_among(these: &[Ty], those: Option<&TypeList>) -> bool
 /// Whether each type of `these` is among `those`. It looks once at each type of `these`.
 pub(crate) fn are_among(these: Option<&TypeList>, those: Option<&TypeList>) -> bool
     ensures { result
-        ≡ are_among (listed (option_copied these.entry)) (listed (option_copied those.entry)) }
+        ≡ are_among (listed_types (option_copied these.entry))
+        (listed_types (option_copied those.entry)) }
 {
     are_all_among(types_of(these), those)
 }

@@ -36,7 +36,7 @@ impl RouteFault {
 }
 
 /// The first of the ports that is of this component.
-fn port_of(ports: &[PortRef], comp: CompId) -> Option<PortRef>
+fn port_beside(ports: &[PortRef], comp: CompId) -> Option<PortRef>
     ensures { result ≡ find (λ r. r.comp.0 == comp.0) ports.now }
 {
     ports.iter().copied().find(|r| r.comp.0 == comp.0)
@@ -61,7 +61,7 @@ pub(crate) fn routes_out(
 }
 
 /// The route from p, beside which these ports stand, or the one of them to that component.
-pub(crate) fn choose(
+pub(crate) fn choose_route(
     p: PortRef,
     beside: &[PortRef],
     to: Option<CompId>,
@@ -72,7 +72,7 @@ pub(crate) fn choose(
         (λ fault. RouteCauseOf (map (route_to p) beside.now) to fault) }
 {
     match to {
-        Some(comp) => match port_of(beside, comp) {
+        Some(comp) => match port_beside(beside, comp) {
             Some(q) => Ok(RouteId {
                 source: p.comp,
                 to: q,

@@ -16,7 +16,7 @@ use Rattle.tp_inbox.specs.Ledgers.{Inbox}
 use Rattle.tp_behaviour.specs.declared.station.Station.{Station}
 use Rattle.tp_exec.specs.declared.played.Played.{Played}
 use Rattle.tp_exec.specs.Returns.{HasReturned, IsWaiting, badge_of, badges_of, station_number}
-use Rattle.tp_exec.specs.Rounds.{ArePlayed, AreStations, HasNotBegun, HasPlayed, IsStaffed, all_ways, is_from, stations_of, ways_in}
+use Rattle.tp_exec.specs.Rounds.{ArePlayed, AreStations, HasNotBegun, HasPlayed, IsStaffed, all_ways, comes_from, stations_of, ways_in}
 
 abbrev Badge : Type 0
 Badge = Inbox × List (Inbox × RouteId)
@@ -84,5 +84,6 @@ module _ (made : Made) (stations : List Station) (played : List Played) (are : A
         ap (λ (b : Badge). b.0.routes) (sym before.2) ∙ are.routes k before.0 before.1;
     senders = λ k y at.
         let before = matched badge_of badge_of (stations_of played) stations k y same at in
-        ap (λ (b : Badge). b.1) (sym before.2) ∙ are.senders k before.0 before.1 ∙ ap (filter (is_from k)) (sym (same_ways (stations_of played) stations same));
+        ap (λ (b : Badge). b.1) (sym before.2) ∙ are.senders k before.0 before.1
+        ∙ ap (filter (comes_from k)) (sym (same_ways (stations_of played) stations same));
   }

@@ -12,7 +12,7 @@ use Rattle.tp_inbox.specs.declared.entry.Entry.{Entry}
 use Rattle.tp_inbox.specs.Ledgers.{Inbox, Sending}
 use Rattle.tp_inbox.proofs.Routes.{same_or_not}
 use Rattle.tp_behaviour.specs.Stations.{IsNoted, end_of}
-use Rattle.tp_exec.specs.Rounds.{is_from}
+use Rattle.tp_exec.specs.Rounds.{comes_from}
 use Rattle.tp_exec.specs.Held.{AreAtHand, CanTake, Gives, IsHandedBack, Leaves}
 
 abbrev Way : Type 0
@@ -21,12 +21,12 @@ Way = Inbox × RouteId
 abbrev Hand : Type 0
 Hand = IntoIter Sending Global
 
-from_here : (m : Way) (more : List Way) → filter (is_from m.1.source.0) (m ∷ more) ≡ m ∷ filter (is_from m.1.source.0) more
-from_here m more = ap (λ (b : Bool). cond b (m ∷ filter (is_from m.1.source.0) more) (filter (is_from m.1.source.0) more))
+from_here : (m : Way) (more : List Way) → filter (comes_from m.1.source.0) (m ∷ more) ≡ m ∷ filter (comes_from m.1.source.0) more
+from_here m more = ap (λ (b : Bool). cond b (m ∷ filter (comes_from m.1.source.0) more) (filter (comes_from m.1.source.0) more))
     (eq-eqb m.1.source.0 m.1.source.0 refl)
 
-from_else : (k : ℕ) (m : Way) (more : List Way) → m.1.source.0 ≢ k → filter (is_from k) (m ∷ more) ≡ filter (is_from k) more
-from_else k m more n = ap (λ (b : Bool). cond b (m ∷ filter (is_from k) more) (filter (is_from k) more)) (ne_eqb m.1.source.0 k n)
+from_else : (k : ℕ) (m : Way) (more : List Way) → m.1.source.0 ≢ k → filter (comes_from k) (m ∷ more) ≡ filter (comes_from k) more
+from_else k m more n = ap (λ (b : Bool). cond b (m ∷ filter (comes_from k) more) (filter (comes_from k) more)) (ne_eqb m.1.source.0 k n)
 
 parts : {A : Type 0} (x y : A) (xs ys : List A) → x ∷ xs ≡ y ∷ ys → (x ≡ y) × (xs ≡ ys)
 parts x y xs ys e = (cc, cc)
@@ -46,7 +46,7 @@ module _ (logs : ℕ → List Entry) (hands : List Hand) (m : Way) (more : List 
 
   -- o has the senders of its component, and what a step leaves of it
   module _ (o it : Hand) (is : o ≡ slice_index_or hands m.1.source.0 o) where
-    had : map end_of (into_iter_items o) ≡ m ∷ filter (is_from m.1.source.0) more
+    had : map end_of (into_iter_items o) ≡ m ∷ filter (comes_from m.1.source.0) more
     had = ap (λ (x : Hand). map end_of (into_iter_items x)) is ∙ h.each m.1.source.0 o inside ∙ from_here m more
 
     had_noted : All (IsNoted (logs m.1.source.0)) (into_iter_items o)
@@ -54,14 +54,14 @@ module _ (logs : ℕ → List Entry) (hands : List Hand) (m : Way) (more : List 
 
     held_some : into_iter_len o ≡ 0 → ⊥
     held_some none =
-        let e : length (map end_of (into_iter_items o)) ≡ suc (length (filter (is_from m.1.source.0) more)) = ap length had in
+        let e : length (map end_of (into_iter_items o)) ≡ suc (length (filter (comes_from m.1.source.0) more)) = ap length had in
         let l : length (map end_of (into_iter_items o)) ≡ length (into_iter_items o) = length-map (into_iter_items o) end_of in
         let n = o.rest.ok in
         omega arith
 
     module _ (x : Sending) (steps : into_iter_items o ≡ x ∷ into_iter_items it) where
-      both : (end_of x ≡ m) × (map end_of (into_iter_items it) ≡ filter (is_from m.1.source.0) more)
-      both = parts (end_of x) m (map end_of (into_iter_items it)) (filter (is_from m.1.source.0) more) (ap (map end_of) (sym steps) ∙ had)
+      both : (end_of x ≡ m) × (map end_of (into_iter_items it) ≡ filter (comes_from m.1.source.0) more)
+      both = parts (end_of x) m (map end_of (into_iter_items it)) (filter (comes_from m.1.source.0) more) (ap (map end_of) (sym steps) ∙ had)
 
       noted : All (IsNoted (logs m.1.source.0)) (x ∷ into_iter_items it)
       noted = subst (All (IsNoted (logs m.1.source.0))) steps had_noted
@@ -75,7 +75,7 @@ module _ (logs : ℕ → List Entry) (hands : List Hand) (m : Way) (more : List 
             each = λ k d low.
                 ⊎_elim
                 (λ (e : k ≡ m.1.source.0). ap (λ (y : Hand). map end_of (into_iter_items y)) (get_or-set_at hands m.1.source.0 k it d e inside) ∙ both.1
-                ∙ ap (λ (j : ℕ). filter (is_from j) more) (sym e))
+                ∙ ap (λ (j : ℕ). filter (comes_from j) more) (sym e))
                 (λ (n : k ≢ m.1.source.0). ap (λ (y : Hand). map end_of (into_iter_items y)) (get_or-set_other hands m.1.source.0 k it d n)
                 ∙ h.each k d (omega arith) ∙ from_else k m more (λ e. n (sym e)))
                 (same_or_not k m.1.source.0);

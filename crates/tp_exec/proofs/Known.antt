@@ -22,7 +22,7 @@ use Rattle.tp_inbox.specs.declared.entry.Entry.{Entry}
 use Rattle.tp_inbox.specs.declared.entry.Entry.TheVariants as entry
 use Rattle.tp_inbox.specs.Desks.{IsWithin, Journal}
 use Rattle.tp_inbox.specs.History.{event_at, history_of}
-use Rattle.tp_report.specs.Lines.{port_of, sender_of}
+use Rattle.tp_report.specs.Lines.{component_port, sender_of}
 use Rattle.tp_report.specs.Reports.{IsKnown}
 use Rattle.tp_exec.specs.Delivery.{IsOnRoute}
 use Rattle.tp_exec.specs.Reporting.{IsSoundJournal}
@@ -34,7 +34,7 @@ pub all_at : {X : Type 0} (P : X → Type 0) (xs : List X) (k : ℕ) (x : X) →
 all_at P xs k x h at = subst P (get_or_from_slice_get xs k x x at) (h k x (slice_get_within xs k x at))
 
 -- each of the ports that a component has is one of the configuration
-port_there : (s : Setup) (c : CompId) (port : ℕ) → port < length (ports_at s.types s.components c) → IsPort s (port_of c port)
+port_there : (s : Setup) (c : CompId) (port : ℕ) → port < length (ports_at s.types s.components c) → IsPort s (component_port c port)
 unfolding decl_at
 port_there s c port low =
     let d : PortDecl = record { name = []; ins = []; outs = [] } in
@@ -132,7 +132,7 @@ module _ (s : Setup) (c : CompId) (port : ℕ) where
 -- the history of a component of a run
 module _ (s : Setup) (l : IsSetup s) (c : CompId) (d : Journal) (ports : d.ports ≡ length (ports_at s.types s.components c)) (sound : IsSoundJournal d)
     (routed : All (IsOnRoute s c) d.log) (sent : All (IsSentOut s c) d.log) where
-  there : (port : ℕ) → port < d.ports → IsPort s (port_of c port)
+  there : (port : ℕ) → port < d.ports → IsPort s (component_port c port)
   there port low = port_there s c port (subst (λ n. port < n) ports low)
 
   seen : (port n : ℕ) (x : Entry) (v : Event Message) (e : Env Message) → port < d.ports → slice_get d.log n ≡ Some x → event_at port x ≡ Some v

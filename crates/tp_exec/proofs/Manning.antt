@@ -18,11 +18,11 @@ use Rattle.tp_behaviour.specs.declared.station.Station.{Station}
 use Rattle.tp_behaviour.specs.Fresh.{Fresh}
 use Rattle.tp_behaviour.specs.Moments.{moments}
 use Rattle.tp_behaviour.specs.Outboxes.{IsHome, routes_of}
-use Rattle.tp_behaviour.specs.Paths.{port_of}
+use Rattle.tp_behaviour.specs.Paths.{own_port}
 use Rattle.tp_behaviour.specs.Stations.{IsNoted, IsPosted, IsSentBy, end_of}
 use Rattle.tp_exec.specs.declared.inboxes.Opened.{Opened}
 use Rattle.tp_exec.specs.Openings.{AreHandedOut, AreOpened, IsFromOneOf, IsOpened, IsUnused, is_of, rest_of}
-use Rattle.tp_exec.specs.Rounds.{AreStations, HasNotBegun, IsStaffed, all_ways, comp_at, is_from, ways_in}
+use Rattle.tp_exec.specs.Rounds.{AreStations, HasNotBegun, IsStaffed, all_ways, comp_at, comes_from, ways_in}
 use Rattle.tp_exec.proofs.Dealing.{as_many}
 use Rattle.tp_exec.proofs.Pairs.{passed, passes}
 use Rattle.tp_exec.proofs.RouteEnds.{among_those_into, receiver_within, source_is}
@@ -38,12 +38,12 @@ routes_of_ends [] = refl
 routes_of_ends (y ∷ ss) = ap (λ l. y.route ∷ l) (routes_of_ends ss)
 
 -- those of one component are those of the ways from it
-ends_from : (k : ℕ) (ss : List Sending) → map end_of (filter (is_of k) ss) ≡ filter (is_from k) (map end_of ss)
+ends_from : (k : ℕ) (ss : List Sending) → map end_of (filter (is_of k) ss) ≡ filter (comes_from k) (map end_of ss)
 ends_from k [] = refl
 ends_from k (y ∷ ss) = by (is_of k y) (ends_from k ss) where
-  by : (b : Bool) → map end_of (filter (is_of k) ss) ≡ filter (is_from k) (map end_of ss)
-      → map end_of (cond b (y ∷ filter (is_of k) ss) (filter (is_of k) ss)) ≡ cond b (end_of y ∷ filter (is_from k) (map end_of ss))
-      (filter (is_from k) (map end_of ss))
+  by : (b : Bool) → map end_of (filter (is_of k) ss) ≡ filter (comes_from k) (map end_of ss)
+      → map end_of (cond b (y ∷ filter (is_of k) ss) (filter (is_of k) ss)) ≡ cond b (end_of y ∷ filter (comes_from k) (map end_of ss))
+      (filter (comes_from k) (map end_of ss))
   by true h = ap (λ l. end_of y ∷ l) h
   by false h = h
 
@@ -99,10 +99,10 @@ module _ (s : Setup) (l : IsSetup s) (o : Opened) (xs : List Station) (h : AreOp
   many : length xs ≡ length s.components
   many = as_many o.stations.items xs given.same ∙ h.count
 
-  ends : (k : ℕ) (x : Station) → slice_get xs k ≡ Some x → map end_of x.outbox ≡ filter (is_from k) (all_ways xs)
+  ends : (k : ℕ) (x : Station) → slice_get xs k ≡ Some x → map end_of x.outbox ≡ filter (comes_from k) (all_ways xs)
   ends k x stands =
       ap (map end_of) (given.senders k x stands) ∙ ends_from k o.senders.items
-      ∙ ap (filter (is_from k)) (h.senders ∙ sym (same_ways xs o.stations.items given.same))
+      ∙ ap (filter (comes_from k)) (h.senders ∙ sym (same_ways xs o.stations.items given.same))
 
   -- a sender stands on each way from the component
   has_way : (k : ℕ) (x : Station) → slice_get xs k ≡ Some x → (j : ℕ) (y : Station) → slice_get xs j ≡ Some y → (r : RouteId) → Contains y.owner.inbox.routes r
@@ -110,16 +110,16 @@ module _ (s : Setup) (l : IsSetup s) (o : Opened) (xs : List Station) (h : AreOp
       → Contains (routes_of x.outbox) r
   has_way k x stands j y there r inside from =
       let w : Inbox × RouteId = (y.owner.inbox, r) in
-      let kept : Contains (filter (is_from k) (all_ways xs)) w =
-      passes (is_from k) (all_ways xs) w (way_in xs j y r there inside) (eq-eqb r.source.0 k (ap (λ (c : CompId). c.0) from)) in
+      let kept : Contains (filter (comes_from k) (all_ways xs)) w =
+      passes (comes_from k) (all_ways xs) w (way_in xs j y r there inside) (eq-eqb r.source.0 k (ap (λ (c : CompId). c.0) from)) in
       subst (λ rs. Contains rs r) (ap (map (λ (v : Inbox × RouteId). v.1)) (sym (ends k x stands)) ∙ routes_of_ends x.outbox)
-      (map_contains (λ (v : Inbox × RouteId). v.1) (filter (is_from k) (all_ways xs)) w kept)
+      (map_contains (λ (v : Inbox × RouteId). v.1) (filter (comes_from k) (all_ways xs)) w kept)
 
   -- and no others
   is_way : (k : ℕ) (x : Station) → slice_get xs k ≡ Some x → (y : Sending) → Contains x.outbox y
       → ((j : ℕ) × (z : Station) × (slice_get xs j ≡ Some z) × (y.inbox ≡ z.owner.inbox) × Contains z.owner.inbox.routes y.route) × (y.route.source.0 ≡ k)
   is_way k x stands y inside =
-      let w = passed (is_from k) (all_ways xs) (end_of y) (subst (λ ws. Contains ws (end_of y)) (ends k x stands) (map_contains end_of x.outbox y inside)) in
+      let w = passed (comes_from k) (all_ways xs) (end_of y) (subst (λ ws. Contains ws (end_of y)) (ends k x stands) (map_contains end_of x.outbox y inside)) in
       (way_of xs (end_of y) w.0, eqb-true y.route.source.0 k w.1)
 
   -- into its own inbox it puts by senders that lead back, and by no others
@@ -138,7 +138,7 @@ module _ (s : Setup) (l : IsSetup s) (o : Opened) (xs : List Station) (h : AreOp
         loops = all_from (λ (r : RouteId). r.source ≡ comp_at k → Contains (routes_of x.outbox) r) x.owner.inbox.routes
             (λ r inside from. has_way k x stands k x stands r inside from);
         ways = λ port r from.
-            let p = port_of (record { config = s; comp = comp_at k; references = references }) port in
+            let p = own_port (record { config = s; comp = comp_at k; references = references }) port in
             let j = r.to.comp.0 in
             let low : j < length xs = (let e = many in let b = receiver_within s l p r from in omega (arith, e, b)) in
             let z = get_or xs j x in

@@ -17,7 +17,7 @@ use Rattle.tp_inbox.specs.Ledgers.{Inbox, Sending}
 use Rattle.tp_behaviour.specs.Stations.{IsManned, IsNoted, end_of}
 use Rattle.tp_exec.specs.declared.idle.Idle.{Idle}
 use Rattle.tp_exec.specs.declared.played.Played.{Played}
-use Rattle.tp_exec.specs.Rounds.{AreStations, all_ways, comp_at, is_from, stations_of, ways_in}
+use Rattle.tp_exec.specs.Rounds.{AreStations, all_ways, comp_at, comes_from, stations_of, ways_in}
 use Rattle.tp_exec.specs.Held.{AreAtHand, IsIdle, idle_of, log_at, outbox_of, ways_to}
 use Rattle.tp_exec.proofs.Sources.{sources_within}
 
@@ -95,7 +95,7 @@ module _ (s : Setup) (l : IsSetup s) (played : List Played) (h : AreStations s (
     all_held = record {
       each = λ k d low.
           let p = player k low in
-          ap (map end_of) (has_outbox k d low p.0 p.1) ∙ h.senders k p.0.station (station_at k p.0 p.1) ∙ ap (filter (is_from k)) (same_ways played);
+          ap (map end_of) (has_outbox k d low p.0 p.1) ∙ h.senders k p.0.station (station_at k p.0 p.1) ∙ ap (filter (comes_from k)) (same_ways played);
       noted = λ k d low.
           let p = player k low in
           let log : log_at played k ≡ p.0.station.desk.log = ap (λ o. option_map_or (λ (x : Played). x.station.desk.log) o []) p.1 in

@@ -6,7 +6,7 @@ use Rattle.tp_config.specs.declared.port_type.CompId.{CompId}
 use Rattle.tp_config.specs.Setup.{Setup}
 use Rattle.tp_script.specs.declared.test_case.Behaviour.{Behaviour as BorrowedBehaviour}
 use Rattle.tp_script.specs.Behaviours.{Behaviour}
-use Rattle.tp_script.specs.Seen.{seen}
+use Rattle.tp_script.specs.Seen.{as_behaviour}
 use Rattle.tp_script.specs.TestCases.{Made, behaviour_at}
 use Rattle.tp_inbox.specs.declared.entry.Entry.{Entry}
 use Rattle.tp_inbox.specs.Ledgers.{Inbox}
@@ -70,11 +70,11 @@ behaved_back made post before p its behaved =
     let c : CompId = p.station.owner.inbox.comp in
     let same : before.owner.inbox.comp ≡ c = ap (λ (i : Inbox). i.comp) (sym inbox) in
     let is : post.comp ≡ c = its.comp ∙ same in
-    let references : List ℕ = (seen post.behaviour).references in
+    let references : List ℕ = (as_behaviour post.behaviour).references in
     let r : Actor = record { config = made.config; comp = c; references = references } in
     let role : role_of post ≡ r = λ i. record { config = its.config i; comp = is i; references = references } in
-    let behaviour : behaviour_at made c.0 ≡ Some (seen post.behaviour) =
-    subst (λ (d : CompId). behaviour_at made d.0 ≡ Some (seen post.behaviour)) same its.behaviour in
+    let behaviour : behaviour_at made c.0 ≡ Some (as_behaviour post.behaviour) =
+    subst (λ (d : CompId). behaviour_at made d.0 ≡ Some (as_behaviour post.behaviour)) same its.behaviour in
     let manned : IsManned r p.station = subst (λ (q : Actor). IsManned q p.station) role behaved.manned in
     record {
       badge = behaved.badge;
@@ -91,7 +91,7 @@ behaved_back made post before p its behaved =
 -- a component can begin at its own post
 pub waiting_begins : (made : Made) (post : Post) (x : Station) → IsPostOf made x.owner.inbox.comp post → IsWaiting made x → CanBegin post x
 waiting_begins made post x its waits =
-    let references : List ℕ = (seen post.behaviour).references in
+    let references : List ℕ = (as_behaviour post.behaviour).references in
     let r : Actor = record { config = made.config; comp = x.owner.inbox.comp; references = references } in
     let role : role_of post ≡ r = λ i. record { config = its.config i; comp = its.comp i; references = references } in
     record {
@@ -106,12 +106,12 @@ desk_comp made x waits = (waits.staffed []).desk.0
 
 -- a component with which a body comes has something to do, and one without has nothing
 pub idle_where_none : (made : Made) (x : Station) (comp : CompId) (r : Option BorrowedBehaviour) → IsWaiting made x → comp ≡ x.desk.comp
-    → option_map seen r ≡ behaviour_at made comp.0 → is_some r ≡ false → behaviour_at made (station_number x) ≡ None
+    → option_map as_behaviour r ≡ behaviour_at made comp.0 → is_some r ≡ false → behaviour_at made (station_number x) ≡ None
 idle_where_none made x comp None waits its is none = ap (λ (c : CompId). behaviour_at made c.0) (sym (its ∙ desk_comp made x waits)) ∙ sym is
 idle_where_none made x comp (Some d) waits its is none = absurd (true≢false none)
 
 pub busy_where_some : (made : Made) (x : Station) (comp : CompId) (r : Option BorrowedBehaviour) → IsWaiting made x → comp ≡ x.desk.comp
-    → option_map seen r ≡ behaviour_at made comp.0 → is_some r ≡ true → IsBusy made x
+    → option_map as_behaviour r ≡ behaviour_at made comp.0 → is_some r ≡ true → IsBusy made x
 busy_where_some made x comp None waits its is some = absurd (true≢false (sym some))
 busy_where_some made x comp (Some d) waits its is some =
-    λ nothing. none-some (seen d) (sym nothing ∙ ap (λ (c : CompId). behaviour_at made c.0) (sym (its ∙ desk_comp made x waits)) ∙ sym is)
+    λ nothing. none-some (as_behaviour d) (sym nothing ∙ ap (λ (c : CompId). behaviour_at made c.0) (sym (its ∙ desk_comp made x waits)) ∙ sym is)

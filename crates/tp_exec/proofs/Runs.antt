@@ -30,7 +30,7 @@ use Rattle.tp_behaviour.specs.Outcomes.{HasEnded, WaitsWithin}
 use Rattle.tp_behaviour.specs.Stations.{IsSentBy, end_of}
 use Rattle.tp_exec.specs.declared.ended.Ended.{Ended}
 use Rattle.tp_exec.specs.declared.played.Played.{Played}
-use Rattle.tp_exec.specs.Rounds.{ArePlayed, AreStations, BehaviourEnded, all_ways, comp_at, is_from, stations_of, ways_in}
+use Rattle.tp_exec.specs.Rounds.{ArePlayed, AreStations, BehaviourEnded, all_ways, comp_at, comes_from, stations_of, ways_in}
 use Rattle.tp_exec.specs.Settlings.{AreSettled, IsComponentOf, IsOfARun, IsSentOut}
 use Rattle.tp_exec.proofs.Settled.{same_moments}
 
@@ -127,13 +127,13 @@ module _ (s : Setup) (stations : List Station) (are : AreStations s stations) wh
   ways_out : (k : ℕ) (x : Station) → slice_get stations k ≡ Some x → (r : RouteId) → Contains (routes_of x.outbox) r → (r.source ≡ comp_at k) × IsWay s r
   ways_out k x at r h =
       let w = map_cases (λ (q : Sending). q.route) x.outbox r h in
-      let kept : Contains (filter (is_from k) (all_ways stations)) (end_of w.0) =
+      let kept : Contains (filter (comes_from k) (all_ways stations)) (end_of w.0) =
       subst (λ l. Contains l (end_of w.0)) (are.senders k x at) (map_contains end_of x.outbox w.0 w.1) in
-      let from : is_from k (end_of w.0) ≡ true = All-contains (λ (y : Inbox × RouteId). is_from k y ≡ true) (filter (is_from k) (all_ways stations))
-      (end_of w.0) (filter_passes (is_from k) (all_ways stations)) kept in
+      let from : comes_from k (end_of w.0) ≡ true = All-contains (λ (y : Inbox × RouteId). comes_from k y ≡ true) (filter (comes_from k) (all_ways stations))
+      (end_of w.0) (filter_passes (comes_from k) (all_ways stations)) kept in
       let source : w.0.route.source.0 ≡ k = eqb-true w.0.route.source.0 k from in
       let way : IsWay s w.0.route = All-contains (λ (y : Inbox × RouteId). IsWay s y.1) (all_ways stations) (end_of w.0) all_are_ways
-      (among (is_from k) (all_ways stations) (end_of w.0) kept) in
+      (among (comes_from k) (all_ways stations) (end_of w.0) kept) in
       subst (λ (q : RouteId). (q.source ≡ comp_at k) × IsWay s q) w.2 (λ i. record { 0 = source i }, way)
 
 -- a behaviour that has ended has done so in each history with its trace

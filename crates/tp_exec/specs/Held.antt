@@ -19,7 +19,7 @@ use Rattle.tp_behaviour.specs.Stations.{IsNoted, end_of}
 use Rattle.tp_exec.specs.declared.ended.Ended.{Ended}
 use Rattle.tp_exec.specs.declared.idle.Idle.{Idle}
 use Rattle.tp_exec.specs.declared.played.Played.{Played}
-use Rattle.tp_exec.specs.Rounds.{is_from, ways_in}
+use Rattle.tp_exec.specs.Rounds.{comes_from, ways_in}
 
 -- a component without its senders
 abbrev pub idle_of : Played → Idle
@@ -49,7 +49,7 @@ counts_of sent = map (λ s. (s.0, length s.1)) sent
 pub record AreAtHand (logs : ℕ → List Entry) (hands : List (IntoIter Sending Global)) (ways : List (Inbox × RouteId))
     : Type 0 where
   pub each : (k : ℕ) (d : IntoIter Sending Global) → k < length hands
-      → map end_of (into_iter_items (slice_index_or hands k d)) ≡ filter (is_from k) ways
+      → map end_of (into_iter_items (slice_index_or hands k d)) ≡ filter (comes_from k) ways
   pub noted : (k : ℕ) (d : IntoIter Sending Global) → k < length hands
       → All (IsNoted (logs k)) (into_iter_items (slice_index_or hands k d))
   pub within : All (λ (way : Inbox × RouteId). way.1.source.0 < length hands) ways

@@ -2,7 +2,7 @@
 use Rattle.std.specs.Prelude.{◌≡◌, ◌≢◌, ℕ, Some, None, List, [], map}
 use Rattle.tp_config.specs.declared.port_type.CompId.{CompId}
 use Rattle.tp_config.specs.declared.port_type.RouteId.{RouteId}
-use Rattle.tp_script.specs.Seen.{seen}
+use Rattle.tp_script.specs.Seen.{as_behaviour}
 use Rattle.tp_script.specs.TestCases.{Made, behaviour_at}
 use Rattle.tp_inbox.specs.Ledgers.{Inbox}
 use Rattle.tp_behaviour.specs.declared.post.Post.{Post}
@@ -38,7 +38,7 @@ IsBusy made x = behaviour_at made (station_number x) ≢ None
 pub record IsPostOf (made : Made) (c : CompId) (post : Post) : Type 0 where
   pub config : post.config.now ≡ made.config
   pub comp : post.comp ≡ c
-  pub behaviour : behaviour_at made c.0 ≡ Some (seen post.behaviour)
+  pub behaviour : behaviour_at made c.0 ≡ Some (as_behaviour post.behaviour)
   pub can : CanBehave post
 
 -- the behaviour can begin at the station

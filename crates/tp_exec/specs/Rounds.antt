@@ -24,8 +24,8 @@ abbrev pub IsStaffed : Setup → ℕ → Station → Type 0
 IsStaffed s k x = (references : List ℕ) → IsManned (record { config = s; comp = comp_at k; references = references }) x
 
 -- the way comes from this component
-abbrev pub is_from : ℕ → Inbox × RouteId → Bool
-is_from k way = way.1.source.0 == k
+abbrev pub comes_from : ℕ → Inbox × RouteId → Bool
+comes_from k way = way.1.source.0 == k
 
 -- the ways into an inbox: one for each of its routes
 abbrev pub ways_in : Inbox → List (Inbox × RouteId)
@@ -42,7 +42,7 @@ pub record AreStations (s : Setup) (stations : List Station) : Type 0 where
   pub staffed : (k : ℕ) (x : Station) → slice_get stations k ≡ Some x → IsStaffed s k x
   pub routes : (k : ℕ) (x : Station) → slice_get stations k ≡ Some x → x.owner.inbox.routes ≡ routes_into s (comp_at k)
   pub senders : (k : ℕ) (x : Station) → slice_get stations k ≡ Some x
-      → map end_of x.outbox ≡ filter (is_from k) (all_ways stations)
+      → map end_of x.outbox ≡ filter (comes_from k) (all_ways stations)
 
 -- nothing has happened there
 abbrev pub HasNotBegun : Station → Type 0

@@ -16,7 +16,7 @@ use tp_refusal::memory::Memory;
 /// The components, and the senders of each, both in the components' order.
 ///
 /// 50 `Memory` where an allocation was refused.
-pub(crate) fn part(
+pub(crate) fn part_played(
     alloc: Global,
     played: Vec<Played>,
 ) -> Result<(Vec<Idle>, Vec<IntoIter<Sender>>), Memory>

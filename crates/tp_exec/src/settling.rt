@@ -13,7 +13,7 @@ ghost use Rattle.tp_exec.specs.Settlings.{AreSettled};
 use crate::ended::Ended;
 use crate::idle::Idle;
 use crate::played::Played;
-use crate::returning::{part, take_back};
+use crate::returning::{part_played, take_back};
 use std::alloc::Global;
 use std::sync::Wait;
 use std::vec::IntoIter;
@@ -155,7 +155,7 @@ pub(crate) fn settle_all<R: Wait>(
     ensures { IfOk result (λ ended. AreSettled config.now played.items ended.items) }
 {
     let mut all = Vec::with_capacity(alloc, config.len())?;
-    let (idles, mut hands) = part(alloc, played)?;
+    let (idles, mut hands) = part_played(alloc, played)?;
     for idle in idles {
         let ended = settle_one(rt, alloc, config, idle, &mut hands)?;
         all.push(ended)?;

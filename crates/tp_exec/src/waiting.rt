@@ -1,10 +1,5 @@
 //! Whether a behaviour waits for what has come.
 ghost use Rattle.std.specs.Prelude.{◌<◌, ◌≡◌, ◌↔◌, All, IsTrue};
-ghost use Rattle.std.specs.Option.{option_copied};
-ghost use Rattle.tp_queue.specs.Answers.{Satisfies};
-ghost use Rattle.tp_queue.specs.History.{top};
-ghost use Rattle.tp_value.specs.Admits.{Admits};
-ghost use Rattle.tp_inbox.specs.Desks.{at_port};
 ghost use Rattle.tp_behaviour.specs.Choices.{IsOpen, NoneOpen};
 ghost use Rattle.tp_behaviour.specs.Outcomes.{WaitsWithin};
 ghost use Rattle.tp_exec.specs.Reporting.{IsAtRest};
@@ -14,33 +9,6 @@ use tp_behaviour::choice::Guard;
 use tp_behaviour::outcome::Outcome;
 use tp_body::body::ReceiveKind;
 use tp_inbox::desk::Desk;
-use tp_queue::event::Env;
-use tp_queue::payload::Wanted;
-use tp_value::message::Message;
-
-/// The envelope that a receiving operation sees at this port, if any is deliverable.
-fn top_at(desk: &Desk, port: u32) -> Option<&Env<Message>>
-    requires { port < desk.now.ports }
-    ensures { option_copied result ≡ top (at_port desk.now port) }
-{
-    let queue = desk.queue(port);
-    if queue.ahead() == 0 {
-        None
-    } else {
-        queue.queued_at(0)
-    }
-}
-
-/// Whether the operation succeeds with this envelope.
-fn satisfies(guard: &Guard, env: &Env<Message>) -> bool
-    ensures { IsTrue result ↔ Satisfies (Admits guard.now.wanted) guard.now.sender env.now }
-{
-    let named = match guard.sender {
-        None => true,
-        Some(sender) => env.sender == sender,
-    };
-    named && guard.wanted.admits(&env.msg)
-}
 
 /// Whether the operation discards a message that it doesn't take.
 fn discards(guard: &Guard) -> bool
@@ -54,9 +22,9 @@ fn is_open(desk: &Desk, guard: &Guard) -> bool
     requires { guard.now.port < desk.now.ports }
     ensures { IsTrue result ↔ IsOpen desk.now.log guard.now }
 {
-    match top_at(desk, guard.port) {
+    match desk.queue(guard.port).top() {
         None => false,
-        Some(env) => discards(guard) || satisfies(guard, env),
+        Some(env) => discards(guard) || env.satisfies(&guard.wanted, guard.sender),
     }
 }
 

@@ -13,7 +13,7 @@ use Rattle.tp_inbox.specs.declared.entry.Entry.TheVariants as entry
 use Rattle.tp_inbox.specs.declared.envelope.Envelope.{Envelope}
 use Rattle.tp_inbox.specs.History.{is_arrival, arrivals, arrival_on, arrived_on}
 use Rattle.tp_inbox.specs.Envelopes.{of, InOrder, AreRouted}
-use Rattle.tp_inbox.specs.Routed.{AreRoutes, route_at, no_route, arrival_of, arrivals_of, IsArrivalOn, AreNumbered}
+use Rattle.tp_inbox.specs.Routed.{AreRoutes, route_at, absent_route, arrival_of, arrivals_of, IsArrivalOn, AreNumbered}
 use Rattle.tp_inbox.proofs.Routes.{same_or_not}
 
 true_and : (a b : ℕ) (c d : ℕ) → (eqb a b && eqb c d) ≡ true → (a ≡ b) × (c ≡ d)
@@ -48,8 +48,8 @@ same_place comp ports routes r p q low few e =
     (λ (other : p ≢ q).
     absurd
     (⊎_elim
-    (λ (l : p < q). r.apart p q no_route l few e)
-    (λ (l : q < p). r.apart q p no_route l low (sym e))
+    (λ (l : p < q). r.apart p q absent_route l few e)
+    (λ (l : q < p). r.apart q p absent_route l low (sym e))
     (either_way p q other)))
     (same_or_not p q)
 
@@ -71,7 +71,8 @@ meets_places comp ports routes r p q low few =
     ⊎_elim
     (λ (yes : meets (R p) (R q) ≡ true).
     let same = true_and (R p).to.port (R q).to.port (R p).source.0 (R q).source.0 yes in
-    absurd (other (same_place comp ports routes r p q low few (meeting comp (R p) (R q) (r.here p no_route low) (r.here q no_route few) same.0 same.1))))
+    absurd (other (same_place comp ports routes r p q low few (meeting comp (R p) (R q) (r.here p absent_route low) (r.here q absent_route few)
+    same.0 same.1))))
     (λ (no_ : meets (R p) (R q) ≡ false). no_ ∙ sym (ne_eqb p q other))
     (true_or_false (meets (R p) (R q))))
     (same_or_not p q)
@@ -110,7 +111,7 @@ on_none comp ports routes r q to apart (e ∷ es) of_these =
     none (inl met) =
         let p = route_at routes e.place in
         let same = true_and q.to.port p.to.port q.source.0 p.source.0 met in
-        absurd (apart e.place of_these.0 (sym (meeting comp q p to (r.here e.place no_route of_these.0) same.0 same.1)))
+        absurd (apart e.place of_these.0 (sym (meeting comp q p to (r.here e.place absent_route of_these.0) same.0 same.1)))
     none (inr not_met) = not_met
 
 pub arrivals_are : (routes : List RouteId) (es : List Envelope) → arrivals (arrivals_of routes es) ≡ arrivals_of routes es
@@ -163,7 +164,7 @@ pub are_on : (routes : List RouteId) (es : List Envelope) → AreRouted (length 
 are_on routes [] of_these k d low = absurd (omega arith)
 are_on routes (e ∷ es) of_these zero d low = (
   route_at routes e.place,
-  (e.place, of_these.0, same_default routes e.place (route_at routes e.place) no_route of_these.0),
+  (e.place, of_these.0, same_default routes e.place (route_at routes e.place) absent_route of_these.0),
   refl,
   refl,
 )
@@ -173,5 +174,5 @@ pub numbered_on : (comp : CompId) (ports : ℕ) (routes : List RouteId) → AreR
     → InOrder es → AreNumbered routes (arrivals_of routes es)
 numbered_on comp ports routes r es of_these order k d low = (
   (order k).0,
-  ap (λ q. arrived_on q (arrivals_of routes es)) (same_default routes k d no_route low) ∙ on_place comp ports routes r k low es of_these ∙ (order k).1,
+  ap (λ q. arrived_on q (arrivals_of routes es)) (same_default routes k d absent_route low) ∙ on_place comp ports routes r k low es of_these ∙ (order k).1,
 )

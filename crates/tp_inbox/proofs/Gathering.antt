@@ -14,8 +14,8 @@ use Rattle.tp_inbox.specs.declared.hub.Hub.{Hub}
 use Rattle.tp_inbox.specs.declared.rule.View.{View}
 use Rattle.tp_inbox.specs.History.{arrivals, arrived_on, numbered}
 use Rattle.tp_inbox.specs.Envelopes.{of, AreWhole, AreRouted, one_of, before, EndsWith}
-use Rattle.tp_inbox.specs.Rule.{owner_of, Knows, Sound}
-use Rattle.tp_inbox.specs.Routed.{AreRoutes, AreBegun, AreDelivered, IsArrivalOn, arrival_of, arrivals_of, route_at, no_route}
+use Rattle.tp_inbox.specs.Rule.{owner_pass, Knows, Sound}
+use Rattle.tp_inbox.specs.Routed.{AreRoutes, AreBegun, AreDelivered, IsArrivalOn, arrival_of, arrivals_of, route_at, absent_route}
 use Rattle.tp_inbox.specs.Ledgers.{Inbox}
 use Rattle.tp_inbox.specs.Ends.{inbox_of, seen_sent}
 use Rattle.tp_inbox.proofs.Owners.{take_front, sound_joined, routed_rest}
@@ -39,7 +39,7 @@ pub next_place : (comp : CompId) (ports : ℕ) (routes : List RouteId) → AreRo
     ++ r ∷ ys ≡ routes → (place : ℕ) → place < length routes → route_at routes place ≡ r → place ≡ length xs
 next_place comp ports routes are xs r ys is place low at =
     let longer : length xs < length routes = omega (arith, ap length is, length-append xs (r ∷ ys)) in
-    let there : route_at routes (length xs) ≡ r = ap (λ l. route_at l (length xs)) (sym is) ∙ get_or-append_seam xs r ys no_route in
+    let there : route_at routes (length xs) ≡ r = ap (λ l. route_at l (length xs)) (sym is) ∙ get_or-append_seam xs r ys absent_route in
     same_place comp ports routes are place (length xs) low longer (at ∙ sym there)
 
 -- a list that ends with these: what stands before them, and that this makes the whole
@@ -52,7 +52,7 @@ front_and_back all xs ys is = is ∙ ap (λ l. l ++ ys) (sym (front_is all xs ys
 -- a route and what was put there, by their place
 route_of : (routes : List RouteId) (sent : List Sent) → map (λ s. s.0) sent ≡ routes → (k : ℕ) (d : Sent) → k < length sent
     → (slice_index_or sent k d).0 ≡ route_at routes k
-route_of routes sent is k d low = sym (get_or-map (λ (s : Sent). s.0) sent k d no_route low) ∙ ap (λ l. route_at l k) is
+route_of routes sent is k d low = sym (get_or-map (λ (s : Sent). s.0) sent k d absent_route low) ∙ ap (λ l. route_at l k) is
 
 ledger_of : (known : List (List Stamped)) (sent : List Sent) → known ≡ map (λ s. s.1) sent → (k : ℕ) (d : Sent) → k < length sent
     → (slice_index_or sent k d).1 ≡ slice_index_or known k []
@@ -101,7 +101,7 @@ rest_at hub v inbox drained rest sound made same is =
     subst (λ (i : Inbox). All (IsArrivalOn i.routes) rest) same back
 
 -- the owner's pass once the senders have joined, and the queue was looked at
-pub joined : (v u w : View) (known : List (List Stamped)) (n : ℕ) → Sound v → u ≡ owner_of v.made v.taken known → w ≡ u → Held n (Knows u)
+pub joined : (v u w : View) (known : List (List Stamped)) (n : ℕ) → Sound v → u ≡ owner_pass v.made v.taken known → w ≡ u → Held n (Knows u)
     → Sound w × (w.made ≡ v.made) × (w.taken ≡ v.taken) × (w.known ≡ known)
 joined v u w known n s e same held = (
   sound_joined v u w known n s e same held,

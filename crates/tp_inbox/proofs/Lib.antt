@@ -1,4 +1,3 @@
-pub mod Tops
 pub mod Clocks
 pub mod Crossing
 pub mod Ports

@@ -15,7 +15,7 @@ use Rattle.tp_inbox.specs.declared.owner.Owner.TheInside as owner
 use Rattle.tp_inbox.specs.History.{is_arrival, arrivals, arrived_on}
 use Rattle.tp_inbox.specs.Desks.{Journal, adding_all}
 use Rattle.tp_inbox.specs.Envelopes.{of, one_of, before, EndsWith, AreCounts, AreRouted}
-use Rattle.tp_inbox.specs.Routed.{AreArrivals, arrival_of, arrivals_of, route_at, no_route}
+use Rattle.tp_inbox.specs.Routed.{AreArrivals, arrival_of, arrivals_of, route_at, absent_route}
 use Rattle.tp_inbox.specs.Places.{route_eq}
 use Rattle.tp_inbox.specs.Ledgers.{Inbox, Draining, IsDeskOf, drained_on}
 use Rattle.tp_inbox.specs.Ends.{IsOwner, drained_of, inbox_of}
@@ -80,7 +80,7 @@ pub port_within : (hub shown : Hub) (inbox : Inbox) (d : Journal) (place port : 
     → place < length hub.routes.items → port ≡ (route_at shown.routes.items place).to.port → port < d.ports
 port_within hub shown inbox d place port same is desk low at =
     let p : port ≡ (route_at hub.routes.items place).to.port = at ∙ ap (λ (h : Hub). (route_at h.routes.items place).to.port) same in
-    let within : (route_at hub.routes.items place).to.port < hub.ports = hub.routed.within place no_route low in
+    let within : (route_at hub.routes.items place).to.port < hub.ports = hub.routed.within place absent_route low in
     let ports : hub.ports ≡ inbox.ports = ap (λ (i : Inbox). i.ports) is in
     let desks : d.ports ≡ inbox.ports = desk.1 in
     omega arith
@@ -111,7 +111,7 @@ counted_at s v route place n o is found at =
     let known = o.places.known route place found in
     let low = known.0 in
     let routed = routed_before _ _ s.pass.me.view.client.taken (one_of s.hand) o.made o.sound.routed in
-    let here : route.to.comp ≡ hub.comp = ap (λ (r : RouteId). r.to.comp) (sym known.1) ∙ hub.routed.here place no_route low in
+    let here : route.to.comp ≡ hub.comp = ap (λ (r : RouteId). r.to.comp) (sym known.1) ∙ hub.routed.here place absent_route low in
     at ∙ o.counts.1 place low ∙ ap length (sym (on_place hub.comp hub.ports routes hub.routed place low (moved s) routed))
     ∙ ap (λ r. length (arrived_on r (drained_of s))) known.1
     ∙ ap (λ b. cond b (length (arrived_on route (drained_of s))) 0) (sym (eq-eqb route.to.comp.0 hub.comp.0 (ap (λ (c : CompId). c.0) here)))

@@ -5,7 +5,7 @@ use Rattle.tp_inbox.specs.declared.envelope.Envelope.{Envelope}
 use Rattle.tp_inbox.specs.declared.stamped.Stamped.{Stamped}
 use Rattle.tp_inbox.specs.declared.rule.View.{View}
 use Rattle.tp_inbox.specs.Envelopes.{of, InOrder, AreRouted, AreFronts, AreWhole, one_of, before, EndsWith}
-use Rattle.tp_inbox.specs.Rule.{owner_of, Takes, Knows, Sound}
+use Rattle.tp_inbox.specs.Rule.{owner_pass, Takes, Knows, Sound}
 use Rattle.tp_inbox.proofs.Routes.{of-append, append_nil, routed-append, routed-front, routed-back, in_order-front, next_number}
 
 pub take_front : {A : Type 0} (xs ys : List A) (n : ℕ) → n ≡ length xs → take n (xs ++ ys) ≡ xs
@@ -55,7 +55,7 @@ at_some P None p = tt
 at_some P (Some x) p = p
 
 -- the owner's pass once the senders have joined, and the queue was looked at
-pub sound_joined : (v u w : View) (known : List (List Stamped)) (n : ℕ) → Sound v → u ≡ owner_of v.made v.taken known → w ≡ u → Held n (Knows u) → Sound w
+pub sound_joined : (v u w : View) (known : List (List Stamped)) (n : ℕ) → Sound v → u ≡ owner_pass v.made v.taken known → w ≡ u → Held n (Knows u) → Sound w
 sound_joined v u w known n s e same held =
     subst Sound (sym (same ∙ e)) record {
       owner = refl;
@@ -65,7 +65,7 @@ sound_joined v u w known n s e same held =
     }
 
 pub gathered : (v u w : View) (known : List (List Stamped)) (routes : ℕ) (hand : Option Envelope) (rest : List Envelope) → v.made ≡ routes
-    → EndsWith v.taken (one_of hand) → rest ≡ [] → u ≡ owner_of v.made v.taken known → w ≡ u
+    → EndsWith v.taken (one_of hand) → rest ≡ [] → u ≡ owner_pass v.made v.taken known → w ≡ u
     → (w.made ≡ routes) × (w.known ≡ known) × EndsWith w.taken (one_of hand ++ rest) × IfSome hand (λ _. rest ≡ [])
 gathered v u w known routes hand rest made ends none e same = (
   ap (λ (x : View). x.made) (same ∙ e) ∙ made,

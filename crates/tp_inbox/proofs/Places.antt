@@ -6,7 +6,7 @@ use Rattle.std.proofs.lemmas.Option.{same_Some, none-some}
 use Rattle.indexmap.specs.IndexMap.{IndexMap, IsEmpty, Updates, get}
 use Rattle.std.specs.Map.{lookup}
 use Rattle.tp_config.specs.declared.port_type.RouteId.{RouteId}
-use Rattle.tp_inbox.specs.Routed.{route_at, no_route}
+use Rattle.tp_inbox.specs.Routed.{route_at, absent_route}
 use Rattle.tp_inbox.specs.Places.{AreFiled, route_eq}
 
 -- routes of which `==` says that they are the same
@@ -39,7 +39,7 @@ filed_next routes m after n apart low filed up = record {
 
     other : (k : ℕ) → k < n → (route_eq here (route_at routes k) ≡ true) ⊎ (route_eq here (route_at routes k) ≡ false)
         → route_eq here (route_at routes k) ≡ false
-    other k less (inl same) = absurd (apart k n no_route less low (sym (eq_same here (route_at routes k) same)))
+    other k less (inl same) = absurd (apart k n absent_route less low (sym (eq_same here (route_at routes k) same)))
     other k less (inr apart_) = apart_
 
     found : (k : ℕ) → k < n + 1 → (k ≡ n) ⊎ ((k < n) ⊎ (n < k)) → get route_eq after (route_at routes k) ≡ Some k

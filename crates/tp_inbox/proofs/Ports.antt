@@ -19,7 +19,7 @@ use Rattle.tp_inbox.specs.declared.entry.Entry.{Entry}
 use Rattle.tp_inbox.specs.declared.entry.Entry.TheVariants as entry
 use Rattle.tp_inbox.specs.History.{IsTimely, stamp_of, event_at, history_of}
 use Rattle.tp_inbox.proofs.Clocks.{clock_of-push, clocked-push, clocked_at_start}
-use Rattle.tp_inbox.specs.Desks.{IsKept, IsNote, IsWithin, Journal, Notes, adding, at_port, checked}
+use Rattle.tp_inbox.specs.Desks.{IsKept, IsNote, IsWithin, Journal, FindsAt, adding, at_port, checked_at}
 
 either : {A : Type 0} → Dec A → A ⊎ (¬ A)
 either (yes e) = inl e
@@ -181,8 +181,8 @@ top_stays port branch d e =
     ∙ top_found (history_of port d.log) e
 
 pub check_done : (admits : Message → Type 0) (from : Option ℕ) (port branch : ℕ) (d after : Journal) (r : Option (Env Message))
-    → Notes admits from port branch d true after → r ≡ top (at_port after port)
-    → (after ≡ checked port branch d r) × Checks admits from (at_port d port) r
+    → FindsAt admits from port branch d true after → r ≡ top (at_port after port)
+    → (after ≡ checked_at port branch d r) × Checks admits from (at_port d port) r
 check_done admits from port branch d after r n is =
     let same : r ≡ Some n.0 = is ∙ ap (λ (x : Journal). top (at_port x port)) n.2 ∙ top_stays port branch d n.0 ∙ n.1.0 in
     rw same (n.2, n.1)

@@ -10,7 +10,7 @@ use Rattle.tp_inbox.specs.declared.stamped.Stamped.{Stamped}
 use Rattle.tp_inbox.specs.declared.rule.View.{View}
 use Rattle.tp_inbox.specs.History.{numbered}
 use Rattle.tp_inbox.specs.Envelopes.{of, AreRouted}
-use Rattle.tp_inbox.specs.Rule.{sender_of, owner_of, spent, FitsSender, FitsOwner, Delivers, Takes, Puts, Knows}
+use Rattle.tp_inbox.specs.Rule.{sender_pass, owner_pass, spent, FitsSender, FitsOwner, Delivers, Takes, Puts, Knows}
 use Rattle.tp_inbox.proofs.Routes.{of-append, of-here, of-else, numbered-snoc, in_order-front, routed-append, routed-back, routed-more, append_nil, same_or_not}
 
 -- f, with a at p
@@ -54,7 +54,7 @@ all_snoc F views w old mine j u e =
     (λ (x : (j ≡ length views) × (w ≡ u)). subst (λ (y : ℕ × View). F y.0 y.1) (λ i. (sym x.0 i, x.1 i)) mine)
     (at_end views w u j e)
 
-pub begins : Delivers [] (owner_of 0 [] [] ∷ [])
+pub begins : Delivers [] (owner_pass 0 [] [] ∷ [])
 begins = record {
   owner = 0;
   made = 0;
@@ -64,8 +64,8 @@ begins = record {
   whole = λ p. refl;
   routed = tt;
   fresh = λ p _. refl;
-  senders = all_one (FitsSender 0 (λ p. none) (λ p. [])) (owner_of 0 [] []) (λ s. absurd (off s));
-  owners = all_one (FitsOwner 0 0 (λ p. none) (λ p. []) []) (owner_of 0 [] []) (λ _. (refl, refl, refl, omega arith, λ p low. absurd (omega arith)));
+  senders = all_one (FitsSender 0 (λ p. none) (λ p. [])) (owner_pass 0 [] []) (λ s. absurd (off s));
+  owners = all_one (FitsOwner 0 0 (λ p. none) (λ p. []) []) (owner_pass 0 [] []) (λ _. (refl, refl, refl, omega arith, λ p low. absurd (omega arith)));
 }
 
 -- what was taken out and is held, once e is put at the end
@@ -86,13 +86,13 @@ put_whole taken items put e ms old mine num p =
     ∙ ap (numbered 0) (sym (at-else put e.place (ms ++ e.stamped ∷ []) p other)))
     (same_or_not p e.place)
 
-pub sends : (n pass : ℕ) (ms : List Stamped) (e : Envelope) → e.number ≡ length ms → Pushes Delivers n pass (sender_of e.place ms) e
-    (Puts (sender_of e.place ms) e)
+pub sends : (n pass : ℕ) (ms : List Stamped) (e : Envelope) → e.number ≡ length ms → Pushes Delivers n pass (sender_pass e.place ms) e
+    (Puts (sender_pass e.place ms) e)
 sends n pass ms e num items views _ h here =
     let place = e.place in
-    let mine = h.senders pass (sender_of place ms) here refl in
+    let mine = h.senders pass (sender_pass place ms) here refl in
     let more = ms ++ e.stamped ∷ [] in
-    let w = sender_of place more in
+    let w = sender_pass place more in
     let put = at h.put place more in (
       w,
       record {
@@ -125,11 +125,11 @@ sends n pass ms e num items views _ h here =
       refl,
     )
 
-pub takes : (pass made : ℕ) (taken : List Envelope) (known : List (List Stamped)) → Pops Delivers pass (owner_of made taken known)
-    (Takes (owner_of made taken known))
+pub takes : (pass made : ℕ) (taken : List Envelope) (known : List (List Stamped)) → Pops Delivers pass (owner_pass made taken known)
+    (Takes (owner_pass made taken known))
 takes pass made taken known e items views h here =
-    let mine = h.owners pass (owner_of made taken known) here refl in
-    let w = owner_of made (taken ++ e ∷ []) known in
+    let mine = h.owners pass (owner_pass made taken known) here refl in
+    let w = owner_pass made (taken ++ e ∷ []) known in
     let more = h.taken ++ e ∷ [] in
     let low = (routed-back h.made h.taken (e ∷ items) h.routed).0 in
     let all : (p : ℕ) → of p (more ++ items) ≡ numbered 0 (h.put p) = λ p. ap (of p) (append_assoc h.taken (e ∷ []) items) ∙ h.whole p in
@@ -157,19 +157,19 @@ takes pass made taken known e items views h here =
       ),
     )
 
-pub learns : (pass made : ℕ) (taken : List Envelope) (known : List (List Stamped)) → Learns Delivers pass (owner_of made taken known)
-    (Knows (owner_of made taken known))
+pub learns : (pass made : ℕ) (taken : List Envelope) (known : List (List Stamped)) → Learns Delivers pass (owner_pass made taken known)
+    (Knows (owner_pass made taken known))
 learns pass made taken known items views h here p low =
-    let mine = h.owners pass (owner_of made taken known) here refl in
+    let mine = h.owners pass (owner_pass made taken known) here refl in
     ap (λ l. of p (l ++ items)) mine.2 ∙ h.whole p ∙ ap (numbered 0) (sym (mine.4 p low).1)
 
-pub splits : (pass made : ℕ) (taken : List Envelope) (known : List (List Stamped)) → Forks Delivers pass (owner_of made taken known)
-    (owner_of (made + 1) taken known) (sender_of made [])
+pub splits : (pass made : ℕ) (taken : List Envelope) (known : List (List Stamped)) → Forks Delivers pass (owner_pass made taken known)
+    (owner_pass (made + 1) taken known) (sender_pass made [])
 splits pass made taken known items views h here =
-    let mine = h.owners pass (owner_of made taken known) here refl in
+    let mine = h.owners pass (owner_pass made taken known) here refl in
     let same : made ≡ h.made = mine.1 in
-    let left = owner_of (made + 1) taken known in
-    let right = sender_of made [] in
+    let left = owner_pass (made + 1) taken known in
+    let right = sender_pass made [] in
     let vs = set views pass left in
     let seat = at h.seat made (some (length vs)) in
     record {
@@ -204,12 +204,12 @@ splits pass made taken known items views h here =
     }
 
 pub joins : (pass made : ℕ) (taken : List Envelope) (known : List (List Stamped)) (other : ℕ) (ms : List Stamped)
-    → Merges Delivers pass (owner_of made taken known) other (sender_of (length known) ms) (owner_of made taken (known ++ ms ∷ [])) spent
+    → Merges Delivers pass (owner_pass made taken known) other (sender_pass (length known) ms) (owner_pass made taken (known ++ ms ∷ [])) spent
 joins pass made taken known other ms items views h here two there =
     let place = length known in
-    let mine = h.owners pass (owner_of made taken known) here refl in
-    let both = owner_of made taken (known ++ ms ∷ []) in
-    let w = sender_of place ms in
+    let mine = h.owners pass (owner_pass made taken known) here refl in
+    let both = owner_pass made taken (known ++ ms ∷ []) in
+    let w = sender_pass place ms in
     let vs = set views pass both in
     let was : get_elem? views other ≡ some w = ⊎_elim (λ x. absurd (two x.0)) (λ x. x.1) (at_set views pass other both w there) in
     let theirs = h.senders other w was refl in
@@ -257,27 +257,27 @@ joins pass made taken known other ms items views h here two there =
     }
 
 -- the steps, at a view that is known
-pub sends_as : (n pass : ℕ) (v : View) (ms : List Stamped) (e : Envelope) → v ≡ sender_of e.place ms → e.number ≡ length ms
+pub sends_as : (n pass : ℕ) (v : View) (ms : List Stamped) (e : Envelope) → v ≡ sender_pass e.place ms → e.number ≡ length ms
     → Pushes Delivers n pass v e (Puts v e)
 sends_as n pass v ms e is num = subst (λ (u : View). Pushes Delivers n pass u e (Puts u e)) (sym is) (sends n pass ms e num)
 
-pub takes_as : (pass : ℕ) (v : View) (made : ℕ) (taken : List Envelope) (known : List (List Stamped)) → v ≡ owner_of made taken known
+pub takes_as : (pass : ℕ) (v : View) (made : ℕ) (taken : List Envelope) (known : List (List Stamped)) → v ≡ owner_pass made taken known
     → Pops Delivers pass v (Takes v)
 takes_as pass v made taken known is = subst (λ (u : View). Pops Delivers pass u (Takes u)) (sym is) (takes pass made taken known)
 
-pub learns_as : (pass : ℕ) (v : View) (made : ℕ) (taken : List Envelope) (known : List (List Stamped)) → v ≡ owner_of made taken known
+pub learns_as : (pass : ℕ) (v : View) (made : ℕ) (taken : List Envelope) (known : List (List Stamped)) → v ≡ owner_pass made taken known
     → Learns Delivers pass v (Knows v)
 learns_as pass v made taken known is = subst (λ (u : View). Learns Delivers pass u (Knows u)) (sym is) (learns pass made taken known)
 
-pub splits_as : (pass : ℕ) (v : View) (made : ℕ) (taken : List Envelope) (known : List (List Stamped)) → v ≡ owner_of made taken known
-    → Forks Delivers pass v (owner_of (v.made + 1) v.taken v.known) (sender_of v.made [])
-splits_as pass v made taken known is = subst (λ (u : View). Forks Delivers pass u (owner_of (u.made + 1) u.taken u.known) (sender_of u.made [])) (sym is)
+pub splits_as : (pass : ℕ) (v : View) (made : ℕ) (taken : List Envelope) (known : List (List Stamped)) → v ≡ owner_pass made taken known
+    → Forks Delivers pass v (owner_pass (v.made + 1) v.taken v.known) (sender_pass v.made [])
+splits_as pass v made taken known is = subst (λ (u : View). Forks Delivers pass u (owner_pass (u.made + 1) u.taken u.known) (sender_pass u.made [])) (sym is)
     (splits pass made taken known)
 
 pub joins_as : (pass : ℕ) (v : View) (other : ℕ) (w : View) (made : ℕ) (taken : List Envelope) (known : List (List Stamped)) (place : ℕ) (ms : List Stamped)
-    → v ≡ owner_of made taken known → w ≡ sender_of place ms → place ≡ length known
-    → Merges Delivers pass v other w (owner_of v.made v.taken (v.known ++ w.put ∷ [])) spent
+    → v ≡ owner_pass made taken known → w ≡ sender_pass place ms → place ≡ length known
+    → Merges Delivers pass v other w (owner_pass v.made v.taken (v.known ++ w.put ∷ [])) spent
 joins_as pass v other w made taken known place ms is its at =
-    subst (λ (x : View × View). Merges Delivers pass x.0 other x.1 (owner_of x.0.made x.0.taken (x.0.known ++ x.1.put ∷ [])) spent)
-    (λ i. (sym is i, sym (its ∙ ap (λ p. sender_of p ms) at) i))
+    subst (λ (x : View × View). Merges Delivers pass x.0 other x.1 (owner_pass x.0.made x.0.taken (x.0.known ++ x.1.put ∷ [])) spent)
+    (λ i. (sym is i, sym (its ∙ ap (λ p. sender_pass p ms) at) i))
     (joins pass made taken known other ms)

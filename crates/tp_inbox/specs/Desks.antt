@@ -55,29 +55,29 @@ abbrev pub at_port : Journal → ℕ → List (Event Message)
 at_port d port = history_of port d.log
 
 -- what `receive` answers, and the desk after it
-abbrev pub Receives : (Message → Type 0) → Option ℕ → ℕ → ℕ → Journal → Option (Env Message) → Journal → Type 0
-Receives admits from port branch d (Some e) after =
+abbrev pub ReceivesAt : (Message → Type 0) → Option ℕ → ℕ → ℕ → Journal → Option (Env Message) → Journal → Type 0
+ReceivesAt admits from port branch d (Some e) after =
     Finds admits from (at_port d port) e × (after ≡ adding d (entry.Took port e branch))
-Receives admits from port branch d None after = FindsNone admits from (at_port d port) × (after ≡ d)
+ReceivesAt admits from port branch d None after = FindsNone admits from (at_port d port) × (after ≡ d)
 
 -- what `trigger` answers, and the desk after it
-abbrev pub Triggers : (Message → Type 0) → Option ℕ → ℕ → ℕ → Journal → TriggerAnswer Message → Journal → Type 0
-Triggers admits from port branch d (trigger_answer.Took e) after =
+abbrev pub TriggersAt : (Message → Type 0) → Option ℕ → ℕ → ℕ → Journal → TriggerAnswer Message → Journal → Type 0
+TriggersAt admits from port branch d (trigger_answer.Took e) after =
     Finds admits from (at_port d port) e × (after ≡ adding d (entry.Took port e branch))
-Triggers admits from port branch d (trigger_answer.Dropped e) after =
+TriggersAt admits from port branch d (trigger_answer.Dropped e) after =
     (top (at_port d port) ≡ Some e) × ¬ Satisfies admits from e × (after ≡ adding d (entry.Dropped port e branch))
-Triggers admits from port branch d trigger_answer.Nothing after = (top (at_port d port) ≡ None) × (after ≡ d)
+TriggersAt admits from port branch d trigger_answer.Nothing after = (top (at_port d port) ≡ None) × (after ≡ d)
 
 -- the desk after a `check` that answered this
-abbrev pub checked : ℕ → ℕ → Journal → Option (Env Message) → Journal
-checked port branch d (Some e) = adding d (entry.Found port e branch)
-checked port branch d None = d
+abbrev pub checked_at : ℕ → ℕ → Journal → Option (Env Message) → Journal
+checked_at port branch d (Some e) = adding d (entry.Found port e branch)
+checked_at port branch d None = d
 
 -- what `check` notes in the desk: that it found the top, or nothing
-abbrev pub Notes : (Message → Type 0) → Option ℕ → ℕ → ℕ → Journal → Bool → Journal → Type 0
-Notes admits from port branch d true after =
+abbrev pub FindsAt : (Message → Type 0) → Option ℕ → ℕ → ℕ → Journal → Bool → Journal → Type 0
+FindsAt admits from port branch d true after =
     (e : Env Message) × Finds admits from (at_port d port) e × (after ≡ adding d (entry.Found port e branch))
-Notes admits from port branch d false after = FindsNone admits from (at_port d port) × (after ≡ d)
+FindsAt admits from port branch d false after = FindsNone admits from (at_port d port) × (after ≡ d)
 
 -- each port's queue has the history that the desk's log says, and each of these obeys the rules of a port; the log
 -- names no other port; the clock is that of the log, in which each sending's stamp is above all stamps before it

@@ -12,7 +12,7 @@ use Rattle.tp_inbox.specs.declared.rule.View.{View}
 use Rattle.tp_inbox.specs.declared.sender.Sender.TheInside as sender
 use Rattle.tp_inbox.specs.declared.owner.Owner.TheInside as owner
 use Rattle.tp_inbox.specs.Envelopes.{one_of, before, AreWhole, EndsWith, AreCounts}
-use Rattle.tp_inbox.specs.Rule.{sender_of, Sound}
+use Rattle.tp_inbox.specs.Rule.{sender_pass, Sound}
 use Rattle.tp_inbox.specs.Routed.{arrivals_of}
 use Rattle.tp_inbox.specs.Places.{AreFiled}
 use Rattle.tp_inbox.specs.Ledgers.{Inbox}
@@ -28,7 +28,7 @@ seen_sent sent = map (λ v. (v.0, v.1.items)) sent
 -- a sender's pass is of its inbox's queue, and knows its place and what it has put
 pub record IsSender (s : sender.Inside) : Type 0 where
   pub pass : IsSegPassOf (arc_value s.hub).line s.pass
-  pub view : s.pass.me.view.client ≡ sender_of s.place s.sent.items
+  pub view : s.pass.me.view.client ≡ sender_pass s.place s.sent.items
   pub low : s.place < length (arc_value s.hub).routes.items
 
 -- an owner's pass is of its inbox's queue; what it has taken out is what was drained, and then what is in hand; the

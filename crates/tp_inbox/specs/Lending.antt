@@ -5,11 +5,11 @@ use Rattle.std.specs.Borrow.{Fml, Bor, MutBor, follows_so}
 use mathlib.Core.Option.{none}
 use Rattle.tp_queue.specs.declared.event.Env.{Env}
 use Rattle.tp_value.specs.declared.message.Message.{Message}
-use Rattle.tp_inbox.specs.Desks.{Journal, checked}
+use Rattle.tp_inbox.specs.Desks.{Journal, checked_at}
 use Rattle.tp_inbox.specs.contracts.desk.Desk.{the_row}
 
 -- the desk ends as the one after a `check` that answered r
-abbrev pub ends_checked : ℕ → ℕ → {E : Type 0} → MutBor Journal → Result (Option (Bor (Env Message))) E → Fml
-ends_checked port branch d r =
+abbrev pub ends_checked_at : ℕ → ℕ → {E : Type 0} → MutBor Journal → Result (Option (Bor (Env Message))) E → Fml
+ends_checked_at port branch d r =
     follows_so the_row the_row d.ghost_name none (λ _ _. ⊤)
-    (λ n. MatchResult r (λ answer. n ≡ checked port branch d.now (option_copied answer)) (λ _. n ≡ d.now))
+    (λ n. MatchResult r (λ answer. n ≡ checked_at port branch d.now (option_copied answer)) (λ _. n ≡ d.now))

@@ -18,12 +18,12 @@ pub record AreRoutes (comp : CompId) (ports : ℕ) (routes : List RouteId) : Typ
   pub apart : AllPairs (λ (r q : RouteId). r ≢ q) routes
 
 -- no route of a configuration stands past the end of the list
-abbrev pub no_route : RouteId
-no_route = record { source = record { 0 = 0 }; to = record { comp = record { 0 = 0 }; port = 0 } }
+abbrev pub absent_route : RouteId
+absent_route = record { source = record { 0 = 0 }; to = record { comp = record { 0 = 0 }; port = 0 } }
 
 -- the route at this place
 abbrev pub route_at : List RouteId → ℕ → RouteId
-route_at routes place = slice_index_or routes place no_route
+route_at routes place = slice_index_or routes place absent_route
 
 -- what arrives where an envelope is moved
 abbrev pub env_of : List RouteId → Envelope → Env Message

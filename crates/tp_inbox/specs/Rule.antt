@@ -9,13 +9,14 @@ use Rattle.tp_inbox.specs.History.{numbered}
 use Rattle.tp_inbox.specs.Envelopes.{of, InOrder, AreFronts, AreRouted}
 
 -- the pass of a sender: its route, and what it has put
-abbrev pub sender_of : ℕ → List Stamped → View
-sender_of place put = record { sends = true; place = place; put = put; owns = false; made = 0; taken = []; known = [] }
+abbrev pub sender_pass : ℕ → List Stamped → View
+sender_pass place put =
+    record { sends = true; place = place; put = put; owns = false; made = 0; taken = []; known = [] }
 
 -- the pass of the owner: how many routes it has split off, what it has taken out, and the lists of those that have
 -- joined
-abbrev pub owner_of : ℕ → List Envelope → List (List Stamped) → View
-owner_of made taken known =
+abbrev pub owner_pass : ℕ → List Envelope → List (List Stamped) → View
+owner_pass made taken known =
     record { sends = false; place = 0; put = []; owns = true; made = made; taken = taken; known = known }
 
 -- a pass that has joined
@@ -51,11 +52,11 @@ pub record Delivers (items : List Envelope) (views : List View) : Type 0 where
 -- an envelope that was taken out is the next of its route, and of a route that there is
 abbrev pub Takes : View → Envelope → View → Type 0
 Takes v e w =
-    (w ≡ owner_of v.made (v.taken ++ e ∷ []) v.known)
+    (w ≡ owner_pass v.made (v.taken ++ e ∷ []) v.known)
     × (e.place < v.made) × InOrder (v.taken ++ e ∷ []) × AreFronts (v.taken ++ e ∷ []) v.known
 
 abbrev pub Puts : View → Envelope → View → Type 0
-Puts v e w = w ≡ sender_of v.place (v.put ++ e.stamped ∷ [])
+Puts v e w = w ≡ sender_pass v.place (v.put ++ e.stamped ∷ [])
 
 -- of each route that has joined, what was taken out and what the queue holds is what was put
 abbrev pub Knows : View → List Envelope → Type 0
@@ -63,7 +64,7 @@ Knows v items = (p : ℕ) → p < length v.known → of p (v.taken ++ items) ≡
 
 -- the owner's pass, with what follows from the rule
 pub record Sound (v : View) : Type 0 where
-  pub owner : v ≡ owner_of v.made v.taken v.known
+  pub owner : v ≡ owner_pass v.made v.taken v.known
   pub order : InOrder v.taken
   pub routed : AreRouted v.made v.taken
   pub fronts : AreFronts v.taken v.known

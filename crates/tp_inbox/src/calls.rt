@@ -1,9 +1,8 @@
 //! The calls of a port's queue that take a message out or find one, each with a copy of it for the
 //! component's history.
-ghost use Rattle.std.specs.Prelude.{◌≡◌, IfOk, OnErr, IsTrue, ◌↔◌};
-ghost use Rattle.std.specs.Option.{option_copied};
-ghost use Rattle.tp_queue.specs.History.{Lawful, top};
-ghost use Rattle.tp_queue.specs.Answers.{Checks, Satisfies};
+ghost use Rattle.std.specs.Prelude.{◌≡◌, IfOk, OnErr};
+ghost use Rattle.tp_queue.specs.History.{Lawful};
+ghost use Rattle.tp_queue.specs.Answers.{Checks};
 ghost use Rattle.tp_inbox.specs.Calls.{FindsWith, ReceivesWith, TriggersWith};
 
 use std::alloc::Global;
@@ -12,32 +11,6 @@ use tp_queue::payload::Wanted;
 use tp_queue::queue::PortQueue;
 use tp_refusal::memory::Memory;
 use tp_value::message::{Message, MsgTemplate};
-
-/// The envelope that a receiving operation sees, if any is deliverable.
-pub(crate) fn top(queue: &PortQueue<Message>) -> Option<&Env<Message>>
-    ensures { option_copied result ≡ top queue.now }
-{
-    if queue.ahead() == 0 {
-        None
-    } else {
-        queue.queued_at(0)
-    }
-}
-
-/// Whether a receiving operation for `wanted` and `from` succeeds with this envelope.
-pub(crate) fn satisfies<W: Wanted<Message>>(
-    env: &Env<Message>,
-    wanted: &W,
-    from: Option<u32>,
-) -> bool
-    ensures { IsTrue result ↔ Satisfies (W.admits wanted.now) from env.now }
-{
-    let named = match from {
-        None => true,
-        Some(sender) => env.sender == sender,
-    };
-    named && wanted.admits(&env.msg)
-}
 
 /// A copy of the top, where a receiving operation for `wanted` and `from` succeeds with it.
 pub(crate) fn wanted_top<W: Wanted<Message>>(
@@ -48,8 +21,8 @@ pub(crate) fn wanted_top<W: Wanted<Message>>(
 ) -> Result<Option<Env<Message>>, Memory>
     ensures { IfOk result (λ twin. Checks (W.admits wanted.now) from queue.now twin) }
 {
-    match top(queue) {
-        Some(first) if satisfies(first, wanted, from) => Ok(Some(first.copy(alloc)?)),
+    match queue.top() {
+        Some(first) if first.satisfies(wanted, from) => Ok(Some(first.copy(alloc)?)),
         _ => Ok(None),
     }
 }
@@ -123,7 +96,7 @@ pub(crate) fn trigger<W: Wanted<Message>>(
 {
     // Called for its clause: the history is lawful.
     let _ = queue.events();
-    let Some(first) = top(queue) else {
+    let Some(first) = queue.top() else {
         return Ok(Triggered::Nothing);
     };
     let twin = first.copy(alloc)?;

@@ -3,14 +3,14 @@ ghost use Rattle.std.specs.Prelude.{◌≡◌, [], ℕ, ◌+◌, ◌^◌, ◌<�
 ghost use Rattle.std.specs.Prelude.{All, SomeIff, length, IfErr, IfOk, OnErr, OnOk};
 ghost use Rattle.std.specs.Option.{option_copied};
 ghost use Rattle.std.specs.Borrow.{sem};
-ghost use Rattle.tp_queue.specs.History.{Lawful, queued, status_of, top};
+ghost use Rattle.tp_queue.specs.History.{Lawful, queued, status_of};
 ghost use Rattle.tp_queue.specs.Answers.{Checks, halted_count};
 ghost use Rattle.tp_config.specs.Setup.{IsComponent, ports_at};
 ghost use Rattle.tp_inbox.specs.declared.entry.Entry.TheVariants as entry;
 ghost use Rattle.tp_inbox.specs.History.{IsClocked, IsTimely, arrivals, clock_of, next_of};
-ghost use Rattle.tp_inbox.specs.Desks.{IsNote, IsWithin, Notes, Receives, Triggers};
+ghost use Rattle.tp_inbox.specs.Desks.{IsNote, IsWithin, FindsAt, ReceivesAt, TriggersAt};
 ghost use Rattle.tp_inbox.specs.Desks.{adding, at_port, new_desk};
-ghost use Rattle.tp_inbox.specs.Lending.{ends_checked};
+ghost use Rattle.tp_inbox.specs.Lending.{ends_checked_at};
 ghost use Rattle.tp_inbox.specs.Ledgers.{putting};
 
 use crate::calls;
@@ -159,7 +159,7 @@ impl Desk {
     ) -> Result<Option<Env<Message>>, Memory>
         requires { port < self.old.ports }
         ensures ok { IfOk result (λ answer.
-            Receives (W.admits wanted.now) from port branch self.old answer self.new) }
+            ReceivesAt (W.admits wanted.now) from port branch self.old answer self.new) }
         ensures err { OnErr result (self.new ≡ self.old) }
     {
         self.log.reserve(1)?;
@@ -186,7 +186,7 @@ impl Desk {
     ) -> Result<TriggerAnswer<Message>, Memory>
         requires { port < self.old.ports }
         ensures ok { IfOk result (λ answer.
-            Triggers (W.admits wanted.now) from port branch self.old answer self.new) }
+            TriggersAt (W.admits wanted.now) from port branch self.old answer self.new) }
         ensures err { OnErr result (self.new ≡ self.old) }
     {
         self.log.reserve(1)?;
@@ -216,12 +216,12 @@ impl Desk {
         branch: usize,
     ) -> Result<Option<&Env<Message>>, Memory>
         requires { port < self.old.ports }
-        ensures* after { sem 𝓛 (ends_checked port branch self.entry result) }
+        ensures* after { sem 𝓛 (ends_checked_at port branch self.entry result) }
         ensures found { IfOk result (λ answer.
             Checks (W.admits wanted.now) from (at_port self.old port) (option_copied answer)) }
     {
         if self.find(port, wanted, from, branch)? {
-            Ok(self.top(port))
+            Ok(self.queue(port).top())
         } else {
             Ok(None)
         }
@@ -237,7 +237,7 @@ impl Desk {
     ) -> Result<bool, Memory>
         requires { port < self.old.ports }
         ensures ok { IfOk result (λ found.
-            Notes (W.admits wanted.now) from port branch self.old found self.new) }
+            FindsAt (W.admits wanted.now) from port branch self.old found self.new) }
         ensures err { OnErr result (self.new ≡ self.old) }
     {
         self.log.reserve(1)?;
@@ -249,14 +249,6 @@ impl Desk {
             }
             None => Ok(false),
         }
-    }
-
-    /// The envelope that a receiving operation sees at this port.
-    fn top(&self, port: u32) -> Option<&Env<Message>>
-        requires { port < self.now.ports }
-        ensures { option_copied result ≡ top (at_port self.now port) }
-    {
-        calls::top(&self.ports[port as usize])
     }
 
     /// [`PortQueue::clear`] at this port, and a `Cleared` in the history.

@@ -3,7 +3,7 @@ ghost use Rattle.std.specs.Prelude.{◌≡◌, ◌≢◌, [], AllPairs, IfOk, le
 ghost use Rattle.tp_config.specs.Setup.{IsComponent, ports_at};
 ghost use Rattle.tp_config.specs.declared.port_type.RouteId.{RouteId};
 ghost use Rattle.tp_config.specs.Routes.{routes_into};
-ghost use Rattle.tp_inbox.specs.Rule.{owner_of};
+ghost use Rattle.tp_inbox.specs.Rule.{owner_pass};
 ghost use Rattle.tp_inbox.specs.Routed.{AreRoutes};
 ghost use Rattle.tp_inbox.specs.Places.{AreFiled};
 ghost use Rattle.tp_inbox.specs.Ledgers.{AreSenders, new_sender};
@@ -52,10 +52,10 @@ fn places_of(alloc: Global, routes: &[RouteId]) -> Result<IndexMap<RouteId, usiz
 /// A sender for each route, in their order, with passes that are split off this one.
 fn split(alloc: Global, hub: &Arc<Hub, Global>, pass: &mut Pass) -> Result<Vec<Sender>, Memory>
     requires queue { IsSegPassOf (arc_value hub.now).line pass.old }
-    requires fresh { pass.old.me.view.client ≡ owner_of 0 [] [] }
+    requires fresh { pass.old.me.view.client ≡ owner_pass 0 [] [] }
     ensures queue { IfOk result (λ _. IsSegPassOf (arc_value hub.now).line pass.new) }
     ensures made { IfOk result (λ _. pass.new.me.view.client
-        ≡ owner_of (length (arc_value hub.now).routes.items) [] []) }
+        ≡ owner_pass (length (arc_value hub.now).routes.items) [] []) }
     ensures senders { IfOk result (λ senders. senders.items
         ≡ map (new_sender (inbox_of (arc_value hub.now))) (arc_value hub.now).routes.items) }
 {

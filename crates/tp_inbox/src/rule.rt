@@ -32,11 +32,11 @@ pub(crate) struct Delivery;
 
 impl Protocol<Envelope, View> for Delivery {
     ghost use Rattle.std.specs.Prelude.{[]};
-    ghost use Rattle.tp_inbox.specs.Rule.{owner_of, Delivers};
+    ghost use Rattle.tp_inbox.specs.Rule.{owner_pass, Delivers};
 
     ghost holds = { Delivers };
 
-    ghost first = { owner_of 0 [] [] };
+    ghost first = { owner_pass 0 [] [] };
 }
 
 /// A new route, and the pass of its sender; and the sender's pass when it comes back.
@@ -44,18 +44,18 @@ pub(crate) struct Route;
 
 impl Split<View> for Route {
     ghost use Rattle.std.specs.Prelude.{[], ◌+◌};
-    ghost use Rattle.tp_inbox.specs.Rule.{owner_of, sender_of};
+    ghost use Rattle.tp_inbox.specs.Rule.{owner_pass, sender_pass};
 
-    ghost left = { λ v. owner_of (v.made + 1) v.taken v.known };
+    ghost left = { λ v. owner_pass (v.made + 1) v.taken v.known };
 
-    ghost right = { λ v. sender_of v.made [] };
+    ghost right = { λ v. sender_pass v.made [] };
 }
 
 impl Join<View> for Route {
     ghost use Rattle.std.specs.Prelude.{[], ◌∷◌, ◌++◌};
-    ghost use Rattle.tp_inbox.specs.Rule.{owner_of, spent};
+    ghost use Rattle.tp_inbox.specs.Rule.{owner_pass, spent};
 
-    ghost both = { λ v w. owner_of v.made v.taken (v.known ++ w.put ∷ []) };
+    ghost both = { λ v w. owner_pass v.made v.taken (v.known ++ w.put ∷ []) };
 
     ghost spent = { spent };
 }

@@ -11,7 +11,7 @@ use Rattle.tp_queue.specs.declared.event.Event.TheVariants as event
 use Rattle.tp_port.specs.declared.engine.Engine.{Engine}
 use Rattle.tp_queue.specs.History.{accepted, arrival, top}
 use Rattle.tp_port.specs.Line.{Line, Wish, arrive, receive, check, trigger}
-use Rattle.tp_port.specs.Replay.{Progress, seen_in, seen_if, seen, sighted, answer, events_of, found, meets, triggered, sender_number, entry_or_no, triggered_text, envelope}
+use Rattle.tp_port.specs.Replay.{Progress, seen_in, seen_if, seen, sighted, answer, events_of, found, meets, triggered, sender_number, envelope_or_no, triggered_text, envelope}
 use Rattle.tp_port.specs.Carried.{CarriesLine, HasCounted, progress_of}
 use Rattle.tp_queue.proofs.Words.{accepted_more}
 
@@ -73,7 +73,7 @@ wanted_is old new wish from seen number = number ∙ ap (λ s. option_map (sende
 pub carries_receive : (old new : Engine) (wish : Wish) (limit : ℕ) (from : Option ℕ)
     → new.senders ≡ seen_if old.senders wish.from → from ≡ option_map (sender_number new.senders) wish.from
     → new.queue ≡ old.queue ++ map event.Took (option_to_list (found wish.value from old.queue))
-    → string_bytes new.answers ≡ string_bytes old.answers ++ entry_or_no new.senders (codes "took ") (found wish.value from old.queue)
+    → string_bytes new.answers ≡ string_bytes old.answers ++ envelope_or_no new.senders (codes "took ") (found wish.value from old.queue)
     → length new.senders ≤ length old.senders + 1 → new.arrivals ≡ old.arrivals → HasCounted old limit
     → CarriesLine old new (receive wish)
 carries_receive old new wish limit from seen number queue text few same within =
@@ -82,14 +82,14 @@ carries_receive old new wish limit from seen number queue text few same within =
     (quiet_took (found wish.value from old.queue))
     (ap (λ f. map event.Took (option_to_list (found wish.value f old.queue))) is) queue seen few same
     (text
-    ∙ ap (λ s. string_bytes old.answers ++ entry_or_no s (codes "took ") (found wish.value from old.queue)) seen
-    ∙ ap (λ f. string_bytes old.answers ++ entry_or_no (seen_if old.senders wish.from) (codes "took ") (found wish.value f old.queue)) is)
+    ∙ ap (λ s. string_bytes old.answers ++ envelope_or_no s (codes "took ") (found wish.value from old.queue)) seen
+    ∙ ap (λ f. string_bytes old.answers ++ envelope_or_no (seen_if old.senders wish.from) (codes "took ") (found wish.value f old.queue)) is)
     within
 
 pub carries_check : (old new : Engine) (wish : Wish) (limit : ℕ) (from : Option ℕ)
     → new.senders ≡ seen_if old.senders wish.from → from ≡ option_map (sender_number new.senders) wish.from
     → new.queue ≡ old.queue ++ map event.Found (option_to_list (found wish.value from old.queue))
-    → string_bytes new.answers ≡ string_bytes old.answers ++ entry_or_no new.senders (codes "found ") (found wish.value from old.queue)
+    → string_bytes new.answers ≡ string_bytes old.answers ++ envelope_or_no new.senders (codes "found ") (found wish.value from old.queue)
     → length new.senders ≤ length old.senders + 1 → new.arrivals ≡ old.arrivals → HasCounted old limit
     → CarriesLine old new (check wish)
 carries_check old new wish limit from seen number queue text few same within =
@@ -98,8 +98,8 @@ carries_check old new wish limit from seen number queue text few same within =
     (quiet_found (found wish.value from old.queue))
     (ap (λ f. map event.Found (option_to_list (found wish.value f old.queue))) is) queue seen few same
     (text
-    ∙ ap (λ s. string_bytes old.answers ++ entry_or_no s (codes "found ") (found wish.value from old.queue)) seen
-    ∙ ap (λ f. string_bytes old.answers ++ entry_or_no (seen_if old.senders wish.from) (codes "found ") (found wish.value f old.queue)) is)
+    ∙ ap (λ s. string_bytes old.answers ++ envelope_or_no s (codes "found ") (found wish.value from old.queue)) seen
+    ∙ ap (λ f. string_bytes old.answers ++ envelope_or_no (seen_if old.senders wish.from) (codes "found ") (found wish.value f old.queue)) is)
     within
 
 pub carries_trigger : (old new : Engine) (wish : Wish) (limit : ℕ) (from : Option ℕ)

@@ -40,8 +40,8 @@ abbrev pub sender_number : List (List ℕ) → List ℕ → ℕ
 sender_number senders name = position_or_len (pointwise nat_eq name) senders
 
 -- the name of the sender of this number
-abbrev pub name_of : List (List ℕ) → ℕ → List ℕ
-name_of senders number = unwrap_or (slice_get senders number) []
+abbrev pub sender_name : List (List ℕ) → ℕ → List ℕ
+sender_name senders number = unwrap_or (slice_get senders number) []
 
 -- the envelope of an `arrive`: its number is that of the `arrive` lines before it
 abbrev pub envelope : Progress → List ℕ → ℤ → Env ℤ
@@ -88,13 +88,13 @@ events_of s stop = event.Stopped ∷ []
 events_of s halt = event.Halted ∷ []
 
 -- an envelope's sender and value, and the end of the line
-abbrev pub entry_text : List (List ℕ) → Env ℤ → List ℕ
-entry_text senders e = name_of senders e.sender ++ codes " " ++ signed_decimal e.msg ++ codes "\n"
+abbrev pub envelope_text : List (List ℕ) → Env ℤ → List ℕ
+envelope_text senders e = sender_name senders e.sender ++ codes " " ++ signed_decimal e.msg ++ codes "\n"
 
 -- the word and the envelope, or `no`
-abbrev pub entry_or_no : List (List ℕ) → List ℕ → Option (Env ℤ) → List ℕ
-entry_or_no senders word None = codes "no\n"
-entry_or_no senders word (Some e) = word ++ entry_text senders e
+abbrev pub envelope_or_no : List (List ℕ) → List ℕ → Option (Env ℤ) → List ℕ
+envelope_or_no senders word None = codes "no\n"
+envelope_or_no senders word (Some e) = word ++ envelope_text senders e
 
 abbrev pub trigger_word : Bool → List ℕ
 trigger_word true = codes "took "
@@ -102,7 +102,7 @@ trigger_word false = codes "dropped "
 
 abbrev pub triggered_text : List (List ℕ) → Pattern → Option ℕ → Option (Env ℤ) → List ℕ
 triggered_text senders value from None = codes "no\n"
-triggered_text senders value from (Some e) = trigger_word (meets value from e) ++ entry_text senders e
+triggered_text senders value from (Some e) = trigger_word (meets value from e) ++ envelope_text senders e
 
 abbrev pub counted_text : List ℕ → ℕ → List ℕ
 counted_text word n = word ++ decimal n ++ codes "\n"
@@ -114,8 +114,8 @@ halted_text (Some n) = counted_text (codes "halted ") n
 -- the answer to a line, where its senders are seen already
 abbrev pub answer : Progress → Line → List ℕ
 answer s (arrive name n) = codes "queued\n"
-answer s (receive wish) = entry_or_no s.senders (codes "took ") (found_in s wish)
-answer s (check wish) = entry_or_no s.senders (codes "found ") (found_in s wish)
+answer s (receive wish) = envelope_or_no s.senders (codes "took ") (found_in s wish)
+answer s (check wish) = envelope_or_no s.senders (codes "found ") (found_in s wish)
 answer s (trigger wish) = triggered_text s.senders wish.value (from_of s wish) (top s.history)
 answer s clear = counted_text (codes "cleared ") (length (queued s.history))
 answer s start = counted_text (codes "cleared ") (length (queued s.history))
@@ -132,7 +132,7 @@ after s line = record { senders = seen_in s.senders line; history = s.history ++
 
 -- what is queued in the end
 abbrev pub left_text : List (List ℕ) → List (Event ℤ) → List ℕ
-left_text senders h = counted_text (codes "left ") (length (queued h)) ++ flat_map (entry_text senders) (queued h)
+left_text senders h = counted_text (codes "left ") (length (queued h)) ++ flat_map (envelope_text senders) (queued h)
 
 -- the answers to the lines from there on, and then what is left
 abbrev pub text_from : Progress → List Line → List ℕ

@@ -3,7 +3,7 @@ ghost use Rattle.std.specs.Prelude.{◌≡◌, ◌++◌, OnOk, string_bytes};
 ghost use Rattle.std.specs.List.{flat_map};
 ghost use Rattle.std.specs.Option.{option_copied, option_to_list};
 ghost use Rattle.tp_queue.specs.History.{queued};
-ghost use Rattle.tp_port.specs.Replay.{counted_text, entry_or_no, entry_text, left_text};
+ghost use Rattle.tp_port.specs.Replay.{counted_text, envelope_or_no, envelope_text, left_text};
 ghost use Rattle.std.specs.Prelude.{slice_get};
 
 use crate::senders::Senders;
@@ -25,9 +25,9 @@ pub fn write_count(out: &mut String, word: &str, count: u64) -> Result<(), Memor
 }
 
 /// Adds the envelope's sender and value, and the end of the line.
-pub fn write_entry(out: &mut String, senders: &Senders<'_>, env: &Env<i64>) -> Result<(), Memory>
+pub fn write_envelope(out: &mut String, senders: &Senders<'_>, env: &Env<i64>) -> Result<(), Memory>
     ensures { OnOk result (string_bytes out.new ≡ string_bytes out.old
-        ++ entry_text senders.now env.now) }
+        ++ envelope_text senders.now env.now) }
 {
     let mut buffer = Buffer::new();
     out.push_str(senders.name(env.sender))?;
@@ -38,20 +38,20 @@ pub fn write_entry(out: &mut String, senders: &Senders<'_>, env: &Env<i64>) -> R
 }
 
 /// Adds the word and the envelope, or `no` where there is none.
-pub fn write_entry_or_no(
+pub fn write_envelope_or_no(
     out: &mut String,
     senders: &Senders<'_>,
     word: &str,
     env: Option<&Env<i64>>,
 ) -> Result<(), Memory>
     ensures { OnOk result (string_bytes out.new ≡ string_bytes out.old
-        ++ entry_or_no senders.now word.now (option_copied env.entry)) }
+        ++ envelope_or_no senders.now word.now (option_copied env.entry)) }
 {
     match env {
         None => out.push_str("no\n")?,
         Some(env) => {
             out.push_str(word)?;
-            write_entry(out, senders, env)?;
+            write_envelope(out, senders, env)?;
         }
     }
     Ok(())
@@ -65,12 +65,12 @@ fn write_queued(
     place: u64,
 ) -> Result<(), Memory>
     ensures { OnOk result (string_bytes out.new ≡ string_bytes out.old ++ flat_map
-        (entry_text senders.now)
+        (envelope_text senders.now)
         (option_to_list (slice_get (queued queue.now) place))) }
 {
     match queue.queued_at(place) {
         None => Ok(()),
-        Some(env) => write_entry(out, senders, env),
+        Some(env) => write_envelope(out, senders, env),
     }
 }
 

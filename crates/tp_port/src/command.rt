@@ -134,7 +134,7 @@ fn name_of(word: &[u8]) -> Option<&str>
 }
 
 /// The integer that a word can be read as, in whatever form.
-fn value_of(word: &[u8]) -> Option<i64>
+fn parse_integer(word: &[u8]) -> Option<i64>
     ensures { (n : ℤ) → FitsSigned w64 n → word.now ≡ signed_decimal n → result ≡ Some n }
 {
     let text = text_of(word)?;
@@ -147,7 +147,7 @@ fn integer_of(word: &[u8]) -> Option<i64>
         ((n : ℤ) → FitsSigned w64 n → word.now ≡ signed_decimal n → ⊥)
         (λ n. word.now ≡ signed_decimal n) }
 {
-    let value = value_of(word)?;
+    let value = parse_integer(word)?;
     let mut buffer = Buffer::new();
     if buffer.format(value).as_bytes() == word {
         Some(value)
@@ -183,7 +183,7 @@ fn only_word(words: Option<&[u8]>) -> Option<&[u8]>
 }
 
 /// The name after `from`.
-fn sender_of(words: &[u8]) -> Option<&str>
+fn sender_named(words: &[u8]) -> Option<&str>
     ensures { MatchOption result
         ((name : _) → IsName name → words_of words.now ≡ codes "from" ∷ name ∷ [] → ⊥)
         (λ name. IsName name.now × (words_of words.now ≡ codes "from" ∷ name.now ∷ [])) }
@@ -207,7 +207,7 @@ fn criteria_of(words: Option<&[u8]>) -> Option<Criteria<'_>>
     match rest {
         None => Some(Criteria { value, from: None }),
         Some(rest) => {
-            let name = sender_of(rest)?;
+            let name = sender_named(rest)?;
             Some(Criteria {
                 value,
                 from: Some(name),

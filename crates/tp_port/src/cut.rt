@@ -4,7 +4,7 @@ ghost use Rattle.std.specs.Option.{option_copied};
 ghost use Rattle.tp_port.specs.Line.{lines_of, words_of, words_after};
 
 /// The place of the first byte that is this one.
-fn place_of(separator: u8, text: &[u8]) -> Option<usize>
+fn find_byte(separator: u8, text: &[u8]) -> Option<usize>
     ensures { result ≡ position (λ byte. byte == separator) text.now }
 {
     text.iter().position(|byte| *byte == separator)
@@ -16,7 +16,7 @@ pub fn first_line(text: &[u8]) -> (&[u8], &[u8])
     ensures lines { lines_of text.now ≡ result.0.now ∷ lines_of result.1.now }
     ensures shorter { length result.1.now < length text.now }
 {
-    match place_of(b'\n', text) {
+    match find_byte(b'\n', text) {
         Some(place) => (&text[..place], &text[place + 1..]),
         None => (text, &text[text.len()..]),
     }
@@ -26,7 +26,7 @@ pub fn first_line(text: &[u8]) -> (&[u8], &[u8])
 pub fn first_word(line: &[u8]) -> (&[u8], Option<&[u8]>)
     ensures { words_of line.now ≡ result.0.now ∷ words_after (option_copied result.1) }
 {
-    match place_of(b' ', line) {
+    match find_byte(b' ', line) {
         Some(place) => (&line[..place], Some(&line[place + 1..])),
         None => (line, None),
     }

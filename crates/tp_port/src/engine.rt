@@ -6,9 +6,9 @@ ghost use Rattle.tp_queue.specs.History.{top};
 ghost use Rattle.tp_port.specs.Line.{arrive, check, clear, halt, receive, start, stop, trigger};
 ghost use Rattle.tp_port.specs.Command.{line_of, wish_of};
 ghost use Rattle.tp_port.specs.Carried.{CarriesLine, HasCounted, progress_of};
-ghost use Rattle.tp_port.specs.Replay.{entry_or_no, first_progress, found, left_text, meets, triggered, triggered_text};
+ghost use Rattle.tp_port.specs.Replay.{envelope_or_no, first_progress, found, left_text, meets, triggered, triggered_text};
 
-use crate::answers::{write_count, write_entry_or_no, write_left};
+use crate::answers::{write_count, write_envelope_or_no, write_left};
 use crate::command::{Command, Criteria};
 use crate::pattern::Pattern;
 use crate::senders::Senders;
@@ -41,10 +41,10 @@ fn answer_receive(
     ensures history { OnOk result (queue.new ≡ queue.old
         ++ map event.Took (option_to_list (found value from queue.old))) }
     ensures text { OnOk result (string_bytes out.new ≡ string_bytes out.old
-        ++ entry_or_no senders.now (codes "took ") (found value from queue.old)) }
+        ++ envelope_or_no senders.now (codes "took ") (found value from queue.old)) }
 {
     let env = queue.receive(&value, from)?;
-    write_entry_or_no(out, senders, "took ", env.as_ref())?;
+    write_envelope_or_no(out, senders, "took ", env.as_ref())?;
     Ok(())
 }
 
@@ -59,10 +59,10 @@ fn answer_check(
     ensures history { OnOk result (queue.new ≡ queue.old
         ++ map event.Found (option_to_list (found value from queue.old))) }
     ensures text { OnOk result (string_bytes out.new ≡ string_bytes out.old
-        ++ entry_or_no senders.now (codes "found ") (found value from queue.old)) }
+        ++ envelope_or_no senders.now (codes "found ") (found value from queue.old)) }
 {
     let env = queue.check(&value, from)?;
-    write_entry_or_no(out, senders, "found ", env)?;
+    write_envelope_or_no(out, senders, "found ", env)?;
     Ok(())
 }
 
@@ -80,9 +80,9 @@ fn answer_trigger(
         ++ triggered_text senders.now value from (top queue.old)) }
 {
     match queue.trigger(&value, from)? {
-        TriggerAnswer::Took(env) => write_entry_or_no(out, senders, "took ", Some(&env)),
-        TriggerAnswer::Dropped(env) => write_entry_or_no(out, senders, "dropped ", Some(&env)),
-        TriggerAnswer::Nothing => write_entry_or_no(out, senders, "", None),
+        TriggerAnswer::Took(env) => write_envelope_or_no(out, senders, "took ", Some(&env)),
+        TriggerAnswer::Dropped(env) => write_envelope_or_no(out, senders, "dropped ", Some(&env)),
+        TriggerAnswer::Nothing => write_envelope_or_no(out, senders, "", None),
     }
 }
 

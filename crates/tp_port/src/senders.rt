@@ -1,6 +1,6 @@
 //! The senders of a queue file.
 ghost use Rattle.std.specs.Prelude.{◌≡◌, ◌+◌, ◌<◌, ◌≤◌, ◌^◌, [], length, IfOk, OnOk};
-ghost use Rattle.tp_port.specs.Replay.{name_of, sender_number, seen, seen_if};
+ghost use Rattle.tp_port.specs.Replay.{sender_name, sender_number, seen, seen_if};
 ghost use Rattle.std.specs.Option.{option_copied, option_map};
 
 use indexmap::IndexSet;
@@ -62,7 +62,7 @@ impl<'t> Senders<'t> {
 
     /// The name of the sender of this number.
     pub fn name(&self, number: u32) -> &str
-        ensures { result.now ≡ name_of self.now number }
+        ensures { result.now ≡ sender_name self.now number }
     {
         match self.names.get_index(number as usize) {
             Some(name) => name,

@@ -13,7 +13,7 @@ use Rattle.tp_queue.specs.declared.event.Event.TheVariants as event
 use Rattle.tp_queue.specs.declared.event.Status.{Status}
 use Rattle.tp_queue.specs.declared.event.Status.TheVariants as status
 use Rattle.tp_queue.specs.History.{arrival, is_removal, is_emptying, is_clear, is_start, is_stop, is_halt, accepted, gone, queued, status_of, limit, limit_at, top, MayFollow, Lawful, since_start}
-use Rattle.tp_queue.specs.Kept.{Keeps}
+use Rattle.tp_queue.specs.Kept.{KeepsQueue}
 use Rattle.tp_queue.specs.Answers.{removal, TakesOut, halted_count, Satisfies, Checks, Notes, checked}
 use Rattle.tp_queue.proofs.Cuts.{length-push}
 use Rattle.tp_queue.proofs.Words.{accepted_more, accepted_same, gone_all, gone_more, gone_same, status_of_start, status_of_stop, status_of_same, halted, status_of_halt, mark_put, mark_cleared, mark_same}
@@ -56,7 +56,7 @@ drop-all : {X : Type 0} (l : List X) → drop (length l) l ≡ []
 drop-all [] = refl
 drop-all (x ∷ l) = drop-all l
 
-pub empty_keeps : {M : Type 0} → Keeps {M = M} [] [] status.Started 0
+pub empty_keeps : {M : Type 0} → KeepsQueue {M = M} [] [] status.Started 0
 unfolding Lawful queued gone accepted status_of since_start
 empty_keeps = record {
   lawful = λ k e g. absurd (cc);
@@ -68,7 +68,7 @@ empty_keeps = record {
 }
 
 pub arrive_keeps : {M : Type 0} (h : List (Event M)) (entries : List (Env M)) (now : Status) (ahead : ℕ) (e : Env M)
-    → Keeps h entries now ahead → Keeps (h ++ event.Arrive e ∷ []) (entries ++ e ∷ []) now ahead
+    → KeepsQueue h entries now ahead → KeepsQueue (h ++ event.Arrive e ∷ []) (entries ++ e ∷ []) now ahead
 arrive_keeps h entries now ahead e k =
     let a : accepted (h ++ event.Arrive e ∷ []) ≡ accepted h ++ e ∷ [] = accepted_more h (event.Arrive e) e refl in
     let g : gone (h ++ event.Arrive e ∷ []) ≡ gone h = gone_same h (event.Arrive e) refl refl in
@@ -90,7 +90,7 @@ pub removal_keeps : {M : Type 0} (h : List (Event M)) (x : Event M) (e : Env M) 
     (now : Status) (ahead less : ℕ)
     → arrival x ≡ None → is_emptying x ≡ false → is_removal x ≡ true → is_clear x ≡ false → is_start x ≡ false
     → is_stop x ≡ false → is_halt x ≡ false → MayFollow h x → (now ≡ status.Halted → ahead ≡ less + 1)
-    → Keeps h (e ∷ entries) now ahead → Keeps (h ++ x ∷ []) entries now less
+    → KeepsQueue h (e ∷ entries) now ahead → KeepsQueue (h ++ x ∷ []) entries now less
 removal_keeps h x e entries now ahead less an em re cl st sp ha may fewer k =
     let a : accepted (h ++ x ∷ []) ≡ accepted h = accepted_same h x an in
     let g : gone (h ++ x ∷ []) ≡ gone h + 1 = gone_more h x em re in
@@ -107,7 +107,7 @@ removal_keeps h x e entries now ahead less an em re cl st sp ha may fewer k =
     }
 
 pub found_keeps : {M : Type 0} (h : List (Event M)) (e : Env M) (entries : List (Env M)) (now : Status) (ahead : ℕ)
-    → top h ≡ Some e → Keeps h entries now ahead → Keeps (h ++ event.Found e ∷ []) entries now ahead
+    → top h ≡ Some e → KeepsQueue h entries now ahead → KeepsQueue (h ++ event.Found e ∷ []) entries now ahead
 found_keeps h e entries now ahead may k =
     let a : accepted (h ++ event.Found e ∷ []) ≡ accepted h = accepted_same h (event.Found e) refl in
     let g : gone (h ++ event.Found e ∷ []) ≡ gone h = gone_same h (event.Found e) refl refl in
@@ -129,7 +129,7 @@ queued_emptied h x an em =
     ∙ ap (drop (length (accepted h))) (accepted_same h x an) ∙ drop-all (accepted h)
 
 pub clear_keeps : {M : Type 0} (h : List (Event M)) (entries : List (Env M)) (now : Status) (ahead : ℕ)
-    → Keeps h entries now ahead → Keeps (h ++ event.Cleared ∷ []) [] now 0
+    → KeepsQueue h entries now ahead → KeepsQueue (h ++ event.Cleared ∷ []) [] now 0
 clear_keeps h entries now ahead k =
     let a : accepted (h ++ event.Cleared ∷ []) ≡ accepted h = accepted_same h event.Cleared refl in
     let g : gone (h ++ event.Cleared ∷ []) ≡ length (accepted h) = gone_all h event.Cleared refl in
@@ -143,7 +143,7 @@ clear_keeps h entries now ahead k =
     }
 
 pub start_keeps : {M : Type 0} (h : List (Event M)) (entries : List (Env M)) (now : Status) (ahead any : ℕ)
-    → Keeps h entries now ahead → Keeps (h ++ event.Started ∷ []) [] status.Started any
+    → KeepsQueue h entries now ahead → KeepsQueue (h ++ event.Started ∷ []) [] status.Started any
 start_keeps h entries now ahead any k =
     let a : accepted (h ++ event.Started ∷ []) ≡ accepted h = accepted_same h event.Started refl in
     let g : gone (h ++ event.Started ∷ []) ≡ length (accepted h) = gone_all h event.Started refl in
@@ -162,7 +162,7 @@ queued_same h x an em re =
     queued_is h ∙ sym (queued_is (h ++ x ∷ []) ∙ ap (λ n. drop n (accepted (h ++ x ∷ []))) (gone_same h x em re) ∙ ap (drop (gone h)) (accepted_same h x an))
 
 pub stop_keeps : {M : Type 0} (h : List (Event M)) (entries : List (Env M)) (now : Status) (ahead any : ℕ)
-    → Keeps h entries now ahead → Keeps (h ++ event.Stopped ∷ []) entries status.Stopped any
+    → KeepsQueue h entries now ahead → KeepsQueue (h ++ event.Stopped ∷ []) entries status.Stopped any
 stop_keeps h entries now ahead any k =
     let a : accepted (h ++ event.Stopped ∷ []) ≡ accepted h = accepted_same h event.Stopped refl in
     let g : gone (h ++ event.Stopped ∷ []) ≡ gone h = gone_same h event.Stopped refl refl in
@@ -178,7 +178,7 @@ stop_keeps h entries now ahead any k =
 
 -- a halt of a started port puts the mark behind all that is queued
 pub halt_keeps : {M : Type 0} (h : List (Event M)) (entries : List (Env M)) (ahead : ℕ)
-    → Keeps h entries status.Started ahead → Keeps (h ++ event.Halted ∷ []) entries status.Halted (length entries)
+    → KeepsQueue h entries status.Started ahead → KeepsQueue (h ++ event.Halted ∷ []) entries status.Halted (length entries)
 halt_keeps h entries ahead k =
     let a : accepted (h ++ event.Halted ∷ []) ≡ accepted h = accepted_same h event.Halted refl in
     let g : gone (h ++ event.Halted ∷ []) ≡ gone h = gone_same h event.Halted refl refl in
@@ -195,7 +195,7 @@ halt_keeps h entries ahead k =
 
 -- a halt of any other port changes nothing
 pub halt_again_keeps : {M : Type 0} (h : List (Event M)) (entries : List (Env M)) (now : Status) (ahead : ℕ)
-    → halted now ≡ now → Keeps h entries now ahead → Keeps (h ++ event.Halted ∷ []) entries now ahead
+    → halted now ≡ now → KeepsQueue h entries now ahead → KeepsQueue (h ++ event.Halted ∷ []) entries now ahead
 halt_again_keeps h entries now ahead same k =
     let a : accepted (h ++ event.Halted ∷ []) ≡ accepted h = accepted_same h event.Halted refl in
     let g : gone (h ++ event.Halted ∷ []) ≡ gone h = gone_same h event.Halted refl refl in
@@ -216,18 +216,18 @@ deliverable status.Halted queued_len ahead = ahead
 deliverable status.Stopped queued_len ahead = 0
 
 limit_at_is : {M : Type 0} (h : List (Event M)) (entries : List (Env M)) (now : Status) (ahead : ℕ)
-    → Keeps h entries now ahead → limit_at now h ≡ gone h + deliverable now (length entries) ahead
+    → KeepsQueue h entries now ahead → limit_at now h ≡ gone h + deliverable now (length entries) ahead
 limit_at_is h entries status.Started ahead k = omega (arith, k.in_range, ap length k.entries_are ∙ length-queued h)
 limit_at_is h entries status.Halted ahead k = sym (k.mark_is refl)
 limit_at_is h entries status.Stopped ahead k = omega arith
 
 pub limit_is : {M : Type 0} (h : List (Event M)) (entries : List (Env M)) (now : Status) (ahead : ℕ)
-    → Keeps h entries now ahead → limit h ≡ gone h + deliverable now (length entries) ahead
+    → KeepsQueue h entries now ahead → limit h ≡ gone h + deliverable now (length entries) ahead
 unfolding limit
 limit_is h entries now ahead k = rw (← k.status_is) (limit_at_is h entries now ahead k)
 
 pub queued_range : {M : Type 0} (h : List (Event M)) (entries : List (Env M)) (now : Status) (ahead : ℕ)
-    → Keeps h entries now ahead → deliverable now (length entries) ahead ≤ length entries
+    → KeepsQueue h entries now ahead → deliverable now (length entries) ahead ≤ length entries
 queued_range h entries status.Started ahead k = omega arith
 queued_range h entries status.Halted ahead k = k.mark_in_range refl
 queued_range h entries status.Stopped ahead k = omega arith
@@ -238,21 +238,21 @@ slice_get-drop (suc n) [] = refl
 slice_get-drop (suc n) (x ∷ l) = slice_get-drop n l
 
 pub top_there : {M : Type 0} (h : List (Event M)) (entries : List (Env M)) (now : Status) (ahead : ℕ)
-    → Keeps h entries now ahead → 0 < deliverable now (length entries) ahead → top h ≡ slice_get entries 0
+    → KeepsQueue h entries now ahead → 0 < deliverable now (length entries) ahead → top h ≡ slice_get entries 0
 unfolding top
 top_there h entries now ahead k some =
     let n : gone h < limit h = omega (arith, limit_is h entries now ahead k) in
     rw (lt-ltb (gone h) (limit h) n) (slice_get-drop (gone h) (accepted h) ∙ ap (λ l. slice_get l 0) (sym (k.entries_are ∙ queued_is h)))
 
 pub top_absent : {M : Type 0} (h : List (Event M)) (entries : List (Env M)) (now : Status) (ahead : ℕ)
-    → Keeps h entries now ahead → deliverable now (length entries) ahead ≡ 0 → top h ≡ None
+    → KeepsQueue h entries now ahead → deliverable now (length entries) ahead ≡ 0 → top h ≡ None
 unfolding top
 top_absent h entries now ahead k none =
     let n : limit h ≤ gone h = omega (arith, limit_is h entries now ahead k) in
     grind (arith, nat_tests)
 
 pub ahead_is : {M : Type 0} (h v : List (Event M)) (entries : List (Env M)) (now at : Status) (ahead : ℕ)
-    → Keeps h entries now ahead → h ≡ v → now ≡ at → deliverable at (length entries) ahead ≡ limit v - gone v
+    → KeepsQueue h entries now ahead → h ≡ v → now ≡ at → deliverable at (length entries) ahead ≡ limit v - gone v
 ahead_is h v entries now at ahead k e s =
     let l : limit v ≡ gone v + deliverable at (length entries) ahead =
     subst (λ (w : List (Event _)). limit w ≡ gone w + deliverable at (length entries) ahead) e
@@ -260,7 +260,8 @@ ahead_is h v entries now at ahead k e s =
     omega (arith, l)
 
 -- what is gone was within the limit
-pub gone_within : {M : Type 0} (h v : List (Event M)) (entries : List (Env M)) (now : Status) (ahead : ℕ) → Keeps h entries now ahead → h ≡ v → gone v ≤ limit v
+pub gone_within : {M : Type 0} (h v : List (Event M)) (entries : List (Env M)) (now : Status) (ahead : ℕ)
+    → KeepsQueue h entries now ahead → h ≡ v → gone v ≤ limit v
 gone_within h v entries now ahead k e =
     let l : limit v ≡ gone v + deliverable now (length entries) ahead =
     subst (λ (w : List (Event _)). limit w ≡ gone w + deliverable now (length entries) ahead) e
@@ -272,7 +273,7 @@ unfolding top
 no_top v e = let n : limit v ≤ gone v = omega (arith, e) in grind (arith, nat_tests)
 
 pub top_is_front : {M : Type 0} (h v : List (Event M)) (entries : List (Env M)) (now : Status) (ahead n : ℕ)
-    → Keeps h entries now ahead → h ≡ v → n ≡ limit v - gone v → (n ≡ 0 → ⊥) → slice_get entries 0 ≡ top v
+    → KeepsQueue h entries now ahead → h ≡ v → n ≡ limit v - gone v → (n ≡ 0 → ⊥) → slice_get entries 0 ≡ top v
 top_is_front h v entries now ahead n k e m some =
     let d : deliverable now (length entries) ahead ≡ limit v - gone v = ahead_is h v entries now now ahead k e refl in
     let p : 0 < deliverable now (length entries) ahead = omega (arith, d, m, some) in
@@ -280,7 +281,7 @@ top_is_front h v entries now ahead n k e m some =
 
 -- The same, at lists that are known by equations.
 pub Keeps-at : {M : Type 0} (h after : List (Event M)) (entries left : List (Env M)) (now : Status) (ahead : ℕ)
-    → after ≡ h → left ≡ entries → Keeps h entries now ahead → Keeps after left now ahead
+    → after ≡ h → left ≡ entries → KeepsQueue h entries now ahead → KeepsQueue after left now ahead
 Keeps-at h after entries left now ahead e f k = rw (e, f) k
 
 front_is : {X : Type 0} (l : List X) (e : X) → slice_get l 0 ≡ Some e → l ≡ e ∷ drop 1 l
@@ -293,7 +294,7 @@ zero_or_more (suc n) = inr (omega arith)
 
 -- the top is the first of the entries, and it can be received
 pub top_is_first : {M : Type 0} (h v : List (Event M)) (entries : List (Env M)) (now : Status) (ahead : ℕ) (e : Env M)
-    → Keeps h entries now ahead → h ≡ v → top v ≡ Some e
+    → KeepsQueue h entries now ahead → h ≡ v → top v ≡ Some e
     → (0 < deliverable now (length entries) ahead) × (entries ≡ e ∷ drop 1 entries)
 top_is_first h v entries now ahead e k same there =
     elim (zero_or_more (deliverable now (length entries) ahead)) [
@@ -303,26 +304,26 @@ top_is_first h v entries now ahead e k same there =
 
 take_out_any : {M : Type 0} (received : Bool) (h : List (Event M)) (e : Env M) (left : List (Env M))
     (now : Status) (ahead less : ℕ)
-    → top h ≡ Some e → (now ≡ status.Halted → ahead ≡ less + 1) → Keeps h (e ∷ left) now ahead
-    → Keeps (h ++ removal received e ∷ []) left now less
+    → top h ≡ Some e → (now ≡ status.Halted → ahead ≡ less + 1) → KeepsQueue h (e ∷ left) now ahead
+    → KeepsQueue (h ++ removal received e ∷ []) left now less
 take_out_any true h e left now ahead less may fewer k = removal_keeps h (event.Took e) e left now ahead less refl refl refl refl refl refl refl may fewer k
 take_out_any false h e left now ahead less may fewer k = removal_keeps h (event.Dropped e) e left now ahead less refl refl refl refl refl refl refl may fewer k
 
 pub out_keeps : {M : Type 0} (received : Bool) (h v after : List (Event M)) (e : Env M) (entries left : List (Env M))
     (now : Status) (ahead less : ℕ)
     → top v ≡ Some e → h ≡ v → after ≡ h ++ removal received e ∷ [] → left ≡ drop 1 entries → less ≡ ahead - 1
-    → Keeps h entries now ahead → Keeps after left now less
+    → KeepsQueue h entries now ahead → KeepsQueue after left now less
 out_keeps received h v after e entries left now ahead less there same history queue one k =
     let first : (0 < deliverable now (length entries) ahead) × (entries ≡ e ∷ drop 1 entries) = top_is_first h v entries now ahead e k same there in
     let fewer : now ≡ status.Halted → ahead ≡ less + 1 =
     λ s. let some : 0 < ahead = subst (λ (z : Status). 0 < deliverable z (length entries) ahead) s first.0 in omega arith in
-    let shown : Keeps h (e ∷ drop 1 entries) now ahead = Keeps-at h h entries (e ∷ drop 1 entries) now ahead refl (sym first.1) k in
+    let shown : KeepsQueue h (e ∷ drop 1 entries) now ahead = Keeps-at h h entries (e ∷ drop 1 entries) now ahead refl (sym first.1) k in
     Keeps-at _ _ _ _ _ _ history queue (take_out_any received h e (drop 1 entries) now ahead less (ap top same ∙ there) fewer shown)
 
 pub taken_is : {M : Type 0} (received : Bool) (h v after : List (Event M)) (e : Env M) (entries : List (Env M))
     (now : Status) (ahead : ℕ) (taken : Option (Env M))
     → top v ≡ Some e → h ≡ v → after ≡ h ++ removal received e ∷ []
-    → (0 < length entries → taken ≡ Some (get_or entries 0 e)) → Keeps h entries now ahead
+    → (0 < length entries → taken ≡ Some (get_or entries 0 e)) → KeepsQueue h entries now ahead
     → TakesOut received v taken after
 taken_is received h v after e entries now ahead taken there same history pops k =
     let first : (0 < deliverable now (length entries) ahead) × (entries ≡ e ∷ drop 1 entries) = top_is_first h v entries now ahead e k same there in
@@ -331,10 +332,10 @@ taken_is received h v after e entries now ahead taken there same history pops k 
     rw (is) (there, history ∙ ap (λ l. l ++ removal received e ∷ []) same)
 
 pub halt_at_start_keeps : {M : Type 0} (h after : List (Event M)) (entries : List (Env M)) (now : Status) (ahead n : ℕ)
-    → now ≡ status.Started → n ≡ length entries → after ≡ h ++ event.Halted ∷ [] → Keeps h entries now ahead
-    → Keeps after entries status.Halted n
+    → now ≡ status.Started → n ≡ length entries → after ≡ h ++ event.Halted ∷ [] → KeepsQueue h entries now ahead
+    → KeepsQueue after entries status.Halted n
 halt_at_start_keeps h after entries now ahead n s len history k =
-    rw (history, len) (halt_keeps h entries ahead (subst (λ (z : Status). Keeps h entries z ahead) s k))
+    rw (history, len) (halt_keeps h entries ahead (subst (λ (z : Status). KeepsQueue h entries z ahead) s k))
 
 later : (now : Status) → (now ≡ status.Halted) ⊎ (now ≡ status.Stopped) → halted now ≡ now
 later status.Started (inl e) = absurd (cc)
@@ -343,18 +344,18 @@ later status.Halted n = refl
 later status.Stopped n = refl
 
 pub halt_later_keeps : {M : Type 0} (h after : List (Event M)) (entries : List (Env M)) (now : Status) (ahead : ℕ)
-    → (now ≡ status.Halted) ⊎ (now ≡ status.Stopped) → after ≡ h ++ event.Halted ∷ [] → Keeps h entries now ahead
-    → Keeps after entries now ahead
+    → (now ≡ status.Halted) ⊎ (now ≡ status.Stopped) → after ≡ h ++ event.Halted ∷ [] → KeepsQueue h entries now ahead
+    → KeepsQueue after entries now ahead
 halt_later_keeps h after entries now ahead s history k = rw (history) (halt_again_keeps h entries now ahead (later now s) k)
 
 pub count_later : {M : Type 0} (h v : List (Event M)) (entries : List (Env M)) (now : Status) (ahead : ℕ)
-    → (now ≡ status.Halted) ⊎ (now ≡ status.Stopped) → h ≡ v → Keeps h entries now ahead
+    → (now ≡ status.Halted) ⊎ (now ≡ status.Stopped) → h ≡ v → KeepsQueue h entries now ahead
     → None ≡ halted_count (status_of v) v
 count_later h v entries now ahead (inl e) same k = ap (λ s. halted_count s v) (sym e ∙ k.status_is ∙ ap status_of same)
 count_later h v entries now ahead (inr e) same k = ap (λ s. halted_count s v) (sym e ∙ k.status_is ∙ ap status_of same)
 
 pub found_keeps-at : {M : Type 0} (h v after : List (Event M)) (e : Env M) (entries : List (Env M)) (now : Status) (ahead : ℕ)
-    → top v ≡ Some e → h ≡ v → after ≡ h ++ event.Found e ∷ [] → Keeps h entries now ahead → Keeps after entries now ahead
+    → top v ≡ Some e → h ≡ v → after ≡ h ++ event.Found e ∷ [] → KeepsQueue h entries now ahead → KeepsQueue after entries now ahead
 found_keeps-at h v after e entries now ahead there same history k =
     rw (history) (found_keeps h e entries now ahead (ap top same ∙ there) k)
 

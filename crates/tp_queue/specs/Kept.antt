@@ -7,7 +7,8 @@ use Rattle.tp_queue.specs.declared.event.Status.TheVariants as status
 use Rattle.tp_queue.specs.History.{Lawful, queued, status_of, mark, gone, accepted}
 
 -- `entries` are the queued envelopes and `now` is the status; where it is halted the mark is `ahead` envelopes ahead
-pub record Keeps {M : Type 0} (h : List (Event M)) (entries : List (Env M)) (now : Status) (ahead : ℕ) : Type 0 where
+pub record KeepsQueue {M : Type 0} (h : List (Event M)) (entries : List (Env M)) (now : Status) (ahead : ℕ)
+    : Type 0 where
   pub lawful : Lawful h
   pub entries_are : entries ≡ queued h
   pub status_is : now ≡ status_of h

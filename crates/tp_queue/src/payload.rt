@@ -1,5 +1,6 @@
 //! What a queue asks of its messages, and a receiving operation of its template.
 ghost use Rattle.std.specs.Prelude.{◌≡◌, ◌↔◌, IfOk, IsTrue};
+ghost use Rattle.tp_queue.specs.Answers.{Satisfies};
 
 use crate::event::Env;
 use std::alloc::Global;
@@ -30,6 +31,19 @@ impl<M: Payload> Env<M> {
             number: self.number,
             msg: self.msg.copy(alloc)?,
         })
+    }
+
+    /// Whether a receiving operation for `wanted` and `from` succeeds with this envelope: the
+    /// message is wanted, and it is from the named sender, where one is named (22.2.2). Takes no
+    /// memory.
+    pub fn satisfies<W: Wanted<M>>(&self, wanted: &W, from: Option<u32>) -> bool
+        ensures { IsTrue result ↔ Satisfies (W.admits wanted.now) from self.now }
+    {
+        let named = match from {
+            None => true,
+            Some(sender) => self.sender == sender,
+        };
+        named && wanted.admits(&self.msg)
     }
 }
 

@@ -36,13 +36,13 @@ pub struct PortQueue<M: Payload> {
 impl<M: Payload> Model for PortQueue<M> {
     ghost use Rattle.std.specs.Prelude.{List};
     ghost use Rattle.tp_queue.specs.declared.event.Event.{Event};
-    ghost use Rattle.tp_queue.specs.Kept.{Keeps};
+    ghost use Rattle.tp_queue.specs.Kept.{KeepsQueue};
 
     ghost Value = { List (Event M) };
 
     ghost view = { λ q. q.events.items };
 
-    ghost invariant = { λ q. Keeps q.events.items q.entries.items q.status q.ahead };
+    ghost invariant = { λ q. KeepsQueue q.events.items q.entries.items q.status q.ahead };
 }
 
 impl<M: Payload> PortQueue<M> {
@@ -151,7 +151,7 @@ impl<M: Payload> PortQueue<M> {
         let _ = &self.events;
         let fits = match self.top() {
             None => return Ok(TriggerAnswer::Nothing),
-            Some(env) => Self::satisfies(env, wanted, from),
+            Some(env) => env.satisfies(wanted, from),
         };
         match self.take_out(fits)? {
             None => Ok(TriggerAnswer::Nothing),
@@ -273,16 +273,9 @@ impl<M: Payload> PortQueue<M> {
         self.entries.get(place as usize)
     }
 
-    /// The history, the oldest event first. Takes no memory.
-    pub fn events(&self) -> &[Event<M>]
-        ensures history { result.now ≡ self.now }
-        ensures lawful { Lawful self.now }
-    {
-        self.events.as_slice()
-    }
-
-    /// The envelope that a receiving operation sees.
-    fn top(&self) -> Option<&Env<M>>
+    /// The message that a receiving operation sees: the oldest that is queued, where it is
+    /// deliverable, else `None` (22.2.2: only the top is looked at). Takes no memory.
+    pub fn top(&self) -> Option<&Env<M>>
         ensures { option_copied result ≡ top self.now }
     {
         if self.ahead() == 0 {
@@ -292,15 +285,12 @@ impl<M: Payload> PortQueue<M> {
         }
     }
 
-    /// Whether a receiving operation for `wanted` and `from` succeeds with this envelope.
-    fn satisfies<W: Wanted<M>>(env: &Env<M>, wanted: &W, from: Option<u32>) -> bool
-        ensures { IsTrue result ↔ Satisfies (W.admits wanted.now) from env.now }
+    /// The history, the oldest event first. Takes no memory.
+    pub fn events(&self) -> &[Event<M>]
+        ensures history { result.now ≡ self.now }
+        ensures lawful { Lawful self.now }
     {
-        let named = match from {
-            None => true,
-            Some(sender) => env.sender == sender,
-        };
-        named && wanted.admits(&env.msg)
+        self.events.as_slice()
     }
 
     /// Whether there is a top, and a receiving operation succeeds with it.
@@ -311,7 +301,7 @@ impl<M: Payload> PortQueue<M> {
     {
         match self.top() {
             None => false,
-            Some(env) => Self::satisfies(env, wanted, from),
+            Some(env) => env.satisfies(wanted, from),
         }
     }
 

@@ -16,7 +16,7 @@ use Rattle.tp_inbox.specs.declared.entry.Entry.TheVariants as entry
 use Rattle.tp_inbox.specs.History.{event_at, history_of}
 use Rattle.tp_report.specs.declared.report.CompReport.{CompReport}
 use Rattle.tp_report.specs.declared.report.Report.{Report}
-use Rattle.tp_report.specs.Lines.{port_of, sender_of}
+use Rattle.tp_report.specs.Lines.{component_port, sender_of}
 use Rattle.tp_report.specs.Reports.{IsKnown, IsDeskIn, IsPresent, IsReportable}
 
 module _ (s : Setup) (c : CompId) (port : ℕ) where
@@ -57,7 +57,7 @@ module _ (s : Setup) (c : CompId) (port : ℕ) where
   is_there : (o : Option PortDecl) (d : PortDecl) → o ≡ Some d → IsSome o
   is_there o d e = subst (λ (p : Option PortDecl). IsSome p) (sym e) refl
 
-  pub port_there : port < length (ports_at s.types s.components c) → IsPort s (port_of c port)
+  pub port_there : port < length (ports_at s.types s.components c) → IsPort s (component_port c port)
   unfolding decl_at
   port_there h =
       let d : PortDecl = record { name = []; ins = []; outs = [] } in

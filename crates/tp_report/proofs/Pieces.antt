@@ -18,7 +18,7 @@ use Rattle.tp_inbox.specs.declared.entry.Entry.{Entry}
 use Rattle.tp_inbox.specs.Desks.{Journal, at_port}
 use Rattle.tp_report.specs.declared.report.CompReport.{CompReport}
 use Rattle.tp_report.specs.declared.report.Report.{Report}
-use Rattle.tp_report.specs.Lines.{envelope_line, heading, entry_text, end_text, verdict_line, left_at, left_below, port_of}
+use Rattle.tp_report.specs.Lines.{envelope_line, heading, entry_text, end_text, verdict_line, left_at, left_below, component_port}
 use Rattle.tp_report.specs.Reports.{component_text, report_text}
 use Rattle.tp_report.specs.Typed.{is_typed}
 use Rattle.tp_report.specs.Words.{type_name, message_text}
@@ -77,13 +77,13 @@ one_more_at text xs i x e = one_more text xs i x (there xs i x e) (sym (get_or_f
 -- what is left at one port more
 pub left_more : (made : Made) (d : Journal) (n : ℕ) (c : CompId) (h : List (Event Message)) → c ≡ d.comp → h ≡ at_port d n
     → (start here now : Option (List ℕ)) → Appends start here (left_below made d n)
-    → Appends here now (flat_map (envelope_line made (codes "left") (port_of c n)) (queued h))
+    → Appends here now (flat_map (envelope_line made (codes "left") (component_port c n)) (queued h))
     → Appends start now (left_below made d (n + 1))
 unfolding left_at
 left_more made d n c h own is start here now p q =
-    let at : flat_map (envelope_line made (codes "left") (port_of c n)) (queued h) ≡ left_at made d n =
-    ap (λ k. flat_map (envelope_line made (codes "left") (port_of c n)) (queued k)) is
-    ∙ ap (λ e. flat_map (envelope_line made (codes "left") (port_of e n)) (queued (at_port d n))) own in
+    let at : flat_map (envelope_line made (codes "left") (component_port c n)) (queued h) ≡ left_at made d n =
+    ap (λ k. flat_map (envelope_line made (codes "left") (component_port c n)) (queued k)) is
+    ∙ ap (λ e. flat_map (envelope_line made (codes "left") (component_port e n)) (queued (at_port d n))) own in
     subst (λ k. Appends start now (left_below made d k)) (sym (add-one n))
     (appends_both start here now (left_below made d n) (left_at made d n) p (subst (Appends here now) at q))
 

@@ -49,19 +49,19 @@ sent_line made r number m =
     line (codes "sent" ∷ full_name made.config r.to ∷ decimal number ∷ message_text made.types m ∷ [])
 
 -- a port of a component
-abbrev pub port_of : CompId → ℕ → PortRef
-port_of c port = record { comp = c; port = port }
+abbrev pub component_port : CompId → ℕ → PortRef
+component_port c port = record { comp = c; port = port }
 
 -- an entry of a component's history: one line, and none for an arrival
 abbrev pub entry_text : Made → CompId → Entry → List ℕ
 entry_text made c (entry.Sent route number stamped) = sent_line made route number stamped.message
-entry_text made c (entry.Took port e branch) = envelope_line made (codes "took") (port_of c port) e
-entry_text made c (entry.Found port e branch) = envelope_line made (codes "found") (port_of c port) e
-entry_text made c (entry.Dropped port e branch) = envelope_line made (codes "dropped") (port_of c port) e
-entry_text made c (entry.Cleared port) = port_line made (codes "cleared") (port_of c port)
-entry_text made c (entry.Started port) = port_line made (codes "started") (port_of c port)
-entry_text made c (entry.Stopped port) = port_line made (codes "stopped") (port_of c port)
-entry_text made c (entry.Halted port) = port_line made (codes "halted") (port_of c port)
+entry_text made c (entry.Took port e branch) = envelope_line made (codes "took") (component_port c port) e
+entry_text made c (entry.Found port e branch) = envelope_line made (codes "found") (component_port c port) e
+entry_text made c (entry.Dropped port e branch) = envelope_line made (codes "dropped") (component_port c port) e
+entry_text made c (entry.Cleared port) = port_line made (codes "cleared") (component_port c port)
+entry_text made c (entry.Started port) = port_line made (codes "started") (component_port c port)
+entry_text made c (entry.Stopped port) = port_line made (codes "stopped") (component_port c port)
+entry_text made c (entry.Halted port) = port_line made (codes "halted") (component_port c port)
 entry_text made c entry.Else = line (codes "else" ∷ [])
 entry_text made c (entry.Verdict v) = verdict_line (codes "set") v
 entry_text made c (entry.Failed code) = code_line (codes "failed") code
@@ -75,7 +75,8 @@ end_text ending.Waiting = line (codes "end" ∷ codes "waiting" ∷ [])
 
 -- what is left at a port, the oldest first
 unfoldable pub left_at : Made → Journal → ℕ → List ℕ
-left_at made d port = flat_map (envelope_line made (codes "left") (port_of d.comp port)) (queued (at_port d port))
+left_at made d port =
+    flat_map (envelope_line made (codes "left") (component_port d.comp port)) (queued (at_port d port))
 
 -- what is left at the first n ports, in declared order
 abbrev pub left_below : Made → Journal → ℕ → List ℕ

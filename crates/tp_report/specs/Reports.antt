@@ -11,7 +11,7 @@ use Rattle.tp_inbox.specs.declared.entry.Entry.TheVariants as entry
 use Rattle.tp_inbox.specs.Desks.{Journal}
 use Rattle.tp_report.specs.declared.report.CompReport.{CompReport}
 use Rattle.tp_report.specs.declared.report.Report.{Report}
-use Rattle.tp_report.specs.Lines.{port_of, sender_of, heading, entry_text, end_text, verdict_line, left_below}
+use Rattle.tp_report.specs.Lines.{component_port, sender_of, heading, entry_text, end_text, verdict_line, left_below}
 
 -- one component: its name, what its behaviour did, how it ended, its verdict, and what is left at its ports
 unfoldable pub component_text : Made → CompReport → List ℕ
@@ -29,7 +29,7 @@ report_text made report =
 
 -- the port of the component, and the sender of the message there, are of the configuration
 abbrev pub AreOf : Setup → CompId → ℕ → Env Message → Type 0
-AreOf s c port e = IsPort s (port_of c port) × IsComponent s (sender_of e)
+AreOf s c port e = IsPort s (component_port c port) × IsComponent s (sender_of e)
 
 -- what an entry of the component names is of the configuration: its route's receiving port, its port, its sender
 abbrev pub IsKnown : Setup → CompId → Entry → Type 0
@@ -37,10 +37,10 @@ IsKnown s c (entry.Arrive port e stamp) = AreOf s c port e
 IsKnown s c (entry.Took port e branch) = AreOf s c port e
 IsKnown s c (entry.Found port e branch) = AreOf s c port e
 IsKnown s c (entry.Dropped port e branch) = AreOf s c port e
-IsKnown s c (entry.Cleared port) = IsPort s (port_of c port)
-IsKnown s c (entry.Started port) = IsPort s (port_of c port)
-IsKnown s c (entry.Stopped port) = IsPort s (port_of c port)
-IsKnown s c (entry.Halted port) = IsPort s (port_of c port)
+IsKnown s c (entry.Cleared port) = IsPort s (component_port c port)
+IsKnown s c (entry.Started port) = IsPort s (component_port c port)
+IsKnown s c (entry.Stopped port) = IsPort s (component_port c port)
+IsKnown s c (entry.Halted port) = IsPort s (component_port c port)
 IsKnown s c (entry.Sent route number stamped) = IsPort s route.to
 IsKnown s c _ = Unit {0}
 

@@ -2,20 +2,19 @@
 ghost use Rattle.std.specs.Prelude.{◌≡◌, All, OnOk};
 ghost use Rattle.std.specs.List.{flat_map};
 ghost use Rattle.std.specs.Io.KnownBytes.{Appends};
-ghost use Rattle.tp_report.specs.Lines.{entry_text, port_of};
+ghost use Rattle.tp_report.specs.Lines.{entry_text, component_port};
 ghost use Rattle.tp_report.specs.Reports.{IsKnown};
 
 use crate::lines::{write_code, write_envelope, write_port, write_sent, write_verdict};
-use crate::words::put;
 use std::io::Write;
 use tp_config::port_type::{CompId, PortRef};
 use tp_inbox::entry::Entry;
 use tp_script::TestCase;
-use tp_value::writing::WriteFault;
+use tp_value::writing::{WriteFault, write_bytes};
 
 /// A port of a component.
 fn at(comp: CompId, port: u32) -> PortRef
-    ensures { result ≡ port_of comp port }
+    ensures { result ≡ component_port comp port }
 {
     PortRef { comp, port }
 }
@@ -54,7 +53,7 @@ fn write_entry<W: Write>(
         Entry::Started(port) => write_port(test_case, b"started", at(comp, *port), out),
         Entry::Stopped(port) => write_port(test_case, b"stopped", at(comp, *port), out),
         Entry::Halted(port) => write_port(test_case, b"halted", at(comp, *port), out),
-        Entry::Else => put(b"else\n", out),
+        Entry::Else => write_bytes(b"else\n", out),
         Entry::Verdict(verdict) => write_verdict(b"set", *verdict, out),
         Entry::Failed(code) => write_code(b"failed", *code, out),
         Entry::Arrive(..) => Ok(()),

@@ -8,7 +8,7 @@ ghost use Rattle.tp_report.specs.Lines.{code_line, end_text, envelope_line, head
 
 use crate::ending::End;
 use crate::words::{
-    put, verdict_word, write_component_name, write_full_name, write_message, write_number,
+    verdict_word, write_component_name, write_full_name, write_message, write_number,
     write_port_name,
 };
 use std::io::Write;
@@ -18,7 +18,7 @@ use tp_script::TestCase;
 use tp_value::message::Message;
 use tp_value::types::Types;
 use tp_value::verdict::Verdict;
-use tp_value::writing::WriteFault;
+use tp_value::writing::{WriteFault, write_bytes};
 
 /// Writes the name of a component, as the first of its lines.
 pub fn write_heading<W: Write>(
@@ -30,9 +30,9 @@ pub fn write_heading<W: Write>(
     ensures { OnOk result (Appends (W.contents out.old) (W.contents out.new)
         (heading test_case.now comp)) }
 {
-    put(b"component ", out)?;
+    write_bytes(b"component ", out)?;
     write_component_name(test_case.config(), comp, out)?;
-    put(b"\n", out)
+    write_bytes(b"\n", out)
 }
 
 /// Writes a word and a verdict.
@@ -40,10 +40,10 @@ pub fn write_verdict<W: Write>(word: &[u8], verdict: Verdict, out: &mut W) -> Re
     ensures { OnOk result (Appends (W.contents out.old) (W.contents out.new)
         (verdict_line word.now verdict)) }
 {
-    put(word, out)?;
-    put(b" ", out)?;
-    put(verdict_word(verdict), out)?;
-    put(b"\n", out)
+    write_bytes(word, out)?;
+    write_bytes(b" ", out)?;
+    write_bytes(verdict_word(verdict), out)?;
+    write_bytes(b"\n", out)
 }
 
 /// Writes a word and the number of a refusal.
@@ -51,10 +51,10 @@ pub fn write_code<W: Write>(word: &[u8], code: u8, out: &mut W) -> Result<(), Wr
     ensures { OnOk result (Appends (W.contents out.old) (W.contents out.new)
         (code_line word.now code)) }
 {
-    put(word, out)?;
-    put(b" ", out)?;
+    write_bytes(word, out)?;
+    write_bytes(b" ", out)?;
     write_number(code as u64, out)?;
-    put(b"\n", out)
+    write_bytes(b"\n", out)
 }
 
 /// Writes how a behaviour ended.
@@ -62,9 +62,9 @@ pub fn write_end<W: Write>(ending: End, out: &mut W) -> Result<(), WriteFault>
     ensures { OnOk result (Appends (W.contents out.old) (W.contents out.new) (end_text ending)) }
 {
     match ending {
-        End::Done => put(b"end done\n", out),
+        End::Done => write_bytes(b"end done\n", out),
         End::Error(code) => write_code(b"end error", code, out),
-        End::Waiting => put(b"end waiting\n", out),
+        End::Waiting => write_bytes(b"end waiting\n", out),
     }
 }
 
@@ -79,10 +79,10 @@ pub fn write_port<W: Write>(
     ensures { OnOk result (Appends (W.contents out.old) (W.contents out.new)
         (port_line test_case.now word.now port)) }
 {
-    put(word, out)?;
-    put(b" ", out)?;
+    write_bytes(word, out)?;
+    write_bytes(b" ", out)?;
     write_port_name(test_case.config(), port, out)?;
-    put(b"\n", out)
+    write_bytes(b"\n", out)
 }
 
 /// Writes the rest of a line on a message: its number and the message.
@@ -95,11 +95,11 @@ fn write_rest<W: Write>(
     ensures { OnOk result (Appends (W.contents out.old) (W.contents out.new)
         (rest_of_line (decimal number ∷ message_text types.now message.now ∷ []))) }
 {
-    put(b" ", out)?;
+    write_bytes(b" ", out)?;
     write_number(number, out)?;
-    put(b" ", out)?;
+    write_bytes(b" ", out)?;
     write_message(types, message, out)?;
-    put(b"\n", out)
+    write_bytes(b"\n", out)
 }
 
 /// Writes a word, a port and a message there.
@@ -115,10 +115,10 @@ pub fn write_envelope<W: Write>(
     ensures { OnOk result (Appends (W.contents out.old) (W.contents out.new)
         (envelope_line test_case.now word.now port env.now)) }
 {
-    put(word, out)?;
-    put(b" ", out)?;
+    write_bytes(word, out)?;
+    write_bytes(b" ", out)?;
     write_port_name(test_case.config(), port, out)?;
-    put(b" ", out)?;
+    write_bytes(b" ", out)?;
     write_component_name(test_case.config(), CompId(env.sender), out)?;
     write_rest(test_case.types(), env.number, &env.msg, out)
 }
@@ -135,7 +135,7 @@ pub fn write_sent<W: Write>(
     ensures { OnOk result (Appends (W.contents out.old) (W.contents out.new)
         (sent_line test_case.now route number message.now)) }
 {
-    put(b"sent ", out)?;
+    write_bytes(b"sent ", out)?;
     write_full_name(test_case.config(), route.to, out)?;
     write_rest(test_case.types(), number, message, out)
 }

@@ -14,24 +14,14 @@ use tp_value::message::Message;
 use tp_value::types::{Ty, Types};
 use tp_value::typing::has_type;
 use tp_value::verdict::Verdict;
-use tp_value::writing::{WriteFault, write_value};
-
-/// Writes these bytes.
-pub fn put<W: Write>(bytes: &[u8], out: &mut W) -> Result<(), WriteFault>
-    ensures { OnOk result (Appends (W.contents out.old) (W.contents out.new) bytes.now) }
-{
-    match out.write_all(bytes) {
-        Ok(()) => Ok(()),
-        Err(_) => Err(WriteFault),
-    }
-}
+use tp_value::writing::{WriteFault, write_bytes, write_value};
 
 /// Writes a number.
 pub fn write_number<W: Write>(number: u64, out: &mut W) -> Result<(), WriteFault>
     ensures { OnOk result (Appends (W.contents out.old) (W.contents out.new) (decimal number)) }
 {
     let mut buffer = Buffer::new();
-    put(buffer.format(number).as_bytes(), out)
+    write_bytes(buffer.format(number).as_bytes(), out)
 }
 
 /// Writes the name of a component.
@@ -44,7 +34,7 @@ pub fn write_component_name<W: Write>(
     ensures { OnOk result (Appends (W.contents out.old) (W.contents out.new)
         (component_name config.now comp)) }
 {
-    put(config.name(comp).as_bytes(), out)
+    write_bytes(config.name(comp).as_bytes(), out)
 }
 
 /// The name of a port.
@@ -72,7 +62,7 @@ pub fn write_port_name<W: Write>(
     ensures { OnOk result (Appends (W.contents out.old) (W.contents out.new)
         (port_name config.now port)) }
 {
-    put(port_name(config, port), out)
+    write_bytes(port_name(config, port), out)
 }
 
 /// Writes the names of a component and of a port of it.
@@ -86,7 +76,7 @@ pub fn write_full_name<W: Write>(
         (full_name config.now port)) }
 {
     write_component_name(config, port.comp, out)?;
-    put(b".", out)?;
+    write_bytes(b".", out)?;
     write_port_name(config, port, out)
 }
 
@@ -122,10 +112,10 @@ pub fn write_message<W: Write>(
         (message_text types.now message.now)) }
 {
     if !is_typed(types, message) {
-        return put(b"-", out);
+        return write_bytes(b"-", out);
     }
-    put(type_name(types, message.ty), out)?;
-    put(b":", out)?;
+    write_bytes(type_name(types, message.ty), out)?;
+    write_bytes(b":", out)?;
     write_value(types, message.ty, &message.value, out)
 }
 

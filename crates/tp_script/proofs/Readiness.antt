@@ -47,7 +47,7 @@ use Rattle.tp_script.specs.Scopes.{Known, StandsFor}
 use Rattle.tp_script.specs.Behaviours as d
 use Rattle.tp_script.specs.Behaviours.{Behaviour, Does, AreReferences}
 use Rattle.tp_script.specs.TestCases.{Made, IsTestCaseOf, known_of, behaviour_at}
-use Rattle.tp_script.specs.Seen.{seen}
+use Rattle.tp_script.specs.Seen.{as_behaviour}
 use Rattle.tp_script.specs.declared.test_case.Behaviour.{Behaviour as BorrowedBehaviour}
 use Rattle.tp_script.specs.Ready.{CanDo, IsReady, port_count}
 use Rattle.tp_script.proofs.Assembling.{mapped_from, zip_from}
@@ -377,7 +377,7 @@ module _ (m : Module) (made : Made) (rules : IsWellDeclared m) (of : IsTestCaseO
   }
 
 -- what a component is given to do, it can do
-pub can_at : (made : Made) (k : ℕ) (o : Option BorrowedBehaviour) → IsReady made → option_map seen o ≡ behaviour_at made k
-    → IfSome o (λ c. CanDo made.config made.types k (seen c))
+pub can_at : (made : Made) (k : ℕ) (o : Option BorrowedBehaviour) → IsReady made → option_map as_behaviour o ≡ behaviour_at made k
+    → IfSome o (λ c. CanDo made.config made.types k (as_behaviour c))
 can_at made k None is e = tt
-can_at made k (Some c) is e = is.can_do k (seen c) (sym e)
+can_at made k (Some c) is e = is.can_do k (as_behaviour c) (sym e)

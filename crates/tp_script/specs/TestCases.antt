@@ -72,13 +72,13 @@ pub record HasSoundBodies (m : Module) : Type 0 where
   pub function_bodies : AllZip (IsFunctionBody (known_of m case config types)) (functions m) bodies
 
 -- all components together have at most 100,000 statements to carry out
-abbrev pub size_of_all : Made → ℕ
-size_of_all made = sum (map size_of_behaviour made.behaviours)
+abbrev pub size_of_test_case : Made → ℕ
+size_of_test_case made = sum (map size_of_behaviour made.behaviours)
 
 pub record IsSmall (m : Module) : Type 0 where
   pub made : Made
   pub test_case : IsTestCaseOf m made
-  pub few : size_of_all made ≤ 100000
+  pub few : size_of_test_case made ≤ 100000
 
 -- the module obeys the rules
 pub record WellFormed (m : Module) : Type 0 where

@@ -7,7 +7,7 @@ ghost use Rattle.tp_config.specs.Setup.{IsComponent};
 ghost use Rattle.tp_script.specs.TestCases.{behaviour_at};
 ghost use Rattle.tp_script.specs.Instances.{body_in, behaviour_of};
 ghost use Rattle.tp_script.specs.Ready.{CanDo, HasMain, HasNoSystem, IsReady, IsSystem};
-ghost use Rattle.tp_script.specs.Seen.{seen};
+ghost use Rattle.tp_script.specs.Seen.{as_behaviour};
 
 use crate::bodies::Bodies;
 use crate::instance::{Instance, Source};
@@ -78,7 +78,7 @@ fn find_behaviour<'t>(
     comp: CompId,
 ) -> Option<Behaviour<'t>>
     ensures { let behaviours = map (behaviour_of bodies.now) instances.now in
-        option_map seen result ≡ slice_index_or behaviours comp.0 None }
+        option_map as_behaviour result ≡ slice_index_or behaviours comp.0 None }
 {
     let Some(instance) = instance_at(instances, comp) else {
         return None;
@@ -209,8 +209,9 @@ impl TestCase {
     /// test system interface without `sut`, and where there is no such component. The component can
     /// do it. Takes no memory.
     pub fn body(&self, comp: CompId) -> Option<Behaviour<'_>>
-        ensures behaviour { option_map seen result ≡ behaviour_at self.now comp.0 }
-        ensures can { IfSome result (λ c. CanDo self.now.config self.now.types comp.0 (seen c)) }
+        ensures behaviour { option_map as_behaviour result ≡ behaviour_at self.now comp.0 }
+        ensures can { IfSome result (λ c.
+            CanDo self.now.config self.now.types comp.0 (as_behaviour c)) }
     {
         find_behaviour(&self.bodies, &self.instances, comp)
     }

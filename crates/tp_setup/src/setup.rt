@@ -87,7 +87,7 @@ fn find_ends(
 /// Does what one setup statement says, in a configuration whose components are all there: adds a
 /// component variable, or connects or maps two ports. 11 `Unknown` where one is unknown, and then
 /// the refusals of [`Config::connect`] or [`Config::map`], at its line.
-fn step<'m>(
+fn add_setup<'m>(
     config: &mut Config,
     known: &mut NameSet<'m>,
     system: Option<CompId>,
@@ -136,7 +136,7 @@ pub fn connect_all<'m>(
 {
     let mut known = NameSet::new(alloc);
     for setup in setups {
-        step(config, &mut known, system, setup)?;
+        add_setup(config, &mut known, system, setup)?;
     }
     Ok(known)
 }

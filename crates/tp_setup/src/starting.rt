@@ -52,7 +52,7 @@ fn type_name_at<'m>(types: &[&'m str], number: u32) -> Option<&'m str>
 }
 
 /// Whether the component has the type of this name, where the components have types of these names.
-fn has_type(types: &[&str], comp: CompId, name: &str) -> bool
+fn is_of_type(types: &[&str], comp: CompId, name: &str) -> bool
     ensures { IsTrue result → slice_get (map (λ t. t.now) types.now) comp.0 ≡ Some name.now }
 {
     match type_name_at(types, comp.0) {
@@ -76,7 +76,7 @@ fn check_argument(
     let Some(comp) = find_argument(variables, argument) else {
         return Err(refused(Refusal::Unknown, line));
     };
-    if !has_type(types, comp, parameter.type_name.as_str()) {
+    if !is_of_type(types, comp, parameter.type_name.as_str()) {
         return Err(refused(Refusal::WrongType, line));
     }
     Ok(comp)
@@ -132,7 +132,7 @@ fn check_start(
     if is_sut(start.function.as_str()) {
         return Err(refused(Refusal::NotInSut, line));
     }
-    if variable == u32::MAX || !has_type(types, CompId(variable + 1), function.runs_on.as_str()) {
+    if variable == u32::MAX || !is_of_type(types, CompId(variable + 1), function.runs_on.as_str()) {
         return Err(refused(Refusal::WrongType, line));
     }
     let arguments = check_arguments(alloc, variables, types, &function.parameters, start)?;

@@ -26,7 +26,7 @@ pub struct CaseAt<'m> {
 }
 
 /// Adds the name that is declared. 12 `Duplicate` at its line.
-fn declare<'m>(names: &mut NameSet<'m>, name: &'m DeclaredName) -> Result<(), ScriptFault>
+fn add_name<'m>(names: &mut NameSet<'m>, name: &'m DeclaredName) -> Result<(), ScriptFault>
     ensures names { OnOk result (names.new ≡ names.old ++ declared name.now ∷ []) }
     ensures distinct { AreDistinct names.new }
 {
@@ -43,7 +43,7 @@ fn declare_all<'m>(names: &mut NameSet<'m>, list: &'m [DeclaredName]) -> Result<
     ensures distinct { AreDistinct names.new }
 {
     for name in list {
-        declare(names, name)?;
+        add_name(names, name)?;
     }
     Ok(())
 }
@@ -70,7 +70,7 @@ fn declare_fields<'m>(names: &mut NameSet<'m>, fields: &'m [FieldType]) -> Resul
     ensures distinct { AreDistinct names.new }
 {
     for field in fields {
-        declare(names, &field.name)?;
+        add_name(names, &field.name)?;
     }
     Ok(())
 }
@@ -86,7 +86,7 @@ pub fn declare_parameters<'m>(
     ensures distinct { AreDistinct names.new }
 {
     for parameter in parameters {
-        declare(names, &parameter.name)?;
+        add_name(names, &parameter.name)?;
     }
     Ok(())
 }

@@ -30,14 +30,14 @@ symbol_before Minus ts = minus_before (starts_zero ts) ts
 symbol_before s ts = symbol s ∷ ts
 
 -- a token before the tokens: a `-` directly before the number 0 is left out
-abbrev pub before : Lexeme → List Lexeme → List Lexeme
-before (symbol s) ts = symbol_before s ts
-before t ts = t ∷ ts
+abbrev pub token_before : Lexeme → List Lexeme → List Lexeme
+token_before (symbol s) ts = symbol_before s ts
+token_before t ts = t ∷ ts
 
 -- the tokens, each `-` directly before the number 0 left out
 abbrev pub plain : List Lexeme → List Lexeme
 plain [] = []
-plain (t ∷ ts) = before t (plain ts)
+plain (t ∷ ts) = token_before t (plain ts)
 
 -- what is left to read at these tokens
 abbrev pub ahead : List Placed → List Lexeme

@@ -3,7 +3,7 @@ ghost use Rattle.std.specs.Prelude.{◌≡◌, ◌+◌, ◌≤◌, ◌∷◌, le
 ghost use Rattle.std.specs.Bool.{OnTrue, OnFalse};
 ghost use Rattle.tp_refusal.specs.declared.refusal.Refusal.TheVariants.{Limit};
 ghost use Rattle.tp_token.specs.Lexeme.{name, word, lexeme_of};
-ghost use Rattle.tp_syntax.specs.Ahead.{ahead, symbol_before, before};
+ghost use Rattle.tp_syntax.specs.Ahead.{ahead, symbol_before, token_before};
 ghost use Rattle.tp_syntax.specs.Passing.{Passes};
 ghost use Rattle.tp_syntax.specs.Sequences.{end_lexemes};
 ghost use Rattle.tp_syntax.specs.Refusals.{IsOfGrammar};
@@ -37,7 +37,8 @@ impl<'a, 't> Parser<'a, 't> {
     /// The next token, which is passed. 10 `Syntax` at the end of the text: there is none.
     pub fn take(&mut self) -> Result<&'a Placed<'t>, ScriptFault>
         ensures tokens { IfOk result (λ p.
-            ahead self.old.rest.now ≡ before (lexeme_of p.now.token) (ahead self.new.rest.now)) }
+            ahead self.old.rest.now
+            ≡ token_before (lexeme_of p.now.token) (ahead self.new.rest.now)) }
         ensures shorter { OnOk result (length self.new.rest.now + 1 ≡ length self.old.rest.now) }
         ensures fault { IfErr result IsOfGrammar }
     {

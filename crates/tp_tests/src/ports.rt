@@ -68,6 +68,23 @@ fn checks_without_taking(rt: HostRuntime) -> Result<(), Fail> {
 }
 
 #[test]
+fn looks_at_the_top(rt: HostRuntime) -> Result<(), Fail> {
+    let mut queue = two(&rt)?;
+    assert!(rt; queue.top().is_some_and(|top| *top == env(0, 0, 1)));
+    queue.stop()?;
+    assert!(rt; queue.top().is_none());
+    Ok(())
+}
+
+#[test]
+fn satisfies_by_message_and_sender(rt: HostRuntime) {
+    let first = env(0, 0, 1);
+    assert!(rt; first.satisfies(&Pattern::Number(1), Some(0)));
+    assert!(rt; !first.satisfies(&Pattern::Number(2), None));
+    assert!(rt; !first.satisfies(&Pattern::Any, Some(1)));
+}
+
+#[test]
 fn triggers_take_or_discard(rt: HostRuntime) -> Result<(), Fail> {
     let mut queue = two(&rt)?;
     assert_eq!(rt;

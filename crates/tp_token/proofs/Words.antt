@@ -7,7 +7,7 @@ use Rattle.std.proofs.lemmas.Slice.Eq.{bytes_eq-Decides}
 use Rattle.std.specs.Prelude.{is_some, unwrap_or}
 use Rattle.tp_token.specs.declared.word.Word.{Word}
 use Rattle.tp_token.specs.declared.word.Word.TheVariants as w
-use Rattle.tp_token.specs.Word.{WordsAreSpelled, first_word, has_length, reserved, word_of, word_spelling, words}
+use Rattle.tp_token.specs.Word.{WordsAreSpelled, first_spelled, has_length, reserved, word_of, word_spelling, words}
 
 -- texts of two lengths are different
 other_length : (a b : List ℕ) → length b ≢ length a → bytes_eq a b ≡ false
@@ -19,7 +19,7 @@ other_length (x ∷ xs) (y ∷ ys) ne =
     elim (x == y) as (λ t. (t && bytes_eq xs ys) ≡ false) [ true ↦ rest | false ↦ refl ]
 
 -- only words of its length are compared with a text
-pub by_length : (n : ℕ) (bs : List ℕ) (es : List (List ℕ × Word)) → length bs ≡ n → first_word bs (filter (has_length n) es) ≡ first_word bs es
+pub by_length : (n : ℕ) (bs : List ℕ) (es : List (List ℕ × Word)) → length bs ≡ n → first_spelled bs (filter (has_length n) es) ≡ first_spelled bs es
 by_length n bs [] h = refl
 by_length n bs (e ∷ es) h = elim (eqb_tells (length e.0) n) [
   | inl (test, eq) ↦ rw test (ap (λ (w : Option Word). if bytes_eq bs e.0 then Some e.1 else w) (by_length n bs es h))
@@ -27,51 +27,51 @@ by_length n bs (e ∷ es) h = elim (eqb_tells (length e.0) n) [
 ]
 
 -- the words of one length answer for a text of that length as all do
-part : (n : ℕ) (es : List (List ℕ × Word)) → filter (has_length n) reserved ≡ es → (bs : List ℕ) → length bs ≡ n → first_word bs es ≡ word_of bs
-part n es e bs h = ap (first_word bs) (sym e) ∙ by_length n bs reserved h
+part : (n : ℕ) (es : List (List ℕ × Word)) → filter (has_length n) reserved ≡ es → (bs : List ℕ) → length bs ≡ n → first_spelled bs es ≡ word_of bs
+part n es e bs h = ap (first_spelled bs) (sym e) ∙ by_length n bs reserved h
 
-pub one : (bs : List ℕ) → length bs ≡ 1 → first_word bs ([]) ≡ word_of bs
+pub one : (bs : List ℕ) → length bs ≡ 1 → first_spelled bs ([]) ≡ word_of bs
 unfolding reserved
 one bs h = part 1 ([]) refl bs h
 
-pub two : (bs : List ℕ) → length bs ≡ 2 → first_word bs (take 4 reserved) ≡ word_of bs
+pub two : (bs : List ℕ) → length bs ≡ 2 → first_spelled bs (take 4 reserved) ≡ word_of bs
 unfolding reserved
 two bs h = part 2 (take 4 reserved) refl bs h
 
-pub three : (bs : List ℕ) → length bs ≡ 3 → first_word bs (drop 4 (take 11 reserved)) ≡ word_of bs
+pub three : (bs : List ℕ) → length bs ≡ 3 → first_spelled bs (drop 4 (take 11 reserved)) ≡ word_of bs
 unfolding reserved
 three bs h = part 3 (drop 4 (take 11 reserved)) refl bs h
 
-pub four : (bs : List ℕ) → length bs ≡ 4 → first_word bs (drop 11 (take 25 reserved)) ≡ word_of bs
+pub four : (bs : List ℕ) → length bs ≡ 4 → first_spelled bs (drop 11 (take 25 reserved)) ≡ word_of bs
 unfolding reserved
 four bs h = part 4 (drop 11 (take 25 reserved)) refl bs h
 
-pub five : (bs : List ℕ) → length bs ≡ 5 → first_word bs (drop 25 (take 32 reserved)) ≡ word_of bs
+pub five : (bs : List ℕ) → length bs ≡ 5 → first_spelled bs (drop 25 (take 32 reserved)) ≡ word_of bs
 unfolding reserved
 five bs h = part 5 (drop 25 (take 32 reserved)) refl bs h
 
-pub six : (bs : List ℕ) → length bs ≡ 6 → first_word bs (drop 32 (take 38 reserved)) ≡ word_of bs
+pub six : (bs : List ℕ) → length bs ≡ 6 → first_spelled bs (drop 32 (take 38 reserved)) ≡ word_of bs
 unfolding reserved
 six bs h = part 6 (drop 32 (take 38 reserved)) refl bs h
 
-pub seven : (bs : List ℕ) → length bs ≡ 7 → first_word bs (drop 38 (take 45 reserved)) ≡ word_of bs
+pub seven : (bs : List ℕ) → length bs ≡ 7 → first_spelled bs (drop 38 (take 45 reserved)) ≡ word_of bs
 unfolding reserved
 seven bs h = part 7 (drop 38 (take 45 reserved)) refl bs h
 
-pub eight : (bs : List ℕ) → length bs ≡ 8 → first_word bs (drop 45 (take 48 reserved)) ≡ word_of bs
+pub eight : (bs : List ℕ) → length bs ≡ 8 → first_spelled bs (drop 45 (take 48 reserved)) ≡ word_of bs
 unfolding reserved
 eight bs h = part 8 (drop 45 (take 48 reserved)) refl bs h
 
-pub nine : (bs : List ℕ) → length bs ≡ 9 → first_word bs (drop 48 (take 49 reserved)) ≡ word_of bs
+pub nine : (bs : List ℕ) → length bs ≡ 9 → first_spelled bs (drop 48 (take 49 reserved)) ≡ word_of bs
 unfolding reserved
 nine bs h = part 9 (drop 48 (take 49 reserved)) refl bs h
 
-pub ten : (bs : List ℕ) → length bs ≡ 10 → first_word bs (drop 49 reserved) ≡ word_of bs
+pub ten : (bs : List ℕ) → length bs ≡ 10 → first_spelled bs (drop 49 reserved) ≡ word_of bs
 unfolding reserved
 ten bs h = part 10 (drop 49 reserved) refl bs h
 
 -- what is found among words is spelled so
-found_spelling : (bs : List ℕ) (word : Word) (ws : List Word) → first_word bs (map (λ v. (word_spelling v, v)) ws) ≡ Some word → bs ≡ word_spelling word
+found_spelling : (bs : List ℕ) (word : Word) (ws : List Word) → first_spelled bs (map (λ v. (word_spelling v, v)) ws) ≡ Some word → bs ≡ word_spelling word
 found_spelling bs word [] e = absurd (true≢false (sym (ap is_some e)))
 found_spelling bs word (v ∷ ws) e = elim (cases_Bool (bytes_eq bs (word_spelling v))) [
   | inl same ↦ (bytes_eq-Decides bs (word_spelling v)).0 same ∙ ap (λ (found : Option Word). word_spelling (unwrap_or found v)) (rw same at e)

@@ -28,5 +28,5 @@ pub record PlacedLexeme : Type 0 where
   pub line : ℕ
 
 -- what a placed token is, and its line
-abbrev pub line_of : Placed → PlacedLexeme
-line_of p = record { token = lexeme_of p.token; line = p.line }
+abbrev pub placed_lexeme : Placed → PlacedLexeme
+placed_lexeme p = record { token = lexeme_of p.token; line = p.line }

@@ -74,9 +74,9 @@ words =
     w.Setverdict ∷ w.Charstring ∷ w.Complement ∷ []
 
 -- the word of the first entry of a table that is spelled so
-abbrev pub first_word : List ℕ → List (List ℕ × Word) → Option Word
-first_word bs [] = None
-first_word bs (entry ∷ more) = if bytes_eq bs entry.0 then Some entry.1 else first_word bs more
+abbrev pub first_spelled : List ℕ → List (List ℕ × Word) → Option Word
+first_spelled bs [] = None
+first_spelled bs (entry ∷ more) = if bytes_eq bs entry.0 then Some entry.1 else first_spelled bs more
 
 -- the reserved words as they are spelled
 unfoldable pub reserved : List (List ℕ × Word)
@@ -84,7 +84,7 @@ reserved = map (λ word. (word_spelling word, word)) words
 
 -- the reserved word that the bytes spell, if they spell one
 abbrev pub word_of : List ℕ → Option Word
-word_of bs = first_word bs reserved
+word_of bs = first_spelled bs reserved
 
 -- the bytes spell a reserved word exactly where they are its spelling
 abbrev pub WordsAreSpelled : Type 0

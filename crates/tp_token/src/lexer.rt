@@ -3,7 +3,7 @@ ghost use Rattle.std.specs.Prelude.{◌≡◌, ◌≤◌, ◌++◌, IfErr, IfOk,
 ghost use Rattle.std.specs.Option.{option_map};
 ghost use Rattle.tp_token.specs.Cut.{AreTokens, TokensAreUnique, newlines, placed};
 ghost use Rattle.tp_token.specs.Fault.{AreWithinLimits, GoodTextsAreAccepted, IsMemory, IsRefused};
-ghost use Rattle.tp_token.specs.Lexeme.{lexeme_of, line_of};
+ghost use Rattle.tp_token.specs.Lexeme.{lexeme_of, placed_lexeme};
 ghost use Rattle.tp_token.specs.Word.{WordsAreSpelled};
 
 use crate::fault::ScriptFault;
@@ -26,8 +26,8 @@ use tp_refusal::limit::TEXT_LIMIT;
 ///   9223372036854775808;
 /// - 50 where memory was refused, for the list of tokens or the characters of a text.
 pub fn lex<'t>(alloc: Global, text: &'t [u8]) -> Result<Vec<Placed<'t>>, ScriptFault>
-    ensures tokens { IfOk result (λ v. AreTokens text.now (map line_of v.items)) }
-    ensures limits { IfOk result (λ v. AreWithinLimits (map line_of v.items)) }
+    ensures tokens { IfOk result (λ v. AreTokens text.now (map placed_lexeme v.items)) }
+    ensures limits { IfOk result (λ v. AreWithinLimits (map placed_lexeme v.items)) }
     ensures short { OnOk result (length text.now ≤ 1048576) }
     ensures refused { IfErr result (IsRefused text.now) }
 {
@@ -71,8 +71,8 @@ fn add<'t>(
     found: Option<Token<'t>>,
     line: u32,
 ) -> Result<(), ScriptFault>
-    ensures added { OnOk result (map line_of tokens.new.items
-        ≡ map line_of tokens.old.items ++ placed (option_map lexeme_of found.entry) line) }
+    ensures added { OnOk result (map placed_lexeme tokens.new.items
+        ≡ map placed_lexeme tokens.old.items ++ placed (option_map lexeme_of found.entry) line) }
     ensures memory { IfErr result IsMemory }
 {
     if let Some(token) = found {

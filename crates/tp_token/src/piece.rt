@@ -111,7 +111,7 @@ fn number(bytes: &[u8], line: u32) -> Result<(u64, usize), ScriptFault>
         return Ok((0, 1));
     }
     let size = digits_len(bytes);
-    let value = value_of(&bytes[..size], line)?;
+    let value = spelled_number(&bytes[..size], line)?;
     Ok((value, size))
 }
 
@@ -127,7 +127,7 @@ fn digits_len(bytes: &[u8]) -> usize
 }
 
 /// The number that the digits spell. 15 `Limit`: it is too great.
-fn value_of(digits: &[u8], line: u32) -> Result<u64, ScriptFault>
+fn spelled_number(digits: &[u8], line: u32) -> Result<u64, ScriptFault>
     requires { Run is_digit digits.now }
     ensures value { IfOk result (λ n. n ≡ value_on 0 digits.now) }
     ensures limits { IfOk result (λ n. n ≤ GREATEST_NUMBER) }

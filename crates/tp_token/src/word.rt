@@ -1,6 +1,6 @@
 //! The reserved words (ES 201 873-1, Annex A, has more: the others may be names here).
 ghost use Rattle.std.specs.Prelude.{◌≡◌, ◌↔◌, ℕ, List, IsTrue, length, map};
-ghost use Rattle.tp_token.specs.Word.{first_word, word_of};
+ghost use Rattle.tp_token.specs.Word.{first_spelled, word_of};
 
 /// A reserved word: one that can't be a name. `SelfWord` is `self` and `NoneWord` is `none`; each
 /// of the others is the word of its own name, in small letters.
@@ -129,13 +129,13 @@ pub const WORDS: [(&str, Word); 52] = [
 pub fn word_of(text: &str) -> Option<Word>
     ensures { result ≡ word_of text.now }
 {
-    first_word(text, words_of_length(text.len()))
+    first_spelled(text, words_of_length(text.len()))
 }
 
 /// The part of the table where a text of so many characters is found if it stands in the table.
 fn words_of_length(size: usize) -> &'static [(&'static str, Word)]
     ensures { (bs : List ℕ) → length bs ≡ size →
-        first_word bs (map (λ entry. (entry.0.now, entry.1)) result.now) ≡ word_of bs }
+        first_spelled bs (map (λ entry. (entry.0.now, entry.1)) result.now) ≡ word_of bs }
 {
     let words: &'static [(&'static str, Word)] = &WORDS;
     match size {
@@ -154,8 +154,8 @@ fn words_of_length(size: usize) -> &'static [(&'static str, Word)]
 }
 
 /// The word of the first entry that is spelled so.
-fn first_word(text: &str, table: &[(&str, Word)]) -> Option<Word>
-    ensures { result ≡ first_word text.now (map (λ entry. (entry.0.now, entry.1)) table.now) }
+fn first_spelled(text: &str, table: &[(&str, Word)]) -> Option<Word>
+    ensures { result ≡ first_spelled text.now (map (λ entry. (entry.0.now, entry.1)) table.now) }
 {
     for (spelling, word) in table {
         if text == *spelling {

@@ -18,7 +18,7 @@ use Rattle.tp_value.specs.declared.value.Value.TheOpen as v
 use Rattle.tp_value.specs.declared.value.Value.TheViews.{roll-Value}
 use Rattle.tp_value.specs.declared.value.Value.TheFolds.{map-Value, fold-roll-Value}
 use Rattle.tp_value.specs.Types.{named}
-use Rattle.tp_value.specs.ValueText.{bool_text, escaped, quoted, braced, field_texts, element_texts, record_text, list_text, text_of, value_text}
+use Rattle.tp_value.specs.ValueText.{bool_text, escaped, quoted, braced_text, field_texts, element_texts, record_text, list_text, text_of, value_text}
 use Rattle.tp_value.specs.Separators.{separator, listed_from}
 
 -- what is known to be written grows by one text after the other
@@ -49,13 +49,13 @@ module _ {X Y : Type 0} (g : X → Y) (text : Y → Ty → List ℕ) where
 
   record_text-map : (xs : List X) (d : Option TypeDef) → record_text text (map g xs) d ≡ record_text (λ x. text (g x)) xs d
   record_text-map xs None = refl
-  record_text-map xs (Some (def.Record fs)) = ap braced (field_texts-map fs xs)
+  record_text-map xs (Some (def.Record fs)) = ap braced_text (field_texts-map fs xs)
   record_text-map xs (Some (def.ListOf t)) = refl
 
   list_text-map : (xs : List X) (d : Option TypeDef) → list_text text (map g xs) d ≡ list_text (λ x. text (g x)) xs d
   list_text-map xs None = refl
   list_text-map xs (Some (def.Record fs)) = refl
-  list_text-map xs (Some (def.ListOf t)) = ap braced (element_texts-map t xs)
+  list_text-map xs (Some (def.ListOf t)) = ap braced_text (element_texts-map t xs)
 
 module _ (types : Types) (t : Ty) where
   layer : (x : v.Value-F Value) → value_text types t (roll-Value x) ≡ text_of types (map-Value Value (Ty → List ℕ) (λ w u. value_text types u w) x) t

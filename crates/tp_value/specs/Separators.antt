@@ -1,6 +1,6 @@
 -- What stands before an item in braces, by its place.
 use Rattle.std.specs.Prelude.{ℕ, zero, suc, List, [], codes}
-use Rattle.tp_value.specs.ValueText.{listed, more}
+use Rattle.tp_value.specs.ValueText.{comma_separated, more}
 
 -- a comma and a space, but nothing before the first
 abbrev pub separator : ℕ → List ℕ
@@ -9,5 +9,5 @@ separator (suc n) = codes ", "
 
 -- the text of items of which the first has this place
 abbrev pub listed_from : ℕ → List (List ℕ) → List ℕ
-listed_from zero xs = listed xs
+listed_from zero xs = comma_separated xs
 listed_from (suc n) xs = more xs

@@ -18,12 +18,12 @@ bool_text true = codes "true"
 bool_text false = codes "false"
 
 -- a quote stands twice, every other character once
-abbrev pub doubled : ℕ → List ℕ
-doubled c = if nat_eq c 34 then codes "\"\"" else c ∷ []
+abbrev pub quote_doubled : ℕ → List ℕ
+quote_doubled c = if nat_eq c 34 then codes "\"\"" else c ∷ []
 
 -- the characters between the quotes
 abbrev pub escaped : List ℕ → List ℕ
-escaped cs = flat_map doubled cs
+escaped cs = flat_map quote_doubled cs
 
 -- a charstring, in quotes
 abbrev pub quoted : List ℕ → List ℕ
@@ -35,13 +35,13 @@ more [] = []
 more (x ∷ xs) = codes ", " ++ (x ++ more xs)
 
 -- one after another, with a comma and a space between two
-abbrev pub listed : List (List ℕ) → List ℕ
-listed [] = []
-listed (x ∷ xs) = x ++ more xs
+abbrev pub comma_separated : List (List ℕ) → List ℕ
+comma_separated [] = []
+comma_separated (x ∷ xs) = x ++ more xs
 
 -- the same in braces
-abbrev pub braced : List (List ℕ) → List ℕ
-braced xs = codes "{" ++ (listed xs ++ codes "}")
+abbrev pub braced_text : List (List ℕ) → List ℕ
+braced_text xs = codes "{" ++ (comma_separated xs ++ codes "}")
 
 -- each field's name and value, in declared order; `text` gives the text of what is inside
 abbrev pub field_texts : {X : Type 0} → (X → Ty → List ℕ) → List Field → List X → List (List ℕ)
@@ -56,14 +56,14 @@ element_texts text t (x ∷ xs) = text x t ∷ element_texts text t xs
 
 -- a record; a value that hasn't the type has no text of its own
 abbrev pub record_text : {X : Type 0} → (X → Ty → List ℕ) → List X → Option TypeDef → List ℕ
-record_text text xs (Some (type_def.Record fs)) = braced (field_texts text fs xs)
+record_text text xs (Some (type_def.Record fs)) = braced_text (field_texts text fs xs)
 record_text text xs (Some (type_def.ListOf t)) = []
 record_text text xs None = []
 
 -- a record of
 abbrev pub list_text : {X : Type 0} → (X → Ty → List ℕ) → List X → Option TypeDef → List ℕ
 list_text text xs (Some (type_def.Record fs)) = []
-list_text text xs (Some (type_def.ListOf t)) = braced (element_texts text t xs)
+list_text text xs (Some (type_def.ListOf t)) = braced_text (element_texts text t xs)
 list_text text xs None = []
 
 -- one layer of a value, with the texts of the values inside

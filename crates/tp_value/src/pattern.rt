@@ -29,7 +29,7 @@ fn admits(part: PatternPart, char: u8) -> bool
 }
 
 /// The next step at these places: past a `*`, past one part with one character, or back.
-fn step(parts: &[PatternPart], part: usize, text: &[u8], at: usize) -> Step
+fn next_step(parts: &[PatternPart], part: usize, text: &[u8], at: usize) -> Step
     requires { at < length text.now }
     ensures { StepIs is_many_part AdmitsChar (drop part parts.now) (drop at text.now) result }
 {
@@ -66,7 +66,7 @@ pub fn text_matches(parts: &[PatternPart], text: &[u8]) -> bool
     let mut at = 0;
     let mut back: Option<(usize, usize)> = None;
     while at < text.len() {
-        match step(parts, part, text, at) {
+        match next_step(parts, part, text, at) {
             Step::AnyOrNone => {
                 part += 1;
                 back = Some((part, at));

@@ -2,7 +2,7 @@
 ghost use Rattle.std.specs.Prelude.{◌≡◌, ◌==◌, ◌<◌, ◌++◌, IfSome, MatchOption, OnOk, codes, length, position};
 ghost use Rattle.std.specs.Fmt.{signed_decimal};
 ghost use Rattle.std.specs.Io.KnownBytes.{Appends};
-ghost use Rattle.tp_value.specs.ValueText.{bool_text, braced, element_texts, escaped, field_texts, quoted, value_text};
+ghost use Rattle.tp_value.specs.ValueText.{bool_text, braced_text, element_texts, escaped, field_texts, quoted, value_text};
 ghost use Rattle.tp_value.specs.Separators.{separator};
 
 use crate::types::{Field, Ty, TypeDef, Types};
@@ -16,8 +16,9 @@ use thiserror::Error;
 #[error("the text could not be written")]
 pub struct WriteFault;
 
-/// Writes these bytes.
-fn put<W: Write>(bytes: &[u8], out: &mut W) -> Result<(), WriteFault>
+/// Writes these bytes. 3 `Write` where the writer answered an error, or took no byte: how many of
+/// them were written then is open.
+pub fn write_bytes<W: Write>(bytes: &[u8], out: &mut W) -> Result<(), WriteFault>
     ensures { OnOk result (Appends (W.contents out.old) (W.contents out.new) bytes.now) }
 {
     match out.write_all(bytes) {
@@ -32,7 +33,7 @@ fn write_number<W: Write>(number: i64, out: &mut W) -> Result<(), WriteFault>
         (signed_decimal number)) }
 {
     let mut buffer = Buffer::new();
-    put(buffer.format(number).as_bytes(), out)
+    write_bytes(buffer.format(number).as_bytes(), out)
 }
 
 /// Writes a boolean.
@@ -40,9 +41,9 @@ fn write_truth<W: Write>(truth: bool, out: &mut W) -> Result<(), WriteFault>
     ensures { OnOk result (Appends (W.contents out.old) (W.contents out.new) (bool_text truth)) }
 {
     if truth {
-        put(b"true", out)
+        write_bytes(b"true", out)
     } else {
-        put(b"false", out)
+        write_bytes(b"false", out)
     }
 }
 
@@ -70,15 +71,15 @@ fn cut_at_quote(text: &[u8]) -> Option<(&[u8], &[u8])>
 fn write_text<W: Write>(text: &[u8], out: &mut W) -> Result<(), WriteFault>
     ensures { OnOk result (Appends (W.contents out.old) (W.contents out.new) (quoted text.now)) }
 {
-    put(b"\"", out)?;
+    write_bytes(b"\"", out)?;
     let mut rest = text;
     while let Some((front, behind)) = cut_at_quote(rest) {
-        put(front, out)?;
-        put(b"\"", out)?;
+        write_bytes(front, out)?;
+        write_bytes(b"\"", out)?;
         rest = behind;
     }
-    put(rest, out)?;
-    put(b"\"", out)
+    write_bytes(rest, out)?;
+    write_bytes(b"\"", out)
 }
 
 /// Writes what stands before the item at this place: a comma and a space, or nothing at the first.
@@ -86,9 +87,9 @@ fn separate<W: Write>(place: usize, out: &mut W) -> Result<(), WriteFault>
     ensures { OnOk result (Appends (W.contents out.old) (W.contents out.new) (separator place)) }
 {
     if place == 0 {
-        put(b"", out)
+        write_bytes(b"", out)
     } else {
-        put(b", ", out)
+        write_bytes(b", ", out)
     }
 }
 
@@ -141,17 +142,17 @@ fn write_fields<W: Write>(
     out: &mut W,
 ) -> Result<(), WriteFault>
     ensures { OnOk result (Appends (W.contents out.old) (W.contents out.new)
-        (braced (field_texts (λ v t. value_text types.now t v) declared.now values.now))) }
+        (braced_text (field_texts (λ v t. value_text types.now t v) declared.now values.now))) }
 {
-    put(b"{", out)?;
+    write_bytes(b"{", out)?;
     for index in 0..declared.len().min(values.len()) {
         let field = &declared[index];
         separate(index, out)?;
-        put(field.name.as_slice(), out)?;
-        put(b" := ", out)?;
+        write_bytes(field.name.as_slice(), out)?;
+        write_bytes(b" := ", out)?;
         write_value(types, field.ty, &values[index], out)?;
     }
-    put(b"}", out)
+    write_bytes(b"}", out)
 }
 
 /// Writes the elements of a record of, in braces.
@@ -163,12 +164,12 @@ fn write_elements<W: Write>(
     out: &mut W,
 ) -> Result<(), WriteFault>
     ensures { OnOk result (Appends (W.contents out.old) (W.contents out.new)
-        (braced (element_texts (λ v t. value_text types.now t v) ty values.now))) }
+        (braced_text (element_texts (λ v t. value_text types.now t v) ty values.now))) }
 {
-    put(b"{", out)?;
+    write_bytes(b"{", out)?;
     for (index, value) in values.iter().enumerate() {
         separate(index, out)?;
         write_value(types, ty, value, out)?;
     }
-    put(b"}", out)
+    write_bytes(b"}", out)
 }

@@ -85,7 +85,7 @@ fn write_accepted<W: Write>(writer: &mut W) -> io::Result<()>
 }
 
 /// The status of a fault.
-fn status_of(fault: CheckFault) -> u8
+fn check_fault_status(fault: CheckFault) -> u8
     ensures { result ≡ check_fault_status fault }
 {
     match fault {
@@ -101,7 +101,7 @@ pub fn answer_check_fault<W: Write>(writer: &mut W, fault: CheckFault) -> Option
         (check_fault_text fault)) }
 {
     match write_check_fault(writer, fault) {
-        Ok(()) => flushed(writer, status_of(fault)),
+        Ok(()) => flushed(writer, check_fault_status(fault)),
         Err(_) => None,
     }
 }

@@ -67,7 +67,7 @@ pub fn flushed<W: Write>(writer: &mut W, status: u8) -> Option<u8>
 }
 
 /// The status of a fault.
-fn status_of(fault: QueueFault) -> u8
+fn fault_status(fault: QueueFault) -> u8
     ensures { result ≡ fault_status fault }
 {
     match fault {
@@ -84,7 +84,7 @@ pub fn answer_fault<W: Write>(writer: &mut W, fault: QueueFault) -> Option<u8>
         (fault_text fault)) }
 {
     match write_fault(writer, fault) {
-        Ok(()) => flushed(writer, status_of(fault)),
+        Ok(()) => flushed(writer, fault_status(fault)),
         Err(_) => None,
     }
 }

@@ -41,7 +41,7 @@ fn usage<R: Eprint>(rt: &R) -> u8 {
 }
 
 /// The status of a fault.
-fn status_of(fault: FileFault) -> u8 {
+fn file_fault_status(fault: FileFault) -> u8 {
     match fault {
         FileFault::Read | FileFault::Text(ScriptFault::Refused { .. }) => REFUSED,
         FileFault::Text(ScriptFault::Memory(_)) => FAULTED,
@@ -79,7 +79,7 @@ fn read_order_file<T: AllocGlobal + Files>(
 /// Prints the line of a fault of SCRIPT, as `tpr` does, and answers its status.
 fn tell_script<R: Print>(rt: &R, fault: FileFault) -> u8 {
     match println!(rt; "{fault}") {
-        Ok(()) => status_of(fault),
+        Ok(()) => file_fault_status(fault),
         Err(_) => FAULTED,
     }
 }
@@ -87,7 +87,7 @@ fn tell_script<R: Print>(rt: &R, fault: FileFault) -> u8 {
 /// Prints the line of a fault of ORDERS on standard error, and answers its status.
 fn tell_orders<R: Eprint>(rt: &R, fault: FileFault) -> u8 {
     let _ = eprintln!(rt; "orders: {fault}");
-    status_of(fault)
+    file_fault_status(fault)
 }
 
 /// Runs the test case in each of the orders, and prints what came of it.

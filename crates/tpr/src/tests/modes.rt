@@ -1,5 +1,5 @@
 //! The command line, and the modes over readers and writers that fail.
-use crate::line::{Mode, line_of};
+use crate::line::{Mode, mode_and_file};
 use crate::modes::{ANSWERED, REFUSED, answer_queue};
 use crate::running::answer_run;
 use std::io;
@@ -14,16 +14,16 @@ fn words_name_a_mode_and_a_file(rt: HostRuntime) -> Result<(), Fail> {
     let check = String::from_str(rt.alloc(), "check")?;
     let run = String::from_str(rt.alloc(), "run")?;
     let mut words = Vec::new(rt.alloc());
-    assert!(rt; line_of(words.as_slice()).is_none());
+    assert!(rt; mode_and_file(words.as_slice()).is_none());
     words.push(queue)?;
-    assert!(rt; line_of(words.as_slice()) == Some((Mode::Queue, None)));
+    assert!(rt; mode_and_file(words.as_slice()) == Some((Mode::Queue, None)));
     words.push(file)?;
-    assert!(rt; line_of(words.as_slice()) == Some((Mode::Queue, Some("a.queue"))));
+    assert!(rt; mode_and_file(words.as_slice()) == Some((Mode::Queue, Some("a.queue"))));
     words.push(check)?;
-    assert!(rt; line_of(words.as_slice()).is_none());
-    assert!(rt; line_of(&words[2..]) == Some((Mode::Check, None)));
+    assert!(rt; mode_and_file(words.as_slice()).is_none());
+    assert!(rt; mode_and_file(&words[2..]) == Some((Mode::Check, None)));
     words.push(run)?;
-    assert!(rt; line_of(&words[3..]) == Some((Mode::Run, None)));
+    assert!(rt; mode_and_file(&words[3..]) == Some((Mode::Run, None)));
     Ok(())
 }
 
@@ -33,7 +33,7 @@ fn other_words_name_no_mode(rt: HostRuntime) -> Result<(), Fail> {
         let text = String::from_str(rt.alloc(), word)?;
         let mut words = Vec::new(rt.alloc());
         words.push(text)?;
-        assert!(rt; line_of(words.as_slice()).is_none(), "at {word}");
+        assert!(rt; mode_and_file(words.as_slice()).is_none(), "at {word}");
     }
     Ok(())
 }

@@ -1,6 +1,6 @@
 -- Each route has a sender, and one entry more stands for each turn.
 use Rattle.std.proofs.Common.{Contains, get_or, refl, subst, sym}
-use Rattle.tp_inbox.specs.Routed.{no_route}
+use Rattle.tp_inbox.specs.Routed.{absent_route}
 use Rattle.tp_behaviour.proofs.Manned.{same_then}
 use Rattle.tp_behaviour.proofs.Routed.{routes_stay, sent_on_more}
 use Rattle.tp_behaviour.proofs.sending.send_on_each.Goals as goal
@@ -8,9 +8,9 @@ use Rattle.tp_behaviour.proofs.sending.send_on_each.Goals as goal
 -- the senders are on the same routes as at the start
 pub send_on-requires-clause-known : goal.send_on-requires-clause-known
 send_on-requires-clause-known g c κs within =
-    let q = get_or c.args.routes.now c.loop-route.route-index no_route in
+    let q = get_or c.args.routes.now c.loop-route.route-index absent_route in
     subst (λ l. Contains l q) (sym (routes_stay c.args.station.now c.loop-route.station c.loop-route.invariant.same))
-    (c.requires.known c.loop-route.route-index no_route c.loop-route-test.true)
+    (c.requires.known c.loop-route.route-index absent_route c.loop-route-test.true)
 
 pub loop-route-preserved : goal.loop-route-preserved
 loop-route-preserved g c =
@@ -19,11 +19,11 @@ loop-route-preserved g c =
     let before = c.loop-route.station in
     let routes = c.args.routes.now in
     let n = c.loop-route.route-index in
-    let q = get_or routes n no_route in
+    let q = get_or routes n absent_route in
     record {
       manned = e.manned;
       same = same_then c.args.station.now before c.send_on.new.station i.same e.same;
       each = λ port started.
-          sent_on_more port c.args.message.now routes n no_route q c.args.station.now.desk.log before.desk.log c.send_on.new.station.desk.log
+          sent_on_more port c.args.message.now routes n absent_route q c.args.station.now.desk.log before.desk.log c.send_on.new.station.desk.log
           (i.each port started) c.loop-route-test.true refl e.log e.trace;
     }

@@ -37,4 +37,4 @@ resolve_statement-returns-in_ok-block-in-For t c =
     ap texts c.deref-in-For.ensures.value ∙ c.in_ok-inside-in-For.ensures ∙ ap (λ x. turns ++ x ∷ []) c.as_str-name.ensures.value in
     let inside : IsBlock scope variables (turns ++ string_bytes looped.turns.name ∷ []) looped.block.items c.in_ok-block-in-For.block =
     rw (sym row, sym c.deref-in-For-2.ensures.value) c.in_ok-block-in-For.ensures in
-    rw c.counted.ensures (statement_for scope variables turns c.args.action.now c.in-For.looped c.in_ok-block-in-For.block c.in-For.is new inside)
+    rw c.counted_for.ensures (statement_for scope variables turns c.args.action.now c.in-For.looped c.in_ok-block-in-For.block c.in-For.is new inside)

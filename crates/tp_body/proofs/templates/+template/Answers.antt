@@ -37,7 +37,7 @@ pub resolve_named_templates-loop-index-preserved : goal.resolve_named_templates-
 resolve_named_templates-loop-index-preserved t c =
     let i = c.loop-index.invariant in
     let placing : IsPlacing c.args.fields.now (map (λ x. string_bytes x.name) c.args.entries.now) c.in_ok-places.places.items =
-    rw (ap texts c.deref.ensures.value ∙ c.in_ok-names.ensures) at c.in_ok-places.ensures in
+    c.in_ok-places.ensures in
     let is_place : slice_get c.in_ok-places.places.items c.loop-index.index ≡ Some c.index-place.result.now =
     slice_get_read c.in_ok-places.places.items (length c.in_ok-places.places.items) c.loop-index.index c.index-place.result.now refl
     (omega (arith, placing.as_many, length-map c.args.entries.now (λ x. string_bytes x.name))) c.index-place.ensures in
@@ -60,7 +60,7 @@ pub resolve_named_templates-returns-clause-named : goal.resolve_named_templates-
 resolve_named_templates-returns-clause-named t c =
     let i = c.loop-index.invariant in
     let placing : IsPlacing c.args.fields.now (map (λ x. string_bytes x.name) c.args.entries.now) c.in_ok-places.places.items =
-    rw (ap texts c.deref.ensures.value ∙ c.in_ok-names.ensures) at c.in_ok-places.ensures in
+    c.in_ok-places.ensures in
     let end : length c.in_ok-places.places.items ≤ c.loop-index.index =
     omega (arith, placing.as_many, length-map c.args.entries.now (λ x. string_bytes x.name)) in
     let types = c.args.context.now.scope.now.types.now in

@@ -17,7 +17,8 @@ pub play-played-requires-after_bounds : goal.play-played-requires-after_bounds
 play-played-requires-after_bounds g c κs within =
     let made = c.args.test_case.now in
     let x = c.args.station in
-    let its = subst (λ (k : CompId). IsPostOf made k c.post_of-post.result) (c.comp.ensures ∙ desk_comp made x c.requires.waiting) c.post_of-post.ensures.post in
+    let its = subst (λ (k : CompId). IsPostOf made k c.post_of-post.result) (c.comp.ensures ∙ desk_comp made x c.requires.waiting)
+    c.post_of-post.ensures.post in
     waiting_begins made c.post_of-post.result x its c.requires.waiting
 
 pub returns : goal.returns

@@ -10,7 +10,7 @@ use Rattle.tp_config.specs.declared.port_type.RouteId.{RouteId}
 use Rattle.tp_inbox.specs.declared.hub.Hub.{Hub}
 use Rattle.tp_inbox.specs.declared.rule.View.{View}
 use Rattle.tp_inbox.specs.Envelopes.{AreRouted, one_of, before}
-use Rattle.tp_inbox.specs.Rule.{owner_of}
+use Rattle.tp_inbox.specs.Rule.{owner_pass}
 use Rattle.tp_inbox.specs.Routed.{AreRoutes, arrivals_of, rest_arrivals, route_at}
 use Rattle.tp_inbox.specs.Ledgers.{Draining, Inbox, Sending, put_by}
 use Rattle.tp_inbox.specs.Ends.{inbox_of, seen_sent}
@@ -58,9 +58,9 @@ loop-sender-preserved g c =
     let left_routes = map (λ (x : Sending). x.route) left in
     record {
       pass = search rules;
-      view = c.absorb.ensures.rule ∙ ap (λ (v : View). owner_of v.made v.taken (v.known ++ c.sender.inside.pass.me.view.client.put ∷ [])) was.view
-          ∙ ap (λ (w : View). owner_of made taken (known ++ w.put ∷ [])) c.sender.invariant.view ∙ ap (λ m. owner_of made taken (known ++ m ∷ [])) ledger
-          ∙ ap (owner_of made taken) (sym (ap (map (λ (x : Sent). x.1)) grown ∙ map-append (λ (x : Sent). x.1) ss (put_by s ∷ [])));
+      view = c.absorb.ensures.rule ∙ ap (λ (v : View). owner_pass v.made v.taken (v.known ++ c.sender.inside.pass.me.view.client.put ∷ [])) was.view
+          ∙ ap (λ (w : View). owner_pass made taken (known ++ w.put ∷ [])) c.sender.invariant.view ∙ ap (λ m. owner_pass made taken (known ++ m ∷ [])) ledger
+          ∙ ap (owner_pass made taken) (sym (ap (map (λ (x : Sent). x.1)) grown ∙ map-append (λ (x : Sent). x.1) ss (put_by s ∷ [])));
       inbox = all_tail (λ (x : Sending). x.inbox ≡ inbox_of hub) s left (subst (All (λ (x : Sending). x.inbox ≡ inbox_of hub)) steps was.inbox);
       routes = move_one _ (map (λ (x : Sent). x.0) ss) s.route left_routes
           (ap (map (λ (x : Sent). x.0)) grown ∙ map-append (λ (x : Sent). x.0) ss (put_by s ∷ []))

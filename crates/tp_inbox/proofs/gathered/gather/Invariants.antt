@@ -4,7 +4,7 @@ use Rattle.std.specs.Prelude.{vec_capacity, All}
 use Rattle.std.specs.Vec.Iter.{into_iter_items}
 use Rattle.std.specs.Arc.{arc_value}
 use Rattle.crossbeam_queue.specs.SegTies.{IsSegPassOf}
-use Rattle.tp_inbox.specs.Rule.{owner_of}
+use Rattle.tp_inbox.specs.Rule.{owner_pass}
 use Rattle.tp_inbox.specs.Ledgers.{Sending, put_by}
 use Rattle.tp_inbox.specs.Ends.{inbox_of, seen_sent}
 use Rattle.tp_inbox.proofs.gathered.gather.Given as goal
@@ -15,7 +15,7 @@ invariant-loop-sender g l =
     let was = l.initial.pass.me.view.client in
     record {
       pass : IsSegPassOf (arc_value l.hub).line l.pass;
-      view : l.pass.me.view.client ≡ owner_of was.made was.taken (map (λ v. v.1) (seen_sent l.sent.items));
+      view : l.pass.me.view.client ≡ owner_pass was.made was.taken (map (λ v. v.1) (seen_sent l.sent.items));
       inbox : All (λ (s : Sending). s.inbox ≡ inbox_of (arc_value l.hub)) rest;
       routes : map (λ v. v.0) (seen_sent l.sent.items) ++ map (λ (s : Sending). s.route) rest ≡ (arc_value l.hub).routes.items;
       lists : seen_sent l.sent.items ++ map put_by rest ≡ map put_by l.fn.senders.items;

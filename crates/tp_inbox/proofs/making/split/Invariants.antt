@@ -2,7 +2,7 @@
 use Rattle.std.proofs.Common.{◌≡◌, ◌≤◌, [], length, map, take, vec_capacity}
 use Rattle.std.specs.Arc.{arc_value}
 use Rattle.crossbeam_queue.specs.SegTies.{IsSegPassOf}
-use Rattle.tp_inbox.specs.Rule.{owner_of}
+use Rattle.tp_inbox.specs.Rule.{owner_pass}
 use Rattle.tp_inbox.specs.Ledgers.{new_sender}
 use Rattle.tp_inbox.specs.Ends.{inbox_of}
 use Rattle.tp_inbox.proofs.making.split.Given as goal
@@ -12,7 +12,7 @@ invariant-loop-place l =
     let hub = arc_value l.hub in
     record {
       pass : IsSegPassOf hub.line l.pass;
-      view : l.pass.me.view.client ≡ owner_of l.place [] [];
+      view : l.pass.me.view.client ≡ owner_pass l.place [] [];
       senders : l.senders.items ≡ map (new_sender (inbox_of hub)) (take l.place hub.routes.items);
       count : l.count ≡ length hub.routes.items;
       room : l.count ≤ vec_capacity l.senders;

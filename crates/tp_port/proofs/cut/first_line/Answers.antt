@@ -4,7 +4,7 @@ use Rattle.tp_port.proofs.Splits.{line_at, line_whole}
 use Rattle.tp_port.proofs.cut.first_line.Goals as goal
 
 pub returns-in-Some-clause-lines : goal.returns-in-Some-clause-lines
-returns-in-Some-clause-lines c = line_at _ _ c.requires (sym c.place_of.ensures ∙ c.in-Some.is)
+returns-in-Some-clause-lines c = line_at _ _ c.requires (sym c.find_byte.ensures ∙ c.in-Some.is)
 
 pub returns-in-None-clause-lines : goal.returns-in-None-clause-lines
-returns-in-None-clause-lines c = line_whole _ c.requires (sym c.place_of.ensures ∙ c.in-None.is)
+returns-in-None-clause-lines c = line_whole _ c.requires (sym c.find_byte.ensures ∙ c.in-None.is)

@@ -3,7 +3,7 @@ use Rattle.std.proofs.Common.{◌∙◌, ap, ◌++◌, map}
 use Rattle.std.specs.Prelude.{codes, string_bytes}
 use Rattle.std.specs.Option.{option_to_list}
 use Rattle.tp_queue.specs.declared.event.Event.TheVariants as event
-use Rattle.tp_port.specs.Replay.{entry_or_no}
+use Rattle.tp_port.specs.Replay.{envelope_or_no}
 use Rattle.tp_port.proofs.Meeting.{receives_found, received_is}
 use Rattle.tp_port.proofs.engine.answer_receive.Goals as goal
 
@@ -15,6 +15,6 @@ returns-clause-history c =
 
 pub returns-clause-text : goal.returns-clause-text
 returns-clause-text c =
-    c.in_ok-write_entry_or_no.ensures
-    ∙ ap (λ o. string_bytes c.args.out.now ++ entry_or_no c.args.senders.now (codes "took ") o)
+    c.in_ok-write_envelope_or_no.ensures
+    ∙ ap (λ o. string_bytes c.args.out.now ++ envelope_or_no c.args.senders.now (codes "took ") o)
     (c.as_ref.ensures.value ∙ receives_found c.args.value c.args.from _ _ _ c.in_ok-env.ensures.ok)

@@ -5,7 +5,7 @@ use Rattle.tp_queue.specs.History.{queued}
 use Rattle.tp_config.specs.Setup.{IsComponent, IsPort, ports_at}
 use Rattle.tp_config.specs.Allowed.{IsSetup}
 use Rattle.tp_config.proofs.RouteLaws.{few_at}
-use Rattle.tp_report.specs.Lines.{port_of, sender_of}
+use Rattle.tp_report.specs.Lines.{component_port, sender_of}
 use Rattle.tp_report.proofs.Known.{port_there, senders}
 use Rattle.tp_report.proofs.Pieces.{left_more}
 use Rattle.tp_report.proofs.left.write_left.Goals as goal
@@ -20,7 +20,7 @@ write_queued-requires-clause-port g c =
     let s = c.args.test_case.now.config in
     let within : c.loop-place.place < length (ports_at s.types s.components c.args.desk.now.comp) =
     omega (arith, c.requires.own.ports, c.port_count-place-end.ensures) in
-    subst (λ comp. IsPort s (port_of comp c.loop-place.place)) (sym c.comp-comp.ensures) (port_there s c.args.desk.now.comp c.loop-place.place within)
+    subst (λ comp. IsPort s (component_port comp c.loop-place.place)) (sym c.comp-comp.ensures) (port_there s c.args.desk.now.comp c.loop-place.place within)
 
 pub write_queued-requires-clause-senders : goal.write_queued-requires-clause-senders
 write_queued-requires-clause-senders g c =

@@ -6,5 +6,5 @@ use Rattle.tp_report.proofs.words.write_component_name.Goals as goal
 
 pub returns : goal.returns
 returns g c =
-    subst (λ (text : List ℕ). OnOk c.put.result (Appends (g.W.Write.contents c.args.out.now) (g.W.Write.contents c.put.new.out) text))
-    (c.as_bytes.ensures.value ∙ component_is c.args.config.now c.args.comp c.name.result.now c.name.ensures) c.put.ensures
+    subst (λ (text : List ℕ). OnOk c.write_bytes.result (Appends (g.W.Write.contents c.args.out.now) (g.W.Write.contents c.write_bytes.new.out) text))
+    (c.as_bytes.ensures.value ∙ component_is c.args.config.now c.args.comp c.name.result.now c.name.ensures) c.write_bytes.ensures

@@ -7,13 +7,13 @@ use Rattle.tp_report.proofs.words.write_message.Goals as goal
 pub returns-then-not-is_typed : goal.returns-then-not-is_typed
 returns-then-not-is_typed g c =
     let e = sym c.is_typed.ensures ∙ c.if-not-is_typed.true in
-    subst (λ (text : List ℕ). OnOk c.put.result (Appends (g.W.Write.contents c.args.out.now) (g.W.Write.contents c.put.new.out) text))
-    (untyped_text c.args.types.now c.args.message.now e) c.put.ensures
+    subst (λ (text : List ℕ). OnOk c.write_bytes.result (Appends (g.W.Write.contents c.args.out.now) (g.W.Write.contents c.write_bytes.new.out) text))
+    (untyped_text c.args.types.now c.args.message.now e) c.write_bytes.ensures
 
 pub returns : goal.returns
 returns g c =
     let e = sym c.is_typed.ensures ∙ c.if-not-is_typed.false in
     subst (λ (text : List ℕ). OnOk c.write_value.result (Appends (g.W.Write.contents c.args.out.now) (g.W.Write.contents c.write_value.new.out) text))
     (typed_text c.args.types.now c.args.message.now e)
-    (then c.write_value.result _ _ _ _ _ (subst (Appends _ _) c.type_name.ensures c.in_ok-put.ensures)
-    (then c.write_value.result _ _ _ _ _ c.in_ok-put-2.ensures c.write_value.ensures))
+    (then c.write_value.result _ _ _ _ _ (subst (Appends _ _) c.type_name.ensures c.in_ok-write_bytes.ensures)
+    (then c.write_value.result _ _ _ _ _ c.in_ok-write_bytes-2.ensures c.write_value.ensures))

@@ -3,7 +3,7 @@ use Rattle.std.proofs.Common.{◌≤◌, sym, subst}
 use Rattle.std.specs.List.{AllZip}
 use Rattle.tp_setup.specs.Definitions.{functions}
 use Rattle.tp_script.specs.Scopes.{IsMainBody, IsFunctionBody}
-use Rattle.tp_script.specs.TestCases.{IsTestCaseOf, size_of_all}
+use Rattle.tp_script.specs.TestCases.{IsTestCaseOf, size_of_test_case}
 use Rattle.tp_script.proofs.Assembling.{kinds, known_is, test_case_of}
 use Rattle.tp_script.proofs.Readiness.{ready}
 use Rattle.tp_script.proofs.checking.check.Goals as goal
@@ -46,6 +46,6 @@ returns-clause-well_formed c =
       small = record {
         made = c.new.result;
         test_case = returns-clause-made c;
-        few = subst (λ t. size_of_all t ≤ 100000) (sym c.new.ensures) c.in_ok-behaviours.ensures.few;
+        few = subst (λ t. size_of_test_case t ≤ 100000) (sym c.new.ensures) c.in_ok-behaviours.ensures.few;
       };
     }

@@ -10,10 +10,10 @@ loop-setup-init c = record { known = c.new-known.ensures.empty; makes = nothing 
 
 pub loop-setup-preserved : goal.loop-setup-preserved
 loop-setup-preserved c = record {
-  known = variables_more c.args.setups.now c.loop-setup.setup-index c.setup-item.result (omega arith) c.setup-item.is c.loop-setup.known c.step.new.known
-      c.loop-setup.invariant.known c.in_ok-step.ensures.known;
+  known = variables_more c.args.setups.now c.loop-setup.setup-index c.setup-item.result (omega arith) c.setup-item.is c.loop-setup.known c.add_setup.new.known
+      c.loop-setup.invariant.known c.in_ok-add_setup.ensures.known;
   makes = makes_more c.args.setups.now c.loop-setup.setup-index c.setup-item.result (omega arith) c.setup-item.is
       (component_number c.args.system) c.args.config.now
-      c.loop-setup.config c.step.new.config c.loop-setup.known
-      c.loop-setup.invariant.makes c.loop-setup.invariant.known c.in_ok-step.ensures.step;
+      c.loop-setup.config c.add_setup.new.config c.loop-setup.known
+      c.loop-setup.invariant.makes c.loop-setup.invariant.known c.in_ok-add_setup.ensures.step;
 }

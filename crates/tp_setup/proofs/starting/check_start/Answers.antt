@@ -19,7 +19,7 @@ returns c =
       named = named_at c.args.sorted.now.function_names (λ f. string_bytes f.name) xs (string_bytes c.args.start.now.function) place one c.requires
           (rw c.as_str-2.ensures.value at c.in-Some-find.ensures.place) there;
       not_sut = λ h. true≢false (sym (c.is_sut.ensures.1 (c.as_str-3.ensures.value ∙ h)) ∙ c.if-is_sut.false);
-      runs_on = rw c.as_str-else-variable.ensures.value at (c.has_type.ensures c.if-not-has_type.false);
+      runs_on = rw c.as_str-else-variable.ensures.value at (c.is_of_type.ensures c.if-not-is_of_type.false);
       arguments_known = c.in_ok-arguments.ensures.known;
       arguments_fit = rw c.deref-2.ensures.value at c.in_ok-arguments.ensures.fits;
     }

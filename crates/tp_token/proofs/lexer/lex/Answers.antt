@@ -1,7 +1,7 @@
 -- The next piece is cut off behind the others, and a fault there is the first in the text.
 use Rattle.std.proofs.Common.{◌≡◌, ℕ, ◌+◌, ◌≤◌, List, [], ◌∷◌, ◌++◌, length, map, sym, ap, subst, ◌∙◌, arith, Option}
 use Rattle.std.proofs.lemmas.List.{nil_from_length}
-use Rattle.tp_token.specs.Lexeme.{Lexeme, lexeme_of, line_of, PlacedLexeme}
+use Rattle.tp_token.specs.Lexeme.{Lexeme, lexeme_of, placed_lexeme, PlacedLexeme}
 use Rattle.std.specs.Option.{option_map}
 use Rattle.tp_token.specs.Cut.{piece_bytes, newlines, Cuts, placed, token_of, tokens_in, line_after}
 use Rattle.tp_token.proofs.Cutting.{line_after_push, tokens_in_push, cut_more, within_more}
@@ -31,7 +31,8 @@ pieces-preserved c =
       cut = subst (λ (x : List ℕ). Cuts (inv.front ++ h.piece ∷ []) c.args.text.now x) (sym c.split_at.ensures.back)
           (cut_more c.pieces.rest.now c.args.text.now (option_map lexeme_of c.in_ok-found.found) c.in_ok-found.size inv.front h inv.cut);
       limits = rw c.in_ok-add.ensures.added
-          (within_more (map line_of c.pieces.tokens.items) (option_map lexeme_of c.in_ok-found.found) c.pieces.line inv.limits c.in_ok-found.ensures.limits);
+          (within_more (map placed_lexeme c.pieces.tokens.items) (option_map lexeme_of c.in_ok-found.found) c.pieces.line inv.limits
+          c.in_ok-found.ensures.limits);
       tokens = c.in_ok-add.ensures.added ∙ ap (λ (x : List PlacedLexeme). x ++ placed (option_map lexeme_of c.in_ok-found.found) c.pieces.line) inv.tokens
           ∙ ap (λ (x : Option Lexeme). tokens_in 1 inv.front ++ placed x c.pieces.line) (sym h.holds)
           ∙ ap (λ (x : ℕ). tokens_in 1 inv.front ++ placed (token_of h.piece) x) inv.at

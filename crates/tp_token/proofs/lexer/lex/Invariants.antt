@@ -2,15 +2,15 @@
 use Rattle.std.proofs.Common.{◌≡◌, ◌+◌, ◌≤◌, List, length, map}
 use Rattle.tp_token.specs.Cut.{Piece, Cuts, tokens_in, line_after}
 use Rattle.tp_token.specs.Fault.{AreWithinLimits}
-use Rattle.tp_token.specs.Lexeme.{line_of}
+use Rattle.tp_token.specs.Lexeme.{placed_lexeme}
 use Rattle.tp_token.proofs.lexer.lex.Given as goal
 
 abbrev pub invariant-pieces : goal.invariant-pieces
 invariant-pieces l = record {
   front : List Piece;
   cut : Cuts front l.fn.text l.rest;
-  tokens : map line_of l.tokens.items ≡ tokens_in 1 front;
-  limits : AreWithinLimits (map line_of l.tokens.items);
+  tokens : map placed_lexeme l.tokens.items ≡ tokens_in 1 front;
+  limits : AreWithinLimits (map placed_lexeme l.tokens.items);
   at : l.line ≡ line_after 1 front;
   bound : l.line + length l.rest ≤ 1 + length l.fn.text;
   within : length l.rest ≤ length l.fn.text;

@@ -9,8 +9,8 @@ use Rattle.tp_token.proofs.Longest.{number_at}
 use Rattle.tp_token.proofs.Faults.{refused_limit, beyond, beyond_greatest}
 use Rattle.tp_token.proofs.piece.number.Goals as goal
 
-pub value_of-requires : goal.value_of-requires
-value_of-requires c = rw c.digits_len-size.ensures (run_front is_digit c.args.bytes.now)
+pub spelled_number-requires : goal.spelled_number-requires
+spelled_number-requires c = rw c.digits_len-size.ensures (run_front is_digit c.args.bytes.now)
 
 pub returns-clause-token : goal.returns-clause-token
 returns-clause-token c =

@@ -3,4 +3,4 @@ use Rattle.std.proofs.Common.{◌∙◌, refl}
 use Rattle.tp_token.proofs.word.word_of.Goals as goal
 
 pub returns : goal.returns
-returns c = c.first_word.ensures ∙ c.words_of_length.ensures c.args.text.now refl
+returns c = c.first_spelled.ensures ∙ c.words_of_length.ensures c.args.text.now refl

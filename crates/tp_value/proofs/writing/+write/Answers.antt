@@ -12,8 +12,8 @@ write_elements-loop-index-preserved g t c =
 
 pub write_elements-returns : goal.write_elements-returns
 write_elements-returns g t c =
-    in_braces c.put-2.result _ _ _ _ _ _ c.in_ok-put.ensures c.loop-index.invariant
-    (elements_end (λ v u. value_text c.args.types.now u v) c.args.ty c.args.values.now c.loop-index.index c.loop-index-test.false) c.put-2.ensures
+    in_braces c.write_bytes-2.result _ _ _ _ _ _ c.in_ok-write_bytes.ensures c.loop-index.invariant
+    (elements_end (λ v u. value_text c.args.types.now u v) c.args.ty c.args.values.now c.loop-index.index c.loop-index-test.false) c.write_bytes-2.ensures
 
 pub write_fields-loop-index-preserved : goal.write_fields-loop-index-preserved
 write_fields-loop-index-preserved g t c =
@@ -21,12 +21,12 @@ write_fields-loop-index-preserved g t c =
     let within : c.loop-index.index < length c.args.values.now = omega arith in
     fields_grow (λ v u. value_text c.args.types.now u v) c.args.declared.now c.args.values.now c.loop-index.index c.index-declared-index.result
     c.index-values-index.result named c.index-declared-index.is within c.index-values-index.is _ _ _ _ _ _ _ c.loop-index.invariant
-    c.in_ok-separate.ensures (subst (Appends _ _) c.as_slice.ensures c.in_ok-put-2.ensures) c.in_ok-put-3.ensures c.in_ok-write_value.ensures
+    c.in_ok-separate.ensures (subst (Appends _ _) c.as_slice.ensures c.in_ok-write_bytes-2.ensures) c.in_ok-write_bytes-3.ensures c.in_ok-write_value.ensures
 
 pub write_fields-returns : goal.write_fields-returns
 write_fields-returns g t c =
-    in_braces c.put-2.result _ _ _ _ _ _ c.in_ok-put.ensures c.loop-index.invariant
-    (fields_end (λ v u. value_text c.args.types.now u v) c.args.declared.now c.args.values.now c.loop-index.index (omega arith)) c.put-2.ensures
+    in_braces c.write_bytes-2.result _ _ _ _ _ _ c.in_ok-write_bytes.ensures c.loop-index.invariant
+    (fields_end (λ v u. value_text c.args.types.now u v) c.args.declared.now c.args.values.now c.loop-index.index (omega arith)) c.write_bytes-2.ensures
 
 pub write_value-returns-in-Int : goal.write_value-returns-in-Int
 write_value-returns-in-Int g t c = rw (c.in-Int.is, text_int) (search rules)

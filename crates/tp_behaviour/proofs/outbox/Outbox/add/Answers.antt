@@ -4,7 +4,8 @@ use Rattle.std.specs.Prelude.{◌≢◌}
 use Rattle.indexmap.specs.IndexMap.{Updates}
 use Rattle.tp_config.specs.declared.port_type.RouteId.{RouteId}
 use Rattle.tp_inbox.specs.Ledgers.{Sending}
-use Rattle.tp_behaviour.specs.Outboxes.{AreSendersFiled, IsListed, route_eq}
+use Rattle.tp_inbox.specs.Places.{route_eq}
+use Rattle.tp_behaviour.specs.Outboxes.{AreSendersFiled, IsListed}
 use Rattle.tp_behaviour.proofs.Outboxes.{filed_more}
 use Rattle.tp_behaviour.proofs.outbox.Outbox.add.Goals as goal
 

@@ -15,9 +15,9 @@ use Rattle.tp_behaviour.proofs.outbox.Outbox.send.Goals as goal
 -- the sender that was found stands on the route, and only what it has put changes
 pub invariant_of-self : goal.invariant_of-self
 invariant_of-self g c =
-    let p = c.place_of-place.ensures in
+    let p = c.sender_place-place.ensures in
     let ss = c.self.inside.senders.items in
-    let place = c.place_of-place.result in
+    let place = c.sender_place-place.result in
     let m = next_of c.args.desk.now.log c.args.message.now in
     let found = subst (λ l. slice_get l place ≡ Some p.0) (sym c.self.view_is) p.1 in
     let this = c.index_mut.ensures.value ∙ get_or_from_slice_get ss place p.0 c.index_mut.result.now found in
@@ -27,9 +27,9 @@ invariant_of-self g c =
 
 pub returns-clause-ok : goal.returns-clause-ok
 returns-clause-ok g c =
-    let p = c.place_of-place.ensures in
+    let p = c.sender_place-place.ensures in
     let ss = c.self.inside.senders.items in
-    let place = c.place_of-place.result in
+    let place = c.sender_place-place.result in
     let q = c.args.route in
     let d = c.args.desk.now in
     let m = next_of d.log c.args.message.now in
@@ -43,9 +43,9 @@ returns-clause-ok g c =
 
 pub returns-clause-limit : goal.returns-clause-limit
 returns-clause-limit g c =
-    let p = c.place_of-place.ensures in
+    let p = c.sender_place-place.ensures in
     let ss = c.self.inside.senders.items in
-    let place = c.place_of-place.result in
+    let place = c.sender_place-place.result in
     let found = subst (λ l. slice_get l place ≡ Some p.0) (sym c.self.view_is) p.1 in
     let this = c.index_mut.ensures.value ∙ get_or_from_slice_get ss place p.0 c.index_mut.result.now found in
     full_on (λ (f : PutFault). f ≡ put_fault.Limit) _ c.args.route p.0 c.send.result (contained _ place p.0 p.1) p.2

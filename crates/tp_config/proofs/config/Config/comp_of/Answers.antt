@@ -11,14 +11,14 @@ returns-in-Some-clause-there c =
     let i = c.self.inside in
     let s = setup_of i.types.items i.components.items i.connected.items i.mapped.items in
     name_there (λ n. bytes_eq n c.args.name.now) c.args.name.now (tells_name c.args.name.now) (names c.args.self.now) c.in-Some.place
-    (sym c.in-Some.is ∙ c.place_of.ensures ∙ comp_place _ _ s _ _ c.as_slice.ensures.value c.self.view_is refl)
+    (sym c.in-Some.is ∙ c.component_place.ensures ∙ comp_place _ _ s _ _ c.as_slice.ensures.value c.self.view_is refl)
 
 pub returns-in-Some-clause-known : goal.returns-in-Some-clause-known
 returns-in-Some-clause-known c =
     let i = c.self.inside in
     let s = setup_of i.types.items i.components.items i.connected.items i.mapped.items in (
       λ _. name_known (λ n. bytes_eq n c.args.name.now) c.args.name.now (tells_name c.args.name.now) (names c.args.self.now) c.in-Some.place
-          (sym c.in-Some.is ∙ c.place_of.ensures ∙ comp_place _ _ s _ _ c.as_slice.ensures.value c.self.view_is refl),
+          (sym c.in-Some.is ∙ c.component_place.ensures ∙ comp_place _ _ s _ _ c.as_slice.ensures.value c.self.view_is refl),
       λ _. refl,
     )
 
@@ -28,5 +28,5 @@ returns-in-None-clause-known c =
     let s = setup_of i.types.items i.components.items i.connected.items i.mapped.items in (
       λ h. absurd (cc),
       λ h. absurd (name_unknown (λ n. bytes_eq n c.args.name.now) c.args.name.now (tells_name c.args.name.now)
-          (names c.args.self.now) (sym c.in-None.is ∙ c.place_of.ensures ∙ comp_place _ _ s _ _ c.as_slice.ensures.value c.self.view_is refl) h),
+          (names c.args.self.now) (sym c.in-None.is ∙ c.component_place.ensures ∙ comp_place _ _ s _ _ c.as_slice.ensures.value c.self.view_is refl) h),
     )

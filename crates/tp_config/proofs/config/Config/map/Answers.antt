@@ -21,24 +21,24 @@ returns-in-Some-clause-err c =
           c.as_slice-types.ensures.value c.as_slice-components.ensures.value)),
     )
 
-pub join-requires-clause-p_in : goal.join-requires-clause-p_in
-join-requires-clause-p_in c =
+pub join_ports-requires-clause-p_in : goal.join_ports-requires-clause-p_in
+join_ports-requires-clause-p_in c =
     let i = c.self.inside in
     let s = setup_of i.types.items i.components.items i.connected.items i.mapped.items in
     port_in_row s (map links_of i.components.items) c.args.p c.self.invariant (subst (λ t. IsPort t c.args.p) (sym c.self.view_is) c.requires.p_in)
 
-pub join-requires-clause-q_in : goal.join-requires-clause-q_in
-join-requires-clause-q_in c =
+pub join_ports-requires-clause-q_in : goal.join_ports-requires-clause-q_in
+join_ports-requires-clause-q_in c =
     let i = c.self.inside in
     let s = setup_of i.types.items i.components.items i.connected.items i.mapped.items in
     port_in_row s (map links_of i.components.items) c.args.q c.self.invariant (subst (λ t. IsPort t c.args.q) (sym c.self.view_is) c.requires.q_in)
 
-pub returns-in_default-join-clause-err : goal.returns-in_default-join-clause-err
-returns-in_default-join-clause-err c =
+pub returns-in_default-join_ports-clause-err : goal.returns-in_default-join_ports-clause-err
+returns-in_default-join_ports-clause-err c =
     let i = c.self.inside in
     let s = setup_of i.types.items i.components.items i.connected.items i.mapped.items in (
-      ap (λ l. setup_of i.types.items l i.connected.items c.join.new.pairs.items) c.in_default-join.ensures.no_link
-          ∙ ap (λ l. setup_of i.types.items i.components.items i.connected.items l) c.in_default-join.ensures.no_pair ∙ c.self.view_is,
+      ap (λ l. setup_of i.types.items l i.connected.items c.join_ports.new.pairs.items) c.in_default-join_ports.ensures.no_link
+          ∙ ap (λ l. setup_of i.types.items i.components.items i.connected.items l) c.in_default-join_ports.ensures.no_pair ∙ c.self.view_is,
       subst (λ t. CanMap t c.args.p c.args.q) c.self.view_is (can_map s (map links_of i.components.items) c.args.p c.args.q c.self.invariant
           (sym c.in_default.is ∙ c.map_fault.ensures
           ∙ seen (λ t m links. find (map_test t m links c.args.p c.args.q) map_order) _ _ _ _ c.as_slice-types.ensures.value

@@ -4,7 +4,7 @@ use Rattle.tp_script.specs.declared.instance.Instance.{Instance}
 use Rattle.tp_script.specs.Instances.{behaviour_of}
 use Rattle.tp_script.specs.TestCases.{Made}
 use Rattle.tp_script.specs.Ready.{CanDo}
-use Rattle.tp_script.specs.Seen.{seen}
+use Rattle.tp_script.specs.Seen.{as_behaviour}
 use Rattle.tp_script.proofs.Readiness.{can_at}
 use Rattle.tp_script.proofs.test_case.TestCase.body.Goals as goal
 
@@ -16,5 +16,5 @@ returns-clause-can c =
     let made : Made = record { config = fields.config; types = fields.types; behaviours = map (behaviour_of fields.bodies) fields.instances.items } in
     let behaviour = c.find_behaviour.ensures ∙ ap (λ (instances : List (Option Instance)). get_or (map (behaviour_of fields.bodies) instances) k None)
     c.deref.ensures.value in
-    subst (λ (t : Made). IfSome c.find_behaviour.result (λ x. CanDo t.config t.types k (seen x))) c.self.view_is
+    subst (λ (t : Made). IfSome c.find_behaviour.result (λ x. CanDo t.config t.types k (as_behaviour x))) c.self.view_is
     (can_at made k c.find_behaviour.result c.self.invariant behaviour)

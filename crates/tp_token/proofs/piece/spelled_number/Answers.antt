@@ -1,7 +1,7 @@
 -- Above a tenth of the greatest number, one digit more makes a number too great.
 use Rattle.std.proofs.Common.{◌<◌, subst}
 use Rattle.tp_token.proofs.Faults.{too_great}
-use Rattle.tp_token.proofs.piece.value_of.Goals as goal
+use Rattle.tp_token.proofs.piece.spelled_number.Goals as goal
 
 pub returns-then-value-clause-great : goal.returns-then-value-clause-great
 returns-then-value-clause-great c =

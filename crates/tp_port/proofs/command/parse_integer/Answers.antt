@@ -4,7 +4,7 @@ use Rattle.std.specs.Str.{IsAscii}
 use Rattle.std.proofs.lemmas.Bool.{false≢true}
 use Rattle.std.specs.Result.{result_ok}
 use Rattle.tp_port.proofs.Numbers.{IsAscii-integer, parse_integer}
-use Rattle.tp_port.proofs.command.value_of.Goals as goal
+use Rattle.tp_port.proofs.command.parse_integer.Goals as goal
 
 pub returns-in_err-text : goal.returns-in_err-text
 returns-in_err-text c =

@@ -2,7 +2,7 @@
 use Rattle.tp_behaviour.specs.Stations.{role_of}
 use Rattle.tp_behaviour.specs.Views.{all_viewed}
 use Rattle.tp_behaviour.proofs.Noted.{looked_at, saw_from}
-use Rattle.tp_behaviour.proofs.looking.look.Goals as goal
+use Rattle.tp_behaviour.proofs.looking.look_at_branches.Goals as goal
 
 -- a look after the drain
 pub returns-clause-manned : goal.returns-clause-manned

@@ -2,9 +2,9 @@
 use Rattle.std.proofs.Common.{◌≡◌, ◌∙◌, sym, subst, Some, slice_get}
 use Rattle.std.proofs.lemmas.Option.{same_Some}
 use Rattle.indexmap.specs.IndexMap.{get_by}
-use Rattle.tp_behaviour.specs.Outboxes.{route_eq}
+use Rattle.tp_inbox.specs.Places.{route_eq}
 use Rattle.tp_behaviour.proofs.Outboxes.{standing}
-use Rattle.tp_behaviour.proofs.outbox.Outbox.place_of.Goals as goal
+use Rattle.tp_behaviour.proofs.outbox.Outbox.sender_place.Goals as goal
 
 -- the route has a sender, and the table has its place
 pub unreachable-requires : goal.unreachable-requires
