@@ -1,6 +1,6 @@
 # Every order of the steps of small scripts (tests/orders/*.ttcn): what tpr_ordered reports of each must be what
-# the model of runs says (tests/orders/model.py). `root`, `room`, `ordered`, `count`, `at_least` and `set_up`
-# are those of ./test.
+# the model of runs says (tests/orders/model.py). `root`, `room`, `ordered`, `count`, `at_least`, `set_up`
+# and `built_by_gate` are those of ./test.
 
 # How many scripts there are at least, how many of them with a behaviour that waits in the end, and how many
 # orders of them all.
@@ -8,10 +8,12 @@ least_scripts=81
 least_waiting=10
 least_orders=31000
 
-# Builds tpr_ordered where TPR_ORDERED names none: rt runs what it has built, here on one order of one script.
+# Builds tpr_ordered where TPR_ORDERED names none: rt runs what it has built, here on one order of one script. Not
+# where `rt ci` has built it in this run: it keeps nothing by which `rt run` would know, and every crate would be
+# proved once more.
 ordered_is_built() {
     local script=$root/tests/orders/all_wait_for_each_other.ttcn
-    if [[ -z ${TPR_ORDERED-} ]]; then
+    if [[ -z ${TPR_ORDERED-} ]] && ! built_by_gate "$ordered"; then
         echo >"$room/no_step"
         if ! (cd -- "$root/crates/tpr_ordered" && exec rt run -- "$script" "$room/no_step") \
             </dev/null >"$room/built" 2>&1; then
