@@ -9,9 +9,9 @@ use Rattle.tp_value.specs.declared.verdict.Verdict.{Verdict}
 use Rattle.tp_config.specs.declared.port_type.CompId.{CompId}
 use Rattle.tp_config.specs.declared.port_type.RouteId.{RouteId}
 use Rattle.tp_config.specs.Setup.{Member, PortDecl, ports_at}
-use Rattle.tp_syntax.specs.declared.tree.PortOperation.{PortOperation}
-use Rattle.tp_syntax.specs.declared.tree.PortOperation.TheVariants as operation
-use Rattle.tp_body.specs.declared.body.Statement.TheVariants as b
+use Rattle.tp_queue.specs.declared.operation.PortOperation.{PortOperation}
+use Rattle.tp_queue.specs.declared.operation.PortOperation.TheVariants as operation
+use Rattle.tp_play.specs.declared.body.Statement.TheVariants as b
 use Rattle.tp_inbox.specs.declared.entry.Entry.{Entry}
 use Rattle.tp_inbox.specs.declared.entry.Entry.TheVariants as entry
 use Rattle.tp_inbox.specs.History.{arrival_on, arrived_on}

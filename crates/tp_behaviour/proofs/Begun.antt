@@ -2,12 +2,12 @@
 use Rattle.std.proofs.Common.{◌≡◌, ◌∙◌, ℕ, ◌+◌, ◌<◌, ℤ, Option, None, List, [], ◌∷◌, ◌++◌, get_or, length, map, take, ap, subst, sym}
 use Rattle.std.proofs.lemmas.List.{map-append, take_more}
 use Rattle.std.specs.List.{AllZip}
-use Rattle.tp_body.specs.declared.body.Body.{Body}
-use Rattle.tp_body.specs.declared.body.Statement.{Statement}
-use Rattle.tp_body.specs.declared.body.VariableType.{VariableType}
-use Rattle.tp_body.specs.declared.body.VariableType.TheVariants as kind
+use Rattle.tp_play.specs.declared.body.Body.{Body}
+use Rattle.tp_play.specs.declared.body.Statement.{Statement}
+use Rattle.tp_play.specs.declared.body.VariableType.{VariableType}
+use Rattle.tp_play.specs.declared.body.VariableType.TheVariants as kind
 use Rattle.tp_inbox.specs.declared.entry.Entry.{Entry}
-use Rattle.tp_report.specs.declared.ending.End.TheVariants as ending
+use Rattle.tp_inbox.specs.declared.ending.End.TheVariants as ending
 use Rattle.tp_behaviour.specs.declared.held.Held.{Held}
 use Rattle.tp_behaviour.specs.declared.outcome.Outcome.{Outcome}
 use Rattle.tp_behaviour.specs.declared.outcome.Outcome.TheVariants as outcome

@@ -3,13 +3,13 @@ use Rattle.std.proofs.Common.{Vec, Global, ◌≡◌, ◌∙◌, ℕ, ℤ, Bool,
 use Rattle.std.specs.Option.{is_some}
 use Rattle.std.proofs.lemmas.List.{append_assoc}
 use Rattle.std.proofs.lemmas.Option.{same_Some}
-use Rattle.tp_body.specs.declared.body.Statement.{Statement}
-use Rattle.tp_body.specs.declared.body.Statement.TheVariants as b
-use Rattle.tp_body.specs.declared.body.Branch.{Branch}
-use Rattle.tp_body.specs.Sizes.{turns_between}
+use Rattle.tp_play.specs.declared.body.Statement.{Statement}
+use Rattle.tp_play.specs.declared.body.Statement.TheVariants as b
+use Rattle.tp_play.specs.declared.body.Branch.{Branch}
+use Rattle.tp_play.specs.Sizes.{turns_between}
 use Rattle.tp_inbox.specs.declared.entry.Entry.{Entry}
-use Rattle.tp_report.specs.declared.ending.End.{End}
-use Rattle.tp_report.specs.declared.ending.End.TheVariants as ending
+use Rattle.tp_inbox.specs.declared.ending.End.{End}
+use Rattle.tp_inbox.specs.declared.ending.End.TheVariants as ending
 use Rattle.tp_behaviour.specs.declared.choice.Guard.{Guard}
 use Rattle.tp_behaviour.specs.declared.deciding.Decision.TheVariants as decision
 use Rattle.tp_behaviour.specs.declared.held.Held.{Held}

@@ -5,18 +5,18 @@ use Rattle.std.proofs.lemmas.List.Elements.{All-head, All-tail}
 use Rattle.tp_value.specs.declared.template.PatternPart.{PatternPart}
 use Rattle.tp_value.specs.declared.value.Value.TheVariants as x
 use Rattle.tp_value.specs.declared.template.Template.TheVariants as t
-use Rattle.tp_body.specs.declared.body.SendValue.{SendValue}
-use Rattle.tp_body.specs.declared.body.SendValue.TheVariants as w
-use Rattle.tp_body.specs.declared.body.SendValue.TheOpen as v
-use Rattle.tp_body.specs.declared.body.SendValue.TheFolds.{fold-roll-SendValue}
-use Rattle.tp_body.specs.declared.body.RecvTemplate.{RecvTemplate}
-use Rattle.tp_body.specs.declared.body.RecvTemplate.TheVariants as r
-use Rattle.tp_body.specs.declared.body.RecvTemplate.TheOpen as p
-use Rattle.tp_body.specs.declared.body.RecvTemplate.TheFolds.{fold-roll-RecvTemplate}
-use Rattle.tp_body.specs.Fills.{greatest, needed_step, needed, needed_template_step, needed_by_template, filled, filled_template, filled_wanted, needed_by_wanted}
-use Rattle.tp_body.proofs.Filling.{filled_bool, filled_int, filled_list, filled_record, filled_text, needed_by_exact, needed_by_list, needed_by_none_of, needed_by_one_of, needed_by_record, needed_list, needed_record, template_any, template_exact, template_list, template_many, template_none_of, template_one_of, template_pattern, template_range, template_record}
-use Rattle.tp_body.specs.declared.body.RecvMsg.{RecvMsg}
-use Rattle.tp_body.specs.declared.body.RecvMsg.TheVariants as wanted
+use Rattle.tp_play.specs.declared.body.SendValue.{SendValue}
+use Rattle.tp_play.specs.declared.body.SendValue.TheVariants as w
+use Rattle.tp_play.specs.declared.body.SendValue.TheOpen as v
+use Rattle.tp_play.specs.declared.body.SendValue.TheFolds.{fold-roll-SendValue}
+use Rattle.tp_play.specs.declared.body.RecvTemplate.{RecvTemplate}
+use Rattle.tp_play.specs.declared.body.RecvTemplate.TheVariants as r
+use Rattle.tp_play.specs.declared.body.RecvTemplate.TheOpen as p
+use Rattle.tp_play.specs.declared.body.RecvTemplate.TheFolds.{fold-roll-RecvTemplate}
+use Rattle.tp_play.specs.Fills.{greatest, needed_step, needed, needed_template_step, needed_by_template, filled, filled_template, filled_wanted, needed_by_wanted}
+use Rattle.tp_play.proofs.Filling.{filled_bool, filled_int, filled_list, filled_record, filled_text, needed_by_exact, needed_by_list, needed_by_none_of, needed_by_one_of, needed_by_record, needed_list, needed_record, template_any, template_exact, template_list, template_many, template_none_of, template_one_of, template_pattern, template_range, template_record}
+use Rattle.tp_play.specs.declared.body.RecvMsg.{RecvMsg}
+use Rattle.tp_play.specs.declared.body.RecvMsg.TheVariants as wanted
 use Rattle.tp_value.specs.declared.types.Ty.{Ty}
 use Rattle.tp_value.specs.declared.message.MsgTemplate.{MsgTemplate}
 use Rattle.tp_value.specs.declared.message.MsgTemplate.TheVariants as m

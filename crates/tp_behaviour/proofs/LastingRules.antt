@@ -4,15 +4,15 @@ use Rattle.std.specs.List.{AllZip}
 use Rattle.std.proofs.lemmas.List.{take_all, take_more}
 use Rattle.std.proofs.lemmas.Slice.Zip.{AllZip-long, all_zipped_more}
 use Rattle.tp_value.specs.declared.verdict.Verdict.{Verdict}
-use Rattle.tp_syntax.specs.declared.tree.PortOperation.{PortOperation}
-use Rattle.tp_body.specs.declared.body.SendOperation.{SendOperation}
-use Rattle.tp_body.specs.declared.body.Receiving.{Receiving}
-use Rattle.tp_body.specs.declared.body.Statement.{Statement}
-use Rattle.tp_body.specs.declared.body.Statement.TheVariants as b
-use Rattle.tp_body.specs.declared.body.Statement.TheOpen as o
-use Rattle.tp_body.specs.declared.body.Statement.TheViews.{roll-Statement, roll-Branch, out-Branch, roll-out-Branch}
-use Rattle.tp_body.specs.declared.body.Statement.TheFolds.{map-Statement, map-Branch, rec-roll-Statement, rec-roll-Branch}
-use Rattle.tp_body.specs.declared.body.Branch.{Branch}
+use Rattle.tp_queue.specs.declared.operation.PortOperation.{PortOperation}
+use Rattle.tp_play.specs.declared.body.SendOperation.{SendOperation}
+use Rattle.tp_play.specs.declared.body.Receiving.{Receiving}
+use Rattle.tp_play.specs.declared.body.Statement.{Statement}
+use Rattle.tp_play.specs.declared.body.Statement.TheVariants as b
+use Rattle.tp_play.specs.declared.body.Statement.TheOpen as o
+use Rattle.tp_play.specs.declared.body.Statement.TheViews.{roll-Statement, roll-Branch, out-Branch, roll-out-Branch}
+use Rattle.tp_play.specs.declared.body.Statement.TheFolds.{map-Statement, map-Branch, rec-roll-Statement, rec-roll-Branch}
+use Rattle.tp_play.specs.declared.body.Branch.{Branch}
 use Rattle.tp_value.specs.declared.message.MsgTemplate.{MsgTemplate}
 use Rattle.tp_behaviour.specs.declared.lasting.Lasting.{Lasting, out-Lasting}
 use Rattle.tp_behaviour.specs.declared.lasting.Lasting.TheViews.{out-roll-Lasting, roll-Lasting}

@@ -7,8 +7,8 @@ use Rattle.std.proofs.lemmas.List.{append-nil}
 use Rattle.tp_queue.specs.declared.event.Env.{Env}
 use Rattle.tp_value.specs.declared.message.Message.{Message}
 use Rattle.tp_config.specs.declared.port_type.RouteId.{RouteId}
-use Rattle.tp_syntax.specs.declared.tree.ReceiveKind.{ReceiveKind}
-use Rattle.tp_syntax.specs.declared.tree.ReceiveKind.TheVariants as kind
+use Rattle.tp_queue.specs.declared.operation.ReceiveKind.{ReceiveKind}
+use Rattle.tp_queue.specs.declared.operation.ReceiveKind.TheVariants as kind
 use Rattle.tp_inbox.specs.declared.entry.Entry.{Entry}
 use Rattle.tp_inbox.specs.declared.entry.Entry.TheVariants as entry
 use Rattle.tp_inbox.specs.History.{IsTimely, is_arrival, arrivals, sending_on, sent_on}

@@ -1,10 +1,10 @@
 -- What can be played at a place of a block, or entered at a place of an `alt`.
 use Rattle.std.proofs.Common.{◌≡◌, ◌∙◌, ℕ, zero, suc, ◌<◌, Some, List, [], ◌∷◌, get_or, length, slice_get, unwrap_or, ap, sym, subst}
 use Rattle.std.proofs.lemmas.Option.{slice_get-get_or}
-use Rattle.tp_body.specs.declared.body.Branch.{Branch}
-use Rattle.tp_body.specs.declared.body.Statement.{Statement}
-use Rattle.tp_body.specs.Playable.{CanEnter, CanEnterAll, CanPlay, CanPlayAll, CanReceive, Each, Stage}
-use Rattle.tp_body.proofs.PlayRules.{enters_block, enters_receive}
+use Rattle.tp_play.specs.declared.body.Branch.{Branch}
+use Rattle.tp_play.specs.declared.body.Statement.{Statement}
+use Rattle.tp_play.specs.Playable.{CanEnter, CanEnterAll, CanPlay, CanPlayAll, CanReceive, Each, Stage}
+use Rattle.tp_play.proofs.PlayRules.{enters_block, enters_receive}
 
 -- what each of them can, the one at this place can
 each_at : {X : Type 0} (can : X → ℕ → Type 0) (n : ℕ) (xs : List X) (i : ℕ) (x : X) → slice_get xs i ≡ Some x → Each can n xs → can x n

@@ -1,11 +1,11 @@
 -- How what a statement comes to is put together.
 use Rattle.std.proofs.Common.{◌≡◌, ◌∙◌, ℕ, List, [], ◌∷◌, ◌++◌, ap}
 use Rattle.std.proofs.lemmas.List.{append_assoc}
-use Rattle.tp_body.specs.declared.body.SendOperation.{SendOperation}
-use Rattle.tp_body.specs.declared.body.Statement.TheVariants as b
+use Rattle.tp_play.specs.declared.body.SendOperation.{SendOperation}
+use Rattle.tp_play.specs.declared.body.Statement.TheVariants as b
 use Rattle.tp_inbox.specs.declared.entry.Entry.{Entry}
 use Rattle.tp_inbox.specs.declared.entry.Entry.TheVariants as entry
-use Rattle.tp_report.specs.declared.ending.End.TheVariants as ending
+use Rattle.tp_inbox.specs.declared.ending.End.TheVariants as ending
 use Rattle.tp_behaviour.specs.Ends.{StopsWithin}
 use Rattle.tp_behaviour.specs.Held.{Actor, Values}
 use Rattle.tp_behaviour.specs.Moments.{Moment, moments}

@@ -4,15 +4,15 @@ use Rattle.std.proofs.lemmas.Option.{same_Some, get_or_from_slice_get, slice_get
 use Rattle.tp_value.specs.declared.message.Message.{Message}
 use Rattle.tp_value.specs.declared.types.Ty.{Ty}
 use Rattle.tp_config.specs.declared.port_type.CompId.{CompId}
-use Rattle.tp_body.specs.declared.body.SendMsg.{SendMsg}
-use Rattle.tp_body.specs.declared.body.Sent.{Sent}
-use Rattle.tp_body.specs.declared.body.Receiver.{Receiver}
-use Rattle.tp_body.specs.declared.body.Receiver.TheVariants as to
-use Rattle.tp_body.specs.declared.body.VariableType.{VariableType}
-use Rattle.tp_body.specs.declared.body.VariableType.TheVariants as kind
-use Rattle.tp_body.specs.Playable.{CanAddress, CanSay, Stage}
-use Rattle.tp_body.specs.declared.body.Sent.TheVariants as sent
-use Rattle.tp_body.specs.Fills.{filled}
+use Rattle.tp_play.specs.declared.body.SendMsg.{SendMsg}
+use Rattle.tp_play.specs.declared.body.Sent.{Sent}
+use Rattle.tp_play.specs.declared.body.Receiver.{Receiver}
+use Rattle.tp_play.specs.declared.body.Receiver.TheVariants as to
+use Rattle.tp_play.specs.declared.body.VariableType.{VariableType}
+use Rattle.tp_play.specs.declared.body.VariableType.TheVariants as kind
+use Rattle.tp_play.specs.Playable.{CanAddress, CanSay, Stage}
+use Rattle.tp_play.specs.declared.body.Sent.TheVariants as sent
+use Rattle.tp_play.specs.Fills.{filled}
 use Rattle.tp_behaviour.specs.declared.held.Held.{Held}
 use Rattle.tp_behaviour.specs.declared.held.Held.TheVariants as held
 use Rattle.tp_behaviour.specs.Held.{IsSentAs, Values}

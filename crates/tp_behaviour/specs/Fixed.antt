@@ -1,8 +1,8 @@
 -- What is the same whatever the loop variables hold.
 use Rattle.std.specs.Prelude.{◌≡◌, ◌≤◌, ℤ, List}
-use Rattle.tp_body.specs.declared.body.SendValue.{SendValue}
-use Rattle.tp_body.specs.declared.body.RecvTemplate.{RecvTemplate}
-use Rattle.tp_body.specs.Fills.{needed, needed_by_template, filled, filled_template}
+use Rattle.tp_play.specs.declared.body.SendValue.{SendValue}
+use Rattle.tp_play.specs.declared.body.RecvTemplate.{RecvTemplate}
+use Rattle.tp_play.specs.Fills.{needed, needed_by_template, filled, filled_template}
 
 -- a value that needs no loop variable, and comes to the same whatever they hold
 abbrev pub IsFixedValue : SendValue → Type 0

@@ -6,14 +6,14 @@ use Rattle.tp_queue.specs.declared.event.Env.{Env}
 use Rattle.tp_value.specs.declared.message.Message.{Message}
 use Rattle.tp_config.specs.declared.port_type.CompId.{CompId}
 use Rattle.tp_config.specs.Setup.{Setup}
-use Rattle.tp_body.specs.declared.body.Sent.{Sent}
-use Rattle.tp_body.specs.declared.body.Sent.TheVariants as sent
-use Rattle.tp_body.specs.declared.body.Receiver.{Receiver}
-use Rattle.tp_body.specs.declared.body.Receiver.TheVariants as receiver
-use Rattle.tp_body.specs.declared.body.SendMsg.{SendMsg}
-use Rattle.tp_body.specs.declared.body.Receiving.{Receiving}
-use Rattle.tp_body.specs.declared.body.Body.{Body}
-use Rattle.tp_body.specs.Fills.{filled, filled_wanted}
+use Rattle.tp_play.specs.declared.body.Sent.{Sent}
+use Rattle.tp_play.specs.declared.body.Sent.TheVariants as sent
+use Rattle.tp_play.specs.declared.body.Receiver.{Receiver}
+use Rattle.tp_play.specs.declared.body.Receiver.TheVariants as receiver
+use Rattle.tp_play.specs.declared.body.SendMsg.{SendMsg}
+use Rattle.tp_play.specs.declared.body.Receiving.{Receiving}
+use Rattle.tp_play.specs.declared.body.Body.{Body}
+use Rattle.tp_play.specs.Fills.{filled, filled_wanted}
 use Rattle.tp_behaviour.specs.declared.held.Held.{Held}
 use Rattle.tp_behaviour.specs.declared.held.Held.TheVariants as held
 use Rattle.tp_behaviour.specs.declared.choice.Guard.{Guard}

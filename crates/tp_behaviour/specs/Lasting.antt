@@ -2,12 +2,12 @@
 use Rattle.std.specs.Prelude.{◌≡◌, ℤ, Option, Some, None, List}
 use Rattle.std.specs.List.{AllZip}
 use Rattle.tp_value.specs.declared.message.MsgTemplate.{MsgTemplate}
-use Rattle.tp_body.specs.declared.body.RecvMsg.{RecvMsg}
-use Rattle.tp_body.specs.declared.body.Statement.{Statement}
-use Rattle.tp_body.specs.declared.body.Statement.TheOpen as o
-use Rattle.tp_body.specs.declared.body.Statement.TheFolds.{rec-Statement, rec-Branch}
-use Rattle.tp_body.specs.declared.body.Branch.{Branch}
-use Rattle.tp_body.specs.Fills.{filled_wanted}
+use Rattle.tp_play.specs.declared.body.RecvMsg.{RecvMsg}
+use Rattle.tp_play.specs.declared.body.Statement.{Statement}
+use Rattle.tp_play.specs.declared.body.Statement.TheOpen as o
+use Rattle.tp_play.specs.declared.body.Statement.TheFolds.{rec-Statement, rec-Branch}
+use Rattle.tp_play.specs.declared.body.Branch.{Branch}
+use Rattle.tp_play.specs.Fills.{filled_wanted}
 use Rattle.tp_behaviour.specs.declared.lasting.Lasting.{Lasting, out-Lasting}
 
 -- the template, if there is one, is what is wanted, whatever the loop variables hold

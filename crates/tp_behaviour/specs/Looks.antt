@@ -5,7 +5,7 @@ use Rattle.tp_queue.specs.History.{top}
 use Rattle.tp_queue.specs.Answers.{Finds, Satisfies}
 use Rattle.tp_value.specs.declared.message.Message.{Message}
 use Rattle.tp_value.specs.Admits.{Admits}
-use Rattle.tp_syntax.specs.declared.tree.ReceiveKind.TheVariants as receive_kind
+use Rattle.tp_queue.specs.declared.operation.ReceiveKind.TheVariants as receive_kind
 use Rattle.tp_inbox.specs.declared.entry.Entry.{Entry}
 use Rattle.tp_inbox.specs.declared.entry.Entry.TheVariants as entry
 use Rattle.tp_inbox.specs.Desks.{Journal, adding, at_port}

@@ -1,11 +1,11 @@
 -- How carrying out statements ends, for whoever knows the whole history.
 use Rattle.std.specs.Prelude.{◌≡◌, ◌<◌, ◌+ℤ◌, ℕ, ℤ, pos, All, Option, List, [], ◌∷◌, ◌++◌, length}
 use Rattle.tp_config.specs.Setup.{ports_at}
-use Rattle.tp_body.specs.declared.body.Statement.{Statement}
-use Rattle.tp_body.specs.declared.body.Body.{Body}
-use Rattle.tp_body.specs.Playable.{IsPlayable, Stage, stage_of}
+use Rattle.tp_play.specs.declared.body.Statement.{Statement}
+use Rattle.tp_play.specs.declared.body.Body.{Body}
+use Rattle.tp_play.specs.Playable.{IsPlayable, Stage, stage_of}
 use Rattle.tp_inbox.specs.declared.entry.Entry.{Entry}
-use Rattle.tp_report.specs.declared.ending.End.TheVariants as end
+use Rattle.tp_inbox.specs.declared.ending.End.TheVariants as end
 use Rattle.tp_behaviour.specs.declared.choice.Guard.{Guard}
 use Rattle.tp_behaviour.specs.declared.held.Held.{Held}
 use Rattle.tp_behaviour.specs.declared.outcome.Outcome.{Outcome}

@@ -2,8 +2,8 @@
 use Rattle.std.specs.Prelude.{◌≡◌, ◌<◌, ℕ, ℤ, Bool, true, false, Option, Some, None, List, All, slice_get}
 use Rattle.tp_queue.specs.declared.event.Env.{Env}
 use Rattle.tp_value.specs.declared.message.Message.{Message}
-use Rattle.tp_body.specs.declared.body.Statement.{Statement}
-use Rattle.tp_body.specs.declared.body.Branch.{Branch}
+use Rattle.tp_play.specs.declared.body.Statement.{Statement}
+use Rattle.tp_play.specs.declared.body.Branch.{Branch}
 use Rattle.tp_behaviour.specs.declared.choice.Guard.{Guard}
 use Rattle.tp_behaviour.specs.declared.deciding.Decision.{Decision}
 use Rattle.tp_behaviour.specs.declared.deciding.Decision.TheVariants as decision

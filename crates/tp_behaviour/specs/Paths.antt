@@ -12,15 +12,15 @@ use Rattle.tp_config.specs.declared.port_type.PortRef.{PortRef}
 use Rattle.tp_config.specs.declared.port_type.RouteId.{RouteId}
 use Rattle.tp_config.specs.Setup.{ports_at}
 use Rattle.tp_config.specs.Routes.{IsRoute, routes_from}
-use Rattle.tp_syntax.specs.declared.tree.PortOperation.{PortOperation}
-use Rattle.tp_syntax.specs.declared.tree.PortOperation.TheVariants as port_operation
-use Rattle.tp_body.specs.declared.body.SendOperation.{SendOperation}
-use Rattle.tp_body.specs.declared.body.Receiver.TheVariants as receiver
-use Rattle.tp_body.specs.declared.body.Receiving.{Receiving}
-use Rattle.tp_body.specs.declared.body.Statement.{Statement}
-use Rattle.tp_body.specs.declared.body.Statement.TheVariants as statement
-use Rattle.tp_body.specs.declared.body.Branch.{Branch}
-use Rattle.tp_body.specs.Sizes.{turns_between}
+use Rattle.tp_queue.specs.declared.operation.PortOperation.{PortOperation}
+use Rattle.tp_queue.specs.declared.operation.PortOperation.TheVariants as port_operation
+use Rattle.tp_play.specs.declared.body.SendOperation.{SendOperation}
+use Rattle.tp_play.specs.declared.body.Receiver.TheVariants as receiver
+use Rattle.tp_play.specs.declared.body.Receiving.{Receiving}
+use Rattle.tp_play.specs.declared.body.Statement.{Statement}
+use Rattle.tp_play.specs.declared.body.Statement.TheVariants as statement
+use Rattle.tp_play.specs.declared.body.Branch.{Branch}
+use Rattle.tp_play.specs.Sizes.{turns_between}
 use Rattle.tp_inbox.specs.declared.stamped.Stamped.{Stamped}
 use Rattle.tp_inbox.specs.declared.entry.Entry.{Entry}
 use Rattle.tp_inbox.specs.declared.entry.Entry.TheVariants as entry

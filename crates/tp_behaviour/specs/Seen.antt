@@ -1,7 +1,7 @@
 -- What one look at the branches of an `alt` comes to, and what the `alt` does.
 use Rattle.std.specs.Prelude.{◌≡◌, ℤ, Bool, true, false, Option, Some, None, List, [], ◌∷◌, ◌++◌, All}
 use Rattle.tp_config.specs.declared.port_type.CompId.{CompId}
-use Rattle.tp_body.specs.declared.body.Statement.{Statement}
+use Rattle.tp_play.specs.declared.body.Statement.{Statement}
 use Rattle.tp_inbox.specs.declared.entry.Entry.{Entry}
 use Rattle.tp_inbox.specs.Desks.{Journal}
 use Rattle.tp_behaviour.specs.declared.choice.Guard.{Guard}

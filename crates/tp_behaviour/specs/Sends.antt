@@ -2,13 +2,13 @@
 use Rattle.std.specs.Prelude.{◌≡◌, ◌<◌, ◌≤◌, ℕ, Option, Some, None, List, length, ⊤}
 use Rattle.tp_value.specs.declared.message.Message.{Message}
 use Rattle.tp_config.specs.declared.port_type.RouteId.{RouteId}
-use Rattle.tp_body.specs.declared.body.Sent.{Sent}
-use Rattle.tp_body.specs.declared.body.Sent.TheVariants as sent
-use Rattle.tp_body.specs.declared.body.Receiver.{Receiver}
-use Rattle.tp_body.specs.declared.body.Receiver.TheVariants as receiver
-use Rattle.tp_body.specs.declared.body.SendOperation.{SendOperation}
-use Rattle.tp_body.specs.declared.body.Statement.TheVariants as statement
-use Rattle.tp_body.specs.Fills.{needed}
+use Rattle.tp_play.specs.declared.body.Sent.{Sent}
+use Rattle.tp_play.specs.declared.body.Sent.TheVariants as sent
+use Rattle.tp_play.specs.declared.body.Receiver.{Receiver}
+use Rattle.tp_play.specs.declared.body.Receiver.TheVariants as receiver
+use Rattle.tp_play.specs.declared.body.SendOperation.{SendOperation}
+use Rattle.tp_play.specs.declared.body.Statement.TheVariants as statement
+use Rattle.tp_play.specs.Fills.{needed}
 use Rattle.tp_inbox.specs.declared.entry.Entry.{Entry}
 use Rattle.tp_inbox.specs.declared.entry.Entry.TheVariants as entry
 use Rattle.tp_inbox.specs.History.{next_of, sent_on}

@@ -6,8 +6,8 @@ use Rattle.tp_config.specs.declared.port_type.CompId.{CompId}
 use Rattle.tp_config.specs.declared.port_type.RouteId.{RouteId}
 use Rattle.tp_config.specs.Setup.{ports_at}
 use Rattle.tp_config.specs.Routes.{routes_from}
-use Rattle.tp_body.specs.declared.body.VariableType.{VariableType}
-use Rattle.tp_body.specs.declared.body.VariableType.TheVariants as variable_type
+use Rattle.tp_play.specs.declared.body.VariableType.{VariableType}
+use Rattle.tp_play.specs.declared.body.VariableType.TheVariants as variable_type
 use Rattle.tp_inbox.specs.declared.entry.Entry.{Entry}
 use Rattle.tp_inbox.specs.declared.entry.Entry.TheVariants as entry
 use Rattle.tp_inbox.specs.History.{arrivals, numbered, sent_on}

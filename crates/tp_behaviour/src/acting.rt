@@ -1,6 +1,6 @@
 //! What a behaviour does to its ports and its verdict.
 ghost use Rattle.std.specs.Prelude.{◌≡◌, ◌<◌, OnOk};
-ghost use Rattle.tp_body.specs.declared.body.Statement.TheVariants as statement;
+ghost use Rattle.tp_play.specs.declared.body.Statement.TheVariants as statement;
 ghost use Rattle.tp_inbox.specs.Desks.{adding};
 ghost use Rattle.tp_behaviour.specs.Fresh.{HasOwn};
 ghost use Rattle.tp_behaviour.specs.Paths.{operated};
@@ -13,9 +13,9 @@ use crate::post::Post;
 use crate::scene::Scene;
 use crate::station::Station;
 use std::sync::Wait;
-use tp_body::body::PortOperation;
 use tp_inbox::desk::Desk;
 use tp_inbox::entry::Entry;
+use tp_queue::operation::PortOperation;
 use tp_refusal::memory::Memory;
 use tp_value::verdict::Verdict;
 

@@ -5,9 +5,9 @@ ghost use Rattle.tp_behaviour.specs.Views.{all_viewed, viewed};
 
 use crate::gate::Gate;
 use std::alloc::Global;
-use tp_body::body::ReceiveKind;
 use tp_inbox::desk::Desk;
 use tp_queue::event::{Env, TriggerAnswer};
+use tp_queue::operation::ReceiveKind;
 use tp_queue::payload::Wanted;
 use tp_refusal::memory::Memory;
 use tp_value::message::{Message, MsgTemplate};

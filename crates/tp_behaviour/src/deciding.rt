@@ -1,6 +1,6 @@
 //! What an `alt` goes on with.
 ghost use Rattle.std.specs.Prelude.{◌≡◌, ◌<◌, IfOk, OnOk, length};
-ghost use Rattle.tp_body.specs.Playable.{CanEnterAll};
+ghost use Rattle.tp_play.specs.Playable.{CanEnterAll};
 ghost use Rattle.tp_behaviour.specs.Lasting.{AreLastingBranches};
 ghost use Rattle.tp_behaviour.specs.Outcomes.{HoldsAsDeclared, depth_of, stage_at};
 ghost use Rattle.tp_behaviour.specs.Parts.{Decided, IsEntered, IsDecisionOf, RestsWithin};
@@ -15,7 +15,7 @@ use crate::receiving::{fill_guards, redirect, view_guards};
 use crate::scene::Scene;
 use crate::station::{State, Station};
 use std::sync::Wait;
-use tp_body::body::Branch;
+use tp_play::body::Branch;
 use tp_queue::event::Env;
 use tp_refusal::memory::Memory;
 use tp_value::message::Message;

@@ -2,7 +2,7 @@
 ghost use Rattle.std.specs.Prelude.{All, IsTrue};
 ghost use Rattle.tp_behaviour.specs.Fixed.{IsFixed, IsFixedValue};
 
-use tp_body::body::{RecvTemplate, SendValue};
+use tp_play::body::{RecvTemplate, SendValue};
 
 /// Whether no loop variable stands in a value. Takes no memory.
 #[cycle(fixed_value)]

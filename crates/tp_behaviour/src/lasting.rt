@@ -4,8 +4,8 @@ ghost use Rattle.tp_behaviour.specs.Lasting.{AreLasting, AreLastingBranches, IsL
 
 use crate::fixed::is_fixed;
 use std::alloc::Global;
-use tp_body::body::{Branch, RecvMsg, Statement};
-use tp_body::fill::fill_template;
+use tp_play::body::{Branch, RecvMsg, Statement};
+use tp_play::fill::fill_template;
 use tp_refusal::memory::Memory;
 use tp_value::items::Items;
 use tp_value::message::MsgTemplate;

@@ -1,7 +1,7 @@
 //! The statements within which no other stands, each up to its end.
 ghost use Rattle.std.specs.Prelude.{◌<◌, IfOk, OnOk};
-ghost use Rattle.tp_body.specs.declared.body.Statement.TheVariants as statement;
-ghost use Rattle.tp_body.specs.Playable.{CanSend};
+ghost use Rattle.tp_play.specs.declared.body.Statement.TheVariants as statement;
+ghost use Rattle.tp_play.specs.Playable.{CanSend};
 ghost use Rattle.tp_behaviour.specs.Outcomes.{HoldsAsDeclared, Stepped, WaitsWithin, depth_of, stage_at};
 ghost use Rattle.tp_behaviour.specs.Stations.{IsManned, IsSame, role_of};
 
@@ -13,7 +13,8 @@ use crate::scene::Scene;
 use crate::sending::send;
 use crate::station::{State, Station};
 use std::sync::Wait;
-use tp_body::body::{PortOperation, SendOperation};
+use tp_play::body::SendOperation;
+use tp_queue::operation::PortOperation;
 use tp_refusal::memory::Memory;
 use tp_value::verdict::Verdict;
 

@@ -3,7 +3,7 @@ use std::alloc::Global;
 use tp_config::config::Config;
 use tp_config::port_type::CompId;
 use tp_inbox::owner::Closer;
-use tp_script::Behaviour;
+use tp_play::test_case::Behaviour;
 use tp_value::types::Types;
 
 /// Where a behaviour is carried out, and what it is: all that stays as it is while it runs.

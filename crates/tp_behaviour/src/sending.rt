@@ -1,8 +1,8 @@
 //! What a behaviour sends.
 ghost use Rattle.std.specs.Prelude.{◌≡◌, ◌++◌, ◌∷◌, [], ℕ, All, Contains, IfOk, OnOk, length};
 ghost use Rattle.std.specs.List.{AllZip};
-ghost use Rattle.tp_body.specs.declared.body.Receiver.TheVariants as receiver;
-ghost use Rattle.tp_body.specs.Playable.{CanSend};
+ghost use Rattle.tp_play.specs.declared.body.Receiver.TheVariants as receiver;
+ghost use Rattle.tp_play.specs.Playable.{CanSend};
 ghost use Rattle.tp_behaviour.specs.Ends.{IsFailure, route_number};
 ghost use Rattle.tp_behaviour.specs.Held.{IsNamed, IsSentAs};
 ghost use Rattle.tp_behaviour.specs.Outboxes.{routes_of};
@@ -19,10 +19,10 @@ use crate::scene::Scene;
 use crate::station::{State, Station};
 use crate::values::{message_of, named_of};
 use std::sync::Wait;
-use tp_body::body::{Receiver, SendOperation};
 use tp_config::port_type::{CompId, PortRef, RouteId};
 use tp_config::routes::RouteFault;
 use tp_inbox::entry::Entry;
+use tp_play::body::{Receiver, SendOperation};
 use tp_refusal::memory::Memory;
 use tp_value::message::Message;
 

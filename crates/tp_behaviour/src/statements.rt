@@ -1,7 +1,7 @@
 //! The statements of a behaviour, one after the other.
 ghost use Rattle.std.specs.Prelude.{◌≡◌, ◌<◌, ◌+◌, ◌++◌, ◌∷◌, [], IfOk, OnOk, length};
-ghost use Rattle.tp_body.specs.Playable.{CanEnterAll, CanPlay, CanPlayAll};
-ghost use Rattle.tp_body.specs.Sizes.{turns_between};
+ghost use Rattle.tp_play.specs.Playable.{CanEnterAll, CanPlay, CanPlayAll};
+ghost use Rattle.tp_play.specs.Sizes.{turns_between};
 ghost use Rattle.tp_behaviour.specs.Lasting.{AreLasting, AreLastingBranches, IsLasting};
 ghost use Rattle.tp_behaviour.specs.Outcomes.{Executed, HoldsAsDeclared, Stepped, WaitsWithin, depth_of, stage_at};
 ghost use Rattle.tp_behaviour.specs.Parts.{ExecutedAt, ExecutedIn, Turned};
@@ -17,7 +17,7 @@ use crate::scene::Scene;
 use crate::station::{State, Station};
 use std::ops::Range;
 use std::sync::Wait;
-use tp_body::body::Statement;
+use tp_play::body::Statement;
 use tp_refusal::memory::Memory;
 
 /// Carries out the statements of a block, one after the other (ES 201 873-1, 19 to 24).

@@ -7,46 +7,46 @@ use Rattle.tp_value.specs.declared.types.Field.{Field}
 use Rattle.tp_value.specs.declared.types.Types.{Types}
 use Rattle.tp_value.specs.declared.template.PatternPart.{PatternPart}
 use Rattle.tp_value.specs.declared.verdict.Verdict.{Verdict}
-use Rattle.tp_syntax.specs.declared.tree.PortOperation.{PortOperation}
-use Rattle.tp_syntax.specs.declared.message.Value.{Value}
-use Rattle.tp_syntax.specs.declared.message.ValueField.{ValueField}
-use Rattle.tp_syntax.specs.declared.message.Template.{Template}
-use Rattle.tp_syntax.specs.declared.message.TemplateField.{TemplateField}
-use Rattle.tp_syntax.specs.declared.tree.Sent.{Sent as SentText}
-use Rattle.tp_syntax.specs.declared.message.MessageTemplate.{MessageTemplate}
-use Rattle.tp_syntax.specs.declared.tree.Variable.{Variable}
-use Rattle.tp_syntax.specs.declared.tree.Statement.{Statement as StatementText}
-use Rattle.tp_syntax.specs.declared.tree.Action.{Action}
-use Rattle.tp_syntax.specs.declared.tree.Branch.{Branch as BranchText}
-use Rattle.tp_syntax.specs.declared.tree.BranchBody.{BranchBody}
-use Rattle.tp_syntax.specs.declared.tree.Counted.{out-Counted}
-use Rattle.tp_body.specs.declared.body.SendValue.{SendValue}
-use Rattle.tp_body.specs.declared.body.SendValue.TheVariants as w
-use Rattle.tp_body.specs.declared.body.SendValue.TheOpen as v
-use Rattle.tp_body.specs.declared.body.SendValue.TheFolds.{fold-roll-SendValue}
-use Rattle.tp_body.specs.declared.body.RecvTemplate.{RecvTemplate}
-use Rattle.tp_body.specs.declared.body.RecvTemplate.TheVariants as r
-use Rattle.tp_body.specs.declared.body.RecvTemplate.TheOpen as p
-use Rattle.tp_body.specs.declared.body.RecvTemplate.TheFolds.{fold-roll-RecvTemplate}
-use Rattle.tp_body.specs.declared.body.RecvMsg.{RecvMsg}
-use Rattle.tp_body.specs.declared.body.Sent.{Sent}
-use Rattle.tp_body.specs.declared.body.SendOperation.{SendOperation}
-use Rattle.tp_body.specs.declared.body.Receiving.{Receiving}
-use Rattle.tp_body.specs.declared.body.Statement.{Statement}
-use Rattle.tp_body.specs.declared.body.Statement.TheVariants as s
-use Rattle.tp_body.specs.declared.body.Statement.TheOpen as o
-use Rattle.tp_body.specs.declared.body.Statement.TheFolds.{fold-roll-Statement, fold_out-Branch}
-use Rattle.tp_body.specs.declared.body.Branch.{Branch}
-use Rattle.tp_body.specs.declared.body.Body.{Body}
+use Rattle.tp_queue.specs.declared.operation.PortOperation.{PortOperation}
+use Rattle.tp_tree.specs.declared.message.Value.{Value}
+use Rattle.tp_tree.specs.declared.message.ValueField.{ValueField}
+use Rattle.tp_tree.specs.declared.message.Template.{Template}
+use Rattle.tp_tree.specs.declared.message.TemplateField.{TemplateField}
+use Rattle.tp_tree.specs.declared.tree.Sent.{Sent as SentText}
+use Rattle.tp_tree.specs.declared.message.MessageTemplate.{MessageTemplate}
+use Rattle.tp_tree.specs.declared.tree.Variable.{Variable}
+use Rattle.tp_tree.specs.declared.tree.Statement.{Statement as StatementText}
+use Rattle.tp_tree.specs.declared.tree.Action.{Action}
+use Rattle.tp_tree.specs.declared.tree.Branch.{Branch as BranchText}
+use Rattle.tp_tree.specs.declared.tree.BranchBody.{BranchBody}
+use Rattle.tp_tree.specs.declared.tree.Counted.{out-Counted}
+use Rattle.tp_play.specs.declared.body.SendValue.{SendValue}
+use Rattle.tp_play.specs.declared.body.SendValue.TheVariants as w
+use Rattle.tp_play.specs.declared.body.SendValue.TheOpen as v
+use Rattle.tp_play.specs.declared.body.SendValue.TheFolds.{fold-roll-SendValue}
+use Rattle.tp_play.specs.declared.body.RecvTemplate.{RecvTemplate}
+use Rattle.tp_play.specs.declared.body.RecvTemplate.TheVariants as r
+use Rattle.tp_play.specs.declared.body.RecvTemplate.TheOpen as p
+use Rattle.tp_play.specs.declared.body.RecvTemplate.TheFolds.{fold-roll-RecvTemplate}
+use Rattle.tp_play.specs.declared.body.RecvMsg.{RecvMsg}
+use Rattle.tp_play.specs.declared.body.Sent.{Sent}
+use Rattle.tp_play.specs.declared.body.SendOperation.{SendOperation}
+use Rattle.tp_play.specs.declared.body.Receiving.{Receiving}
+use Rattle.tp_play.specs.declared.body.Statement.{Statement}
+use Rattle.tp_play.specs.declared.body.Statement.TheVariants as s
+use Rattle.tp_play.specs.declared.body.Statement.TheOpen as o
+use Rattle.tp_play.specs.declared.body.Statement.TheFolds.{fold-roll-Statement, fold_out-Branch}
+use Rattle.tp_play.specs.declared.body.Branch.{Branch}
+use Rattle.tp_play.specs.declared.body.Body.{Body}
 use Rattle.tp_body.specs.declared.scope.Scope.{Scope}
 use Rattle.tp_body.specs.declared.scope.Variables.{Variables}
 use Rattle.tp_body.specs.Messages as d
 use Rattle.tp_body.specs.Messages.{IsValue, AreElements, AreFields, AreNamed, IsTemplate, AreMembers, AreElementTemplates, IsElementTemplate, AreFieldTemplates, AreNamedTemplates}
 use Rattle.tp_body.specs.Bodies as b
 use Rattle.tp_body.specs.Bodies.{IsSent, IsWanted, IsStatement, IsBlock, IsBranch, IsAfter, AreBranches, IsBody}
-use Rattle.tp_body.specs.Fills.{greatest, needed_step, needed, needed_template_step, needed_by_template, needed_by_wanted}
+use Rattle.tp_play.specs.Fills.{greatest, needed_step, needed, needed_template_step, needed_by_template, needed_by_wanted}
 use Rattle.tp_body.specs.Closed.{needed_by_sent, needed_statement_step, needed_branch_step, needed_around, needed_around_branch, needed_around_all}
-use Rattle.tp_body.proofs.Filling.{needed_turn, needed_record, needed_list, needed_by_exact, needed_by_one_of, needed_by_none_of, needed_by_record, needed_by_list}
+use Rattle.tp_play.proofs.Filling.{needed_turn, needed_record, needed_list, needed_by_exact, needed_by_one_of, needed_by_none_of, needed_by_record, needed_by_list}
 
 -- what is enough for all and for one more is enough for all of them
 greatest_push : {A : Type 0} (f : A → ℕ) (xs : List A) (y : A) (n : ℕ) → greatest (map f xs) ≤ n → f y ≤ n → greatest (map f (xs ++ y ∷ [])) ≤ n

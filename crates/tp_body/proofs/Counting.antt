@@ -2,15 +2,15 @@
 use Rattle.std.proofs.Common.{◌≡◌, ℕ, zero, suc, ◌+◌, ◌*◌, ◌<◌, ◌≤◌, ◌⊎◌, inl, inr, ℤ, List, Some, None, sym, ap, ◌∙◌, arith}
 use Rattle.std.proofs.lemmas.Bool.{cases_lt}
 use Rattle.tp_value.specs.declared.verdict.Verdict.{Verdict}
-use Rattle.tp_syntax.specs.declared.tree.PortOperation.{PortOperation}
-use Rattle.tp_body.specs.Sizes.{limit, capped, turns_between, statement_step, branch_step, size_of, size_in, size_of_all, size_in_all}
-use Rattle.tp_body.specs.declared.body.SendOperation.{SendOperation}
-use Rattle.tp_body.specs.declared.body.Receiving.{Receiving}
-use Rattle.tp_body.specs.declared.body.Statement.{Statement}
-use Rattle.tp_body.specs.declared.body.Statement.TheVariants as s
-use Rattle.tp_body.specs.declared.body.Statement.TheOpen as o
-use Rattle.tp_body.specs.declared.body.Statement.TheFolds.{fold-roll-Statement, fold_out-Branch}
-use Rattle.tp_body.specs.declared.body.Branch.{Branch}
+use Rattle.tp_queue.specs.declared.operation.PortOperation.{PortOperation}
+use Rattle.tp_play.specs.Sizes.{limit, capped, turns_between, statement_step, branch_step, size_of, size_in, size_of_all, size_in_all}
+use Rattle.tp_play.specs.declared.body.SendOperation.{SendOperation}
+use Rattle.tp_play.specs.declared.body.Receiving.{Receiving}
+use Rattle.tp_play.specs.declared.body.Statement.{Statement}
+use Rattle.tp_play.specs.declared.body.Statement.TheVariants as s
+use Rattle.tp_play.specs.declared.body.Statement.TheOpen as o
+use Rattle.tp_play.specs.declared.body.Statement.TheFolds.{fold-roll-Statement, fold_out-Branch}
+use Rattle.tp_play.specs.declared.body.Branch.{Branch}
 
 pub cap_below : (n : ℕ) → n < limit → capped n ≡ n
 cap_below n lt = grind (arith, lt)

@@ -12,12 +12,12 @@ use Rattle.tp_value.specs.Matches.{is_many}
 use Rattle.tp_value.specs.Fits.{ElementsFit, Fits}
 use Rattle.tp_value.proofs.Typed.{has_int, has_bool, has_text}
 use Rattle.tp_value.proofs.Fitted.{fits_exact, fits_any, fits_one_of, fits_none_of, fits_range, fits_pattern, fits_record, fits_list}
-use Rattle.tp_syntax.specs.declared.message.Template.{Template as TemplateText}
-use Rattle.tp_syntax.specs.declared.message.TemplateField.{TemplateField}
-use Rattle.tp_body.specs.declared.body.RecvTemplate.{RecvTemplate}
+use Rattle.tp_tree.specs.declared.message.Template.{Template as TemplateText}
+use Rattle.tp_tree.specs.declared.message.TemplateField.{TemplateField}
+use Rattle.tp_play.specs.declared.body.RecvTemplate.{RecvTemplate}
 use Rattle.tp_body.specs.Messages.{IsTemplate, int_template, bool_template, text_template, turn_template, any, one_of, none_of, range, pattern, element_templates, place_templates, field_templates, AreMembers, no_member, one_member_more, AreElementTemplates, no_element_template, one_element_template_more, IsElementTemplate, many, single, AreFieldTemplates, no_field_template, one_field_template_more, AreNamedTemplates, no_name_template, one_name_template_more}
-use Rattle.tp_body.specs.Fills.{filled_template}
-use Rattle.tp_body.proofs.Filling.{filled_int, filled_bool, filled_text, filled_turn, template_exact, template_any, template_many, template_one_of, template_none_of, template_range, template_pattern, template_record, template_list}
+use Rattle.tp_play.specs.Fills.{filled_template}
+use Rattle.tp_play.proofs.Filling.{filled_int, filled_bool, filled_text, filled_turn, template_exact, template_any, template_many, template_one_of, template_none_of, template_range, template_pattern, template_record, template_list}
 use Rattle.tp_body.proofs.Typing.{AllHave-push, FieldsHave-push}
 
 ElementsFit-push : (k : Template → Ty → Type 0) (u : Ty) (xs : List Template) (y : Template) → ElementsFit is_many k u xs → (is_many y ≡ true) ⊎ k y u

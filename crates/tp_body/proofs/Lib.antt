@@ -8,11 +8,8 @@ pub mod VariableRules
 pub mod StatementRules
 pub mod PortRules
 pub mod Counting
-pub mod Filling
 pub mod Closed
 pub mod Typing
 pub mod Fitting
 pub mod Listed
-pub mod Playing
 pub mod Played
-pub mod PlayRules

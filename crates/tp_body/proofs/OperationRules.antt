@@ -5,24 +5,24 @@ use Rattle.std.specs.declared.string.String.{String}
 use Rattle.tp_value.specs.declared.types.Ty.{Ty}
 use Rattle.tp_value.specs.declared.types.Ty.TheVariants as ty
 use Rattle.tp_value.specs.declared.verdict.Verdict.TheVariants as verdict
-use Rattle.tp_syntax.specs.declared.tree.ComponentName.{ComponentName}
-use Rattle.tp_syntax.specs.declared.tree.ComponentName.TheVariants as c
-use Rattle.tp_syntax.specs.declared.message.Message.{Message}
-use Rattle.tp_syntax.specs.declared.message.MessageTemplate.{MessageTemplate}
-use Rattle.tp_syntax.specs.declared.tree.Sent.{Sent}
-use Rattle.tp_syntax.specs.declared.tree.Sent.TheVariants as sent
-use Rattle.tp_syntax.specs.declared.tree.Destination.{Destination}
-use Rattle.tp_syntax.specs.declared.tree.Destination.TheVariants as d
-use Rattle.tp_syntax.specs.declared.tree.VerdictName.{VerdictName}
-use Rattle.tp_syntax.specs.declared.tree.VerdictName.TheVariants as named_verdict
-use Rattle.tp_body.specs.declared.body.SendMsg.{SendMsg}
-use Rattle.tp_body.specs.declared.body.SendValue.TheVariants as w
-use Rattle.tp_body.specs.declared.body.RecvTemplate.{RecvTemplate}
-use Rattle.tp_body.specs.declared.body.RecvMsg.{RecvMsg}
-use Rattle.tp_body.specs.declared.body.RecvMsg.TheVariants as wanted
-use Rattle.tp_body.specs.declared.body.Sent.TheVariants as s
-use Rattle.tp_body.specs.declared.body.Receiver.TheVariants as to
-use Rattle.tp_body.specs.declared.body.VariableType.TheVariants as kind
+use Rattle.tp_tree.specs.declared.tree.ComponentName.{ComponentName}
+use Rattle.tp_tree.specs.declared.tree.ComponentName.TheVariants as c
+use Rattle.tp_tree.specs.declared.message.Message.{Message}
+use Rattle.tp_tree.specs.declared.message.MessageTemplate.{MessageTemplate}
+use Rattle.tp_tree.specs.declared.tree.Sent.{Sent}
+use Rattle.tp_tree.specs.declared.tree.Sent.TheVariants as sent
+use Rattle.tp_tree.specs.declared.tree.Destination.{Destination}
+use Rattle.tp_tree.specs.declared.tree.Destination.TheVariants as d
+use Rattle.tp_tree.specs.declared.tree.VerdictName.{VerdictName}
+use Rattle.tp_tree.specs.declared.tree.VerdictName.TheVariants as named_verdict
+use Rattle.tp_play.specs.declared.body.SendMsg.{SendMsg}
+use Rattle.tp_play.specs.declared.body.SendValue.TheVariants as w
+use Rattle.tp_play.specs.declared.body.RecvTemplate.{RecvTemplate}
+use Rattle.tp_play.specs.declared.body.RecvMsg.{RecvMsg}
+use Rattle.tp_play.specs.declared.body.RecvMsg.TheVariants as wanted
+use Rattle.tp_play.specs.declared.body.Sent.TheVariants as s
+use Rattle.tp_play.specs.declared.body.Receiver.TheVariants as to
+use Rattle.tp_play.specs.declared.body.VariableType.TheVariants as kind
 use Rattle.tp_body.specs.declared.scope.Scope.{Scope}
 use Rattle.tp_body.specs.declared.scope.Variables.{Variables}
 use Rattle.tp_name.specs.Named.{IsPlace, IsAbsent}

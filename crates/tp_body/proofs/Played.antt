@@ -7,38 +7,39 @@ use Rattle.std.specs.declared.string.String.{String}
 use Rattle.tp_value.specs.declared.types.Ty.{Ty}
 use Rattle.tp_value.proofs.Typed.{has_int}
 use Rattle.tp_config.specs.declared.port_type.PortType.{PortType}
-use Rattle.tp_syntax.specs.declared.tree.ComponentName.{ComponentName}
-use Rattle.tp_syntax.specs.declared.tree.Sent.{Sent as SentText}
-use Rattle.tp_syntax.specs.declared.tree.Send.{Send}
-use Rattle.tp_syntax.specs.declared.tree.Receive.{Receive}
-use Rattle.tp_syntax.specs.declared.tree.Destination.{Destination}
-use Rattle.tp_syntax.specs.declared.message.MessageTemplate.{MessageTemplate}
-use Rattle.tp_syntax.specs.declared.tree.Variable.{Variable}
-use Rattle.tp_syntax.specs.declared.tree.Statement.{Statement as StatementText}
-use Rattle.tp_syntax.specs.declared.tree.Action.{Action}
-use Rattle.tp_syntax.specs.declared.tree.Branch.{Branch as BranchText}
-use Rattle.tp_syntax.specs.declared.tree.BranchBody.{BranchBody}
-use Rattle.tp_syntax.specs.declared.tree.Counted.{out-Counted}
-use Rattle.tp_body.specs.declared.body.RecvMsg.{RecvMsg}
-use Rattle.tp_body.specs.declared.body.Sent.{Sent}
-use Rattle.tp_body.specs.declared.body.Receiver.{Receiver}
-use Rattle.tp_body.specs.declared.body.SendOperation.{SendOperation}
-use Rattle.tp_body.specs.declared.body.Receiving.{Receiving}
-use Rattle.tp_body.specs.declared.body.Statement.{Statement}
-use Rattle.tp_body.specs.declared.body.Branch.{Branch}
-use Rattle.tp_body.specs.declared.body.Body.{Body}
+use Rattle.tp_tree.specs.declared.tree.ComponentName.{ComponentName}
+use Rattle.tp_tree.specs.declared.tree.Sent.{Sent as SentText}
+use Rattle.tp_tree.specs.declared.tree.Send.{Send}
+use Rattle.tp_tree.specs.declared.tree.Receive.{Receive}
+use Rattle.tp_tree.specs.declared.tree.Destination.{Destination}
+use Rattle.tp_tree.specs.declared.message.MessageTemplate.{MessageTemplate}
+use Rattle.tp_tree.specs.declared.tree.Variable.{Variable}
+use Rattle.tp_tree.specs.declared.tree.Statement.{Statement as StatementText}
+use Rattle.tp_tree.specs.declared.tree.Action.{Action}
+use Rattle.tp_tree.specs.declared.tree.Branch.{Branch as BranchText}
+use Rattle.tp_tree.specs.declared.tree.BranchBody.{BranchBody}
+use Rattle.tp_tree.specs.declared.tree.Counted.{out-Counted}
+use Rattle.tp_play.specs.declared.body.RecvMsg.{RecvMsg}
+use Rattle.tp_play.specs.declared.body.Sent.{Sent}
+use Rattle.tp_play.specs.declared.body.Receiver.{Receiver}
+use Rattle.tp_play.specs.declared.body.SendOperation.{SendOperation}
+use Rattle.tp_play.specs.declared.body.Receiving.{Receiving}
+use Rattle.tp_play.specs.declared.body.Statement.{Statement}
+use Rattle.tp_play.specs.declared.body.Branch.{Branch}
+use Rattle.tp_play.specs.declared.body.Body.{Body}
 use Rattle.tp_body.specs.declared.scope.Scope.{Scope}
 use Rattle.tp_body.specs.declared.scope.Variables.{Variables}
 use Rattle.tp_body.specs.Scoping as n
 use Rattle.tp_body.specs.Scoping.{IsPortNamed, IsReference, declared_port_names}
 use Rattle.tp_body.specs.Bodies as b
 use Rattle.tp_body.specs.Bodies.{IsSent, IsReceiver, IsSend, IsWanted, IsFrom, IsValueTarget, IsSenderTarget, IsReceive, IsStatement, IsBlock, IsBranch, IsAfter, AreBranches, IsBody}
-use Rattle.tp_body.specs.Playable.{Stage, IsAlwaysFitting, CanSay, CanAddress, CanSend, CanWant, CanExpect, CanKeepValue, CanKeepSender, CanReceive, CanPlay, CanEnter, CanPlayAll, CanEnterAll, reference_count, IsPlayable}
-use Rattle.tp_body.proofs.Filling.{needed_turn, filled_turn}
+use Rattle.tp_body.specs.Scoping.{reference_count}
+use Rattle.tp_play.specs.Playable.{Stage, IsAlwaysFitting, CanSay, CanAddress, CanSend, CanWant, CanExpect, CanKeepValue, CanKeepSender, CanReceive, CanPlay, CanEnter, CanPlayAll, CanEnterAll, IsPlayable}
+use Rattle.tp_play.proofs.Filling.{needed_turn, filled_turn}
 use Rattle.tp_body.proofs.Closed.{value_closed, wanted_closed}
 use Rattle.tp_body.proofs.Typing.{fits_64_bits, typed}
 use Rattle.tp_body.proofs.Fitting.{fitting}
-use Rattle.tp_body.proofs.Playing.{play_send, play_receive, play_control, play_all_ports, play_set_verdict, play_alt, play_alt_else, play_for, enter_branch, Each-push}
+use Rattle.tp_play.proofs.Playing.{play_send, play_receive, play_control, play_all_ports, play_set_verdict, play_alt, play_alt_else, play_for, enter_branch, Each-push}
 
 module _ (scope : Scope) (variables : Variables) where
   -- where a body is played whose names are those of the scope

@@ -3,24 +3,24 @@ use Rattle.std.proofs.Common.{◌≡◌, ◌≢◌, ℕ, ◌+◌, ◌<◌, List,
 use Rattle.std.specs.declared.alloc.Global.{Global}
 use Rattle.tp_value.specs.declared.verdict.Verdict.{Verdict}
 use Rattle.tp_config.specs.declared.port_type.PortType.{PortType}
-use Rattle.tp_syntax.specs.declared.tree.Send.{Send}
-use Rattle.tp_syntax.specs.declared.tree.Receive.{Receive}
-use Rattle.tp_syntax.specs.declared.tree.PortOperation.{PortOperation}
-use Rattle.tp_syntax.specs.declared.tree.Control.{Control}
-use Rattle.tp_syntax.specs.declared.tree.VerdictName.{VerdictName}
-use Rattle.tp_syntax.specs.declared.tree.Statement.{Statement as StatementText}
-use Rattle.tp_syntax.specs.declared.tree.Action.{Action}
-use Rattle.tp_syntax.specs.declared.tree.Action.TheVariants as a
-use Rattle.tp_syntax.specs.declared.tree.Branch.{Branch as BranchText}
-use Rattle.tp_syntax.specs.declared.tree.BranchBody.{BranchBody}
-use Rattle.tp_syntax.specs.declared.tree.BranchBody.TheVariants as after
-use Rattle.tp_syntax.specs.declared.tree.ElseBranch.{ElseBranch, out-ElseBranch}
-use Rattle.tp_syntax.specs.declared.tree.Counted.{Counted, out-Counted}
-use Rattle.tp_body.specs.declared.body.SendOperation.{SendOperation}
-use Rattle.tp_body.specs.declared.body.Receiving.{Receiving}
-use Rattle.tp_body.specs.declared.body.Statement.{Statement}
-use Rattle.tp_body.specs.declared.body.Statement.TheVariants as b
-use Rattle.tp_body.specs.declared.body.Branch.{Branch}
+use Rattle.tp_tree.specs.declared.tree.Send.{Send}
+use Rattle.tp_tree.specs.declared.tree.Receive.{Receive}
+use Rattle.tp_queue.specs.declared.operation.PortOperation.{PortOperation}
+use Rattle.tp_tree.specs.declared.tree.Control.{Control}
+use Rattle.tp_tree.specs.declared.tree.VerdictName.{VerdictName}
+use Rattle.tp_tree.specs.declared.tree.Statement.{Statement as StatementText}
+use Rattle.tp_tree.specs.declared.tree.Action.{Action}
+use Rattle.tp_tree.specs.declared.tree.Action.TheVariants as a
+use Rattle.tp_tree.specs.declared.tree.Branch.{Branch as BranchText}
+use Rattle.tp_tree.specs.declared.tree.BranchBody.{BranchBody}
+use Rattle.tp_tree.specs.declared.tree.BranchBody.TheVariants as after
+use Rattle.tp_tree.specs.declared.tree.ElseBranch.{ElseBranch, out-ElseBranch}
+use Rattle.tp_tree.specs.declared.tree.Counted.{Counted, out-Counted}
+use Rattle.tp_play.specs.declared.body.SendOperation.{SendOperation}
+use Rattle.tp_play.specs.declared.body.Receiving.{Receiving}
+use Rattle.tp_play.specs.declared.body.Statement.{Statement}
+use Rattle.tp_play.specs.declared.body.Statement.TheVariants as b
+use Rattle.tp_play.specs.declared.body.Branch.{Branch}
 use Rattle.tp_body.specs.declared.scope.BehaviourKind.TheVariants as behaviour_kind
 use Rattle.tp_body.specs.declared.scope.Scope.{Scope}
 use Rattle.tp_body.specs.declared.scope.Variables.{Variables}

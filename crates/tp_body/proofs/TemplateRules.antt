@@ -10,12 +10,12 @@ use Rattle.tp_value.specs.declared.types.Types.{Types}
 use Rattle.tp_value.specs.Types.{named}
 use Rattle.tp_value.specs.HasType.{ArePrintable}
 use Rattle.tp_value.specs.Fits.{AreOrdered}
-use Rattle.tp_syntax.specs.declared.message.Template.{Template}
-use Rattle.tp_syntax.specs.declared.message.Template.TheVariants as t
-use Rattle.tp_syntax.specs.declared.message.TemplateField.{TemplateField}
-use Rattle.tp_body.specs.declared.body.SendValue.TheVariants as w
-use Rattle.tp_body.specs.declared.body.RecvTemplate.{RecvTemplate}
-use Rattle.tp_body.specs.declared.body.RecvTemplate.TheVariants as r
+use Rattle.tp_tree.specs.declared.message.Template.{Template}
+use Rattle.tp_tree.specs.declared.message.Template.TheVariants as t
+use Rattle.tp_tree.specs.declared.message.TemplateField.{TemplateField}
+use Rattle.tp_play.specs.declared.body.SendValue.TheVariants as w
+use Rattle.tp_play.specs.declared.body.RecvTemplate.{RecvTemplate}
+use Rattle.tp_play.specs.declared.body.RecvTemplate.TheVariants as r
 use Rattle.tp_name.specs.Named.{IsPlace}
 use Rattle.tp_body.specs.Messages as d
 use Rattle.tp_body.specs.Messages.{IsTemplate, AreMembers, AreElementTemplates, IsElementTemplate, AreFieldTemplates, AreNamedTemplates, part_of}

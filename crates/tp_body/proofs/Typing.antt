@@ -8,12 +8,12 @@ use Rattle.tp_value.specs.declared.types.Types.{Types}
 use Rattle.tp_value.specs.declared.value.Value.{Value}
 use Rattle.tp_value.specs.HasType.{AllHave, FieldsHave, HasType}
 use Rattle.tp_value.proofs.Typed.{has_int, has_bool, has_text, has_record, has_list}
-use Rattle.tp_syntax.specs.declared.message.Value.{Value as ValueText}
-use Rattle.tp_syntax.specs.declared.message.ValueField.{ValueField}
-use Rattle.tp_body.specs.declared.body.SendValue.{SendValue}
+use Rattle.tp_tree.specs.declared.message.Value.{Value as ValueText}
+use Rattle.tp_tree.specs.declared.message.ValueField.{ValueField}
+use Rattle.tp_play.specs.declared.body.SendValue.{SendValue}
 use Rattle.tp_body.specs.Messages.{IsValue, int, bool, text, turn, elements, places, fields, AreElements, no_element, one_element_more, AreFields, no_field, one_field_more, AreNamed, no_name, one_name_more}
-use Rattle.tp_body.specs.Fills.{filled}
-use Rattle.tp_body.proofs.Filling.{filled_int, filled_bool, filled_text, filled_turn, filled_record, filled_list}
+use Rattle.tp_play.specs.Fills.{filled}
+use Rattle.tp_play.proofs.Filling.{filled_int, filled_bool, filled_text, filled_turn, filled_record, filled_list}
 
 module _ {X : Type 0} (k : X → Ty → Type 0) where
   pub AllHave-push : (u : Ty) (xs : List X) (y : X) → AllHave k u xs → k y u → AllHave k u (xs ++ y ∷ [])

@@ -10,11 +10,11 @@ use Rattle.tp_value.specs.declared.types.TypeDef.TheVariants as def
 use Rattle.tp_value.specs.declared.types.Types.{Types}
 use Rattle.tp_value.specs.Types.{named}
 use Rattle.tp_value.specs.HasType.{ArePrintable}
-use Rattle.tp_syntax.specs.declared.message.Value.{Value}
-use Rattle.tp_syntax.specs.declared.message.Value.TheVariants as v
-use Rattle.tp_syntax.specs.declared.message.ValueField.{ValueField}
-use Rattle.tp_body.specs.declared.body.SendValue.{SendValue}
-use Rattle.tp_body.specs.declared.body.SendValue.TheVariants as w
+use Rattle.tp_tree.specs.declared.message.Value.{Value}
+use Rattle.tp_tree.specs.declared.message.Value.TheVariants as v
+use Rattle.tp_tree.specs.declared.message.ValueField.{ValueField}
+use Rattle.tp_play.specs.declared.body.SendValue.{SendValue}
+use Rattle.tp_play.specs.declared.body.SendValue.TheVariants as w
 use Rattle.tp_name.specs.Named.{IsPlace}
 use Rattle.tp_body.specs.Messages as d
 use Rattle.tp_body.specs.Messages.{IsValue, AreElements, AreFields, AreNamed}

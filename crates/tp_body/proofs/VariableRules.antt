@@ -3,9 +3,9 @@ use Rattle.std.proofs.Common.{◌≡◌, ℕ, string_bytes}
 use Rattle.std.specs.declared.alloc.Global.{Global}
 use Rattle.std.specs.declared.string.String.{String}
 use Rattle.tp_value.specs.declared.types.Ty.{Ty}
-use Rattle.tp_syntax.specs.declared.message.TypeName.{TypeName}
-use Rattle.tp_syntax.specs.declared.message.TypeName.TheVariants as t
-use Rattle.tp_body.specs.declared.body.VariableType.TheVariants as kind
+use Rattle.tp_tree.specs.declared.message.TypeName.{TypeName}
+use Rattle.tp_tree.specs.declared.message.TypeName.TheVariants as t
+use Rattle.tp_play.specs.declared.body.VariableType.TheVariants as kind
 use Rattle.tp_body.specs.declared.scope.Scope.{Scope}
 use Rattle.tp_name.specs.Named.{IsPlace}
 use Rattle.tp_body.specs.Scoping.{IsType}

@@ -9,48 +9,48 @@ use Rattle.tp_value.specs.declared.types.Ty.TheVariants as ty
 use Rattle.tp_value.specs.declared.verdict.Verdict.{Verdict}
 use Rattle.tp_value.specs.declared.verdict.Verdict.TheVariants as verdict
 use Rattle.tp_config.specs.declared.port_type.PortType.{PortType}
-use Rattle.tp_syntax.specs.declared.message.TypeName.TheVariants as type_name
-use Rattle.tp_syntax.specs.declared.message.TypeName.{TypeName}
-use Rattle.tp_syntax.specs.declared.tree.ComponentName.{ComponentName}
-use Rattle.tp_syntax.specs.declared.tree.ComponentName.TheVariants as component_name
-use Rattle.tp_syntax.specs.declared.message.Message.{Message}
-use Rattle.tp_syntax.specs.declared.message.MessageTemplate.{MessageTemplate}
-use Rattle.tp_syntax.specs.declared.tree.Sent.{Sent as SentText}
-use Rattle.tp_syntax.specs.declared.tree.Sent.TheVariants as sent
-use Rattle.tp_syntax.specs.declared.tree.Destination.{Destination}
-use Rattle.tp_syntax.specs.declared.tree.Destination.TheVariants as destination
-use Rattle.tp_syntax.specs.declared.tree.Send.{Send}
-use Rattle.tp_syntax.specs.declared.tree.Receive.{Receive}
-use Rattle.tp_syntax.specs.declared.tree.PortOperation.{PortOperation}
-use Rattle.tp_syntax.specs.declared.tree.Control.{Control}
-use Rattle.tp_syntax.specs.declared.tree.VerdictName.{VerdictName}
-use Rattle.tp_syntax.specs.declared.tree.VerdictName.TheVariants as verdict_name
-use Rattle.tp_syntax.specs.declared.tree.Variable.{Variable}
-use Rattle.tp_syntax.specs.declared.tree.Statement.{Statement as StatementText}
-use Rattle.tp_syntax.specs.declared.tree.Action.{Action}
-use Rattle.tp_syntax.specs.declared.tree.Action.TheVariants as action
-use Rattle.tp_syntax.specs.declared.tree.Branch.{Branch as BranchText}
-use Rattle.tp_syntax.specs.declared.tree.BranchBody.{BranchBody}
-use Rattle.tp_syntax.specs.declared.tree.BranchBody.TheVariants as branch_body
-use Rattle.tp_syntax.specs.declared.tree.ElseBranch.{ElseBranch, out-ElseBranch}
-use Rattle.tp_syntax.specs.declared.tree.Counted.{Counted, out-Counted}
-use Rattle.tp_body.specs.declared.body.SendMsg.{SendMsg}
-use Rattle.tp_body.specs.declared.body.SendValue.TheVariants as send_value
-use Rattle.tp_body.specs.declared.body.RecvTemplate.{RecvTemplate}
-use Rattle.tp_body.specs.declared.body.RecvMsg.{RecvMsg}
-use Rattle.tp_body.specs.declared.body.RecvMsg.TheVariants as recv_msg
-use Rattle.tp_body.specs.declared.body.Sent.{Sent}
-use Rattle.tp_body.specs.declared.body.Sent.TheVariants as s
-use Rattle.tp_body.specs.declared.body.Receiver.{Receiver}
-use Rattle.tp_body.specs.declared.body.Receiver.TheVariants as to
-use Rattle.tp_body.specs.declared.body.SendOperation.{SendOperation}
-use Rattle.tp_body.specs.declared.body.Receiving.{Receiving}
-use Rattle.tp_body.specs.declared.body.Statement.{Statement}
-use Rattle.tp_body.specs.declared.body.Statement.TheVariants as statement
-use Rattle.tp_body.specs.declared.body.Branch.{Branch}
-use Rattle.tp_body.specs.declared.body.VariableType.{VariableType}
-use Rattle.tp_body.specs.declared.body.VariableType.TheVariants as variable_type
-use Rattle.tp_body.specs.declared.body.Body.{Body}
+use Rattle.tp_tree.specs.declared.message.TypeName.TheVariants as type_name
+use Rattle.tp_tree.specs.declared.message.TypeName.{TypeName}
+use Rattle.tp_tree.specs.declared.tree.ComponentName.{ComponentName}
+use Rattle.tp_tree.specs.declared.tree.ComponentName.TheVariants as component_name
+use Rattle.tp_tree.specs.declared.message.Message.{Message}
+use Rattle.tp_tree.specs.declared.message.MessageTemplate.{MessageTemplate}
+use Rattle.tp_tree.specs.declared.tree.Sent.{Sent as SentText}
+use Rattle.tp_tree.specs.declared.tree.Sent.TheVariants as sent
+use Rattle.tp_tree.specs.declared.tree.Destination.{Destination}
+use Rattle.tp_tree.specs.declared.tree.Destination.TheVariants as destination
+use Rattle.tp_tree.specs.declared.tree.Send.{Send}
+use Rattle.tp_tree.specs.declared.tree.Receive.{Receive}
+use Rattle.tp_queue.specs.declared.operation.PortOperation.{PortOperation}
+use Rattle.tp_tree.specs.declared.tree.Control.{Control}
+use Rattle.tp_tree.specs.declared.tree.VerdictName.{VerdictName}
+use Rattle.tp_tree.specs.declared.tree.VerdictName.TheVariants as verdict_name
+use Rattle.tp_tree.specs.declared.tree.Variable.{Variable}
+use Rattle.tp_tree.specs.declared.tree.Statement.{Statement as StatementText}
+use Rattle.tp_tree.specs.declared.tree.Action.{Action}
+use Rattle.tp_tree.specs.declared.tree.Action.TheVariants as action
+use Rattle.tp_tree.specs.declared.tree.Branch.{Branch as BranchText}
+use Rattle.tp_tree.specs.declared.tree.BranchBody.{BranchBody}
+use Rattle.tp_tree.specs.declared.tree.BranchBody.TheVariants as branch_body
+use Rattle.tp_tree.specs.declared.tree.ElseBranch.{ElseBranch, out-ElseBranch}
+use Rattle.tp_tree.specs.declared.tree.Counted.{Counted, out-Counted}
+use Rattle.tp_play.specs.declared.body.SendMsg.{SendMsg}
+use Rattle.tp_play.specs.declared.body.SendValue.TheVariants as send_value
+use Rattle.tp_play.specs.declared.body.RecvTemplate.{RecvTemplate}
+use Rattle.tp_play.specs.declared.body.RecvMsg.{RecvMsg}
+use Rattle.tp_play.specs.declared.body.RecvMsg.TheVariants as recv_msg
+use Rattle.tp_play.specs.declared.body.Sent.{Sent}
+use Rattle.tp_play.specs.declared.body.Sent.TheVariants as s
+use Rattle.tp_play.specs.declared.body.Receiver.{Receiver}
+use Rattle.tp_play.specs.declared.body.Receiver.TheVariants as to
+use Rattle.tp_play.specs.declared.body.SendOperation.{SendOperation}
+use Rattle.tp_play.specs.declared.body.Receiving.{Receiving}
+use Rattle.tp_play.specs.declared.body.Statement.{Statement}
+use Rattle.tp_play.specs.declared.body.Statement.TheVariants as statement
+use Rattle.tp_play.specs.declared.body.Branch.{Branch}
+use Rattle.tp_play.specs.declared.body.VariableType.{VariableType}
+use Rattle.tp_play.specs.declared.body.VariableType.TheVariants as variable_type
+use Rattle.tp_play.specs.declared.body.Body.{Body}
 use Rattle.tp_body.specs.declared.scope.BehaviourKind.TheVariants as behaviour_kind
 use Rattle.tp_body.specs.declared.scope.Scope.{Scope}
 use Rattle.tp_body.specs.declared.scope.Variables.{Variables}

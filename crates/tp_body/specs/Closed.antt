@@ -1,12 +1,12 @@
 -- Of which loop variables statements speak.
 use Rattle.std.specs.Prelude.{ℕ, ◌-◌, List, Option, None, Some, map, max}
-use Rattle.tp_body.specs.declared.body.Sent.{Sent}
-use Rattle.tp_body.specs.declared.body.Sent.TheVariants as sent
-use Rattle.tp_body.specs.declared.body.Statement.{Statement}
-use Rattle.tp_body.specs.declared.body.Statement.TheOpen as o
-use Rattle.tp_body.specs.declared.body.Statement.TheFolds.{fold-Branch, fold-Statement}
-use Rattle.tp_body.specs.declared.body.Branch.{Branch}
-use Rattle.tp_body.specs.Fills.{greatest, needed, needed_by_wanted}
+use Rattle.tp_play.specs.declared.body.Sent.{Sent}
+use Rattle.tp_play.specs.declared.body.Sent.TheVariants as sent
+use Rattle.tp_play.specs.declared.body.Statement.{Statement}
+use Rattle.tp_play.specs.declared.body.Statement.TheOpen as o
+use Rattle.tp_play.specs.declared.body.Statement.TheFolds.{fold-Branch, fold-Statement}
+use Rattle.tp_play.specs.declared.body.Branch.{Branch}
+use Rattle.tp_play.specs.Fills.{greatest, needed, needed_by_wanted}
 
 -- how many loop variables have to have values for what is sent
 abbrev pub needed_by_sent : Sent → ℕ

@@ -14,18 +14,18 @@ use Rattle.tp_value.specs.declared.template.PatternPart.TheVariants as pattern_p
 use Rattle.tp_value.specs.Types.{named}
 use Rattle.tp_value.specs.HasType.{ArePrintable}
 use Rattle.tp_value.specs.Fits.{AreOrdered}
-use Rattle.tp_syntax.specs.declared.message.Value.{Value}
-use Rattle.tp_syntax.specs.declared.message.Value.TheVariants as value
-use Rattle.tp_syntax.specs.declared.message.ValueField.{ValueField}
-use Rattle.tp_syntax.specs.declared.message.Template.{Template}
-use Rattle.tp_syntax.specs.declared.message.Template.TheVariants as template
-use Rattle.tp_syntax.specs.declared.message.TemplateField.{TemplateField}
-use Rattle.tp_syntax.specs.declared.message.Message.{Message}
-use Rattle.tp_body.specs.declared.body.SendValue.{SendValue}
-use Rattle.tp_body.specs.declared.body.SendValue.TheVariants as send_value
-use Rattle.tp_body.specs.declared.body.SendMsg.{SendMsg}
-use Rattle.tp_body.specs.declared.body.RecvTemplate.{RecvTemplate}
-use Rattle.tp_body.specs.declared.body.RecvTemplate.TheVariants as recv_template
+use Rattle.tp_tree.specs.declared.message.Value.{Value}
+use Rattle.tp_tree.specs.declared.message.Value.TheVariants as value
+use Rattle.tp_tree.specs.declared.message.ValueField.{ValueField}
+use Rattle.tp_tree.specs.declared.message.Template.{Template}
+use Rattle.tp_tree.specs.declared.message.Template.TheVariants as template
+use Rattle.tp_tree.specs.declared.message.TemplateField.{TemplateField}
+use Rattle.tp_tree.specs.declared.message.Message.{Message}
+use Rattle.tp_play.specs.declared.body.SendValue.{SendValue}
+use Rattle.tp_play.specs.declared.body.SendValue.TheVariants as send_value
+use Rattle.tp_play.specs.declared.body.SendMsg.{SendMsg}
+use Rattle.tp_play.specs.declared.body.RecvTemplate.{RecvTemplate}
+use Rattle.tp_play.specs.declared.body.RecvTemplate.TheVariants as recv_template
 use Rattle.tp_name.specs.Named.{IsPlace}
 use Rattle.tp_body.specs.Scoping.{IsType}
 

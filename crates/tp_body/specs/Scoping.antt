@@ -1,5 +1,5 @@
 -- What the names of a body stand for.
-use Rattle.std.specs.Prelude.{◌≡◌, ℕ, ◌+◌, List, map, Some, slice_get, string_bytes, ◌++◌}
+use Rattle.std.specs.Prelude.{◌≡◌, ℕ, ◌+◌, List, length, map, Some, slice_get, string_bytes, ◌++◌}
 use Rattle.std.specs.declared.string.String.{String}
 use Rattle.std.specs.declared.alloc.Global.{Global}
 use Rattle.tp_value.specs.declared.types.Ty.{Ty}
@@ -8,11 +8,11 @@ use Rattle.tp_value.specs.declared.types.Types.{Types}
 use Rattle.tp_value.specs.Types.{type_number}
 use Rattle.tp_config.specs.declared.port_type.PortType.{PortType}
 use Rattle.tp_config.specs.declared.port_type.CompType.{CompType}
-use Rattle.tp_syntax.specs.declared.message.TypeName.{TypeName}
-use Rattle.tp_syntax.specs.declared.message.TypeName.TheVariants as type_name
-use Rattle.tp_syntax.specs.declared.tree.ComponentName.{ComponentName}
-use Rattle.tp_syntax.specs.declared.tree.ComponentName.TheVariants as component_name
-use Rattle.tp_body.specs.declared.body.VariableType.{VariableType}
+use Rattle.tp_tree.specs.declared.message.TypeName.{TypeName}
+use Rattle.tp_tree.specs.declared.message.TypeName.TheVariants as type_name
+use Rattle.tp_tree.specs.declared.tree.ComponentName.{ComponentName}
+use Rattle.tp_tree.specs.declared.tree.ComponentName.TheVariants as component_name
+use Rattle.tp_play.specs.declared.body.VariableType.{VariableType}
 use Rattle.tp_body.specs.declared.scope.BehaviourKind.{BehaviourKind}
 use Rattle.tp_body.specs.declared.scope.BehaviourKind.TheVariants as behaviour_kind
 use Rattle.tp_body.specs.declared.scope.Scope.{Scope}
@@ -76,3 +76,8 @@ pub record IsNew (scope : Scope) (variables : Variables) (turns : List (List ℕ
   pub no_variable : IsAbsent variables.names name
   pub no_turn : IsAbsent turns name
   pub no_component : scope.behaviour ≡ behaviour_kind.TestCase → IsAbsent scope.components.now name
+
+-- how many components the references of a body name: `mtc`, the component itself, the parameters and the component
+-- variables
+abbrev pub reference_count : Scope → ℕ
+reference_count scope = length scope.parameters.now + length scope.components.now + 2

@@ -3,8 +3,8 @@ use crate::scope::{BehaviourKind, Scope, Variables};
 use tp_name::fault::refused;
 use tp_name::name::Name;
 use tp_refusal::refusal::Refusal;
-use tp_syntax::tree::ComponentName;
 use tp_token::fault::ScriptFault;
+use tp_tree::tree::ComponentName;
 
 /// Where a statement, a value or a template stands: what its names may mean, and the line for its
 /// refusals.

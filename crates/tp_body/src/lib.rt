@@ -1,9 +1,7 @@
 //! The checks of the bodies of a module, and what their statements stand for.
 #![tactic(auto)]
 
-pub mod body;
 mod context;
-pub mod fill;
 mod lookup;
 mod messages;
 mod operations;

@@ -3,14 +3,14 @@ ghost use Rattle.std.specs.Prelude.{◌≡◌, ◌++◌, ◌↔◌, Contains, Is
 ghost use Rattle.tp_name.specs.Named.{IsAbsent, IsPlace, texts};
 ghost use Rattle.tp_body.specs.Scoping.{IsPortNamed, IsReference, IsType, IsVariable, declared_port_names, receives, sends};
 
-use crate::body::VariableType;
 use crate::context::Context;
 use crate::scope::{BehaviourKind, Scope, Variables};
 use tp_config::port_type::{CompType, PortType};
 use tp_config::type_list::TypeList;
 use tp_name::name::find;
-use tp_syntax::message::TypeName;
-use tp_syntax::tree::ComponentName;
+use tp_play::body::VariableType;
+use tp_tree::message::TypeName;
+use tp_tree::tree::ComponentName;
 use tp_value::types::{Ty, Types};
 
 /// The place of the port of this name, or `None` where no port has it. Takes no memory.

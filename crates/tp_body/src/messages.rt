@@ -3,13 +3,13 @@ ghost use Rattle.std.specs.Prelude.{◌≡◌, IfOk, length};
 ghost use Rattle.tp_name.specs.Named.{texts};
 ghost use Rattle.tp_body.specs.Messages.{AreElements, AreFields, AreNamed, IsValue};
 
-use crate::body::SendValue;
 use crate::context::Context;
 use crate::placing::field_places;
 use std::alloc::Global;
 use tp_name::name::find;
-use tp_syntax::message::{Value, ValueField};
+use tp_play::body::SendValue;
 use tp_token::fault::ScriptFault;
+use tp_tree::message::{Value, ValueField};
 use tp_value::items::Items;
 use tp_value::shared::Shared;
 use tp_value::types::{Field, Ty, TypeDef};

@@ -5,9 +5,6 @@ ghost use Rattle.tp_body.specs.Scoping.{IsVariable};
 ghost use Rattle.tp_body.specs.Messages.{IsMessage};
 ghost use Rattle.tp_body.specs.Bodies.{IsReceive, IsReceiver, IsSend, IsFrom, IsSenderTarget, IsSent, IsValueTarget, IsVerdict, IsWanted};
 
-use crate::body::{
-    Receiver, Receiving, RecvMsg, SendMsg, SendOperation, SendValue, Sent, VariableType,
-};
 use crate::context::Context;
 use crate::lookup::{
     find_port, find_reference, find_type, find_variable, lists, receivable, sendable,
@@ -17,11 +14,14 @@ use crate::templates::resolve_template;
 use std::alloc::Global;
 use tp_config::type_list::TypeList;
 use tp_name::name::find;
+use tp_play::body::{
+    Receiver, Receiving, RecvMsg, SendMsg, SendOperation, SendValue, Sent, VariableType,
+};
 use tp_refusal::refusal::Refusal;
-use tp_syntax::message::{Message, MessageTemplate};
-use tp_syntax::tree;
-use tp_syntax::tree::{ComponentName, Destination, VerdictName};
 use tp_token::fault::ScriptFault;
+use tp_tree::message::{Message, MessageTemplate};
+use tp_tree::tree;
+use tp_tree::tree::{ComponentName, Destination, VerdictName};
 use tp_value::types::Ty;
 use tp_value::verdict::Verdict;
 

@@ -7,8 +7,8 @@ use std::alloc::Global;
 use tp_name::fault::refused;
 use tp_refusal::memory::Memory;
 use tp_refusal::refusal::Refusal;
-use tp_syntax::message::{TemplateField, ValueField};
 use tp_token::fault::ScriptFault;
+use tp_tree::message::{TemplateField, ValueField};
 use tp_value::types::Field;
 
 /// An entry that says by its name which field of a record it is for (ES 201 873-1, 6.2.1.1).
@@ -47,11 +47,25 @@ fn is_field(fields: &[Field], place: usize, name: &str) -> bool
     }
 }
 
+/// The names of a record's fields, once one was looked for among them: so a record whose entries
+/// stand in declared order takes no table.
+struct FieldTable<'f> {
+    names: IndexSet<&'f [u8]>,
+}
+
+impl Drop for FieldTable<'_> {
+    // Written out, so that what owns one calls this, and proves no drop of what is inside.
+    fn drop(self) {
+        let FieldTable { names } = self;
+        drop(names);
+    }
+}
+
 /// Puts the names of the fields into the table, in declared order. A name that stands twice is put
 /// in once. 50 `Memory` only where an allocation was refused.
-fn list_names<'f>(table: &mut IndexSet<&'f [u8]>, fields: &'f [Field]) -> Result<(), ScriptFault> {
+fn list_names<'f>(table: &mut FieldTable<'f>, fields: &'f [Field]) -> Result<(), ScriptFault> {
     for field in fields {
-        let Ok(_) = table.insert(field.name.as_slice()) else {
+        let Ok(_) = table.names.insert(field.name.as_slice()) else {
             return Err(ScriptFault::Memory(Memory));
         };
     }
@@ -64,7 +78,7 @@ fn list_names<'f>(table: &mut IndexSet<&'f [u8]>, fields: &'f [Field]) -> Result
 /// refused.
 fn find_field<'f>(
     fields: &'f [Field],
-    table: &mut IndexSet<&'f [u8]>,
+    table: &mut FieldTable<'f>,
     likely: usize,
     name: &str,
 ) -> Result<Option<usize>, ScriptFault>
@@ -74,10 +88,10 @@ fn find_field<'f>(
     if is_field(fields, likely, name) {
         return Ok(Some(likely));
     }
-    if table.is_empty() {
+    if table.names.is_empty() {
         list_names(table, fields)?;
     }
-    let Some(place) = table.get_index_of(name.as_bytes()) else {
+    let Some(place) = table.names.get_index_of(name.as_bytes()) else {
         return Ok(None);
     };
     if !is_field(fields, place, name) {
@@ -125,7 +139,9 @@ pub fn field_places<E: NamedField>(
         return Err(refused(Refusal::WrongType, line));
     }
     let mut taken = vec![in alloc; false; fields.len()]?;
-    let mut table = IndexSet::new(alloc);
+    let mut table = FieldTable {
+        names: IndexSet::new(alloc),
+    };
     let mut places = Vec::new(alloc);
     for (index, entry) in entries.iter().enumerate() {
         let found = find_field(fields, &mut table, index, entry.name())?;

@@ -1,7 +1,7 @@
 //! What the names of a body stand for.
-use crate::body::VariableType;
 use tp_config::port_type::CompType;
 use tp_name::name_set::NameSet;
+use tp_play::body::VariableType;
 use tp_value::items::Items;
 use tp_value::types::Types;
 

@@ -1,8 +1,8 @@
 //! How many statements a body has.
 ghost use Rattle.std.specs.Prelude.{◌≡◌};
-ghost use Rattle.tp_body.specs.Sizes.{capped, size_in, size_in_all, size_of, size_of_all, size_of_body, turns_between};
+ghost use Rattle.tp_play.specs.Sizes.{capped, size_in, size_in_all, size_of, size_of_all, size_of_body, turns_between};
 
-use crate::body::{Body, Branch, Statement};
+use tp_play::body::{Body, Branch, Statement};
 
 /// Where counting stops: one more than the statements that all bodies of a test case may come to.
 pub const COUNTED: u64 = 100_001;

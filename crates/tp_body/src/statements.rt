@@ -3,9 +3,9 @@ ghost use Rattle.std.specs.Prelude.{◌≡◌, ◌∷◌, ◌++◌, [], IfOk, le
 ghost use Rattle.tp_name.specs.Named.{texts};
 ghost use Rattle.tp_body.specs.Bodies.{AreBranches, IsAfter, IsBlock, IsBody, IsBranch, IsStatement};
 ghost use Rattle.tp_body.specs.Closed.{needed_around_all};
-ghost use Rattle.tp_body.specs.Playable.{IsPlayable, reference_count};
+ghost use Rattle.tp_body.specs.Scoping.{reference_count};
+ghost use Rattle.tp_play.specs.Playable.{IsPlayable};
 
-use crate::body::{Body, Branch, Statement};
 use crate::context::Context;
 use crate::lookup::find_port;
 use crate::operations::{resolve_receive, resolve_send, resolve_verdict};
@@ -14,10 +14,12 @@ use crate::variables::{are_no_ports, is_new, resolve_variables};
 use std::alloc::Global;
 use tp_name::fault::refused;
 use tp_name::name::Name;
+use tp_play::body::{Body, Branch, Statement};
+use tp_queue::operation::PortOperation;
 use tp_refusal::refusal::Refusal;
-use tp_syntax::tree;
-use tp_syntax::tree::{Action, BranchBody, Control, PortOperation, Turns, Variable, VerdictName};
 use tp_token::fault::ScriptFault;
+use tp_tree::tree;
+use tp_tree::tree::{Action, BranchBody, Control, Turns, Variable, VerdictName};
 use tp_value::items::Items;
 
 /// The loop variables inside a `for`.

@@ -3,13 +3,13 @@ ghost use Rattle.std.specs.Prelude.{◌≡◌, IfOk, length, map};
 ghost use Rattle.tp_name.specs.Named.{texts};
 ghost use Rattle.tp_body.specs.Messages.{AreElementTemplates, AreFieldTemplates, AreMembers, AreNamedTemplates, IsElementTemplate, IsTemplate, part_of};
 
-use crate::body::{RecvTemplate, SendValue};
 use crate::context::Context;
 use crate::placing::field_places;
 use std::alloc::Global;
 use tp_name::name::find;
-use tp_syntax::message::{Template, TemplateField};
+use tp_play::body::{RecvTemplate, SendValue};
 use tp_token::fault::ScriptFault;
+use tp_tree::message::{Template, TemplateField};
 use tp_value::fitting::are_ordered;
 use tp_value::items::Items;
 use tp_value::shared::Shared;

@@ -4,16 +4,16 @@ ghost use Rattle.tp_name.specs.Named.{IsAbsent, texts};
 ghost use Rattle.tp_body.specs.Scoping.{IsNew, declared_port_names};
 ghost use Rattle.tp_body.specs.Bodies.{AreVariables, IsHeld};
 
-use crate::body::VariableType;
 use crate::context::Context;
 use crate::lookup::{find_type, place_of_port};
 use crate::scope::{BehaviourKind, Scope, Variables};
 use std::alloc::Global;
 use tp_name::name::find;
 use tp_name::name_set::NameSet;
-use tp_syntax::message::TypeName;
-use tp_syntax::tree::Variable;
+use tp_play::body::VariableType;
 use tp_token::fault::ScriptFault;
+use tp_tree::message::TypeName;
+use tp_tree::tree::Variable;
 use tp_value::items::Items;
 
 /// Whether the name is new: no port, parameter, variable or loop variable has it, and in the test

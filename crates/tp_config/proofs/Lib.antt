@@ -15,3 +15,4 @@ pub mod Made
 pub mod RouteLaws
 pub mod Named
 pub mod Listing
+pub mod Routing

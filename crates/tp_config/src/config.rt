@@ -25,7 +25,6 @@ use tp_refusal::memory::Memory;
 /// component, a port has at most one mapping, no mapped port is connected, what a connected port
 /// sends the other receives, and the mapped ones fit together. No pair is there twice, no two
 /// components have one name, and at most one is the test system interface.
-#[derive(Drop)]
 pub struct Config {
     types: Vec<CompType>,
     components: Vec<Component>,
@@ -35,6 +34,20 @@ pub struct Config {
     /// The mapped pairs, likewise.
     mapped: Vec<(PortRef, PortRef)>,
     alloc: Global,
+}
+
+impl Drop for Config {
+    // Written out, so that what owns one calls this, and proves no drop of what is inside.
+    fn drop(self) {
+        let Config {
+            types: component_types,
+            components,
+            connected,
+            mapped,
+            alloc: _,
+        } = self;
+        drop((component_types, components, connected, mapped));
+    }
 }
 
 impl Model for Config {

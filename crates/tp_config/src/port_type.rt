@@ -24,10 +24,17 @@ pub struct PortType {
 
 /// A type of components (ES 201 873-1, 6.2.10): the ports of each component of this type, by their
 /// names, in declared order. The names are compared by their bytes.
-#[derive(Drop)]
 pub struct CompType {
     /// The ports, numbered from 0 in this order.
     pub ports: IndexMap<String, PortType>,
+}
+
+impl Drop for CompType {
+    // Written out, so that what owns one calls this, and proves no drop of what is inside.
+    fn drop(self) {
+        let CompType { ports } = self;
+        drop(ports);
+    }
 }
 
 /// A component, by its number: from 0, in the order in which they were created.

@@ -17,7 +17,7 @@ use Rattle.tp_config.specs.Setup.{Setup, PortDecl, IsComponent, IsPort, decl_at,
 use Rattle.tp_config.specs.Routes.{beside, route_to, routes_from, routes_into}
 use Rattle.tp_config.proofs.Beside.{beside_back}
 use Rattle.tp_config.proofs.RouteLaws.{beside_ports, both_ways, map_cases}
-use Rattle.tp_script.proofs.Routing.{port_component, route_leads}
+use Rattle.tp_config.proofs.Routing.{port_component, route_leads}
 use Rattle.tp_inbox.specs.declared.entry.Entry.{Entry}
 use Rattle.tp_inbox.specs.declared.entry.Entry.TheVariants as entry
 use Rattle.tp_inbox.specs.Desks.{IsWithin, Journal}

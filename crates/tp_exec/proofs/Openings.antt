@@ -9,7 +9,7 @@ use Rattle.std.proofs.lemmas.Option.{none-some, same_Some}
 use Rattle.tp_queue.specs.declared.event.Env.{Env}
 use Rattle.tp_queue.specs.Answers.{Satisfies}
 use Rattle.tp_queue.specs.History.{top}
-use Rattle.tp_syntax.specs.declared.tree.ReceiveKind.TheVariants as kind
+use Rattle.tp_queue.specs.declared.operation.ReceiveKind.TheVariants as kind
 use Rattle.tp_value.specs.declared.message.Message.{Message}
 use Rattle.tp_value.specs.Admits.{Admits}
 use Rattle.tp_inbox.specs.declared.entry.Entry.{Entry}

@@ -11,8 +11,8 @@ use Rattle.tp_config.specs.declared.port_type.RouteId.{RouteId}
 use Rattle.tp_config.specs.Allowed.{IsSetup}
 use Rattle.tp_config.specs.Setup.{Setup, IsComponent, names}
 use Rattle.tp_config.specs.Routes.{routes_into}
-use Rattle.tp_script.specs.Behaviours.{Behaviour}
-use Rattle.tp_script.specs.TestCases.{Made, behaviour_at}
+use Rattle.tp_play.specs.Behaviours.{Behaviour}
+use Rattle.tp_play.specs.TestCases.{Made, behaviour_at}
 use Rattle.tp_inbox.specs.declared.stamped.Stamped.{Stamped}
 use Rattle.tp_inbox.specs.declared.entry.Entry.{Entry}
 use Rattle.tp_inbox.specs.Desks.{Journal, at_port}

@@ -4,13 +4,13 @@ use Rattle.std.specs.Option.{is_some, option_map}
 use Rattle.std.proofs.lemmas.Option.{none-some}
 use Rattle.tp_config.specs.declared.port_type.CompId.{CompId}
 use Rattle.tp_config.specs.Setup.{Setup}
-use Rattle.tp_script.specs.declared.test_case.Behaviour.{Behaviour as BorrowedBehaviour}
-use Rattle.tp_script.specs.Behaviours.{Behaviour}
-use Rattle.tp_script.specs.Seen.{as_behaviour}
-use Rattle.tp_script.specs.TestCases.{Made, behaviour_at}
+use Rattle.tp_play.specs.declared.test_case.Behaviour.{Behaviour as BorrowedBehaviour}
+use Rattle.tp_play.specs.Behaviours.{Behaviour}
+use Rattle.tp_play.specs.Seen.{as_behaviour}
+use Rattle.tp_play.specs.TestCases.{Made, behaviour_at}
 use Rattle.tp_inbox.specs.declared.entry.Entry.{Entry}
 use Rattle.tp_inbox.specs.Ledgers.{Inbox}
-use Rattle.tp_report.specs.declared.ending.End.TheVariants as ending
+use Rattle.tp_inbox.specs.declared.ending.End.TheVariants as ending
 use Rattle.tp_behaviour.specs.declared.outcome.Outcome.TheVariants as outcome
 use Rattle.tp_behaviour.specs.declared.post.Post.{Post}
 use Rattle.tp_behaviour.specs.declared.station.Station.{Station}

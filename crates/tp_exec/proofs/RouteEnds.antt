@@ -6,7 +6,7 @@ use Rattle.tp_config.specs.Setup.{Setup}
 use Rattle.tp_config.specs.Allowed.{IsSetup}
 use Rattle.tp_config.specs.Routes.{beside, route_to, routes_from, routes_into}
 use Rattle.tp_config.proofs.RouteLaws.{both_ways, map_cases}
-use Rattle.tp_script.proofs.Routing.{route_component}
+use Rattle.tp_config.proofs.Routing.{route_component}
 
 -- a route from a port comes from its component
 pub source_is : (s : Setup) (p : PortRef) (r : RouteId) → Contains (routes_from s p) r → r.source ≡ p.comp

@@ -9,7 +9,7 @@ use Rattle.tp_config.specs.Allowed.{IsSetup}
 use Rattle.tp_config.specs.Routes.{beside, route_to, routes_from, routes_into}
 use Rattle.tp_config.proofs.Beside.{beside_back}
 use Rattle.tp_config.proofs.RouteLaws.{beside_ports, both_ways, map_cases}
-use Rattle.tp_script.proofs.Routing.{port_component, route_component}
+use Rattle.tp_config.proofs.Routing.{port_component, route_component}
 
 -- a port from which a route leads is one of a component
 from_component : (s : Setup) → IsSetup s → (p : PortRef) (r : RouteId) → Contains (routes_from s p) r → IsComponent s r.source

@@ -5,10 +5,10 @@ use Rattle.tp_config.specs.Setup.{Setup, names}
 use Rattle.tp_inbox.specs.declared.entry.Entry.{Entry}
 use Rattle.tp_inbox.specs.Desks.{IsWithin, Journal, at_port}
 use Rattle.tp_inbox.specs.History.{IsClocked}
-use Rattle.tp_script.specs.Behaviours.{Behaviour}
-use Rattle.tp_script.specs.TestCases.{Made, behaviour_at}
-use Rattle.tp_report.specs.declared.ending.End.{End}
-use Rattle.tp_report.specs.declared.ending.End.TheVariants as end
+use Rattle.tp_play.specs.Behaviours.{Behaviour}
+use Rattle.tp_play.specs.TestCases.{Made, behaviour_at}
+use Rattle.tp_inbox.specs.declared.ending.End.{End}
+use Rattle.tp_inbox.specs.declared.ending.End.TheVariants as end
 use Rattle.tp_report.specs.declared.report.CompReport.{CompReport}
 use Rattle.tp_report.specs.Verdicts.{local_verdict}
 use Rattle.tp_behaviour.specs.declared.outcome.Outcome.{Outcome}

@@ -2,8 +2,8 @@
 use Rattle.std.specs.Prelude.{◌≡◌, ◌≢◌, ℕ, Some, None, List, [], map}
 use Rattle.tp_config.specs.declared.port_type.CompId.{CompId}
 use Rattle.tp_config.specs.declared.port_type.RouteId.{RouteId}
-use Rattle.tp_script.specs.Seen.{as_behaviour}
-use Rattle.tp_script.specs.TestCases.{Made, behaviour_at}
+use Rattle.tp_play.specs.Seen.{as_behaviour}
+use Rattle.tp_play.specs.TestCases.{Made, behaviour_at}
 use Rattle.tp_inbox.specs.Ledgers.{Inbox}
 use Rattle.tp_behaviour.specs.declared.post.Post.{Post}
 use Rattle.tp_behaviour.specs.declared.station.Station.{Station}

@@ -5,8 +5,8 @@ use Rattle.tp_config.specs.declared.port_type.CompId.{CompId}
 use Rattle.tp_config.specs.declared.port_type.RouteId.{RouteId}
 use Rattle.tp_config.specs.Setup.{Setup}
 use Rattle.tp_config.specs.Routes.{routes_into}
-use Rattle.tp_script.specs.Behaviours.{Behaviour}
-use Rattle.tp_script.specs.TestCases.{Made, behaviour_at}
+use Rattle.tp_play.specs.Behaviours.{Behaviour}
+use Rattle.tp_play.specs.TestCases.{Made, behaviour_at}
 use Rattle.tp_inbox.specs.declared.entry.Entry.{Entry}
 use Rattle.tp_inbox.specs.Ledgers.{Inbox}
 use Rattle.tp_behaviour.specs.declared.station.Station.{Station}

@@ -1,7 +1,7 @@
 -- Where the components of a run are while their threads run.
 use Rattle.std.specs.Prelude.{◌≡◌, List}
 use Rattle.tp_config.specs.declared.port_type.RouteId.{RouteId}
-use Rattle.tp_script.specs.TestCases.{Made}
+use Rattle.tp_play.specs.TestCases.{Made}
 use Rattle.tp_inbox.specs.Ledgers.{Inbox}
 use Rattle.tp_exec.specs.declared.threads.Seat.{Seat}
 use Rattle.tp_exec.specs.declared.threads.Seat.TheVariants as seat

@@ -11,7 +11,7 @@ use Rattle.tp_inbox.specs.declared.entry.Entry.TheVariants as entry
 use Rattle.tp_inbox.specs.declared.stamped.Stamped.{Stamped}
 use Rattle.tp_inbox.specs.History.{arrived_on, count_of, numbered, sent_on}
 use Rattle.tp_inbox.specs.Routed.{rest_arrivals}
-use Rattle.tp_script.specs.TestCases.{Made, behaviour_at}
+use Rattle.tp_play.specs.TestCases.{Made, behaviour_at}
 use Rattle.tp_behaviour.specs.Fresh.{Fresh}
 use Rattle.tp_behaviour.specs.Outcomes.{WaitsWithin}
 use Rattle.tp_exec.specs.declared.played.Played.{Played}

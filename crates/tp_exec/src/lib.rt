@@ -14,4 +14,3 @@ mod threads;
 mod waiting;
 
 pub use tp_behaviour::gate;
-pub use tp_report::{ending, report, verdicts, writing};

@@ -14,11 +14,11 @@ use crate::waiting::are_at_rest;
 use std::alloc::Global;
 use tp_behaviour::outcome::Outcome;
 use tp_config::config::Config;
+use tp_inbox::ending::End;
+use tp_play::test_case::TestCase;
 use tp_refusal::memory::Memory;
-use tp_report::ending::End;
 use tp_report::report::{CompReport, Report};
 use tp_report::verdicts::{local_verdict, overall_verdict};
-use tp_script::TestCase;
 
 /// How a behaviour ended, for its report.
 fn end_of(outcome: &Outcome) -> End

@@ -15,8 +15,8 @@ use std::sync::Wait;
 use std::thread::Threads;
 use tp_behaviour::gate::Gate;
 use tp_inbox::floor::Floor;
+use tp_play::test_case::TestCase;
 use tp_report::report::Report;
-use tp_script::TestCase;
 
 /// How many components have something to do: so many behaviours live.
 fn count_living(test_case: &TestCase) -> u32

@@ -1,7 +1,7 @@
 //! The threads of a run.
 ghost use Rattle.std.specs.Prelude.{◌≡◌, ◌≢◌, ◌≤◌, [], All, IfOk, IfSome, None};
 ghost use Rattle.std.specs.Prelude.{length, map, vec_capacity};
-ghost use Rattle.tp_script.specs.TestCases.{Made, behaviour_at};
+ghost use Rattle.tp_play.specs.TestCases.{Made, behaviour_at};
 ghost use Rattle.tp_exec.specs.Returns.{CanBegin, HasBehaved, HasReturned, IsBack, IsBusy};
 ghost use Rattle.tp_exec.specs.Returns.{IsPostOf, IsWaiting, badge_of, badges_of, station_number};
 ghost use Rattle.tp_exec.specs.Rounds.{ArePlayed, AreStations, HasNotBegun, stations_of};
@@ -22,8 +22,8 @@ use tp_behaviour::station::Station;
 use tp_config::port_type::CompId;
 use tp_inbox::floor::Floor;
 use tp_inbox::owner::Closer;
+use tp_play::test_case::TestCase;
 use tp_refusal::memory::Memory;
-use tp_script::TestCase;
 
 /// What all behaviours of a run share. It owns its parts: of a closure that keeps a struct of
 /// references, nothing is known where it is called.

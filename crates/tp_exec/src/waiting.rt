@@ -7,8 +7,8 @@ ghost use Rattle.tp_exec.specs.Reporting.{IsAtRest};
 use crate::ended::Ended;
 use tp_behaviour::choice::Guard;
 use tp_behaviour::outcome::Outcome;
-use tp_body::body::ReceiveKind;
 use tp_inbox::desk::Desk;
+use tp_queue::operation::ReceiveKind;
 
 /// Whether the operation discards a message that it doesn't take.
 fn discards(guard: &Guard) -> bool

@@ -6,6 +6,7 @@ mod calls;
 pub mod desk;
 #[cfg(test)]
 mod desk_calls;
+pub mod ending;
 pub mod entry;
 mod envelope;
 pub mod floor;

@@ -26,9 +26,16 @@ pub enum NameFault {
 
 /// Names, no two of them equal, numbered from 0 in the order in which they were added. Contracts
 /// see the list of them, each as its bytes.
-#[derive(Drop)]
 pub struct NameSet<'m> {
     names: IndexSet<&'m str>,
+}
+
+impl Drop for NameSet<'_> {
+    // Written out, so that what owns one calls this, and proves no drop of what is inside.
+    fn drop(self) {
+        let NameSet { names } = self;
+        drop(names);
+    }
 }
 
 impl NameFault {

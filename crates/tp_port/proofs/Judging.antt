@@ -9,9 +9,9 @@ use Rattle.tp_port.specs.declared.replay.QueueFault.{QueueFault}
 use Rattle.tp_port.specs.declared.replay.QueueFault.TheVariants as fault
 use Rattle.tp_port.specs.Line.{Line, IsGood, IsFirstBad, Spells, Says, lines_of}
 use Rattle.tp_port.specs.Replay.{Progress, answer, sighted, after, text_from, left_text, queue_text}
-use Rattle.tp_port.specs.declared.text.ReadFault.{ReadFault}
-use Rattle.tp_port.specs.declared.text.ReadFault.TheVariants as read
-use Rattle.tp_port.specs.Reading.{TakesBytes}
+use Rattle.tp_text.specs.declared.text.ReadFault.{ReadFault}
+use Rattle.tp_text.specs.declared.text.ReadFault.TheVariants as read
+use Rattle.tp_text.specs.Reading.{TakesBytes}
 use Rattle.tp_port.specs.Faults.{HasFault, IsFaultOf, IsReadFaultOf, fault_of}
 
 get_after : {X : Type 0} (xs ys : List X) (y : X) → slice_get (xs ++ y ∷ ys) (length xs) ≡ Some y

@@ -7,4 +7,3 @@ pub mod Meeting
 pub mod Carrying
 pub mod Judging
 pub mod Unique
-pub mod Taking

@@ -4,4 +4,3 @@ pub mod Command
 pub mod Replay
 pub mod Carried
 pub mod Faults
-pub mod Reading

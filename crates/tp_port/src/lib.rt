@@ -8,6 +8,3 @@ mod engine;
 pub mod pattern;
 pub mod replay;
 mod senders;
-pub mod text;
-
-pub use tp_queue::{event, payload, queue};

@@ -7,11 +7,11 @@ ghost use Rattle.tp_port.specs.Replay.{queue_text};
 use crate::command::command_of;
 use crate::cut::first_line;
 use crate::engine::Engine;
-use crate::text::{ReadFault, read_text};
 use std::alloc::Global;
 use std::io::{Read, Write};
 use thiserror::Error;
 use tp_refusal::limit::TEXT_LIMIT;
+use tp_text::text::{ReadFault, read_text};
 
 /// Why a queue file was not replayed.
 #[derive(Clone, Copy, Debug, PartialEq, Eq, Hash, Error)]

@@ -2,5 +2,6 @@
 #![tactic(auto)]
 
 pub mod event;
+pub mod operation;
 pub mod payload;
 pub mod queue;

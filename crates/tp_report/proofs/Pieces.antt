@@ -13,7 +13,7 @@ use Rattle.tp_value.proofs.Written.{appends_both, nothing_written}
 use Rattle.tp_queue.specs.declared.event.Event.{Event}
 use Rattle.tp_queue.specs.History.{queued}
 use Rattle.tp_config.specs.declared.port_type.CompId.{CompId}
-use Rattle.tp_script.specs.TestCases.{Made}
+use Rattle.tp_play.specs.TestCases.{Made}
 use Rattle.tp_inbox.specs.declared.entry.Entry.{Entry}
 use Rattle.tp_inbox.specs.Desks.{Journal, at_port}
 use Rattle.tp_report.specs.declared.report.CompReport.{CompReport}

@@ -9,12 +9,12 @@ use Rattle.tp_value.specs.declared.verdict.Verdict.{Verdict}
 use Rattle.tp_config.specs.declared.port_type.CompId.{CompId}
 use Rattle.tp_config.specs.declared.port_type.PortRef.{PortRef}
 use Rattle.tp_config.specs.declared.port_type.RouteId.{RouteId}
-use Rattle.tp_script.specs.TestCases.{Made}
+use Rattle.tp_play.specs.TestCases.{Made}
 use Rattle.tp_inbox.specs.declared.entry.Entry.{Entry}
 use Rattle.tp_inbox.specs.declared.entry.Entry.TheVariants as entry
 use Rattle.tp_inbox.specs.Desks.{Journal, at_port}
-use Rattle.tp_report.specs.declared.ending.End.{End}
-use Rattle.tp_report.specs.declared.ending.End.TheVariants as ending
+use Rattle.tp_inbox.specs.declared.ending.End.{End}
+use Rattle.tp_inbox.specs.declared.ending.End.TheVariants as ending
 use Rattle.tp_report.specs.Words.{line, component_name, port_name, full_name, message_text, verdict_word}
 
 -- a component

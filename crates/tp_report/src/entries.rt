@@ -9,7 +9,7 @@ use crate::lines::{write_code, write_envelope, write_port, write_sent, write_ver
 use std::io::Write;
 use tp_config::port_type::{CompId, PortRef};
 use tp_inbox::entry::Entry;
-use tp_script::TestCase;
+use tp_play::test_case::TestCase;
 use tp_value::writing::{WriteFault, write_bytes};
 
 /// A port of a component.

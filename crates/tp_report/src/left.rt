@@ -11,8 +11,8 @@ use crate::lines::write_envelope;
 use std::io::Write;
 use tp_config::port_type::PortRef;
 use tp_inbox::desk::Desk;
+use tp_play::test_case::TestCase;
 use tp_queue::queue::PortQueue;
-use tp_script::TestCase;
 use tp_value::message::Message;
 use tp_value::writing::WriteFault;
 

@@ -1,7 +1,6 @@
 //! What a run reports: the components' histories, their ends and verdicts, and the text of it all.
 #![tactic(auto)]
 
-pub mod ending;
 mod entries;
 mod left;
 mod lines;

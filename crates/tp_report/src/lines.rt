@@ -6,15 +6,15 @@ ghost use Rattle.tp_config.specs.Setup.{IsComponent, IsPort};
 ghost use Rattle.tp_report.specs.Words.{message_text, rest_of_line};
 ghost use Rattle.tp_report.specs.Lines.{code_line, end_text, envelope_line, heading, port_line, sender_of, sent_line, verdict_line};
 
-use crate::ending::End;
 use crate::words::{
     verdict_word, write_component_name, write_full_name, write_message, write_number,
     write_port_name,
 };
 use std::io::Write;
 use tp_config::port_type::{CompId, PortRef, RouteId};
+use tp_inbox::ending::End;
+use tp_play::test_case::TestCase;
 use tp_queue::event::Env;
-use tp_script::TestCase;
 use tp_value::message::Message;
 use tp_value::types::Types;
 use tp_value::verdict::Verdict;

@@ -1,7 +1,7 @@
 //! What a run reports.
-use crate::ending::End;
 use tp_config::port_type::RouteId;
 use tp_inbox::desk::Desk;
+use tp_inbox::ending::End;
 use tp_value::verdict::Verdict;
 
 /// What a run reports of one component.
@@ -20,10 +20,20 @@ pub struct CompReport {
 }
 
 /// What a run reports: its components in the test case's order, and the overall verdict.
-#[derive(Drop)]
 pub struct Report {
     /// The components.
     pub components: Vec<CompReport>,
     /// The overall verdict.
     pub result: Verdict,
+}
+
+impl Drop for Report {
+    // Written out, so that what owns one calls this, and proves no drop of what is inside.
+    fn drop(self) {
+        let Report {
+            components,
+            result: _,
+        } = self;
+        drop(components);
+    }
 }

@@ -4,8 +4,8 @@ ghost use Rattle.tp_inbox.specs.declared.entry.Entry.{Entry};
 ghost use Rattle.tp_report.specs.Verdicts.{endings, local_verdict, locals, overall_verdict};
 ghost use Rattle.tp_report.specs.declared.report.CompReport.{CompReport};
 
-use crate::ending::End;
 use crate::report::CompReport;
+use tp_inbox::ending::End;
 use tp_inbox::entry::Entry;
 use tp_value::verdict::Verdict;
 

@@ -9,7 +9,7 @@ use crate::left::write_left;
 use crate::lines::{write_end, write_heading, write_verdict};
 use crate::report::{CompReport, Report};
 use std::io::Write;
-use tp_script::TestCase;
+use tp_play::test_case::TestCase;
 use tp_value::writing::WriteFault;
 
 /// Writes what is reported of one component.

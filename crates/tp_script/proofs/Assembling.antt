@@ -6,12 +6,12 @@ use Rattle.std.specs.declared.string.String.{String}
 use Rattle.std.proofs.lemmas.List.{length-map, length-append}
 use Rattle.std.proofs.lemmas.Option.{slice_get-map, same_Some}
 use Rattle.std.proofs.lemmas.Slice.Zip.{AllZip-long}
-use Rattle.tp_syntax.specs.declared.tree.Module.{Module}
-use Rattle.tp_syntax.specs.declared.tree.TestCase.{TestCase}
-use Rattle.tp_syntax.specs.declared.tree.Function.{Function}
-use Rattle.tp_syntax.specs.declared.tree.SetupStatement.{SetupStatement}
-use Rattle.tp_syntax.specs.declared.tree.SetupAction.{SetupAction}
-use Rattle.tp_syntax.specs.declared.tree.SetupAction.TheVariants as a
+use Rattle.tp_tree.specs.declared.tree.Module.{Module}
+use Rattle.tp_tree.specs.declared.tree.TestCase.{TestCase}
+use Rattle.tp_tree.specs.declared.tree.Function.{Function}
+use Rattle.tp_tree.specs.declared.tree.SetupStatement.{SetupStatement}
+use Rattle.tp_tree.specs.declared.tree.SetupAction.{SetupAction}
+use Rattle.tp_tree.specs.declared.tree.SetupAction.TheVariants as a
 use Rattle.tp_config.specs.Setup.{Setup}
 use Rattle.tp_name.proofs.Numbering.{place_there, place_unknown}
 use Rattle.tp_setup.specs.declared.prepared.Prepared.{Prepared}
@@ -22,14 +22,16 @@ use Rattle.tp_setup.specs.Configuring.{IsStep, Makes, nothing, one_more, interfa
 use Rattle.tp_setup.specs.Starting.{IsStartPlace, IsStartOf, started_names, type_names_of}
 use Rattle.tp_setup.specs.Prepared.{IsPreparedOf}
 use Rattle.tp_setup.proofs.Steps.{zip_at}
-use Rattle.tp_body.specs.declared.body.Body.{Body}
-use Rattle.tp_script.specs.declared.bodies.Bodies.{Bodies}
-use Rattle.tp_script.specs.declared.instance.Instance.{Instance}
+use Rattle.tp_play.specs.declared.body.Body.{Body}
+use Rattle.tp_play.specs.declared.bodies.Bodies.{Bodies}
+use Rattle.tp_play.specs.declared.instance.Instance.{Instance}
 use Rattle.tp_script.specs.Scopes.{IsMainBody, IsFunctionBody}
 use Rattle.tp_script.specs.Behaviours as d
-use Rattle.tp_script.specs.Behaviours.{Behaviour, Does}
+use Rattle.tp_play.specs.Behaviours.{Behaviour}
+use Rattle.tp_script.specs.Behaviours.{Does}
 use Rattle.tp_script.specs.Instances as instances
-use Rattle.tp_script.specs.Instances.{known_in, body_in, behaviour_of, IsInstance, AreInstances, instance_count}
+use Rattle.tp_play.specs.Instances.{body_in, behaviour_of}
+use Rattle.tp_script.specs.Instances.{known_in, IsInstance, AreInstances, instance_count}
 use Rattle.tp_script.specs.TestCases.{known_of, AreKinds, IsTestCaseOf}
 
 -- a setup statement leaves the component types and the components

@@ -3,5 +3,4 @@ pub mod Functions
 pub mod Totals
 pub mod Assembling
 pub mod Readiness
-pub mod Routing
-pub mod Crossing
+pub mod Faults

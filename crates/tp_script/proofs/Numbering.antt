@@ -5,7 +5,7 @@ use Rattle.std.proofs.lemmas.Option.{slice_get-get_or, get_or_from_slice_get}
 use Rattle.std.proofs.lemmas.Bool.{cases_lt}
 use Rattle.tp_body.proofs.Placed.{push_cases}
 use Rattle.tp_setup.specs.declared.prepared.Prepared.{Prepared}
-use Rattle.tp_script.specs.declared.instance.Instance.{Instance}
+use Rattle.tp_play.specs.declared.instance.Instance.{Instance}
 use Rattle.tp_script.specs.Behaviours.{Numbers}
 use Rattle.tp_script.specs.Instances.{AreInstances, IsInstance}
 

@@ -1,5 +1,5 @@
 -- The test case of a module that obeys the rules can be executed.
-use Rattle.std.proofs.Common.{◌≡◌, ◌⊎◌, inl, inr, ℕ, zero, suc, ◌+◌, ◌<◌, ◌≤◌, true, true≢false, List, [], ◌∷◌, ◌++◌, Option, None, Some, IfSome, All, Contains, length, map, get_or, slice_get, option_map, string_bytes, codes, refl, sym, ap, ◌∙◌, subst, arith, add-one}
+use Rattle.std.proofs.Common.{◌≡◌, ◌⊎◌, inl, inr, ℕ, zero, suc, ◌+◌, ◌<◌, ◌≤◌, true, true≢false, List, [], ◌∷◌, ◌++◌, Option, None, Some, All, Contains, length, map, get_or, slice_get, option_map, string_bytes, codes, refl, sym, ap, ◌∙◌, subst, arith, add-one}
 use Rattle.std.specs.List.{AllZip, cons_option}
 use Rattle.std.specs.Option.{option_map_or, option_to_list}
 use Rattle.std.specs.declared.alloc.Global.{Global}
@@ -10,20 +10,20 @@ use Rattle.std.proofs.lemmas.List.{length-map, length-append}
 use Rattle.std.proofs.lemmas.List.Elements.{All-nil, All-cons, All-append, All-head, All-tail}
 use Rattle.std.proofs.lemmas.Option.{slice_get-get_or, slice_get-map, slice_get_within, get_or_from_slice_get, same_Some}
 use Rattle.std.proofs.lemmas.Slice.Zip.{AllZip-long}
-use Rattle.tp_syntax.specs.declared.tree.Module.{Module}
-use Rattle.tp_syntax.specs.declared.tree.TestCase.{TestCase}
-use Rattle.tp_syntax.specs.declared.tree.Function.{Function}
-use Rattle.tp_syntax.specs.declared.tree.Definition.{Definition}
-use Rattle.tp_syntax.specs.declared.tree.Defined.{Defined}
-use Rattle.tp_syntax.specs.declared.tree.Defined.TheVariants as definition
-use Rattle.tp_syntax.specs.declared.tree.ComponentStart.{ComponentStart}
-use Rattle.tp_syntax.specs.declared.tree.Creation.{Creation}
-use Rattle.tp_syntax.specs.declared.tree.Variable.{Variable}
-use Rattle.tp_syntax.specs.declared.tree.Statement.{Statement}
-use Rattle.tp_syntax.specs.declared.tree.Parameter.{Parameter}
-use Rattle.tp_syntax.specs.declared.tree.SetupStatement.{SetupStatement}
-use Rattle.tp_syntax.specs.declared.tree.SetupAction.{SetupAction}
-use Rattle.tp_syntax.specs.declared.tree.SetupAction.TheVariants as a
+use Rattle.tp_tree.specs.declared.tree.Module.{Module}
+use Rattle.tp_tree.specs.declared.tree.TestCase.{TestCase}
+use Rattle.tp_tree.specs.declared.tree.Function.{Function}
+use Rattle.tp_tree.specs.declared.tree.Definition.{Definition}
+use Rattle.tp_tree.specs.declared.tree.Defined.{Defined}
+use Rattle.tp_tree.specs.declared.tree.Defined.TheVariants as definition
+use Rattle.tp_tree.specs.declared.tree.ComponentStart.{ComponentStart}
+use Rattle.tp_tree.specs.declared.tree.Creation.{Creation}
+use Rattle.tp_tree.specs.declared.tree.Variable.{Variable}
+use Rattle.tp_tree.specs.declared.tree.Statement.{Statement}
+use Rattle.tp_tree.specs.declared.tree.Parameter.{Parameter}
+use Rattle.tp_tree.specs.declared.tree.SetupStatement.{SetupStatement}
+use Rattle.tp_tree.specs.declared.tree.SetupAction.{SetupAction}
+use Rattle.tp_tree.specs.declared.tree.SetupAction.TheVariants as a
 use Rattle.tp_config.specs.declared.port_type.CompId.{CompId}
 use Rattle.tp_config.specs.declared.port_type.CompType.{CompType}
 use Rattle.tp_config.specs.declared.port_type.Role.TheVariants as role
@@ -39,17 +39,18 @@ use Rattle.tp_setup.specs.Starting.{HasParameterType, IsStartPlace, IsStartOf, s
 use Rattle.tp_setup.specs.Sorted.{HasSoundDefinitions}
 use Rattle.tp_setup.specs.Prepared.{IsWellDeclared}
 use Rattle.tp_setup.proofs.Steps.{zip_at}
-use Rattle.tp_body.specs.declared.body.Body.{Body}
+use Rattle.tp_play.specs.declared.body.Body.{Body}
 use Rattle.tp_body.specs.declared.scope.BehaviourKind.{BehaviourKind}
-use Rattle.tp_body.specs.Playable.{IsPlayable, reference_count}
+use Rattle.tp_body.specs.Scoping.{reference_count}
+use Rattle.tp_play.specs.Playable.{IsPlayable}
 use Rattle.tp_body.proofs.Played.{body_played}
 use Rattle.tp_script.specs.Scopes.{Known, StandsFor}
 use Rattle.tp_script.specs.Behaviours as d
-use Rattle.tp_script.specs.Behaviours.{Behaviour, Does, AreReferences}
-use Rattle.tp_script.specs.TestCases.{Made, IsTestCaseOf, known_of, behaviour_at}
-use Rattle.tp_script.specs.Seen.{as_behaviour}
-use Rattle.tp_script.specs.declared.test_case.Behaviour.{Behaviour as BorrowedBehaviour}
-use Rattle.tp_script.specs.Ready.{CanDo, IsReady, port_count}
+use Rattle.tp_play.specs.Behaviours.{Behaviour}
+use Rattle.tp_script.specs.Behaviours.{Does, AreReferences}
+use Rattle.tp_play.specs.TestCases.{Made}
+use Rattle.tp_script.specs.TestCases.{IsTestCaseOf, known_of}
+use Rattle.tp_play.specs.Ready.{CanDo, IsReady, port_count}
 use Rattle.tp_script.proofs.Assembling.{mapped_from, zip_from}
 
 -- a setup statement leaves the component types and the components
@@ -375,9 +376,3 @@ module _ (m : Module) (made : Made) (rules : IsWellDeclared m) (of : IsTestCaseO
     can_do = λ k w e. let there = at_place made.behaviours k w e in
         does_can k (Some w) w refl (omega (arith, of.everyone, slice_get_within made.behaviours k (Some w) there)) (of.does k (Some w) there);
   }
-
--- what a component is given to do, it can do
-pub can_at : (made : Made) (k : ℕ) (o : Option BorrowedBehaviour) → IsReady made → option_map as_behaviour o ≡ behaviour_at made k
-    → IfSome o (λ c. CanDo made.config made.types k (as_behaviour c))
-can_at made k None is e = tt
-can_at made k (Some c) is e = is.can_do k (as_behaviour c) (sym e)

@@ -5,15 +5,16 @@ use Rattle.std.specs.Option.{option_map_or}
 use Rattle.std.proofs.lemmas.Bool.{cases_lt}
 use Rattle.std.proofs.lemmas.List.Sums.{sum-map, sum_by-cons}
 use Rattle.tp_config.proofs.Look.{get_or_mapped}
-use Rattle.tp_body.specs.declared.body.Body.{Body}
-use Rattle.tp_body.specs.Sizes.{limit, capped, size_of_body}
+use Rattle.tp_play.specs.declared.body.Body.{Body}
+use Rattle.tp_play.specs.Sizes.{limit, capped, size_of_body}
 use Rattle.tp_body.proofs.Counting.{cap_add, cap_above}
-use Rattle.tp_script.specs.declared.bodies.Bodies.{Bodies}
-use Rattle.tp_script.specs.declared.instance.Instance.{Instance}
-use Rattle.tp_script.specs.declared.instance.Source.{Source}
-use Rattle.tp_script.specs.declared.instance.Source.TheVariants as source
-use Rattle.tp_script.specs.Behaviours.{size_of_behaviour}
-use Rattle.tp_script.specs.Instances.{body_in, behaviour_of, size_from, size_of_instance}
+use Rattle.tp_play.specs.declared.bodies.Bodies.{Bodies}
+use Rattle.tp_play.specs.declared.instance.Instance.{Instance}
+use Rattle.tp_play.specs.declared.instance.Source.{Source}
+use Rattle.tp_play.specs.declared.instance.Source.TheVariants as source
+use Rattle.tp_play.specs.Behaviours.{size_of_behaviour}
+use Rattle.tp_play.specs.Instances.{body_in, behaviour_of}
+use Rattle.tp_script.specs.Instances.{size_from, size_of_instance}
 
 sum_cons : {X : Type 0} (f : X → ℕ) (x : X) (xs : List X) → sum (map f (x ∷ xs)) ≡ f x + sum (map f xs)
 sum_cons f x xs = sum-map f (x ∷ xs) ∙ sum_by-cons f x xs ∙ ap (λ n. f x + n) (sym (sum-map f xs))

@@ -1,20 +1,13 @@
 -- What the components of a test case do.
 use Rattle.std.specs.Prelude.{◌≡◌, ◌<◌, ◌+◌, ℕ, Option, Some, None, List, [], ◌∷◌, ◌++◌, Contains, length, map, slice_get, string_bytes}
-use Rattle.std.specs.Option.{option_map_or}
-use Rattle.tp_syntax.specs.declared.tree.Function.{Function}
-use Rattle.tp_syntax.specs.declared.tree.TestCase.{TestCase}
+use Rattle.tp_tree.specs.declared.tree.Function.{Function}
+use Rattle.tp_tree.specs.declared.tree.TestCase.{TestCase}
 use Rattle.tp_setup.specs.declared.starts.Started.{Started}
 use Rattle.tp_setup.specs.declared.starts.Starts.{Starts}
 use Rattle.tp_setup.specs.Configuring.{interface_number}
 use Rattle.tp_setup.specs.Rules.{sut}
-use Rattle.tp_body.specs.declared.body.Body.{Body}
-use Rattle.tp_body.specs.Sizes.{size_of_body}
+use Rattle.tp_play.specs.Behaviours.{Behaviour}
 use Rattle.tp_script.specs.Scopes.{Known, IsMainBody, IsFunctionBody}
-
--- what a component does: a body, and the numbers of the components that its references name
-pub record Behaviour : Type 0 where
-  pub body : Body
-  pub references : List ℕ
 
 -- the numbers of the components of so many component variables stand behind other numbers: they are 1, 2, ..
 pub record Numbers (count : ℕ) (before after : List ℕ) : Type 0 where
@@ -49,7 +42,3 @@ pub data Does (known : Known) (functions : List Function) (case : TestCase) (sta
   nobody : (n : ℕ) → interface_number case ≡ Some n
       → (Contains (map (λ (f : Function). string_bytes f.name) functions) sut → ⊥)
       → Does known functions case starts n None
-
--- how many statements a component has to carry out at most, once each `for` stands for its copies
-abbrev pub size_of_behaviour : Option Behaviour → ℕ
-size_of_behaviour d = option_map_or (λ (d : Behaviour). size_of_body d.body) d 0

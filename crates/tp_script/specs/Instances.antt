@@ -1,18 +1,15 @@
--- How a test case keeps what its components do.
+-- Which instances of bodies the components of a test case have.
 use Rattle.std.specs.Prelude.{◌≡◌, ◌+◌, ℕ, Option, Some, None, List, [], map, slice_get, length, IsSome, is_some, if◌then◌else◌}
 use Rattle.std.specs.List.{slice_index_or}
-use Rattle.std.specs.Option.{option_map}
 use Rattle.tp_setup.specs.declared.prepared.Prepared.{Prepared}
 use Rattle.tp_setup.specs.declared.starts.Started.{Started}
 use Rattle.tp_setup.specs.Rules.{sut}
 use Rattle.tp_name.specs.Tables.{place_of}
-use Rattle.tp_body.specs.declared.body.Body.{Body}
-use Rattle.tp_script.specs.declared.instance.Instance.{Instance}
-use Rattle.tp_script.specs.declared.instance.Source.{Source}
-use Rattle.tp_script.specs.declared.instance.Source.TheVariants as source
-use Rattle.tp_script.specs.declared.bodies.Bodies.{Bodies}
+use Rattle.tp_play.specs.declared.instance.Instance.{Instance}
+use Rattle.tp_play.specs.declared.instance.Source.{Source}
+use Rattle.tp_play.specs.declared.instance.Source.TheVariants as source
 use Rattle.tp_script.specs.Scopes.{Known}
-use Rattle.tp_script.specs.Behaviours.{Behaviour, AreReferences}
+use Rattle.tp_script.specs.Behaviours.{AreReferences}
 
 -- what the bodies may speak of, once the first three passes are done
 abbrev pub known_in : Prepared → Known
@@ -23,21 +20,6 @@ known_in p =
       ports = p.config.types;
       components = p.variables;
     }
-
--- the body that is meant
-abbrev pub body_in : Bodies → Source → Option Body
-body_in bodies source.TestCase = Some bodies.main
-body_in bodies (source.Function place) = slice_get bodies.functions.items place
-
-abbrev pub behaviour_in : Bodies → Instance → Option Behaviour
-behaviour_in bodies instance =
-    option_map (λ b. record { body = b; references = map (λ c. c.0) instance.references.items })
-    (body_in bodies instance.source)
-
--- what a component does that has this instance of a body, if it has one
-abbrev pub behaviour_of : Bodies → Option Instance → Option Behaviour
-behaviour_of bodies None = None
-behaviour_of bodies (Some instance) = behaviour_in bodies instance
 
 -- the component of this number has this instance of a body
 pub data IsInstance (p : Prepared) : ℕ → Option Instance → Type 0 where

@@ -2,5 +2,4 @@ pub mod Scopes
 pub mod Behaviours
 pub mod TestCases
 pub mod Instances
-pub mod Seen
-pub mod Ready
+pub mod Scripts

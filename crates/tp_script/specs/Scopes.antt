@@ -1,17 +1,17 @@
 -- What the bodies of a module may speak of.
 use Rattle.std.specs.Prelude.{◌≡◌, ℕ, List, [], Some, map, slice_get, string_bytes, if◌then◌else◌}
 use Rattle.std.specs.Str.{bytes_eq}
-use Rattle.tp_syntax.specs.declared.tree.Function.{Function}
-use Rattle.tp_syntax.specs.declared.tree.Statement.{Statement}
-use Rattle.tp_syntax.specs.declared.tree.TestCase.{TestCase}
-use Rattle.tp_syntax.specs.declared.tree.Variable.{Variable}
+use Rattle.tp_tree.specs.declared.tree.Function.{Function}
+use Rattle.tp_tree.specs.declared.tree.Statement.{Statement}
+use Rattle.tp_tree.specs.declared.tree.TestCase.{TestCase}
+use Rattle.tp_tree.specs.declared.tree.Variable.{Variable}
 use Rattle.tp_value.specs.declared.types.Types.{Types}
 use Rattle.tp_config.specs.Setup.{PortDecl}
 use Rattle.tp_config.specs.Shape.{ports_of}
 use Rattle.tp_name.specs.Tables.{place_of}
 use Rattle.tp_setup.specs.Definitions.{declared}
 use Rattle.tp_setup.specs.Rules.{sut}
-use Rattle.tp_body.specs.declared.body.Body.{Body}
+use Rattle.tp_play.specs.declared.body.Body.{Body}
 use Rattle.tp_body.specs.declared.scope.BehaviourKind.{BehaviourKind}
 use Rattle.tp_body.specs.declared.scope.BehaviourKind.TheVariants as behaviour_kind
 use Rattle.tp_body.specs.declared.scope.Scope.{Scope}

@@ -1,8 +1,8 @@
 -- The test case of a module.
-use Rattle.std.specs.Prelude.{◌≡◌, ◌≤◌, ℕ, Option, Some, None, List, [], ◌∷◌, length, map, slice_get, sum}
-use Rattle.std.specs.List.{AllZip, slice_index_or}
-use Rattle.tp_syntax.specs.declared.tree.Module.{Module}
-use Rattle.tp_syntax.specs.declared.tree.TestCase.{TestCase}
+use Rattle.std.specs.Prelude.{◌≡◌, ◌≤◌, ℕ, Option, Some, List, [], ◌∷◌, length, map, slice_get, sum}
+use Rattle.std.specs.List.{AllZip}
+use Rattle.tp_tree.specs.declared.tree.Module.{Module}
+use Rattle.tp_tree.specs.declared.tree.TestCase.{TestCase}
 use Rattle.tp_value.specs.declared.types.Types.{Types}
 use Rattle.tp_config.specs.declared.port_type.CompType.{CompType}
 use Rattle.tp_config.specs.Setup.{Setup, PortDecl}
@@ -13,16 +13,11 @@ use Rattle.tp_setup.specs.Resolved.{AreTypes, AreComponentTypes}
 use Rattle.tp_setup.specs.Components.{variables}
 use Rattle.tp_setup.specs.Starting.{AreStarts}
 use Rattle.tp_setup.specs.Prepared.{IsConfigOf, IsWellDeclared}
-use Rattle.tp_body.specs.declared.body.Body.{Body}
+use Rattle.tp_play.specs.declared.body.Body.{Body}
 use Rattle.tp_script.specs.Scopes.{Known, IsMainBody, IsFunctionBody}
-use Rattle.tp_script.specs.Behaviours.{Behaviour, Does, size_of_behaviour}
-
--- what contracts see of a test case: its configuration, the record and record-of types, and what each component does,
--- in the order of the components
-pub record Made : Type 0 where
-  pub config : Setup
-  pub types : Types
-  pub behaviours : List (Option Behaviour)
+use Rattle.tp_play.specs.Behaviours.{Behaviour, size_of_behaviour}
+use Rattle.tp_play.specs.TestCases.{Made}
+use Rattle.tp_script.specs.Behaviours.{Does}
 
 -- what the bodies of a module may speak of, whose test case is this
 abbrev pub known_of : Module → TestCase → Setup → Types → Known
@@ -88,7 +83,3 @@ pub record WellFormed (m : Module) : Type 0 where
   pub bodies : HasSoundBodies m
   -- on size
   pub small : IsSmall m
-
--- the component of this number does this, or nothing where there is no such component
-abbrev pub behaviour_at : Made → ℕ → Option Behaviour
-behaviour_at made k = slice_index_or made.behaviours k None

@@ -7,24 +7,16 @@ ghost use Rattle.tp_script.specs.Scopes.{IsFunctionBody, IsMainBody, plays_of};
 
 use crate::scopes::{parameter_names, scope_of};
 use std::alloc::Global;
-use tp_body::body::Body;
 use tp_body::scope::BehaviourKind;
 use tp_body::statements::resolve_body;
 use tp_name::name_set::NameSet;
+use tp_play::bodies::Bodies;
+use tp_play::body::Body;
 use tp_setup::definitions::is_sut;
 use tp_setup::prepared::Prepared;
 use tp_setup::sorted::as_function;
-use tp_syntax::tree::{Definition, Function, Module};
 use tp_token::fault::ScriptFault;
-
-/// The bodies of a module.
-#[derive(Drop)]
-pub struct Bodies {
-    /// The test case's own.
-    pub main: Body,
-    /// Those of the functions, in the order of the text.
-    pub functions: Vec<Body>,
-}
+use tp_tree::tree::{Definition, Function, Module};
 
 /// Whose body a function's is: a function named `sut` plays the system under test. Takes no memory.
 fn plays(function: &Function) -> BehaviourKind

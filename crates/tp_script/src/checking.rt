@@ -2,20 +2,23 @@
 ghost use Rattle.std.specs.Prelude.{◌≡◌, ◌≤◌, IfOk, OnOk, length, map, sum};
 ghost use Rattle.std.specs.List.{AllZip};
 ghost use Rattle.tp_setup.specs.Definitions.{functions};
-ghost use Rattle.tp_script.specs.Behaviours.{size_of_behaviour};
-ghost use Rattle.tp_script.specs.Instances.{AreInstances, behaviour_of, known_in, instance_count};
+ghost use Rattle.tp_play.specs.Behaviours.{size_of_behaviour};
+ghost use Rattle.tp_play.specs.Instances.{behaviour_of};
+ghost use Rattle.tp_play.specs.Ready.{IsReady};
+ghost use Rattle.tp_script.specs.Instances.{AreInstances, known_in, instance_count};
 ghost use Rattle.tp_script.specs.Scopes.{IsFunctionBody, IsMainBody};
 ghost use Rattle.tp_script.specs.TestCases.{IsTestCaseOf, WellFormed};
 
 use crate::bodies::resolve_bodies;
 use crate::instances::make_instances;
-use crate::test_case::{Behaviours, TestCase};
 use crate::total::check_size;
 use std::alloc::Global;
+use tp_play::bodies::Behaviours;
+use tp_play::test_case::TestCase;
 use tp_setup::prepared::Prepared;
 use tp_setup::preparing::prepare;
-use tp_syntax::tree::Module;
 use tp_token::fault::ScriptFault;
+use tp_tree::tree::Module;
 
 /// The fourth pass and the fifth: the bodies, and what each component does with them. The first
 /// fault is the answer. 50 `Memory` only where an allocation was refused.
@@ -39,6 +42,24 @@ fn resolve_behaviours<'m>(
     Ok(Behaviours { bodies, instances })
 }
 
+/// The test case of what the passes made.
+fn assemble(prepared: Prepared<'_>, behaviours: Behaviours) -> TestCase
+    requires { let all = map (behaviour_of behaviours.bodies) behaviours.instances.items in
+        IsReady (record {
+          config = prepared.config;
+          types = prepared.types;
+          behaviours = all;
+        }) }
+    ensures { result ≡ record {
+      config = prepared.entry.config;
+      types = prepared.entry.types;
+      behaviours = map (behaviour_of behaviours.bodies) behaviours.instances.items;
+    } }
+{
+    let Prepared { types, config, .. } = prepared;
+    TestCase::new(config, types, behaviours)
+}
+
 /// Checks a module, and makes its test case.
 ///
 /// The first fault of the first pass that finds one is the answer, at its line. The passes are: the
@@ -53,5 +74,5 @@ pub fn check(alloc: Global, parsed: &Module) -> Result<TestCase, ScriptFault>
 {
     let prepared = prepare(alloc, parsed)?;
     let behaviours = resolve_behaviours(alloc, parsed, &prepared)?;
-    Ok(TestCase::new(prepared, behaviours))
+    Ok(assemble(prepared, behaviours))
 }

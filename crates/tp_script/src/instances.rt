@@ -1,14 +1,14 @@
 //! What the components of a test case do.
 ghost use Rattle.std.specs.Prelude.{◌≡◌, ◌<◌, ◌+◌, [], Some, IfOk, IfSome, IsSome, OnOk, length, map, slice_get};
 ghost use Rattle.std.specs.Option.{option_copied};
-ghost use Rattle.tp_script.specs.declared.instance.Source.TheVariants as source;
+ghost use Rattle.tp_play.specs.declared.instance.Source.TheVariants as source;
 ghost use Rattle.tp_script.specs.Behaviours.{AreReferences, Numbers};
 ghost use Rattle.tp_script.specs.Instances.{AreInstances, IsInstance, instance_count};
 
-use crate::instance::{Instance, Source};
 use std::alloc::Global;
 use tp_config::port_type::CompId;
 use tp_name::fault::refused;
+use tp_play::instance::{Instance, Source};
 use tp_refusal::refusal::Refusal;
 use tp_setup::prepared::Prepared;
 use tp_setup::starts::{Started, Starts};

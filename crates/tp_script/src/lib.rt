@@ -3,18 +3,8 @@
 #![tactic(auto)]
 
 mod bodies;
-mod checking;
-mod instance;
+pub mod checking;
 mod instances;
+pub mod reading;
 mod scopes;
-mod test_case;
 mod total;
-
-pub use crate::checking::check;
-pub use crate::test_case::{Behaviour, TestCase};
-pub use tp_body::body;
-pub use tp_body::fill::{fill_message, fill_template};
-pub use tp_syntax::parser::parse;
-pub use tp_syntax::{message, tree};
-pub use tp_token::fault::ScriptFault;
-pub use tp_token::lexer::lex;

@@ -13,8 +13,8 @@ use tp_name::name_set::NameSet;
 use tp_refusal::refusal::Refusal;
 use tp_setup::prepared::Prepared;
 use tp_setup::unique_names::declare_parameters;
-use tp_syntax::tree::Parameter;
 use tp_token::fault::ScriptFault;
+use tp_tree::tree::Parameter;
 
 /// The component type at this place. Takes no memory.
 fn kind_at(kinds: &[CompType], place: u32) -> Option<&CompType>

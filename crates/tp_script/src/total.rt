@@ -1,15 +1,16 @@
 //! The fifth pass of the checks: how many statements there are.
 ghost use Rattle.std.specs.Prelude.{◌≡◌, ◌≤◌, IfOk, OnOk, map, sum};
 ghost use Rattle.std.specs.List.{slice_index_or};
-ghost use Rattle.tp_body.specs.Sizes.{capped, size_of_body};
-ghost use Rattle.tp_script.specs.Behaviours.{size_of_behaviour};
-ghost use Rattle.tp_script.specs.Instances.{behaviour_of, size_of_instance};
+ghost use Rattle.tp_play.specs.Sizes.{capped, size_of_body};
+ghost use Rattle.tp_play.specs.Behaviours.{size_of_behaviour};
+ghost use Rattle.tp_play.specs.Instances.{behaviour_of};
+ghost use Rattle.tp_script.specs.Instances.{size_of_instance};
 
-use crate::bodies::Bodies;
-use crate::instance::{Instance, Source};
 use std::alloc::Global;
-use tp_body::body::Body;
 use tp_body::size::{COUNTED, cap, count_body};
+use tp_play::bodies::Bodies;
+use tp_play::body::Body;
+use tp_play::instance::{Instance, Source};
 use tp_token::fault::ScriptFault;
 
 /// How many statements each body has, up to [`COUNTED`].

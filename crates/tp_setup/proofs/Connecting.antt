@@ -2,8 +2,8 @@
 use Rattle.std.proofs.Common.{◌≡◌, ℕ, ◌+◌, ◌<◌, List, ◌++◌, Option, None, Some, length, take, get_or, map, sym, ap, ◌∙◌, subst, refl}
 use Rattle.std.proofs.lemmas.List.{map-append}
 use Rattle.std.specs.Option.{option_map, option_to_list}
-use Rattle.tp_syntax.specs.declared.tree.Creation.{Creation}
-use Rattle.tp_syntax.specs.declared.tree.SetupStatement.{SetupStatement}
+use Rattle.tp_tree.specs.declared.tree.Creation.{Creation}
+use Rattle.tp_tree.specs.declared.tree.SetupStatement.{SetupStatement}
 use Rattle.tp_config.specs.Setup.{Setup}
 use Rattle.tp_setup.specs.Components.{creation_of, creations, variable, variables}
 use Rattle.tp_setup.specs.Configuring.{IsStep, Makes, one_more}

@@ -2,7 +2,7 @@
 use Rattle.std.proofs.Common.{◌≡◌, ℕ, List, Some, map, slice_get, option_map, sym, ap, ◌∙◌, string_bytes}
 use Rattle.std.specs.List.{AllZip}
 use Rattle.std.proofs.lemmas.Option.{slice_get-map, same_Some}
-use Rattle.tp_syntax.specs.declared.tree.PortType.{PortType}
+use Rattle.tp_tree.specs.declared.tree.PortType.{PortType}
 use Rattle.tp_config.specs.declared.port_type.PortType.{PortType as PortLists}
 use Rattle.tp_name.specs.Tables.{place_of}
 use Rattle.tp_setup.specs.Resolved.{IsMade, IsMadeOf}

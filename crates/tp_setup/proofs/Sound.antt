@@ -1,15 +1,15 @@
 -- A definition that obeys the rules.
 use Rattle.std.proofs.Common.{◌≡◌, ◌≤◌, ℕ, true, List, [], Option, Some, All, Contains, IfSome, is_some, length, string_bytes}
 use Rattle.std.specs.List.{list_all}
-use Rattle.tp_syntax.specs.declared.tree.Definition.{Definition}
-use Rattle.tp_syntax.specs.declared.tree.Defined.{Defined}
-use Rattle.tp_syntax.specs.declared.tree.Defined.TheVariants as d
-use Rattle.tp_syntax.specs.declared.tree.RecordType.{RecordType}
-use Rattle.tp_syntax.specs.declared.tree.ListType.{ListType}
-use Rattle.tp_syntax.specs.declared.tree.PortType.{PortType}
-use Rattle.tp_syntax.specs.declared.tree.ComponentType.{ComponentType}
-use Rattle.tp_syntax.specs.declared.tree.Function.{Function}
-use Rattle.tp_syntax.specs.declared.tree.TestCase.{TestCase}
+use Rattle.tp_tree.specs.declared.tree.Definition.{Definition}
+use Rattle.tp_tree.specs.declared.tree.Defined.{Defined}
+use Rattle.tp_tree.specs.declared.tree.Defined.TheVariants as d
+use Rattle.tp_tree.specs.declared.tree.RecordType.{RecordType}
+use Rattle.tp_tree.specs.declared.tree.ListType.{ListType}
+use Rattle.tp_tree.specs.declared.tree.PortType.{PortType}
+use Rattle.tp_tree.specs.declared.tree.ComponentType.{ComponentType}
+use Rattle.tp_tree.specs.declared.tree.Function.{Function}
+use Rattle.tp_tree.specs.declared.tree.TestCase.{TestCase}
 use Rattle.tp_name.specs.Tables.{place_of}
 use Rattle.tp_setup.specs.Definitions.{declared_ports}
 use Rattle.tp_setup.specs.Resolved.{ty_of}

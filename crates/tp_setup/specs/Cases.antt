@@ -1,7 +1,7 @@
 -- The test case that was found.
 use Rattle.std.specs.Prelude.{Option, List, option_to_list}
 use Rattle.std.specs.Option.{option_map}
-use Rattle.tp_syntax.specs.declared.tree.TestCase.{TestCase}
+use Rattle.tp_tree.specs.declared.tree.TestCase.{TestCase}
 use Rattle.tp_setup.specs.declared.unique_names.CaseAt.{CaseAt}
 
 -- the test cases so far: at most one

@@ -3,12 +3,12 @@ use Rattle.std.specs.Prelude.{◌≡◌, ◌≤◌, ℕ, Option, Some, None, Lis
 use Rattle.std.specs.Prelude.{codes, length, map, option_to_list, string_bytes}
 use Rattle.std.specs.Option.{option_map}
 use Rattle.std.specs.List.{AllZip, filter_map}
-use Rattle.tp_syntax.specs.declared.tree.ComponentType.{ComponentType}
-use Rattle.tp_syntax.specs.declared.tree.Creation.{Creation}
-use Rattle.tp_syntax.specs.declared.tree.SetupStatement.{SetupStatement}
-use Rattle.tp_syntax.specs.declared.tree.SetupAction.{SetupAction}
-use Rattle.tp_syntax.specs.declared.tree.SetupAction.TheVariants as setup_action
-use Rattle.tp_syntax.specs.declared.tree.TestCase.{TestCase}
+use Rattle.tp_tree.specs.declared.tree.ComponentType.{ComponentType}
+use Rattle.tp_tree.specs.declared.tree.Creation.{Creation}
+use Rattle.tp_tree.specs.declared.tree.SetupStatement.{SetupStatement}
+use Rattle.tp_tree.specs.declared.tree.SetupAction.{SetupAction}
+use Rattle.tp_tree.specs.declared.tree.SetupAction.TheVariants as setup_action
+use Rattle.tp_tree.specs.declared.tree.TestCase.{TestCase}
 use Rattle.tp_config.specs.declared.port_type.CompId.{CompId}
 use Rattle.tp_config.specs.declared.port_type.Role.{Role}
 use Rattle.tp_config.specs.declared.port_type.Role.TheVariants as role

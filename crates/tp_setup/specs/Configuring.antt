@@ -3,14 +3,14 @@ use Rattle.std.specs.Prelude.{◌≡◌, ℕ, ◌+◌, Option, Some, List, [], �
 use Rattle.std.specs.Prelude.{is_some, length, slice_get, string_bytes}
 use Rattle.std.specs.Option.{option_map}
 use Rattle.std.specs.List.{AllZip}
-use Rattle.tp_syntax.specs.declared.tree.PairEnd.{PairEnd}
-use Rattle.tp_syntax.specs.declared.tree.EndComponent.{EndComponent}
-use Rattle.tp_syntax.specs.declared.tree.EndComponent.TheVariants as end_component
-use Rattle.tp_syntax.specs.declared.tree.SetupStatement.{SetupStatement}
-use Rattle.tp_syntax.specs.declared.tree.SetupAction.{SetupAction}
-use Rattle.tp_syntax.specs.declared.tree.SetupAction.TheVariants as setup_action
-use Rattle.tp_syntax.specs.declared.tree.TestCase.{TestCase}
-use Rattle.tp_syntax.specs.declared.tree.ComponentType.{ComponentType}
+use Rattle.tp_tree.specs.declared.tree.PairEnd.{PairEnd}
+use Rattle.tp_tree.specs.declared.tree.EndComponent.{EndComponent}
+use Rattle.tp_tree.specs.declared.tree.EndComponent.TheVariants as end_component
+use Rattle.tp_tree.specs.declared.tree.SetupStatement.{SetupStatement}
+use Rattle.tp_tree.specs.declared.tree.SetupAction.{SetupAction}
+use Rattle.tp_tree.specs.declared.tree.SetupAction.TheVariants as setup_action
+use Rattle.tp_tree.specs.declared.tree.TestCase.{TestCase}
+use Rattle.tp_tree.specs.declared.tree.ComponentType.{ComponentType}
 use Rattle.tp_config.specs.declared.port_type.PortRef.{PortRef}
 use Rattle.tp_config.specs.Setup.{Setup, PortDecl, IsPort, connecting, mapping, port_names}
 use Rattle.tp_config.specs.Allowed.{CanConnect, CanMap}

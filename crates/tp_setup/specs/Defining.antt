@@ -1,6 +1,6 @@
 -- What the definitions of a module define.
 use Rattle.std.specs.Prelude.{◌≤◌, All, length}
-use Rattle.tp_syntax.specs.declared.tree.Module.{Module}
+use Rattle.tp_tree.specs.declared.tree.Module.{Module}
 use Rattle.tp_setup.specs.declared.definitions.Definitions.{Definitions}
 use Rattle.tp_setup.specs.Sorted.{AreSorted}
 use Rattle.tp_setup.specs.Resolved.{AreTypes, AreComponentTypes}

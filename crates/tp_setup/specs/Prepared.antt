@@ -1,7 +1,7 @@
 -- What the first three passes of the checks ask of a module, and what they make of it.
 use Rattle.std.specs.Prelude.{◌≡◌, ◌≤◌, List, [], ◌∷◌, All, length, map}
-use Rattle.tp_syntax.specs.declared.tree.Module.{Module}
-use Rattle.tp_syntax.specs.declared.tree.TestCase.{TestCase}
+use Rattle.tp_tree.specs.declared.tree.Module.{Module}
+use Rattle.tp_tree.specs.declared.tree.TestCase.{TestCase}
 use Rattle.tp_config.specs.declared.port_type.CompType.{CompType}
 use Rattle.tp_config.specs.Setup.{Setup}
 use Rattle.tp_config.specs.Shape.{ports_of}

@@ -2,18 +2,18 @@
 use Rattle.std.specs.Prelude.{◌≡◌, ℕ, Bool, true, false, if◌then◌else◌, Option, Some, List, [], ◌++◌, Contains}
 use Rattle.std.specs.Prelude.{map, option_map, string_bytes}
 use Rattle.std.specs.List.{AllZip, flat_map}
-use Rattle.tp_syntax.specs.declared.tree.Module.{Module}
-use Rattle.tp_syntax.specs.declared.tree.Defined.{Defined}
-use Rattle.tp_syntax.specs.declared.tree.Defined.TheVariants as defined
-use Rattle.tp_syntax.specs.declared.message.TypeName.{TypeName}
-use Rattle.tp_syntax.specs.declared.message.TypeName.TheVariants as type_name
-use Rattle.tp_syntax.specs.declared.tree.FieldType.{FieldType}
-use Rattle.tp_syntax.specs.declared.tree.Way.{Way}
-use Rattle.tp_syntax.specs.declared.tree.Way.TheVariants as way
-use Rattle.tp_syntax.specs.declared.tree.Direction.{Direction}
-use Rattle.tp_syntax.specs.declared.tree.PortType.{PortType}
-use Rattle.tp_syntax.specs.declared.tree.PortDeclaration.{PortDeclaration}
-use Rattle.tp_syntax.specs.declared.tree.ComponentType.{ComponentType}
+use Rattle.tp_tree.specs.declared.tree.Module.{Module}
+use Rattle.tp_tree.specs.declared.tree.Defined.{Defined}
+use Rattle.tp_tree.specs.declared.tree.Defined.TheVariants as defined
+use Rattle.tp_tree.specs.declared.message.TypeName.{TypeName}
+use Rattle.tp_tree.specs.declared.message.TypeName.TheVariants as type_name
+use Rattle.tp_tree.specs.declared.tree.FieldType.{FieldType}
+use Rattle.tp_tree.specs.declared.tree.Way.{Way}
+use Rattle.tp_tree.specs.declared.tree.Way.TheVariants as way
+use Rattle.tp_tree.specs.declared.tree.Direction.{Direction}
+use Rattle.tp_tree.specs.declared.tree.PortType.{PortType}
+use Rattle.tp_tree.specs.declared.tree.PortDeclaration.{PortDeclaration}
+use Rattle.tp_tree.specs.declared.tree.ComponentType.{ComponentType}
 use Rattle.tp_value.specs.declared.types.Ty.{Ty}
 use Rattle.tp_value.specs.declared.types.Ty.TheVariants as ty
 use Rattle.tp_value.specs.declared.types.Field.{Field}
@@ -22,7 +22,7 @@ use Rattle.tp_value.specs.declared.types.TypeDef.TheVariants as type_def
 use Rattle.tp_value.specs.declared.types.Types.{Types}
 use Rattle.tp_config.specs.declared.port_type.CompType.{CompType}
 use Rattle.tp_config.specs.declared.port_type.PortType.{PortType as PortLists}
-use Rattle.tp_syntax.specs.declared.tree.DeclaredName.{DeclaredName}
+use Rattle.tp_tree.specs.declared.tree.DeclaredName.{DeclaredName}
 use Rattle.tp_config.specs.Setup.{PortDecl}
 use Rattle.tp_config.specs.Shape.{ports_of}
 use Rattle.tp_name.specs.Tables.{place_of}

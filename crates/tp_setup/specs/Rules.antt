@@ -1,13 +1,13 @@
 -- The rules on names and definitions.
 use Rattle.std.specs.Prelude.{◌≡◌, ◌<◌, ◌≤◌, ◌⊎◌, ℕ, Bool, Option, Some, List, [], All, Contains}
 use Rattle.std.specs.Prelude.{IfSome, IsSome, IsTrue, codes, is_some, length, string_bytes}
-use Rattle.tp_syntax.specs.declared.tree.Module.{Module}
-use Rattle.tp_syntax.specs.declared.tree.Definition.{Definition}
-use Rattle.tp_syntax.specs.declared.tree.Defined.{Defined}
-use Rattle.tp_syntax.specs.declared.tree.Defined.TheVariants as defined
-use Rattle.tp_syntax.specs.declared.message.TypeName.{TypeName}
-use Rattle.tp_syntax.specs.declared.tree.ComponentType.{ComponentType}
-use Rattle.tp_syntax.specs.declared.tree.Function.{Function}
+use Rattle.tp_tree.specs.declared.tree.Module.{Module}
+use Rattle.tp_tree.specs.declared.tree.Definition.{Definition}
+use Rattle.tp_tree.specs.declared.tree.Defined.{Defined}
+use Rattle.tp_tree.specs.declared.tree.Defined.TheVariants as defined
+use Rattle.tp_tree.specs.declared.message.TypeName.{TypeName}
+use Rattle.tp_tree.specs.declared.tree.ComponentType.{ComponentType}
+use Rattle.tp_tree.specs.declared.tree.Function.{Function}
 use Rattle.tp_refusal.specs.declared.refusal.Refusal.TheVariants.{Unknown, Limit}
 use Rattle.tp_token.specs.declared.fault.ScriptFault.{ScriptFault}
 use Rattle.tp_token.specs.declared.fault.ScriptFault.TheVariants.{Refused}

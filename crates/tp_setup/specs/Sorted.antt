@@ -1,18 +1,18 @@
 -- The definitions of a module, sorted by their kinds.
 use Rattle.std.specs.Prelude.{◌≡◌, ℕ, Option, option_map, List, All, map, string_bytes}
-use Rattle.tp_syntax.specs.declared.tree.Module.{Module}
-use Rattle.tp_syntax.specs.declared.tree.Definition.{Definition}
-use Rattle.tp_syntax.specs.declared.tree.Defined.{Defined}
-use Rattle.tp_syntax.specs.declared.tree.PortType.{PortType}
-use Rattle.tp_syntax.specs.declared.tree.ComponentType.{ComponentType}
-use Rattle.tp_syntax.specs.declared.tree.Function.{Function}
+use Rattle.tp_tree.specs.declared.tree.Module.{Module}
+use Rattle.tp_tree.specs.declared.tree.Definition.{Definition}
+use Rattle.tp_tree.specs.declared.tree.Defined.{Defined}
+use Rattle.tp_tree.specs.declared.tree.PortType.{PortType}
+use Rattle.tp_tree.specs.declared.tree.ComponentType.{ComponentType}
+use Rattle.tp_tree.specs.declared.tree.Function.{Function}
 use Rattle.tp_setup.specs.declared.sorted.Sorted.{Sorted}
 use Rattle.tp_config.specs.declared.port_type.CompType.{CompType}
 use Rattle.tp_config.specs.declared.port_type.PortType.{PortType as PortLists}
 use Rattle.tp_setup.specs.Rules.{IsSound}
 use Rattle.tp_setup.specs.Resolved.{IsComponentType, IsMade}
 use Rattle.std.specs.List.{AllZip}
-use Rattle.tp_syntax.specs.declared.tree.TestCase.{TestCase}
+use Rattle.tp_tree.specs.declared.tree.TestCase.{TestCase}
 use Rattle.tp_setup.specs.Definitions.{among, component_of, component_type_names, function_of, name_of, port_of}
 use Rattle.tp_setup.specs.Definitions.{port_type_names, type_names, type_of}
 

@@ -14,8 +14,8 @@ use tp_name::fault::refused;
 use tp_name::name_set::NameSet;
 use tp_refusal::memory::Memory;
 use tp_refusal::refusal::Refusal;
-use tp_syntax::tree::{ComponentType, Creation, SetupAction, SetupStatement, TestCase};
 use tp_token::fault::ScriptFault;
+use tp_tree::tree::{ComponentType, Creation, SetupAction, SetupStatement, TestCase};
 
 /// The refusal at this line, or want of memory, which has none.
 pub(crate) fn fault_at(refusal: Refusal, line: u32) -> ScriptFault

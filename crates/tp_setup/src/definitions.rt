@@ -17,11 +17,11 @@ use tp_config::port_type::CompType;
 use tp_name::fault::refused;
 use tp_name::name_set::NameSet;
 use tp_refusal::refusal::Refusal;
-use tp_syntax::tree::{
+use tp_token::fault::ScriptFault;
+use tp_tree::tree::{
     ComponentType, Defined, Definition, Direction, FieldType, Function, Module, Parameter,
     PortDeclaration, TestCase,
 };
-use tp_token::fault::ScriptFault;
 use tp_value::types::Types;
 
 /// What the definitions of a module define.

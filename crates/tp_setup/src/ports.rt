@@ -16,9 +16,9 @@ use tp_config::type_list::TypeList;
 use tp_name::fault::refused;
 use tp_name::name_set::NameSet;
 use tp_refusal::refusal::Refusal;
-use tp_syntax::message::TypeName;
-use tp_syntax::tree::{self, ComponentType, DeclaredName, Direction, PortDeclaration, Way};
 use tp_token::fault::ScriptFault;
+use tp_tree::message::TypeName;
+use tp_tree::tree::{self, ComponentType, DeclaredName, Direction, PortDeclaration, Way};
 use tp_value::items::Items;
 use tp_value::types::Ty;
 

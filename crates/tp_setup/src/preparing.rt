@@ -19,8 +19,8 @@ use crate::starts::Starts;
 use crate::unique_names::{CaseAt, check_names};
 use std::alloc::Global;
 use tp_config::port_type::CompType;
-use tp_syntax::tree::Module;
 use tp_token::fault::ScriptFault;
+use tp_tree::tree::Module;
 
 /// The first two passes: names and definitions.
 fn find_definitions(alloc: Global, parsed: &Module) -> Result<Definitions<'_>, ScriptFault>

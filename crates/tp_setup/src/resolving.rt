@@ -10,9 +10,9 @@ use tp_name::fault::refused;
 use tp_name::name_set::NameSet;
 use tp_refusal::memory::Memory;
 use tp_refusal::refusal::Refusal;
-use tp_syntax::message::TypeName;
-use tp_syntax::tree::{Defined, FieldType};
 use tp_token::fault::ScriptFault;
+use tp_tree::message::TypeName;
+use tp_tree::tree::{Defined, FieldType};
 use tp_value::items::Items;
 use tp_value::types::{AddFault, Field, Ty, TypeDef, Types};
 

@@ -19,8 +19,8 @@ use tp_config::port_type::{COMPONENT_LIMIT, CompId, CompType, PortRef, Role};
 use tp_name::fault::refused;
 use tp_name::name_set::NameSet;
 use tp_refusal::refusal::Refusal;
-use tp_syntax::tree::{EndComponent, PairEnd, SetupAction, SetupStatement, TestCase};
 use tp_token::fault::ScriptFault;
+use tp_tree::tree::{EndComponent, PairEnd, SetupAction, SetupStatement, TestCase};
 
 /// The component that is named, where the component variables so far have these names, or `None`
 /// where there is none. Takes no memory.

@@ -1,15 +1,15 @@
 //! The definitions of a module, sorted by their kinds.
 ghost use Rattle.std.specs.Prelude.{◌≡◌, ℕ, List, Option, IfOk, map, slice_get, string_bytes};
 ghost use Rattle.std.specs.Option.{option_copied};
-ghost use Rattle.tp_syntax.specs.declared.tree.Defined.{Defined};
+ghost use Rattle.tp_tree.specs.declared.tree.Defined.{Defined};
 ghost use Rattle.tp_setup.specs.Definitions.{component_of, function_of, name_of, port_of, type_of};
 ghost use Rattle.tp_setup.specs.Sorted.{AreOfKind, AreSorted};
 
 use crate::unique_names::defined_name;
 use std::alloc::Global;
 use tp_name::name_set::NameSet;
-use tp_syntax::tree::{ComponentType, Defined, Definition, Function, Module, PortType};
 use tp_token::fault::ScriptFault;
+use tp_tree::tree::{ComponentType, Defined, Definition, Function, Module, PortType};
 
 /// The definitions of a module, each kind in the order of the text with its names. A name's number
 /// is the place of its definition.

@@ -17,10 +17,8 @@ use tp_config::port_type::CompId;
 use tp_name::fault::refused;
 use tp_name::name_set::{NameFault, NameSet};
 use tp_refusal::refusal::Refusal;
-use tp_syntax::tree::{
-    ComponentName, ComponentStart, Function, Parameter, SetupStatement, TestCase,
-};
 use tp_token::fault::ScriptFault;
+use tp_tree::tree::{ComponentName, ComponentStart, Function, Parameter, SetupStatement, TestCase};
 
 /// The component that the argument names, or `None` where there is none. Takes no memory.
 fn find_argument(variables: &NameSet, argument: &ComponentName) -> Option<CompId>

@@ -5,16 +5,16 @@ ghost use Rattle.tp_name.specs.Tables.{AreDistinct};
 ghost use Rattle.tp_setup.specs.Definitions.{among, case_of, name_of, declared, declared_ports, inner_names, test_cases};
 ghost use Rattle.tp_setup.specs.Rules.{HasUniqueNames};
 ghost use Rattle.tp_setup.specs.Cases.{cases_of};
-ghost use Rattle.tp_syntax.specs.declared.tree.Definition.{Definition};
+ghost use Rattle.tp_tree.specs.declared.tree.Definition.{Definition};
 
 use std::alloc::Global;
 use tp_name::fault::refused;
 use tp_name::name_set::NameSet;
 use tp_refusal::refusal::Refusal;
-use tp_syntax::tree::{
+use tp_token::fault::ScriptFault;
+use tp_tree::tree::{
     DeclaredName, Defined, Definition, FieldType, Module, Parameter, PortDeclaration, TestCase,
 };
-use tp_token::fault::ScriptFault;
 
 /// A test case with the line of its first token.
 #[derive(Clone, Copy)]

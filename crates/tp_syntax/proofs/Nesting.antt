@@ -4,31 +4,31 @@ use Rattle.std.proofs.lemmas.List.{map_push}
 use Rattle.std.specs.declared.vec.Vec.{Vec}
 use Rattle.std.specs.declared.alloc.Global.{Global}
 use Rattle.std.specs.declared.string.String.{String}
-use Rattle.tp_syntax.specs.declared.message.Value.{Value}
-use Rattle.tp_syntax.specs.declared.message.Value.TheVariants as v
-use Rattle.tp_syntax.specs.declared.message.Value.TheOpen as ov
-use Rattle.tp_syntax.specs.declared.message.Value.TheFolds.{fold-roll-Value, fold_out-ValueField}
-use Rattle.tp_syntax.specs.declared.message.ValueField.{ValueField, out-ValueField}
-use Rattle.tp_syntax.specs.declared.message.Template.{Template}
-use Rattle.tp_syntax.specs.declared.message.Template.TheVariants as t
-use Rattle.tp_syntax.specs.declared.message.Template.TheOpen as ot
-use Rattle.tp_syntax.specs.declared.message.Template.TheFolds.{fold-roll-Template, fold_out-TemplateField}
-use Rattle.tp_syntax.specs.declared.message.TemplateField.{TemplateField, out-TemplateField}
-use Rattle.tp_syntax.specs.declared.tree.Send.{Send}
-use Rattle.tp_syntax.specs.declared.tree.Receive.{Receive}
-use Rattle.tp_syntax.specs.declared.tree.Control.{Control}
-use Rattle.tp_syntax.specs.declared.tree.PortOperation.{PortOperation}
-use Rattle.tp_syntax.specs.declared.tree.VerdictName.{VerdictName}
-use Rattle.tp_syntax.specs.declared.tree.Action.TheVariants as a
-use Rattle.tp_syntax.specs.declared.tree.Action.TheOpen as oa
-use Rattle.tp_syntax.specs.declared.tree.Action.TheFolds.{fold-roll-Action, fold-roll-BranchBody, fold-roll-Counted, fold-roll-ElseBranch, fold_out-Branch, fold_out-Counted, fold_out-ElseBranch, fold_out-Statement}
-use Rattle.tp_syntax.specs.declared.tree.Action.TheViews.{roll-Counted, roll-ElseBranch}
-use Rattle.tp_syntax.specs.declared.tree.BranchBody.TheVariants as b
-use Rattle.tp_syntax.specs.declared.tree.Turns.{Turns}
-use Rattle.tp_syntax.specs.declared.tree.Branch.{Branch, out-Branch}
-use Rattle.tp_syntax.specs.declared.tree.Counted.{Counted, out-Counted}
-use Rattle.tp_syntax.specs.declared.tree.ElseBranch.{ElseBranch, out-ElseBranch}
-use Rattle.tp_syntax.specs.declared.tree.Statement.{Statement, out-Statement}
+use Rattle.tp_tree.specs.declared.message.Value.{Value}
+use Rattle.tp_tree.specs.declared.message.Value.TheVariants as v
+use Rattle.tp_tree.specs.declared.message.Value.TheOpen as ov
+use Rattle.tp_tree.specs.declared.message.Value.TheFolds.{fold-roll-Value, fold_out-ValueField}
+use Rattle.tp_tree.specs.declared.message.ValueField.{ValueField, out-ValueField}
+use Rattle.tp_tree.specs.declared.message.Template.{Template}
+use Rattle.tp_tree.specs.declared.message.Template.TheVariants as t
+use Rattle.tp_tree.specs.declared.message.Template.TheOpen as ot
+use Rattle.tp_tree.specs.declared.message.Template.TheFolds.{fold-roll-Template, fold_out-TemplateField}
+use Rattle.tp_tree.specs.declared.message.TemplateField.{TemplateField, out-TemplateField}
+use Rattle.tp_tree.specs.declared.tree.Send.{Send}
+use Rattle.tp_tree.specs.declared.tree.Receive.{Receive}
+use Rattle.tp_tree.specs.declared.tree.Control.{Control}
+use Rattle.tp_queue.specs.declared.operation.PortOperation.{PortOperation}
+use Rattle.tp_tree.specs.declared.tree.VerdictName.{VerdictName}
+use Rattle.tp_tree.specs.declared.tree.Action.TheVariants as a
+use Rattle.tp_tree.specs.declared.tree.Action.TheOpen as oa
+use Rattle.tp_tree.specs.declared.tree.Action.TheFolds.{fold-roll-Action, fold-roll-BranchBody, fold-roll-Counted, fold-roll-ElseBranch, fold_out-Branch, fold_out-Counted, fold_out-ElseBranch, fold_out-Statement}
+use Rattle.tp_tree.specs.declared.tree.Action.TheViews.{roll-Counted, roll-ElseBranch}
+use Rattle.tp_tree.specs.declared.tree.BranchBody.TheVariants as b
+use Rattle.tp_tree.specs.declared.tree.Turns.{Turns}
+use Rattle.tp_tree.specs.declared.tree.Branch.{Branch, out-Branch}
+use Rattle.tp_tree.specs.declared.tree.Counted.{Counted, out-Counted}
+use Rattle.tp_tree.specs.declared.tree.ElseBranch.{ElseBranch, out-ElseBranch}
+use Rattle.tp_tree.specs.declared.tree.Statement.{Statement, out-Statement}
 use Rattle.tp_syntax.specs.Nesting.{deepest, value_depth_step, value_field_depth_step, value_depth, value_field_depth, template_depth_step, template_field_depth_step, template_depth, template_field_depth, sent_depth, receive_depth, action_depth_step, branch_depth_step, body_depth_step, counted_depth_step, else_depth_step, statement_depth_step, action_depth, branch_depth, body_depth, counted_depth, else_branch_depth, statement_depth, statements_depth, branches_depth, otherwise_depth}
 
 pub value_depth_int : (z : ℤ) → value_depth (v.Int z) ≡ 0

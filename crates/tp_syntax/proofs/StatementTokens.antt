@@ -5,21 +5,21 @@ use Rattle.std.specs.declared.alloc.Global.{Global}
 use Rattle.tp_token.specs.declared.word.Word.TheVariants as w
 use Rattle.tp_token.specs.declared.token.Symbol.TheVariants.{LeftBracket, RightBracket}
 use Rattle.tp_token.specs.Lexeme.{Lexeme, word, symbol}
-use Rattle.tp_syntax.specs.declared.tree.Send.{Send}
-use Rattle.tp_syntax.specs.declared.tree.Receive.{Receive}
-use Rattle.tp_syntax.specs.declared.tree.Control.{Control}
-use Rattle.tp_syntax.specs.declared.tree.PortOperation.{PortOperation}
-use Rattle.tp_syntax.specs.declared.tree.VerdictName.{VerdictName}
-use Rattle.tp_syntax.specs.declared.tree.Action.TheVariants as a
-use Rattle.tp_syntax.specs.declared.tree.Action.TheOpen as o
-use Rattle.tp_syntax.specs.declared.tree.Action.TheFolds.{fold-roll-Action, fold-roll-BranchBody, fold-roll-Counted, fold-roll-ElseBranch, fold_out-Branch, fold_out-Counted, fold_out-ElseBranch, fold_out-Statement}
-use Rattle.tp_syntax.specs.declared.tree.Action.TheViews.{roll-Counted, roll-ElseBranch}
-use Rattle.tp_syntax.specs.declared.tree.BranchBody.TheVariants as b
-use Rattle.tp_syntax.specs.declared.tree.Branch.{Branch, out-Branch}
-use Rattle.tp_syntax.specs.declared.tree.Counted.{Counted, out-Counted}
-use Rattle.tp_syntax.specs.declared.tree.ElseBranch.{ElseBranch, out-ElseBranch}
-use Rattle.tp_syntax.specs.declared.tree.Statement.{Statement, out-Statement}
-use Rattle.tp_syntax.specs.declared.tree.Turns.{Turns}
+use Rattle.tp_tree.specs.declared.tree.Send.{Send}
+use Rattle.tp_tree.specs.declared.tree.Receive.{Receive}
+use Rattle.tp_tree.specs.declared.tree.Control.{Control}
+use Rattle.tp_queue.specs.declared.operation.PortOperation.{PortOperation}
+use Rattle.tp_tree.specs.declared.tree.VerdictName.{VerdictName}
+use Rattle.tp_tree.specs.declared.tree.Action.TheVariants as a
+use Rattle.tp_tree.specs.declared.tree.Action.TheOpen as o
+use Rattle.tp_tree.specs.declared.tree.Action.TheFolds.{fold-roll-Action, fold-roll-BranchBody, fold-roll-Counted, fold-roll-ElseBranch, fold_out-Branch, fold_out-Counted, fold_out-ElseBranch, fold_out-Statement}
+use Rattle.tp_tree.specs.declared.tree.Action.TheViews.{roll-Counted, roll-ElseBranch}
+use Rattle.tp_tree.specs.declared.tree.BranchBody.TheVariants as b
+use Rattle.tp_tree.specs.declared.tree.Branch.{Branch, out-Branch}
+use Rattle.tp_tree.specs.declared.tree.Counted.{Counted, out-Counted}
+use Rattle.tp_tree.specs.declared.tree.ElseBranch.{ElseBranch, out-ElseBranch}
+use Rattle.tp_tree.specs.declared.tree.Statement.{Statement, out-Statement}
+use Rattle.tp_tree.specs.declared.tree.Turns.{Turns}
 use Rattle.tp_syntax.specs.Sequences.{braced, end_lexemes}
 use Rattle.tp_syntax.specs.Statements.{send_lexemes, receive_lexemes, control_lexemes, all_ports_lexemes, set_verdict_lexemes, action_step, body_step, branch_step, counted_step, else_step, statement_step, action_lexemes, body_lexemes, branch_lexemes, counted_lexemes, else_branch_lexemes, statement_lexemes, statements_lexemes, branches_lexemes, otherwise_lexemes, for_lexemes, turns_lexemes}
 

@@ -6,11 +6,11 @@ use Rattle.std.specs.declared.string.String.{String}
 use Rattle.tp_token.specs.declared.word.Word.TheVariants as w
 use Rattle.tp_token.specs.declared.token.Symbol.TheVariants.{Assign, Question, Star, DotDot}
 use Rattle.tp_token.specs.Lexeme.{Lexeme, name, word, text, symbol}
-use Rattle.tp_syntax.specs.declared.message.Template.{Template}
-use Rattle.tp_syntax.specs.declared.message.Template.TheVariants as v
-use Rattle.tp_syntax.specs.declared.message.Template.TheOpen as o
-use Rattle.tp_syntax.specs.declared.message.Template.TheFolds.{fold-roll-Template, fold_out-TemplateField}
-use Rattle.tp_syntax.specs.declared.message.TemplateField.{TemplateField, out-TemplateField}
+use Rattle.tp_tree.specs.declared.message.Template.{Template}
+use Rattle.tp_tree.specs.declared.message.Template.TheVariants as v
+use Rattle.tp_tree.specs.declared.message.Template.TheOpen as o
+use Rattle.tp_tree.specs.declared.message.Template.TheFolds.{fold-roll-Template, fold_out-TemplateField}
+use Rattle.tp_tree.specs.declared.message.TemplateField.{TemplateField, out-TemplateField}
 use Rattle.tp_syntax.specs.Sequences.{by_commas, braced, parenthesised}
 use Rattle.tp_syntax.specs.Values.{int_lexemes, bool_lexeme}
 use Rattle.tp_syntax.specs.Templates.{low_lexemes, high_lexemes, template_step, template_field_step, template_lexemes, template_field_lexemes}

@@ -5,11 +5,11 @@ use Rattle.std.specs.declared.alloc.Global.{Global}
 use Rattle.std.specs.declared.string.String.{String}
 use Rattle.tp_token.specs.declared.token.Symbol.TheVariants.{Assign}
 use Rattle.tp_token.specs.Lexeme.{Lexeme, name, text, symbol}
-use Rattle.tp_syntax.specs.declared.message.Value.{Value}
-use Rattle.tp_syntax.specs.declared.message.Value.TheVariants as v
-use Rattle.tp_syntax.specs.declared.message.Value.TheOpen as o
-use Rattle.tp_syntax.specs.declared.message.Value.TheFolds.{fold-roll-Value, fold_out-ValueField}
-use Rattle.tp_syntax.specs.declared.message.ValueField.{ValueField, out-ValueField}
+use Rattle.tp_tree.specs.declared.message.Value.{Value}
+use Rattle.tp_tree.specs.declared.message.Value.TheVariants as v
+use Rattle.tp_tree.specs.declared.message.Value.TheOpen as o
+use Rattle.tp_tree.specs.declared.message.Value.TheFolds.{fold-roll-Value, fold_out-ValueField}
+use Rattle.tp_tree.specs.declared.message.ValueField.{ValueField, out-ValueField}
 use Rattle.tp_syntax.specs.Sequences.{by_commas, braced}
 use Rattle.tp_syntax.specs.Values.{int_lexemes, bool_lexeme, value_step, value_field_step, value_lexemes, value_field_lexemes}
 

@@ -6,33 +6,33 @@ use Rattle.tp_token.specs.declared.word.Word.TheVariants as w
 use Rattle.tp_token.specs.declared.token.Symbol.TheVariants.{LeftParen, RightParen, Comma, Colon, Dot, Assign}
 use Rattle.tp_token.specs.Lexeme.{Lexeme, PlacedLexeme, name, word, symbol}
 use Rattle.tp_token.specs.Cut.{AreTokens}
-use Rattle.tp_syntax.specs.declared.tree.DeclaredName.{DeclaredName}
-use Rattle.tp_syntax.specs.declared.message.TypeName.{TypeName}
-use Rattle.tp_syntax.specs.declared.tree.ComponentName.{ComponentName}
-use Rattle.tp_syntax.specs.declared.tree.FieldType.{FieldType}
-use Rattle.tp_syntax.specs.declared.tree.RecordType.{RecordType}
-use Rattle.tp_syntax.specs.declared.tree.ListType.{ListType}
-use Rattle.tp_syntax.specs.declared.tree.Way.{Way}
-use Rattle.tp_syntax.specs.declared.tree.Way.TheVariants as way
-use Rattle.tp_syntax.specs.declared.tree.Direction.{Direction}
-use Rattle.tp_syntax.specs.declared.tree.PortType.{PortType}
-use Rattle.tp_syntax.specs.declared.tree.PortDeclaration.{PortDeclaration}
-use Rattle.tp_syntax.specs.declared.tree.ComponentType.{ComponentType}
-use Rattle.tp_syntax.specs.declared.tree.Parameter.{Parameter}
-use Rattle.tp_syntax.specs.declared.tree.Function.{Function}
-use Rattle.tp_syntax.specs.declared.tree.EndComponent.{EndComponent}
-use Rattle.tp_syntax.specs.declared.tree.EndComponent.TheVariants as end_component
-use Rattle.tp_syntax.specs.declared.tree.PairEnd.{PairEnd}
-use Rattle.tp_syntax.specs.declared.tree.SetupAction.{SetupAction}
-use Rattle.tp_syntax.specs.declared.tree.SetupAction.TheVariants as setup_action
-use Rattle.tp_syntax.specs.declared.tree.SetupStatement.{SetupStatement}
-use Rattle.tp_syntax.specs.declared.tree.ComponentStart.{ComponentStart}
-use Rattle.tp_syntax.specs.declared.tree.AllDone.{AllDone}
-use Rattle.tp_syntax.specs.declared.tree.TestCase.{TestCase}
-use Rattle.tp_syntax.specs.declared.tree.Defined.{Defined}
-use Rattle.tp_syntax.specs.declared.tree.Defined.TheVariants as defined
-use Rattle.tp_syntax.specs.declared.tree.Definition.{Definition}
-use Rattle.tp_syntax.specs.declared.tree.Module.{Module}
+use Rattle.tp_tree.specs.declared.tree.DeclaredName.{DeclaredName}
+use Rattle.tp_tree.specs.declared.message.TypeName.{TypeName}
+use Rattle.tp_tree.specs.declared.tree.ComponentName.{ComponentName}
+use Rattle.tp_tree.specs.declared.tree.FieldType.{FieldType}
+use Rattle.tp_tree.specs.declared.tree.RecordType.{RecordType}
+use Rattle.tp_tree.specs.declared.tree.ListType.{ListType}
+use Rattle.tp_tree.specs.declared.tree.Way.{Way}
+use Rattle.tp_tree.specs.declared.tree.Way.TheVariants as way
+use Rattle.tp_tree.specs.declared.tree.Direction.{Direction}
+use Rattle.tp_tree.specs.declared.tree.PortType.{PortType}
+use Rattle.tp_tree.specs.declared.tree.PortDeclaration.{PortDeclaration}
+use Rattle.tp_tree.specs.declared.tree.ComponentType.{ComponentType}
+use Rattle.tp_tree.specs.declared.tree.Parameter.{Parameter}
+use Rattle.tp_tree.specs.declared.tree.Function.{Function}
+use Rattle.tp_tree.specs.declared.tree.EndComponent.{EndComponent}
+use Rattle.tp_tree.specs.declared.tree.EndComponent.TheVariants as end_component
+use Rattle.tp_tree.specs.declared.tree.PairEnd.{PairEnd}
+use Rattle.tp_tree.specs.declared.tree.SetupAction.{SetupAction}
+use Rattle.tp_tree.specs.declared.tree.SetupAction.TheVariants as setup_action
+use Rattle.tp_tree.specs.declared.tree.SetupStatement.{SetupStatement}
+use Rattle.tp_tree.specs.declared.tree.ComponentStart.{ComponentStart}
+use Rattle.tp_tree.specs.declared.tree.AllDone.{AllDone}
+use Rattle.tp_tree.specs.declared.tree.TestCase.{TestCase}
+use Rattle.tp_tree.specs.declared.tree.Defined.{Defined}
+use Rattle.tp_tree.specs.declared.tree.Defined.TheVariants as defined
+use Rattle.tp_tree.specs.declared.tree.Definition.{Definition}
+use Rattle.tp_tree.specs.declared.tree.Module.{Module}
 use Rattle.tp_syntax.specs.Ahead.{plain}
 use Rattle.tp_syntax.specs.Sequences.{by_commas, all_of, braced, parenthesised, end_lexemes}
 use Rattle.tp_syntax.specs.Values.{type_lexemes}

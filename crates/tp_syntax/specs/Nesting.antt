@@ -1,31 +1,31 @@
 -- How deep brackets nest in what a text says: how many of `{`, `(` and `[` are open at once.
 use Rattle.std.specs.Prelude.{ℕ, ◌+◌, max, List, [], ◌∷◌, map, Option, Some, None}
-use Rattle.tp_syntax.specs.declared.message.Value.{Value}
-use Rattle.tp_syntax.specs.declared.message.Value.TheOpen as v
-use Rattle.tp_syntax.specs.declared.message.Value.TheFolds.{fold-Value, fold-ValueField}
-use Rattle.tp_syntax.specs.declared.message.ValueField.{ValueField}
-use Rattle.tp_syntax.specs.declared.message.Template.{Template}
-use Rattle.tp_syntax.specs.declared.message.Template.TheOpen as t
-use Rattle.tp_syntax.specs.declared.message.Template.TheFolds.{fold-Template, fold-TemplateField}
-use Rattle.tp_syntax.specs.declared.message.TemplateField.{TemplateField}
-use Rattle.tp_syntax.specs.declared.message.MessageTemplate.{MessageTemplate}
-use Rattle.tp_syntax.specs.declared.tree.Sent.{Sent}
-use Rattle.tp_syntax.specs.declared.tree.Sent.TheVariants as sent
-use Rattle.tp_syntax.specs.declared.tree.ReceiveKind.{ReceiveKind}
-use Rattle.tp_syntax.specs.declared.tree.ReceiveKind.TheVariants as receive_kind
-use Rattle.tp_syntax.specs.declared.tree.Receive.{Receive}
-use Rattle.tp_syntax.specs.declared.tree.Statement.{Statement}
-use Rattle.tp_syntax.specs.declared.tree.Action.{Action}
-use Rattle.tp_syntax.specs.declared.tree.Action.TheOpen as s
-use Rattle.tp_syntax.specs.declared.tree.Action.TheFolds.{fold-Action, fold-BranchBody, fold-Branch, fold-Counted, fold-ElseBranch, fold-Statement}
-use Rattle.tp_syntax.specs.declared.tree.Branch.{Branch}
-use Rattle.tp_syntax.specs.declared.tree.BranchBody.{BranchBody}
-use Rattle.tp_syntax.specs.declared.tree.Counted.{Counted}
-use Rattle.tp_syntax.specs.declared.tree.ElseBranch.{ElseBranch}
-use Rattle.tp_syntax.specs.declared.tree.Defined.{Defined}
-use Rattle.tp_syntax.specs.declared.tree.Defined.TheVariants as defined
-use Rattle.tp_syntax.specs.declared.tree.Definition.{Definition}
-use Rattle.tp_syntax.specs.declared.tree.Module.{Module}
+use Rattle.tp_tree.specs.declared.message.Value.{Value}
+use Rattle.tp_tree.specs.declared.message.Value.TheOpen as v
+use Rattle.tp_tree.specs.declared.message.Value.TheFolds.{fold-Value, fold-ValueField}
+use Rattle.tp_tree.specs.declared.message.ValueField.{ValueField}
+use Rattle.tp_tree.specs.declared.message.Template.{Template}
+use Rattle.tp_tree.specs.declared.message.Template.TheOpen as t
+use Rattle.tp_tree.specs.declared.message.Template.TheFolds.{fold-Template, fold-TemplateField}
+use Rattle.tp_tree.specs.declared.message.TemplateField.{TemplateField}
+use Rattle.tp_tree.specs.declared.message.MessageTemplate.{MessageTemplate}
+use Rattle.tp_tree.specs.declared.tree.Sent.{Sent}
+use Rattle.tp_tree.specs.declared.tree.Sent.TheVariants as sent
+use Rattle.tp_queue.specs.declared.operation.ReceiveKind.{ReceiveKind}
+use Rattle.tp_queue.specs.declared.operation.ReceiveKind.TheVariants as receive_kind
+use Rattle.tp_tree.specs.declared.tree.Receive.{Receive}
+use Rattle.tp_tree.specs.declared.tree.Statement.{Statement}
+use Rattle.tp_tree.specs.declared.tree.Action.{Action}
+use Rattle.tp_tree.specs.declared.tree.Action.TheOpen as s
+use Rattle.tp_tree.specs.declared.tree.Action.TheFolds.{fold-Action, fold-BranchBody, fold-Branch, fold-Counted, fold-ElseBranch, fold-Statement}
+use Rattle.tp_tree.specs.declared.tree.Branch.{Branch}
+use Rattle.tp_tree.specs.declared.tree.BranchBody.{BranchBody}
+use Rattle.tp_tree.specs.declared.tree.Counted.{Counted}
+use Rattle.tp_tree.specs.declared.tree.ElseBranch.{ElseBranch}
+use Rattle.tp_tree.specs.declared.tree.Defined.{Defined}
+use Rattle.tp_tree.specs.declared.tree.Defined.TheVariants as defined
+use Rattle.tp_tree.specs.declared.tree.Definition.{Definition}
+use Rattle.tp_tree.specs.declared.tree.Module.{Module}
 
 -- the deepest of several, which stand beside each other
 abbrev pub deepest : List ℕ → ℕ

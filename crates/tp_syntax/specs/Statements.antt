@@ -6,33 +6,33 @@ use Rattle.tp_token.specs.declared.word.Word.{Word}
 use Rattle.tp_token.specs.declared.word.Word.TheVariants as w
 use Rattle.tp_token.specs.declared.token.Symbol.TheVariants.{Dot, LeftParen, RightParen, LeftBracket, RightBracket, Arrow, Assign, Semicolon, Less, Plus}
 use Rattle.tp_token.specs.Lexeme.{Lexeme, name, word, number, symbol}
-use Rattle.tp_syntax.specs.declared.tree.ComponentName.{ComponentName}
-use Rattle.tp_syntax.specs.declared.tree.ComponentName.TheVariants as component_name
-use Rattle.tp_syntax.specs.declared.tree.Sent.{Sent}
-use Rattle.tp_syntax.specs.declared.tree.Sent.TheVariants as sent
-use Rattle.tp_syntax.specs.declared.tree.Destination.{Destination}
-use Rattle.tp_syntax.specs.declared.tree.Destination.TheVariants as destination
-use Rattle.tp_syntax.specs.declared.message.MessageTemplate.{MessageTemplate}
-use Rattle.tp_syntax.specs.declared.tree.Send.{Send}
-use Rattle.tp_syntax.specs.declared.tree.ReceiveKind.{ReceiveKind}
-use Rattle.tp_syntax.specs.declared.tree.ReceiveKind.TheVariants as receive_kind
-use Rattle.tp_syntax.specs.declared.tree.Redirect.{Redirect}
-use Rattle.tp_syntax.specs.declared.tree.Receive.{Receive}
-use Rattle.tp_syntax.specs.declared.tree.PortOperation.{PortOperation}
-use Rattle.tp_syntax.specs.declared.tree.PortOperation.TheVariants as port_operation
-use Rattle.tp_syntax.specs.declared.tree.Control.{Control}
-use Rattle.tp_syntax.specs.declared.tree.VerdictName.{VerdictName}
-use Rattle.tp_syntax.specs.declared.tree.VerdictName.TheVariants as verdict_name
-use Rattle.tp_syntax.specs.declared.tree.Variable.{Variable}
-use Rattle.tp_syntax.specs.declared.tree.Turns.{Turns}
-use Rattle.tp_syntax.specs.declared.tree.Statement.{Statement}
-use Rattle.tp_syntax.specs.declared.tree.Action.{Action}
-use Rattle.tp_syntax.specs.declared.tree.Action.TheOpen as s
-use Rattle.tp_syntax.specs.declared.tree.Action.TheFolds.{fold-Action, fold-BranchBody, fold-Branch, fold-Counted, fold-ElseBranch, fold-Statement}
-use Rattle.tp_syntax.specs.declared.tree.Branch.{Branch}
-use Rattle.tp_syntax.specs.declared.tree.BranchBody.{BranchBody}
-use Rattle.tp_syntax.specs.declared.tree.Counted.{Counted}
-use Rattle.tp_syntax.specs.declared.tree.ElseBranch.{ElseBranch}
+use Rattle.tp_tree.specs.declared.tree.ComponentName.{ComponentName}
+use Rattle.tp_tree.specs.declared.tree.ComponentName.TheVariants as component_name
+use Rattle.tp_tree.specs.declared.tree.Sent.{Sent}
+use Rattle.tp_tree.specs.declared.tree.Sent.TheVariants as sent
+use Rattle.tp_tree.specs.declared.tree.Destination.{Destination}
+use Rattle.tp_tree.specs.declared.tree.Destination.TheVariants as destination
+use Rattle.tp_tree.specs.declared.message.MessageTemplate.{MessageTemplate}
+use Rattle.tp_tree.specs.declared.tree.Send.{Send}
+use Rattle.tp_queue.specs.declared.operation.ReceiveKind.{ReceiveKind}
+use Rattle.tp_queue.specs.declared.operation.ReceiveKind.TheVariants as receive_kind
+use Rattle.tp_tree.specs.declared.tree.Redirect.{Redirect}
+use Rattle.tp_tree.specs.declared.tree.Receive.{Receive}
+use Rattle.tp_queue.specs.declared.operation.PortOperation.{PortOperation}
+use Rattle.tp_queue.specs.declared.operation.PortOperation.TheVariants as port_operation
+use Rattle.tp_tree.specs.declared.tree.Control.{Control}
+use Rattle.tp_tree.specs.declared.tree.VerdictName.{VerdictName}
+use Rattle.tp_tree.specs.declared.tree.VerdictName.TheVariants as verdict_name
+use Rattle.tp_tree.specs.declared.tree.Variable.{Variable}
+use Rattle.tp_tree.specs.declared.tree.Turns.{Turns}
+use Rattle.tp_tree.specs.declared.tree.Statement.{Statement}
+use Rattle.tp_tree.specs.declared.tree.Action.{Action}
+use Rattle.tp_tree.specs.declared.tree.Action.TheOpen as s
+use Rattle.tp_tree.specs.declared.tree.Action.TheFolds.{fold-Action, fold-BranchBody, fold-Branch, fold-Counted, fold-ElseBranch, fold-Statement}
+use Rattle.tp_tree.specs.declared.tree.Branch.{Branch}
+use Rattle.tp_tree.specs.declared.tree.BranchBody.{BranchBody}
+use Rattle.tp_tree.specs.declared.tree.Counted.{Counted}
+use Rattle.tp_tree.specs.declared.tree.ElseBranch.{ElseBranch}
 use Rattle.tp_syntax.specs.Sequences.{all_of, braced, parenthesised, end_lexemes}
 use Rattle.tp_syntax.specs.Values.{int_lexemes, type_lexemes, message_lexemes}
 use Rattle.tp_syntax.specs.Templates.{message_template_lexemes}

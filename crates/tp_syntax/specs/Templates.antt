@@ -3,11 +3,11 @@ use Rattle.std.specs.Prelude.{ℤ, List, [], ◌∷◌, ◌++◌, Option, Some, 
 use Rattle.tp_token.specs.declared.word.Word.TheVariants as w
 use Rattle.tp_token.specs.declared.token.Symbol.TheVariants.{Colon, Minus, Assign, Question, Star, DotDot}
 use Rattle.tp_token.specs.Lexeme.{Lexeme, name, word, text, symbol}
-use Rattle.tp_syntax.specs.declared.message.MessageTemplate.{MessageTemplate}
-use Rattle.tp_syntax.specs.declared.message.Template.{Template}
-use Rattle.tp_syntax.specs.declared.message.Template.TheOpen as t
-use Rattle.tp_syntax.specs.declared.message.Template.TheFolds.{fold-Template, fold-TemplateField}
-use Rattle.tp_syntax.specs.declared.message.TemplateField.{TemplateField}
+use Rattle.tp_tree.specs.declared.message.MessageTemplate.{MessageTemplate}
+use Rattle.tp_tree.specs.declared.message.Template.{Template}
+use Rattle.tp_tree.specs.declared.message.Template.TheOpen as t
+use Rattle.tp_tree.specs.declared.message.Template.TheFolds.{fold-Template, fold-TemplateField}
+use Rattle.tp_tree.specs.declared.message.TemplateField.{TemplateField}
 use Rattle.tp_syntax.specs.Sequences.{by_commas, braced, parenthesised}
 use Rattle.tp_syntax.specs.Values.{int_lexemes, bool_lexeme, type_lexemes}
 

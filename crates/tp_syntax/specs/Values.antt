@@ -3,13 +3,13 @@ use Rattle.std.specs.Prelude.{suc, ℤ, pos, negsuc, Bool, true, false, List, []
 use Rattle.tp_token.specs.declared.word.Word.TheVariants as w
 use Rattle.tp_token.specs.declared.token.Symbol.TheVariants.{Colon, Minus, Assign}
 use Rattle.tp_token.specs.Lexeme.{Lexeme, name, word, number, text, symbol}
-use Rattle.tp_syntax.specs.declared.message.TypeName.{TypeName}
-use Rattle.tp_syntax.specs.declared.message.TypeName.TheVariants as type_name
-use Rattle.tp_syntax.specs.declared.message.Message.{Message}
-use Rattle.tp_syntax.specs.declared.message.Value.{Value}
-use Rattle.tp_syntax.specs.declared.message.Value.TheOpen as v
-use Rattle.tp_syntax.specs.declared.message.Value.TheFolds.{fold-Value, fold-ValueField}
-use Rattle.tp_syntax.specs.declared.message.ValueField.{ValueField}
+use Rattle.tp_tree.specs.declared.message.TypeName.{TypeName}
+use Rattle.tp_tree.specs.declared.message.TypeName.TheVariants as type_name
+use Rattle.tp_tree.specs.declared.message.Message.{Message}
+use Rattle.tp_tree.specs.declared.message.Value.{Value}
+use Rattle.tp_tree.specs.declared.message.Value.TheOpen as v
+use Rattle.tp_tree.specs.declared.message.Value.TheFolds.{fold-Value, fold-ValueField}
+use Rattle.tp_tree.specs.declared.message.ValueField.{ValueField}
 use Rattle.tp_syntax.specs.Sequences.{by_commas, braced}
 
 -- [ "-" ] Number, where the number 0 has no `-`

@@ -6,11 +6,11 @@ ghost use Rattle.tp_syntax.specs.Passing.{Passes};
 ghost use Rattle.tp_syntax.specs.Refusals.{IsOfGrammar};
 
 use crate::cursor::Parser;
-use crate::tree::{Defined, Definition, Function, Module, Parameter};
 use std::alloc::Global;
 use tp_token::fault::ScriptFault;
 use tp_token::token::Symbol;
 use tp_token::word::Word;
+use tp_tree::tree::{Defined, Definition, Function, Module, Parameter};
 
 impl<'a, 't> Parser<'a, 't> {
     /// A parameter.

@@ -7,14 +7,13 @@ ghost use Rattle.tp_syntax.specs.Nesting.{part_depth, receive_depth, sent_depth}
 ghost use Rattle.tp_syntax.specs.Refusals.{IsOfGrammar};
 
 use crate::cursor::Parser;
-use crate::message::MessageTemplate;
-use crate::tree::{
-    ComponentName, Control, Destination, PortOperation, Receive, ReceiveKind, Redirect, Send, Sent,
-};
 use std::alloc::Global;
+use tp_queue::operation::{PortOperation, ReceiveKind};
 use tp_token::fault::ScriptFault;
 use tp_token::token::{Symbol, Token};
 use tp_token::word::Word;
+use tp_tree::message::MessageTemplate;
+use tp_tree::tree::{ComponentName, Control, Destination, Receive, Redirect, Send, Sent};
 
 /// What stands behind the word of a receiving operation.
 #[derive(Drop)]

@@ -5,10 +5,10 @@ ghost use Rattle.tp_syntax.specs.Nesting.{module_depth};
 ghost use Rattle.tp_syntax.specs.Refusals.{HasTokens, IsUnread};
 
 use crate::cursor::Parser;
-use crate::tree::Module;
 use std::alloc::Global;
 use tp_token::fault::ScriptFault;
 use tp_token::lexer::lex;
+use tp_tree::tree::Module;
 
 /// How many brackets `{`, `(` and `[` may be open at once.
 const BRACKETS: u32 = 32;

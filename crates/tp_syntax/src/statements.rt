@@ -10,13 +10,13 @@ ghost use Rattle.tp_syntax.specs.Nesting.{action_depth, body_depth, branch_depth
 ghost use Rattle.tp_syntax.specs.Refusals.{IsOfGrammar};
 
 use crate::cursor::Parser;
-use crate::tree::{
-    Action, Branch, BranchBody, Counted, ElseBranch, Statement, Turns, Variable, VerdictName,
-};
 use std::alloc::Global;
 use tp_token::fault::ScriptFault;
 use tp_token::token::{Symbol, Token};
 use tp_token::word::Word;
+use tp_tree::tree::{
+    Action, Branch, BranchBody, Counted, ElseBranch, Statement, Turns, Variable, VerdictName,
+};
 
 /// What kind of statement comes next, as far as its first tokens tell.
 enum Beginning {

@@ -9,12 +9,12 @@ ghost use Rattle.tp_syntax.specs.Nesting.{deepest, template_depth, template_fiel
 ghost use Rattle.tp_syntax.specs.Refusals.{IsOfGrammar};
 
 use crate::cursor::{Parser, below};
-use crate::message::{MessageTemplate, Template, TemplateField};
 use crate::values::positive;
 use std::alloc::Global;
 use tp_token::fault::ScriptFault;
 use tp_token::token::{Symbol, Token};
 use tp_token::word::Word;
+use tp_tree::message::{MessageTemplate, Template, TemplateField};
 
 /// Whether the text of a `pattern` may hold this character: the others have a meaning in TTCN-3
 /// that this profile leaves out.

@@ -7,14 +7,14 @@ ghost use Rattle.tp_syntax.specs.Passing.{Passes};
 ghost use Rattle.tp_syntax.specs.Refusals.{IsOfGrammar};
 
 use crate::cursor::Parser;
-use crate::tree::{
-    AllDone, ComponentName, ComponentStart, Creation, Defined, EndComponent, PairEnd, SetupAction,
-    SetupStatement, TestCase,
-};
 use std::alloc::Global;
 use tp_token::fault::ScriptFault;
 use tp_token::token::{Symbol, Token};
 use tp_token::word::Word;
+use tp_tree::tree::{
+    AllDone, ComponentName, ComponentStart, Creation, Defined, EndComponent, PairEnd, SetupAction,
+    SetupStatement, TestCase,
+};
 
 impl<'a, 't> Parser<'a, 't> {
     /// A component in a `connect` or a `map`.

@@ -7,15 +7,15 @@ ghost use Rattle.tp_syntax.specs.Passing.{Passes};
 ghost use Rattle.tp_syntax.specs.Refusals.{IsOfGrammar};
 
 use crate::cursor::Parser;
-use crate::message::TypeName;
-use crate::tree::{
-    ComponentType, DeclaredName, Defined, Direction, FieldType, ListType, PortDeclaration,
-    PortType, RecordType, Way,
-};
 use std::alloc::Global;
 use tp_token::fault::ScriptFault;
 use tp_token::token::{Symbol, Token};
 use tp_token::word::Word;
+use tp_tree::message::TypeName;
+use tp_tree::tree::{
+    ComponentType, DeclaredName, Defined, Direction, FieldType, ListType, PortDeclaration,
+    PortType, RecordType, Way,
+};
 
 impl<'a, 't> Parser<'a, 't> {
     /// A name where it is declared.

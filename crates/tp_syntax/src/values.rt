@@ -9,11 +9,11 @@ ghost use Rattle.tp_syntax.specs.Nesting.{deepest, value_depth, value_field_dept
 ghost use Rattle.tp_syntax.specs.Refusals.{IsOfGrammar};
 
 use crate::cursor::{Parser, below};
-use crate::message::{Message, TypeName, Value, ValueField};
 use std::alloc::Global;
 use tp_token::fault::ScriptFault;
 use tp_token::token::{Symbol, Token};
 use tp_token::word::Word;
+use tp_tree::message::{Message, TypeName, Value, ValueField};
 
 /// The greatest number without a `-`.
 const GREATEST: u64 = 9_223_372_036_854_775_807;

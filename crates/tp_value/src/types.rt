@@ -64,9 +64,16 @@ impl<T: Drop> From<AllocFailed<T>> for AddFault {
 /// The named types, numbered from 0 in the order in which they were added. Contracts see the list
 /// of their names and definitions. A definition may refer to itself, and to numbers that have no
 /// definition yet.
-#[derive(Drop)]
 pub struct Types {
     definitions: IndexMap<String, TypeDef>,
+}
+
+impl Drop for Types {
+    // Written out, so that what owns one calls this, and proves no drop of what is inside.
+    fn drop(self) {
+        let Types { definitions } = self;
+        drop(definitions);
+    }
 }
 
 impl Model for Types {

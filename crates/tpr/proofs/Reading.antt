@@ -1,17 +1,16 @@
 -- The faults of a script that is read and then checked.
-use Rattle.std.proofs.Common.{◌≡◌, ℕ, ◌≤◌, inl, inr, Option, Some, None, Result, Ok, Err, List, length, refl, ap, subst, arith}
-use Rattle.std.specs.Prelude.{IfSome, IfErr}
+use Rattle.std.proofs.Common.{◌≡◌, ℕ, ◌≤◌, inl, inr, Option, Some, None, List, length, refl, ap, subst, arith}
+use Rattle.std.specs.Prelude.{IfSome}
 use Rattle.std.proofs.lemmas.List.{length-append}
-use Rattle.tp_port.specs.declared.text.ReadFault.{ReadFault}
-use Rattle.tp_port.specs.declared.text.ReadFault.TheVariants as read
-use Rattle.tp_port.specs.Reading.{TakesBytes}
+use Rattle.tp_text.specs.declared.text.ReadFault.{ReadFault}
+use Rattle.tp_text.specs.declared.text.ReadFault.TheVariants as read
+use Rattle.tp_text.specs.Reading.{TakesBytes}
 use Rattle.tp_token.specs.declared.fault.ScriptFault.{ScriptFault}
 use Rattle.tp_token.specs.declared.fault.ScriptFault.TheVariants as script
 use Rattle.tpr.specs.declared.checking.CheckFault.TheVariants as fault
-use Rattle.tp_syntax.specs.declared.tree.Module.{Module}
-use Rattle.tp_syntax.specs.Definitions.{IsReadAs}
-use Rattle.tp_script.specs.TestCases.{Made}
-use Rattle.tpr.specs.Checked.{HasCheckFault, IsRight, IsScriptFaultIn, IsScriptFaultOf, IsScriptOf, check_fault_of}
+use Rattle.tp_play.specs.TestCases.{Made}
+use Rattle.tp_script.specs.Scripts.{IsScriptFaultOf, IsScriptOf}
+use Rattle.tpr.specs.Checked.{HasCheckFault, IsRight, IsScriptFaultIn, check_fault_of}
 
 -- a fault of reading
 pub reading_fault : (f : ReadFault) (old new : Option (List ℕ)) → TakesBytes old new (Some f) → HasCheckFault old new (check_fault_of f)
@@ -34,11 +33,6 @@ pub checking_fault : (f : ScriptFault) (old new : Option (List ℕ)) (text : Lis
 checking_fault f None new text is short taken h = (taken.0, taken.1, tt)
 checking_fault f (Some all) new text is short taken h =
     (taken.0, taken.1, subst (λ (t : List ℕ). IsScriptFaultIn t (length taken.0) f) is (script_fault f text (length taken.0) short taken.2 h))
-
--- whatever the checks refuse was read as a module
-pub any_fault : {A : Type 0} (r : Result A ScriptFault) (text : List ℕ) (parsed : Module) → IsReadAs text parsed → IfErr r (IsScriptFaultOf text)
-any_fault (Ok x) text parsed read = tt
-any_fault (Err f) text parsed read = inr (parsed, read)
 
 -- a text that was read, and has a test case, is right
 pub read_right : (known : Option (List ℕ)) (text : List ℕ) (made : Made) → IfSome known (λ all. text ≡ all) → IsScriptOf text made → IfSome known IsRight

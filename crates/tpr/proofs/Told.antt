@@ -2,7 +2,7 @@
 use Rattle.std.proofs.Common.{◌≡◌, ℕ, inl, Option, Some, None, List, ◌∙◌}
 use Rattle.std.specs.Prelude.{IfSome}
 use Rattle.std.specs.Io.KnownBytes.{Appends, Keeps}
-use Rattle.tp_script.specs.TestCases.{Made}
+use Rattle.tp_play.specs.TestCases.{Made}
 use Rattle.tp_report.specs.declared.report.Report.{Report}
 use Rattle.tp_report.specs.Reports.{report_text}
 use Rattle.tp_exec.specs.Delivery.{IsReportOf}

@@ -1,16 +1,14 @@
 -- The outcome of mode check: what is printed of a script, and the status.
 use Rattle.std.specs.Prelude.{◌≡◌, ℕ, ◌≤◌, ◌⊎◌, Option, List, length, codes, IfSome}
 use Rattle.std.specs.Io.KnownBytes.{Appends, Consumes}
-use Rattle.tp_syntax.specs.declared.tree.Module.{Module}
-use Rattle.tp_syntax.specs.Definitions.{IsReadAs}
-use Rattle.tp_syntax.specs.Refusals.{IsUnread}
-use Rattle.tp_port.specs.Reading.{IsFull}
-use Rattle.tp_port.specs.declared.text.ReadFault.{ReadFault}
-use Rattle.tp_port.specs.declared.text.ReadFault.TheVariants as read_fault
+use Rattle.tp_text.specs.Reading.{IsFull}
+use Rattle.tp_text.specs.declared.text.ReadFault.{ReadFault}
+use Rattle.tp_text.specs.declared.text.ReadFault.TheVariants as read_fault
 use Rattle.tp_refusal.specs.declared.refusal.Refusal.TheVariants as refusal
 use Rattle.tp_token.specs.declared.fault.ScriptFault.{ScriptFault}
 use Rattle.tp_token.specs.declared.fault.ScriptFault.TheVariants as script_fault
-use Rattle.tp_script.specs.TestCases.{Made, IsTestCaseOf, WellFormed}
+use Rattle.tp_play.specs.TestCases.{Made}
+use Rattle.tp_script.specs.Scripts.{IsScriptFaultOf, IsScriptOf}
 use Rattle.tpr.specs.declared.checking.CheckFault.{CheckFault}
 use Rattle.tpr.specs.declared.checking.CheckFault.TheVariants as check_fault
 use Rattle.tpr.specs.Outcome.{memory_text, refused_text, unread_text}
@@ -43,20 +41,9 @@ check_fault_status (check_fault.Script f) = script_fault_status f
 abbrev pub accepted_text : List ℕ
 accepted_text = codes "accepted\n"
 
--- the text is a script of this test case: it is read as a module that obeys the rules and has that test case
-pub record IsScriptOf (text : List ℕ) (made : Made) : Type 0 where
-  pub parsed : Module
-  pub read : IsReadAs text parsed
-  pub well_formed : WellFormed parsed
-  pub test_case : IsTestCaseOf parsed made
-
 -- the text is right: it is a script of a test case
 abbrev pub IsRight : List ℕ → Type 0
 IsRight text = (made : Made) × IsScriptOf text made
-
--- the text is refused so: it can't be read as a module, for this fault, or it is read as one and the checks refuse that
-abbrev pub IsScriptFaultOf : List ℕ → ScriptFault → Type 0
-IsScriptFaultOf text fault = IsUnread text fault ⊎ ((parsed : Module) × IsReadAs text parsed)
 
 -- the same of a text that is read first, where reading took so many bytes of it: memory may be wanting where the room
 -- for the text is full, whatever the text, and then for a text that isn't too long

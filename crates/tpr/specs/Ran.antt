@@ -1,14 +1,15 @@
 -- The outcome of mode run: what is printed of a test case, and the status.
 use Rattle.std.specs.Prelude.{◌≡◌, ℕ, ◌⊎◌, Option, List, IfSome}
 use Rattle.std.specs.Io.KnownBytes.{Appends}
-use Rattle.tp_script.specs.TestCases.{Made}
+use Rattle.tp_play.specs.TestCases.{Made}
 use Rattle.tp_report.specs.declared.report.Report.{Report}
 use Rattle.tp_report.specs.Reports.{report_text}
 use Rattle.tp_exec.specs.declared.fault.RunFault.{RunFault}
 use Rattle.tp_exec.specs.Delivery.{IsReportOf}
 use Rattle.tp_exec.specs.Faults.{run_fault_text}
 use Rattle.tp_exec.specs.Order.{NoCircle}
-use Rattle.tpr.specs.Checked.{IsNotAccepted, IsScriptOf}
+use Rattle.tp_script.specs.Scripts.{IsScriptOf}
+use Rattle.tpr.specs.Checked.{IsNotAccepted}
 
 -- the text of a report of the test case was added, for which **delivery** holds, and the status is 0
 pub record IsReported (made : Made) (old new : Option (List ℕ)) (status : ℕ) : Type 0 where

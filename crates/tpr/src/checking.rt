@@ -1,7 +1,8 @@
 //! Whether a script is right.
 ghost use Rattle.std.specs.Prelude.{◌≡◌, IfErr, IfOk, IfSome, OnOk, OnSome};
 ghost use Rattle.std.specs.Io.KnownBytes.{Appends};
-ghost use Rattle.tpr.specs.Checked.{HasCheckFault, IsCheckAnswer, IsRight, IsScriptFaultOf, IsScriptOf, accepted_text, check_fault_status, check_fault_text};
+ghost use Rattle.tp_script.specs.Scripts.{IsScriptOf};
+ghost use Rattle.tpr.specs.Checked.{HasCheckFault, IsCheckAnswer, IsRight, accepted_text, check_fault_status, check_fault_text};
 
 use crate::modes::{
     ANSWERED, FAULTED, REFUSED, flushed, write_memory, write_refused, write_unread,
@@ -9,9 +10,11 @@ use crate::modes::{
 use std::alloc::Global;
 use std::io;
 use std::io::{Read, Write};
-use tp_port::text::{ReadFault, read_text};
+use tp_play::test_case::TestCase;
 use tp_refusal::memory::Memory;
-use tp_script::{ScriptFault, TestCase, check, parse};
+use tp_script::reading::read_script;
+use tp_text::text::{ReadFault, read_text};
+use tp_token::fault::ScriptFault;
 
 /// Why a script isn't accepted.
 #[derive(Clone, Copy, Debug, PartialEq, Eq)]
@@ -37,16 +40,6 @@ impl From<ReadFault> for CheckFault {
     }
 }
 
-/// Reads a text as a module, and checks it: the test case of the text.
-fn check_text(alloc: Global, text: &[u8]) -> Result<TestCase, ScriptFault>
-    ensures script { IfOk result (IsScriptOf text.now) }
-    ensures fault { IfErr result (IsScriptFaultOf text.now) }
-{
-    let parsed = parse(alloc, text)?;
-    let test_case = check(alloc, &parsed)?;
-    Ok(test_case)
-}
-
 /// Reads a script, and checks it: its test case.
 pub fn check_script<R: Read>(alloc: Global, reader: &mut R) -> Result<TestCase, CheckFault>
     ensures script { IfOk result (λ made.
@@ -56,7 +49,7 @@ pub fn check_script<R: Read>(alloc: Global, reader: &mut R) -> Result<TestCase, 
 {
     match read_text(alloc, reader) {
         Err(fault) => Err(CheckFault::from(fault)),
-        Ok(text) => match check_text(alloc, text.as_slice()) {
+        Ok(text) => match read_script(alloc, text.as_slice()) {
             Err(fault) => Err(CheckFault::Script(fault)),
             Ok(test_case) => Ok(test_case),
         },
@@ -122,7 +115,7 @@ fn answer_accepted<W: Write>(writer: &mut W) -> Option<u8>
 /// first fault.
 ///
 /// The status is 0 where it is right; 2 where it was refused: `refused 2 Read`, or
-/// `refused CODE NAME line L` with 10 to 18 and 20 to 28, as [`parse`] and [`check`] say; 3 where
+/// `refused CODE NAME line L` with 10 to 18 and 20 to 28, as [`read_script`] says; 3 where
 /// memory was refused, `fault 50 Memory`. `None` where the writer failed; how much is printed then
 /// is open.
 pub fn answer_check<R: Read, W: Write>(alloc: Global, reader: &mut R, writer: &mut W) -> Option<u8>

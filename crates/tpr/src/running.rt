@@ -14,8 +14,8 @@ use std::thread::Threads;
 use tp_exec::fault::{RunFault, write_run_fault};
 use tp_exec::gate::Gate;
 use tp_exec::run::run;
-use tp_exec::writing::write_report;
-use tp_script::TestCase;
+use tp_play::test_case::TestCase;
+use tp_report::writing::write_report;
 
 /// Prints the line of a fault of a run. The status is 3; `None` where the writer failed.
 fn answer_run_fault<W: Write>(writer: &mut W, fault: RunFault) -> Option<u8>

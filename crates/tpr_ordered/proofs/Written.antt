@@ -1,7 +1,7 @@
 -- What is written of one order more.
 use Rattle.std.proofs.Common.{◌≡◌, ℕ, ◌+◌, ◌<◌, Option, List, [], ◌∷◌, ◌++◌, length, take, get_or, ap, sym, ◌∙◌, subst}
 use Rattle.std.proofs.lemmas.List.{take_more}
-use Rattle.tp_script.specs.TestCases.{Made}
+use Rattle.tp_play.specs.TestCases.{Made}
 use Rattle.tpr_ordered.specs.declared.orders.Order.{Order}
 use Rattle.tpr_ordered.specs.Ordered.{AreOrdersWritten, IsOrderWritten, one_more}
 

@@ -1,7 +1,7 @@
 -- What is written of a run in an order.
 use Rattle.std.specs.Prelude.{ℕ, ◌⊎◌, ◌∷◌, ◌++◌, [], Option, List, codes, string_bytes}
 use Rattle.std.specs.Io.KnownBytes.{Appends, Keeps}
-use Rattle.tp_script.specs.TestCases.{Made}
+use Rattle.tp_play.specs.TestCases.{Made}
 use Rattle.tp_report.specs.declared.report.Report.{Report}
 use Rattle.tp_report.specs.Reports.{report_text}
 use Rattle.tp_exec.specs.declared.fault.RunFault.{RunFault}

@@ -1,10 +1,10 @@
 //! Why no order was run.
 use std::alloc::{AllocError, AllocFailed};
 use thiserror::Error;
-use tp_port::text::ReadFault;
 use tp_refusal::memory::Memory;
 use tp_refusal::refusal::Refusal;
-use tp_script::ScriptFault;
+use tp_text::text::ReadFault;
+use tp_token::fault::ScriptFault;
 
 /// Why one of the two files was refused.
 #[derive(Clone, Copy, Debug, PartialEq, Eq, Error)]

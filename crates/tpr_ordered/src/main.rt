@@ -21,9 +21,11 @@ use std::rt::Files;
 use std::sync::Wait;
 use std::thread::Threads;
 use std::{env, io};
-use tp_port::text::read_text;
+use tp_play::test_case::TestCase;
 use tp_refusal::memory::Memory;
-use tp_script::{ScriptFault, TestCase, check, parse};
+use tp_script::reading::read_script;
+use tp_text::text::read_text;
+use tp_token::fault::ScriptFault;
 
 /// The status where all orders were run.
 const ANSWERED: u8 = 0;
@@ -58,10 +60,9 @@ fn read_file<T: AllocGlobal + Files>(rt: &T, path: &str) -> Result<Vec<u8>, File
 }
 
 /// The test case of the file.
-fn read_script<T: AllocGlobal + Files>(rt: &T, path: &str) -> Result<TestCase, FileFault> {
+fn read_test_case<T: AllocGlobal + Files>(rt: &T, path: &str) -> Result<TestCase, FileFault> {
     let text = read_file(rt, path)?;
-    let parsed = parse(rt.alloc(), text.as_slice())?;
-    let test_case = check(rt.alloc(), &parsed)?;
+    let test_case = read_script(rt.alloc(), text.as_slice())?;
     Ok(test_case)
 }
 
@@ -116,7 +117,7 @@ fn answer_files<T>(rt: &T, script: &str, orders: &str) -> u8
 where
     T: AllocGlobal + Files + Print + Eprint + Threads + Wait + Sync,
 {
-    match read_script(rt, script) {
+    match read_test_case(rt, script) {
         Err(fault) => tell_script(rt, fault),
         Ok(test_case) => match read_order_file(rt, &test_case, orders) {
             Err(fault) => tell_orders(rt, fault),

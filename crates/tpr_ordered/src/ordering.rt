@@ -12,8 +12,8 @@ use std::thread::Threads;
 use tp_config::port_type::CompId;
 use tp_exec::fault::{RunFault, write_run_fault};
 use tp_exec::run::run;
-use tp_exec::writing::write_report;
-use tp_script::TestCase;
+use tp_play::test_case::TestCase;
+use tp_report::writing::write_report;
 
 /// What the runs in all orders have in common.
 #[derive(Drop)]

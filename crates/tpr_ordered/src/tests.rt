@@ -7,8 +7,9 @@ use std::test::Fail;
 use std::thread::Threads;
 use tp_exec::gate::Gate;
 use tp_exec::run::run;
-use tp_exec::writing::write_report;
-use tp_script::{TestCase, check, parse};
+use tp_play::test_case::TestCase;
+use tp_report::writing::write_report;
+use tp_script::reading::read_script;
 
 mod endings;
 mod forced;
@@ -16,8 +17,7 @@ mod meetings;
 
 /// The test case of a script.
 fn test_case_of(alloc: Global, script: &str) -> Result<TestCase, Fail> {
-    let parsed = parse(alloc, script.as_bytes())?;
-    let test_case = check(alloc, &parsed)?;
+    let test_case = read_script(alloc, script.as_bytes())?;
     Ok(test_case)
 }
 

@@ -1,6 +1,6 @@
 -- The history follows the body from its first statement.
 use Rattle.std.proofs.Common.{length, ap, subst, sym}
-use Rattle.tp_body.specs.Playable.{CanPlayAll}
+use Rattle.tp_play.specs.Playable.{CanPlayAll}
 use Rattle.tp_behaviour.specs.Lasting.{AreLasting}
 use Rattle.tp_behaviour.specs.Outcomes.{stage_at}
 use Rattle.tp_behaviour.specs.Stations.{role_of}

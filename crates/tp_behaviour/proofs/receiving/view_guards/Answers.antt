@@ -1,8 +1,8 @@
 -- Each branch can be entered, and what lasts of it stands at its place.
 use Rattle.std.proofs.Common.{arith, get_or, subst, sym}
-use Rattle.tp_body.specs.declared.body.Branch.{Branch}
-use Rattle.tp_body.specs.Playable.{CanEnter}
-use Rattle.tp_body.proofs.PlayRules.{enters_each, enters_receive}
+use Rattle.tp_play.specs.declared.body.Branch.{Branch}
+use Rattle.tp_play.specs.Playable.{CanEnter}
+use Rattle.tp_play.proofs.PlayRules.{enters_each, enters_receive}
 use Rattle.tp_behaviour.specs.Lasting.{IsLastingBranch}
 use Rattle.tp_behaviour.specs.Outcomes.{depth_of, stage_at}
 use Rattle.tp_behaviour.proofs.LastingRules.{lasts_operation, zipped_get, zipped_long}

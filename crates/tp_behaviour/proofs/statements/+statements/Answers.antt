@@ -4,11 +4,11 @@ use Rattle.std.proofs.lemmas.Int.{ints, to_z-of_z}
 use Rattle.std.proofs.lemmas.Option.{slice_get-get_or, slice_get_within}
 use Rattle.std.proofs.lemmas.Result.{IfOk-weaker}
 use Rattle.std.specs.Prelude.{List}
-use Rattle.tp_body.specs.declared.body.Statement.{Statement}
-use Rattle.tp_body.specs.declared.body.Statement.TheVariants as b
-use Rattle.tp_body.specs.Playable.{CanEnterAll, CanPlayAll}
-use Rattle.tp_body.specs.Sizes.{turns_between}
-use Rattle.tp_body.proofs.PlayRules.{plays_alt, plays_control, plays_else, plays_for, plays_receive, plays_send}
+use Rattle.tp_play.specs.declared.body.Statement.{Statement}
+use Rattle.tp_play.specs.declared.body.Statement.TheVariants as b
+use Rattle.tp_play.specs.Playable.{CanEnterAll, CanPlayAll}
+use Rattle.tp_play.specs.Sizes.{turns_between}
+use Rattle.tp_play.proofs.PlayRules.{plays_alt, plays_control, plays_else, plays_for, plays_receive, plays_send}
 use Rattle.tp_behaviour.specs.declared.outcome.Outcome.TheVariants as outcome
 use Rattle.tp_behaviour.specs.declared.deciding.Decision.TheVariants as decision
 use Rattle.tp_behaviour.specs.declared.lasting.Lasting.{out-Lasting}

@@ -1,8 +1,8 @@
 -- A message that is written out is sent as it was filled, and a variable as what it holds.
 use Rattle.std.proofs.Common.{◌∙◌, ap, subst, sym}
 use Rattle.tp_value.specs.declared.message.Message.{Message}
-use Rattle.tp_body.specs.declared.body.Sent.{Sent}
-use Rattle.tp_body.specs.Fills.{filled}
+use Rattle.tp_play.specs.declared.body.Sent.{Sent}
+use Rattle.tp_play.specs.Fills.{filled}
 use Rattle.tp_behaviour.specs.declared.held.Held.TheVariants as held
 use Rattle.tp_behaviour.specs.Held.{Holds, IsSentAs}
 use Rattle.tp_behaviour.specs.Stations.{values_of}

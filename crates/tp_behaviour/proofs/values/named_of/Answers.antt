@@ -1,7 +1,7 @@
 -- The component that is named, for each way to name one.
 use Rattle.std.proofs.Common.{None, Some, get_or, subst, sym}
 use Rattle.tp_config.specs.declared.port_type.CompId.{CompId}
-use Rattle.tp_body.specs.declared.body.Receiver.{Receiver}
+use Rattle.tp_play.specs.declared.body.Receiver.{Receiver}
 use Rattle.tp_behaviour.specs.Held.{IsNamed}
 use Rattle.tp_behaviour.specs.Stations.{role_of, values_of}
 use Rattle.tp_behaviour.proofs.Variables.{referred}

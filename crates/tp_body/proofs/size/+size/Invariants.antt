@@ -1,6 +1,6 @@
 -- The size of the statements or branches so far is counted, up to where counting stops.
 use Rattle.std.proofs.Common.{◌≡◌, take}
-use Rattle.tp_body.specs.Sizes.{capped, size_of_all, size_in_all}
+use Rattle.tp_play.specs.Sizes.{capped, size_of_all, size_in_all}
 use Rattle.tp_body.proofs.size.+size.Given as goal
 
 abbrev pub invariant-count_block-loop-statement : goal.invariant-count_block-loop-statement

@@ -1,6 +1,6 @@
 -- The next statement or branch stands for what is made; a `for` adds its variable to those around.
 use Rattle.std.proofs.Common.{arith, ◌≡◌, [], ◌∷◌, ◌++◌, ap, sym, ◌∙◌, string_bytes}
-use Rattle.tp_syntax.specs.declared.tree.Counted.{out-Counted}
+use Rattle.tp_tree.specs.declared.tree.Counted.{out-Counted}
 use Rattle.tp_name.specs.Named.{texts}
 use Rattle.tp_body.specs.Scoping.{IsNew}
 use Rattle.tp_body.specs.Bodies.{IsBlock, no_statement, no_branch, branch}

@@ -1,7 +1,7 @@
 -- The components that came back and those still in their seats are all of them.
 use Rattle.std.proofs.Common.{◌≡◌, ◌≤◌, ◌+◌, ◌++◌, All, length, map, false, vec_capacity}
 use Rattle.std.specs.Vec.Iter.{into_iter_items}
-use Rattle.tp_script.specs.TestCases.{Made}
+use Rattle.tp_play.specs.TestCases.{Made}
 use Rattle.tp_exec.specs.Returns.{HasReturned, badges_of}
 use Rattle.tp_exec.specs.Seats.{IsSeat, badge_at}
 use Rattle.tp_exec.proofs.threads.join_all.Given as goal

@@ -1,7 +1,7 @@
 -- Where all have come back, the stations are still those of the run, and each has done what it is there for.
 use Rattle.std.proofs.Common.{◌≡◌, List, All, IfOk, Ok, Err, Result, Vec, map}
 use Rattle.std.specs.Global.{Global}
-use Rattle.tp_script.specs.TestCases.{Made}
+use Rattle.tp_play.specs.TestCases.{Made}
 use Rattle.tp_behaviour.specs.declared.station.Station.{Station}
 use Rattle.tp_exec.specs.declared.played.Played.{Played}
 use Rattle.tp_exec.specs.Returns.{HasReturned, badge_of, badges_of}

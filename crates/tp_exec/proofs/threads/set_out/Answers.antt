@@ -1,7 +1,7 @@
 -- The component has nothing to do, or goes into its thread with all that it needs there.
 use denote.Param.Send.{sendable}
 use Rattle.std.proofs.Crossing.{crosses}
-use Rattle.tp_script.proofs.Crossing.{test_case_sync}
+use Rattle.tp_play.proofs.Crossing.{test_case_sync}
 use Rattle.tp_exec.proofs.Crossing.{hall_sync, station_send, played_send}
 use Rattle.tp_exec.proofs.Returned.{busy_where_some, idle_where_none}
 use Rattle.tp_exec.proofs.threads.set_out.Goals as goal

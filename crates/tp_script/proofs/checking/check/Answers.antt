@@ -9,8 +9,8 @@ use Rattle.tp_script.proofs.Readiness.{ready}
 use Rattle.tp_script.proofs.checking.check.Goals as goal
 
 -- the module obeys the rules, so that its test case can be executed
-pub new-requires : goal.new-requires
-new-requires c =
+pub assemble-requires : goal.assemble-requires
+assemble-requires c =
     let made = c.in_ok-behaviours.ensures in
     ready c.args.parsed.now _ c.in_ok-prepared.ensures.rules
     (test_case_of c.args.parsed.now c.in_ok-prepared.prepared c.in_ok-prepared.ensures.made c.in_ok-behaviours.behaviours.bodies made.main made.functions
@@ -19,7 +19,7 @@ new-requires c =
 pub returns-clause-made : goal.returns-clause-made
 returns-clause-made c =
     let made = c.in_ok-behaviours.ensures in
-    subst (IsTestCaseOf c.args.parsed.now) (sym c.new.ensures)
+    subst (IsTestCaseOf c.args.parsed.now) (sym c.assemble.ensures)
     (test_case_of c.args.parsed.now c.in_ok-prepared.prepared c.in_ok-prepared.ensures.made c.in_ok-behaviours.behaviours.bodies made.main made.functions
     c.in_ok-behaviours.behaviours.instances.items made.instances made.count)
 
@@ -44,8 +44,8 @@ returns-clause-well_formed c =
         function_bodies = subst (λ k. AllZip (IsFunctionBody k) (functions m) bodies.functions.items) (known_is m p of) c.in_ok-behaviours.ensures.functions;
       };
       small = record {
-        made = c.new.result;
+        made = c.assemble.result;
         test_case = returns-clause-made c;
-        few = subst (λ t. size_of_test_case t ≤ 100000) (sym c.new.ensures) c.in_ok-behaviours.ensures.few;
+        few = subst (λ t. size_of_test_case t ≤ 100000) (sym c.assemble.ensures) c.in_ok-behaviours.ensures.few;
       };
     }

@@ -1,8 +1,8 @@
 -- What is counted stays below the limit, so that no more statements are to be carried out.
 use Rattle.std.proofs.Common.{◌≡◌, ◌∙◌, ap, map, sum, arith}
-use Rattle.tp_body.specs.Sizes.{capped, size_of_body}
-use Rattle.tp_script.specs.Behaviours.{size_of_behaviour}
-use Rattle.tp_script.specs.Instances.{behaviour_of}
+use Rattle.tp_play.specs.Sizes.{capped, size_of_body}
+use Rattle.tp_play.specs.Behaviours.{size_of_behaviour}
+use Rattle.tp_play.specs.Instances.{behaviour_of}
 use Rattle.tp_script.proofs.Totals.{sums, few}
 use Rattle.tp_script.proofs.total.check_size.Goals as goal
 

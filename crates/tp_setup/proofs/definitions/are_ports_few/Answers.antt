@@ -3,7 +3,7 @@ use Rattle.std.proofs.Common.{◌+◌, ◌≤◌, ◌<◌, ◌≡◌, ℕ, List,
 use Rattle.std.specs.List.{flat_map}
 use Rattle.std.proofs.lemmas.List.{length-map}
 use Rattle.std.proofs.lemmas.List.Folds.{length-flat_map-take}
-use Rattle.tp_syntax.specs.declared.tree.PortDeclaration.{PortDeclaration}
+use Rattle.tp_tree.specs.declared.tree.PortDeclaration.{PortDeclaration}
 use Rattle.tp_setup.specs.Definitions.{declared, declared_ports}
 use Rattle.tp_setup.proofs.definitions.are_ports_few.Goals as goal
 

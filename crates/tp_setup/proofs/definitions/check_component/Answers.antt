@@ -3,7 +3,7 @@ use Rattle.std.proofs.Common.{◌≡◌, ◌≤◌, ◌∙◌, ℕ, Bool, true, 
 use Rattle.tp_refusal.specs.declared.refusal.Refusal.TheVariants.{Unknown, Limit}
 use Rattle.tp_token.specs.declared.fault.ScriptFault.{ScriptFault}
 use Rattle.tp_token.specs.declared.fault.ScriptFault.TheVariants.{Refused}
-use Rattle.tp_syntax.specs.declared.tree.ComponentType.{ComponentType}
+use Rattle.tp_tree.specs.declared.tree.ComponentType.{ComponentType}
 use Rattle.tp_setup.specs.Definitions.{declared_ports}
 use Rattle.tp_setup.specs.Rules.{IsComponentFault, has_known_ports}
 use Rattle.tp_setup.proofs.definitions.check_component.Goals as goal

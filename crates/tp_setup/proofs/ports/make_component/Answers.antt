@@ -2,7 +2,7 @@
 use Rattle.std.proofs.Common.{◌++◌, arith, map, refl, subst, sym, string_bytes}
 use Rattle.std.specs.List.{AllZip}
 use Rattle.tp_config.specs.Shape.{ports_of}
-use Rattle.tp_syntax.specs.declared.tree.PortDeclaration.{PortDeclaration}
+use Rattle.tp_tree.specs.declared.tree.PortDeclaration.{PortDeclaration}
 use Rattle.tp_setup.specs.Definitions.{declared}
 use Rattle.tp_setup.specs.Resolved.{IsPortDecl, port_decl}
 use Rattle.tp_setup.specs.Sorted.{port_types_in}

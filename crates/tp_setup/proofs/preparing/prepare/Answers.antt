@@ -1,7 +1,7 @@
 -- What the passes made and checked over the sorted names holds of the module itself.
 use Rattle.std.proofs.Common.{◌∙◌, ap, map, string_bytes, subst, sym}
-use Rattle.tp_syntax.specs.declared.tree.ComponentType.{ComponentType}
-use Rattle.tp_syntax.specs.declared.tree.Function.{Function}
+use Rattle.tp_tree.specs.declared.tree.ComponentType.{ComponentType}
+use Rattle.tp_tree.specs.declared.tree.Function.{Function}
 use Rattle.tp_config.specs.Shape.{ports_of}
 use Rattle.tp_setup.specs.Definitions.{component_types}
 use Rattle.tp_setup.specs.Configuring.{AreSoundVariables, IsSetUp}

@@ -1,7 +1,7 @@
 -- The next start obeys its rules, and its component was not started before.
 use Rattle.std.proofs.Common.{◌++◌, ◌∷◌, [], ◌∙◌, ap, arith, map, string_bytes, sym, take}
 use Rattle.std.proofs.lemmas.List.{map_push}
-use Rattle.tp_syntax.specs.declared.tree.ComponentStart.{ComponentStart}
+use Rattle.tp_tree.specs.declared.tree.ComponentStart.{ComponentStart}
 use Rattle.tp_setup.specs.Sorted.{functions_in}
 use Rattle.tp_setup.specs.Starting.{IsStartOf}
 use Rattle.tp_setup.proofs.Steps.{pushed, zip_more}

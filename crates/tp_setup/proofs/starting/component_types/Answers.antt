@@ -1,7 +1,7 @@
 -- A statement that makes no component adds no type, and the next `var` adds its own.
 use Rattle.std.proofs.Common.{◌++◌, ◌∷◌, [], ◌∙◌, ap, arith, map, string_bytes, sym, take}
 use Rattle.std.proofs.lemmas.List.{map_push}
-use Rattle.tp_syntax.specs.declared.tree.Creation.{Creation}
+use Rattle.tp_tree.specs.declared.tree.Creation.{Creation}
 use Rattle.tp_setup.specs.Components.{creations}
 use Rattle.tp_setup.proofs.Creating.{no_creation, one_creation}
 use Rattle.tp_setup.proofs.starting.component_types.Goals as goal

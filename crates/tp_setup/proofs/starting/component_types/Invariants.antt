@@ -1,6 +1,6 @@
 -- The types are that of `mtc` and those of the components that are made so far.
 use Rattle.std.proofs.Common.{◌≡◌, ◌∷◌, map, string_bytes, take}
-use Rattle.tp_syntax.specs.declared.tree.Creation.{Creation}
+use Rattle.tp_tree.specs.declared.tree.Creation.{Creation}
 use Rattle.tp_setup.specs.Components.{creations}
 use Rattle.tp_setup.proofs.starting.component_types.Given as goal
 

@@ -1,6 +1,6 @@
 -- No two definitions of the module have one name, nor any two names within a definition.
 use Rattle.std.proofs.Common.{ap, map, subst, All}
-use Rattle.tp_syntax.specs.declared.tree.Definition.{Definition}
+use Rattle.tp_tree.specs.declared.tree.Definition.{Definition}
 use Rattle.tp_name.specs.Tables.{AreDistinct}
 use Rattle.tp_setup.specs.Definitions.{inner_names, name_of}
 use Rattle.tp_setup.proofs.unique_names.check_names.Goals as goal

@@ -2,7 +2,7 @@
 use Rattle.std.proofs.Common.{◌++◌, ◌∷◌, [], ◌∙◌, ap, arith, map, sym, take, subst, All}
 use Rattle.std.proofs.lemmas.List.{map_push, take_all}
 use Rattle.std.specs.Option.{option_to_list}
-use Rattle.tp_syntax.specs.declared.tree.Definition.{Definition}
+use Rattle.tp_tree.specs.declared.tree.Definition.{Definition}
 use Rattle.tp_name.specs.Tables.{AreDistinct}
 use Rattle.tp_setup.specs.Definitions.{among, case_of, inner_names, name_of}
 use Rattle.tp_setup.proofs.Steps.{all_more, kept_more, pushed}

@@ -1,6 +1,6 @@
 -- No name so far is given twice, and what was found is the only test case so far, if any.
 use Rattle.std.proofs.Common.{◌≡◌, map, take, All}
-use Rattle.tp_syntax.specs.declared.tree.Definition.{Definition}
+use Rattle.tp_tree.specs.declared.tree.Definition.{Definition}
 use Rattle.tp_name.specs.Tables.{AreDistinct}
 use Rattle.tp_setup.specs.Definitions.{among, case_of, name_of, inner_names}
 use Rattle.tp_setup.specs.Cases.{cases_of}

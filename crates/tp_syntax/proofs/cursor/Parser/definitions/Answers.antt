@@ -2,7 +2,7 @@
 use Rattle.std.proofs.Common.{arith}
 use Rattle.tp_syntax.specs.Definitions.{definition_lexemes}
 use Rattle.tp_syntax.proofs.Commas.{push_read_all}
-use Rattle.tp_syntax.specs.declared.tree.Definition.{Definition}
+use Rattle.tp_tree.specs.declared.tree.Definition.{Definition}
 use Rattle.tp_syntax.specs.Nesting.{defined_depth}
 use Rattle.tp_syntax.proofs.Nesting.{push_nests}
 use Rattle.tp_syntax.proofs.cursor.Parser.definitions.Goals as goal

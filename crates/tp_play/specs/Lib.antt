@@ -1,0 +1,9 @@
+pub mod Fills
+pub mod Laws
+pub mod Playable
+pub mod Sizes
+pub mod Behaviours
+pub mod Instances
+pub mod TestCases
+pub mod Seen
+pub mod Ready

@@ -1,0 +1,59 @@
+-- How many statements a body has, once each `for` stands for its copies.
+use Rattle.std.specs.Prelude.{ℕ, ◌+◌, ◌*◌, ℤ, ◌-ℤ◌, List, Option, Some, None, map, sum, length, nat_lt, int_lt, unsigned_abs, if◌then◌else◌}
+use Rattle.tp_play.specs.declared.body.Statement.{Statement}
+use Rattle.tp_play.specs.declared.body.Statement.TheOpen as o
+use Rattle.tp_play.specs.declared.body.Statement.TheFolds.{fold-Branch, fold-Statement}
+use Rattle.tp_play.specs.declared.body.Branch.{Branch}
+use Rattle.tp_play.specs.declared.body.Body.{Body}
+
+-- one more than the most that is allowed
+abbrev pub limit : ℕ
+limit = 100001
+
+-- a number, where more than 100,000 is one number
+abbrev pub capped : ℕ → ℕ
+capped n = if nat_lt n limit then n else limit
+
+-- how many turns there are from the first value to the bound: none where the bound isn't above it
+abbrev pub turns_between : ℤ → ℤ → ℕ
+turns_between first bound = if int_lt first bound then unsigned_abs (bound -ℤ first) else 0
+
+-- the size of a block that may be missing
+abbrev pub else_size : Option (List ℕ) → ℕ
+else_size None = 0
+else_size (Some sizes) = sum sizes
+
+-- a statement is 1; an `alt` is 1 and the statements of its blocks; a `for` is 1 and those of its block once for each
+-- turn
+abbrev pub statement_step : o.Statement-F ℕ ℕ → ℕ
+statement_step (o.Send x) = 1
+statement_step (o.Receive x) = 1
+statement_step (o.Control k x) = 1
+statement_step (o.AllPorts x) = 1
+statement_step (o.SetVerdict x) = 1
+statement_step (o.Alt branches otherwise) = 1 + (sum branches + else_size otherwise)
+statement_step (o.For first bound block) = 1 + turns_between first bound * sum block
+
+-- a branch is the statements of its block
+abbrev pub branch_step : o.Branch-F ℕ ℕ → ℕ
+branch_step branch = sum branch.block
+
+-- the size of a statement
+unfoldable pub size_of : Statement → ℕ
+size_of = fold-Statement ℕ ℕ statement_step branch_step
+
+-- the size of a branch
+unfoldable pub size_in : Branch → ℕ
+size_in = fold-Branch ℕ ℕ statement_step branch_step
+
+-- the size of a block
+abbrev pub size_of_all : List Statement → ℕ
+size_of_all statements = sum (map size_of statements)
+
+-- the size of the branches of an `alt`
+abbrev pub size_in_all : List Branch → ℕ
+size_in_all branches = sum (map size_in branches)
+
+-- the size of a body: each of its variables is 1
+abbrev pub size_of_body : Body → ℕ
+size_of_body body = length body.variables + size_of_all body.statements

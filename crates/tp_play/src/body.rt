@@ -1,0 +1,174 @@
+//! The bodies of a test case: what its statements stand for.
+use tp_queue::operation::{PortOperation, ReceiveKind};
+use tp_value::items::Items;
+use tp_value::shared::Shared;
+use tp_value::template::PatternPart;
+use tp_value::types::Ty;
+use tp_value::verdict::Verdict;
+
+/// A value to be sent, in which a loop variable may stand for an integer (ES 201 873-1, 22.2.1).
+#[derive(Debug, Drop)]
+pub enum SendValue {
+    /// An integer.
+    Int(i64),
+    /// A boolean.
+    Bool(bool),
+    /// A charstring, as its characters, which each message that is made of it shares.
+    Text(Shared<u8>),
+    /// What the loop variable at this place holds; the outermost one has place 0.
+    Turn(usize),
+    /// A record, as the values of its fields in declared order.
+    Record(Items<SendValue>),
+    /// A record of, as its elements.
+    List(Items<SendValue>),
+}
+
+/// A message to be sent, in which loop variables may stand for integers.
+#[derive(Debug, Drop)]
+pub struct SendMsg {
+    /// The type under which it is sent.
+    pub ty: Ty,
+    /// The value.
+    pub value: SendValue,
+}
+
+/// A template in which a loop variable may stand for an integer (ES 201 873-1, 15 and Annex B).
+#[derive(Debug, Drop)]
+pub enum RecvTemplate {
+    /// A specific value.
+    Exact(SendValue),
+    /// `?`
+    Any,
+    /// `*`, which stands only among the elements of a `List`.
+    AnyOrNone,
+    /// `(t1, t2, ..)`
+    OneOf(Items<RecvTemplate>),
+    /// `complement (t1, ..)`
+    NoneOf(Items<RecvTemplate>),
+    /// `(lower .. upper)`; an absent bound is `-infinity` or `infinity`.
+    Range(Option<i64>, Option<i64>),
+    /// `pattern "..."`
+    Pattern(Items<PatternPart>),
+    /// `{..}` for a record: one template for each field, in declared order.
+    Record(Items<RecvTemplate>),
+    /// `{..}` for a record of.
+    List(Items<RecvTemplate>),
+}
+
+/// What a receiving operation wants, where loop variables may stand for integers.
+#[derive(Debug, Drop)]
+pub enum RecvMsg {
+    /// No template: every message.
+    Any,
+    /// The messages of this very type whose value matches the template.
+    Of(Ty, RecvTemplate),
+}
+
+/// What is sent.
+#[derive(Debug, Drop)]
+pub enum Sent {
+    /// A message that is written out.
+    Written(SendMsg),
+    /// What the variable at this place of the body's variables holds.
+    Variable(usize),
+}
+
+/// To whom a message is sent.
+#[derive(Clone, Copy, Debug, PartialEq, Eq)]
+pub enum Receiver {
+    /// Nobody is named.
+    Nobody,
+    /// The component at this place of the references.
+    Reference(usize),
+    /// The component that the variable at this place of the body's variables holds.
+    Variable(usize),
+    /// `all component`
+    All,
+}
+
+/// A send (ES 201 873-1, 22.2.1).
+#[derive(Debug, Drop)]
+pub struct SendOperation {
+    /// The port, by its place in the component type.
+    pub port: u32,
+    /// What is sent.
+    pub sent: Sent,
+    /// To whom.
+    pub to: Receiver,
+}
+
+/// A receiving operation (ES 201 873-1, 22.2.2 to 22.2.4).
+#[derive(Debug, Drop)]
+pub struct Receiving {
+    /// The port, by its place in the component type.
+    pub port: u32,
+    /// What it does with a message.
+    pub kind: ReceiveKind,
+    /// What it wants.
+    pub wanted: RecvMsg,
+    /// The component behind `from`, by its place among the references.
+    pub sender: Option<usize>,
+    /// The variable that the value is put into, by its place among the body's variables.
+    pub value_to: Option<usize>,
+    /// The variable that the sender is put into, by its place among the body's variables.
+    pub sender_to: Option<usize>,
+}
+
+/// A statement (ES 201 873-1, 19 to 24).
+#[derive(Debug, Drop)]
+#[cycle(body)]
+pub enum Statement {
+    /// A send.
+    Send(SendOperation),
+    /// A receiving operation that stands alone.
+    Receive(Receiving),
+    /// An operation on the port at this place.
+    Control(u32, PortOperation),
+    /// An operation on each port, in declared order.
+    AllPorts(PortOperation),
+    /// `setverdict`
+    SetVerdict(Verdict),
+    /// `alt`: its branches, and the block of `[else]`.
+    Alt(Items<Branch>, Option<Items<Statement>>),
+    /// A counted `for`: the first value of its variable, what it stays below, and its block.
+    For(i64, i64, Items<Statement>),
+}
+
+/// A branch of an `alt` behind a receiving operation (ES 201 873-1, 20.2).
+#[derive(Debug, Drop)]
+#[cycle(body)]
+pub struct Branch {
+    /// The operation.
+    pub receiving: Receiving,
+    /// What is done then.
+    pub block: Items<Statement>,
+}
+
+/// What a variable of a body holds (ES 201 873-1, 11.1).
+#[derive(Clone, Copy, Debug, PartialEq, Eq)]
+pub enum VariableType {
+    /// A value of this type.
+    Message(Ty),
+    /// A component, of whatever type.
+    Component,
+}
+
+/// A body: the types of its variables, in the order of the text, and its statements.
+#[derive(Debug)]
+pub struct Body {
+    /// The variables, each without a value at first.
+    pub variables: Items<VariableType>,
+    /// The statements.
+    pub statements: Items<Statement>,
+}
+
+impl Drop for Body {
+    // Written out, so that what owns one calls this, and proves no drop of what is inside.
+    fn drop(self) {
+        let Body {
+            variables,
+            statements,
+        } = self;
+        drop((variables, statements));
+    }
+}

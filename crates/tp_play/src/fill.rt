@@ -1,0 +1,158 @@
+//! Messages and templates, with the values of the loop variables.
+ghost use Rattle.std.specs.Prelude.{◌≡◌, ◌≤◌, All, FitsSigned, IfOk, length, map};
+ghost use Rattle.std.specs.Int.{w64};
+ghost use Rattle.tp_play.specs.Fills.{filled, filled_template, filled_wanted, greatest, needed, needed_by_template, needed_by_wanted};
+ghost use Rattle.tp_play.specs.Laws.{FitsItsType, HasItsType};
+
+use crate::body::{RecvMsg, RecvTemplate, SendMsg, SendValue};
+use std::alloc::Global;
+use tp_refusal::memory::Memory;
+use tp_value::items::Items;
+use tp_value::message::{Message, MsgTemplate};
+use tp_value::shared::Shared;
+use tp_value::template::Template;
+use tp_value::value::Value;
+
+/// What a value comes to.
+#[cycle(fill)]
+#[tactic(auto, using(crate::proofs::Filling::values))]
+fn fill_value(alloc: Global, value: &SendValue, turns: &[i64]) -> Result<Value, Memory>
+    requires given { needed value.now ≤ length turns.now }
+    ensures { IfOk result (λ made. made ≡ filled turns.now value.now) }
+{
+    match value {
+        SendValue::Int(number) => Ok(Value::Int(*number)),
+        SendValue::Bool(truth) => Ok(Value::Bool(*truth)),
+        SendValue::Text(text) => Ok(Value::Text(text.share()?)),
+        SendValue::Turn(place) => Ok(Value::Int(turns[*place])),
+        SendValue::Record(fields) => {
+            let made = fill_values(alloc, fields.as_slice(), turns)?;
+            Ok(Value::Record(Shared::new(alloc, made)?))
+        }
+        SendValue::List(elements) => {
+            let made = fill_values(alloc, elements.as_slice(), turns)?;
+            Ok(Value::List(Shared::new(alloc, made)?))
+        }
+    }
+}
+
+/// What values come to.
+#[cycle(fill)]
+#[tactic(auto, using(crate::proofs::Filling::values))]
+fn fill_values(alloc: Global, values: &[SendValue], turns: &[i64]) -> Result<Items<Value>, Memory>
+    requires given { greatest (map needed values.now) ≤ length turns.now }
+    ensures { IfOk result (λ made. made ≡ map (filled turns.now) values.now) }
+{
+    let mut made = Items::new(alloc);
+    for value in values {
+        let one = fill_value(alloc, value, turns)?;
+        made.push(one)?;
+    }
+    Ok(made)
+}
+
+/// Reads the integers, and changes nothing: each is then known to have 64 bits.
+fn read_integers(integers: &[i64])
+    ensures { All (FitsSigned w64) integers.now }
+{
+    for place in 0..integers.len() {
+        let _integer = integers[place];
+    }
+}
+
+/// The message that a send sends, where the loop variables around it hold these integers, the
+/// outermost first: one for each loop variable of which the message speaks (ES 201 873-1, 22.2.1).
+/// Under all types under which it has its type whatever the loop variables hold, its value has it.
+///
+/// 50 `Memory` only where an allocation was refused.
+pub fn fill_message(alloc: Global, message: &SendMsg, turns: &[i64]) -> Result<Message, Memory>
+    requires given { needed message.now.value ≤ length turns.now }
+    ensures ty { IfOk result (λ made. made.ty ≡ message.now.ty) }
+    ensures value { IfOk result (λ made. made.value ≡ filled turns.now message.now.value) }
+    ensures typed { IfOk result (HasItsType message.now) }
+{
+    let value = fill_value(alloc, &message.value, turns)?;
+    read_integers(turns);
+    Ok(Message {
+        ty: message.ty,
+        value,
+    })
+}
+
+/// What a template comes to.
+#[cycle(template)]
+#[tactic(auto, using(crate::proofs::Filling::templates))]
+fn fill_one(alloc: Global, template: &RecvTemplate, turns: &[i64]) -> Result<Template, Memory>
+    requires given { needed_by_template template.now ≤ length turns.now }
+    ensures { IfOk result (λ made. made ≡ filled_template turns.now template.now) }
+{
+    match template {
+        RecvTemplate::Exact(value) => {
+            let made = fill_value(alloc, value, turns)?;
+            Ok(Template::Exact(made))
+        }
+        RecvTemplate::Any => Ok(Template::Any),
+        RecvTemplate::AnyOrNone => Ok(Template::AnyOrNone),
+        RecvTemplate::OneOf(members) => {
+            let made = fill_all(alloc, members.as_slice(), turns)?;
+            Ok(Template::OneOf(made))
+        }
+        RecvTemplate::NoneOf(members) => {
+            let made = fill_all(alloc, members.as_slice(), turns)?;
+            Ok(Template::NoneOf(made))
+        }
+        RecvTemplate::Range(lower, upper) => Ok(Template::Range(*lower, *upper)),
+        RecvTemplate::Pattern(parts) => {
+            let parts = Items::from_slice(alloc, parts.as_slice())?;
+            Ok(Template::Pattern(parts))
+        }
+        RecvTemplate::Record(members) => {
+            let made = fill_all(alloc, members.as_slice(), turns)?;
+            Ok(Template::Record(made))
+        }
+        RecvTemplate::List(members) => {
+            let made = fill_all(alloc, members.as_slice(), turns)?;
+            Ok(Template::List(made))
+        }
+    }
+}
+
+/// What templates come to.
+#[cycle(template)]
+#[tactic(auto, using(crate::proofs::Filling::templates))]
+fn fill_all(
+    alloc: Global,
+    templates: &[RecvTemplate],
+    turns: &[i64],
+) -> Result<Items<Template>, Memory>
+    requires given { greatest (map needed_by_template templates.now) ≤ length turns.now }
+    ensures { IfOk result (λ made. made ≡ map (filled_template turns.now) templates.now) }
+{
+    let mut made = Items::new(alloc);
+    for template in templates {
+        let one = fill_one(alloc, template, turns)?;
+        made.push(one)?;
+    }
+    Ok(made)
+}
+
+/// What a receiving operation wants, where the loop variables around it hold these integers, the
+/// outermost first: one for each loop variable of which the template speaks (ES 201 873-1, 15 and
+/// Annex B). Under all types under which it fits its type whatever the loop variables hold, what is
+/// made fits it.
+///
+/// 50 `Memory` only where an allocation was refused.
+pub fn fill_template(alloc: Global, wanted: &RecvMsg, turns: &[i64]) -> Result<MsgTemplate, Memory>
+    requires given { needed_by_wanted wanted.now ≤ length turns.now }
+    ensures value { IfOk result (λ made. made ≡ filled_wanted turns.now wanted.now) }
+    ensures fits { IfOk result (FitsItsType wanted.now) }
+{
+    match wanted {
+        RecvMsg::Any => Ok(MsgTemplate::Any),
+        RecvMsg::Of(ty, template) => {
+            let made = fill_one(alloc, template, turns)?;
+            read_integers(turns);
+            Ok(MsgTemplate::Of(*ty, made))
+        }
+    }
+}

@@ -1,0 +1,217 @@
+//! The test case of a module.
+ghost use Rattle.std.specs.Prelude.{◌≡◌, ◌≤◌, ◌<◌, None, IfSome, MatchOption, length, map};
+ghost use Rattle.std.specs.List.{slice_index_or};
+ghost use Rattle.std.specs.Option.{option_copied, option_map};
+ghost use Rattle.tp_config.specs.Allowed.{IsSetup};
+ghost use Rattle.tp_config.specs.Setup.{IsComponent};
+ghost use Rattle.tp_play.specs.TestCases.{behaviour_at};
+ghost use Rattle.tp_play.specs.Instances.{body_in, behaviour_of};
+ghost use Rattle.tp_play.specs.Ready.{CanDo, HasMain, HasNoSystem, IsReady, IsSystem};
+ghost use Rattle.tp_play.specs.Seen.{as_behaviour};
+
+use crate::bodies::{Behaviours, Bodies};
+use crate::body::Body;
+use crate::instance::{Instance, Source};
+use std::marker::Model;
+use tp_config::config::Config;
+use tp_config::port_type::CompId;
+use tp_value::types::Types;
+
+/// A test case whose module obeys the rules: its components and what each of them does. Contracts
+/// see the configuration, the types and each component's behaviour.
+///
+/// At every moment it can be executed: each component can do what it is there for, so that each
+/// port, reference, variable and loop variable of which its body speaks is there.
+pub struct TestCase {
+    config: Config,
+    types: Types,
+    bodies: Bodies,
+    /// Which body each component has, by its number.
+    instances: Vec<Option<Instance>>,
+}
+
+impl Drop for TestCase {
+    // Written out, so that what owns one calls this, and proves no drop of what is inside.
+    fn drop(self) {
+        let TestCase {
+            config,
+            types,
+            bodies,
+            instances,
+        } = self;
+        drop((config, types, bodies, instances));
+    }
+}
+
+/// What a component does.
+#[derive(Clone, Copy)]
+pub struct Behaviour<'t> {
+    /// Its body. Components that start the same function have the same.
+    pub body: &'t Body,
+    /// The components that the references of the body name, by their places: `mtc` at 0, the
+    /// component itself at 1, then the arguments of its start, then those of the component
+    /// variables of the test case.
+    pub references: &'t [CompId],
+}
+
+/// The instance of the component of this number, if it has one. Takes no memory.
+fn instance_at(instances: &[Option<Instance>], comp: CompId) -> Option<&Instance>
+    ensures { option_copied result ≡ slice_index_or instances.now comp.0 None }
+{
+    match instances.get(comp.0 as usize) {
+        Some(Some(instance)) => Some(instance),
+        Some(None) | None => None,
+    }
+}
+
+/// The body that is meant. Takes no memory.
+fn body_of(bodies: &Bodies, source: Source) -> Option<&Body>
+    ensures { option_copied result ≡ body_in bodies.now source }
+{
+    match source {
+        Source::TestCase => Some(&bodies.main),
+        Source::Function(place) => bodies.functions.get(place as usize),
+    }
+}
+
+/// What the component of this number does. Takes no memory.
+fn find_behaviour<'t>(
+    bodies: &'t Bodies,
+    instances: &'t [Option<Instance>],
+    comp: CompId,
+) -> Option<Behaviour<'t>>
+    ensures { let behaviours = map (behaviour_of bodies.now) instances.now in
+        option_map as_behaviour result ≡ slice_index_or behaviours comp.0 None }
+{
+    let Some(instance) = instance_at(instances, comp) else {
+        return None;
+    };
+    let Some(body) = body_of(bodies, instance.source) else {
+        return None;
+    };
+    Some(Behaviour {
+        body,
+        references: instance.references.as_slice(),
+    })
+}
+
+impl Model for TestCase {
+    ghost use Rattle.std.specs.Prelude.{map};
+    ghost use Rattle.tp_play.specs.TestCases.{Made};
+    ghost use Rattle.tp_play.specs.Instances.{behaviour_of};
+    ghost use Rattle.tp_play.specs.contracts.body.Statement as statement_contract;
+    ghost use Rattle.std.specs.Coded.{codes};
+
+    ghost Value = { Made };
+
+    ghost coded = { Prim.hlevel (codes, statement_contract.the_row.coded) };
+
+    ghost use Rattle.tp_play.specs.Ready.{IsReady};
+
+    ghost view = { λ t. record {
+      config = t.config;
+      types = t.types;
+      behaviours = map (behaviour_of t.bodies) t.instances.items;
+    } };
+
+    ghost invariant = { λ t. IsReady (record {
+      config = t.config;
+      types = t.types;
+      behaviours = map (behaviour_of t.bodies) t.instances.items;
+    }) };
+}
+
+impl TestCase {
+    /// The test case of these components, types and behaviours, which can be executed. Takes no
+    /// memory.
+    pub fn new(config: Config, types: Types, behaviours: Behaviours) -> TestCase
+        requires { let all = map (behaviour_of behaviours.bodies) behaviours.instances.items in
+            IsReady (record { config = config; types = types; behaviours = all }) }
+        ensures { result ≡ record {
+          config = config;
+          types = types;
+          behaviours = map (behaviour_of behaviours.bodies) behaviours.instances.items;
+        } }
+    {
+        let Behaviours { bodies, instances } = behaviours;
+        TestCase {
+            config,
+            types,
+            bodies,
+            instances,
+        }
+    }
+
+    /// How many components there are, at most 64. They are numbered from 0: `mtc`, those that are
+    /// created in their order, and the test system interface where the test case has a `system`
+    /// clause (ES 201 873-1, 9.1, 21.2.1). Takes no memory.
+    pub fn components(&self) -> usize
+        ensures count { result ≡ length self.now.config.components }
+        ensures few { result ≤ 64 }
+        ensures main { HasMain self.now.config }
+        ensures lawful { IsSetup self.now.config }
+    {
+        self.config.len()
+    }
+
+    /// The component of this number. Takes no memory.
+    pub fn component(&self, number: usize) -> CompId
+        requires { number < length self.now.config.components }
+        ensures number { result.0 ≡ number }
+        ensures there { IsComponent self.now.config result }
+    {
+        // Called for its clauses: there are components, 64 at most.
+        let _count = self.components();
+        CompId(number as u32)
+    }
+
+    /// The component `mtc`, which has number 0. Takes no memory.
+    pub fn mtc(&self) -> CompId
+        ensures number { result.0 ≡ 0 }
+        ensures there { IsComponent self.now.config result }
+    {
+        // Called for its clauses: there are components, 64 at most.
+        let _count = self.components();
+        CompId(0)
+    }
+
+    /// The component that is the test system interface, or `None` where none is
+    /// (ES 201 873-1, 9.2). It is the last one. Takes no memory.
+    pub fn system(&self) -> Option<CompId>
+        ensures { MatchOption result (HasNoSystem self.now.config) (IsSystem self.now.config) }
+    {
+        let count = self.components();
+        let last = CompId(count as u32 - 1);
+        if self.config.role(last).is_system() {
+            Some(last)
+        } else {
+            None
+        }
+    }
+
+    /// The configuration that the setup statements make. Takes no memory.
+    pub fn config(&self) -> &Config
+        ensures { result.now ≡ self.now.config }
+    {
+        &self.config
+    }
+
+    /// The record and record-of types, under their own names. Takes no memory.
+    pub fn types(&self) -> &Types
+        ensures { result.now ≡ self.now.types }
+    {
+        &self.types
+    }
+
+    /// What the component does: the test case's own body for `mtc`, that of its function for a
+    /// component that is started, and that of `sut` for the test system interface. `None` for a
+    /// test system interface without `sut`, and where there is no such component. The component can
+    /// do it. Takes no memory.
+    pub fn body(&self, comp: CompId) -> Option<Behaviour<'_>>
+        ensures behaviour { option_map as_behaviour result ≡ behaviour_at self.now comp.0 }
+        ensures can { IfSome result (λ c.
+            CanDo self.now.config self.now.types comp.0 (as_behaviour c)) }
+    {
+        find_behaviour(&self.bodies, &self.instances, comp)
+    }
+}

@@ -1,0 +1,25 @@
+//! What a test case does at a port.
+
+/// What a receiving operation does with a message (ES 201 873-1, 22.2.2 to 22.2.4).
+#[derive(Clone, Copy, Debug, PartialEq, Eq)]
+pub enum ReceiveKind {
+    /// `receive`: takes the message that matches.
+    Receive,
+    /// `trigger`: takes each message, up to one that matches.
+    Trigger,
+    /// `check`: leaves the message that matches.
+    Check,
+}
+
+/// An operation on a port (ES 201 873-1, 22.5).
+#[derive(Clone, Copy, Debug, PartialEq, Eq)]
+pub enum PortOperation {
+    /// `start`
+    Start,
+    /// `stop`
+    Stop,
+    /// `halt`
+    Halt,
+    /// `clear`
+    Clear,
+}

@@ -1,0 +1,25 @@
+-- How much is taken of a reader, and how the reading of a text ends.
+use Rattle.std.specs.Prelude.{◌≡◌, ℕ, ◌*◌, ◌^◌, ◌≤◌, ◌⊎◌, Option, Some, None, List, length}
+use Rattle.std.specs.Io.KnownBytes.{Consumes}
+use Rattle.tp_text.specs.declared.text.ReadFault.{ReadFault}
+use Rattle.tp_text.specs.declared.text.ReadFault.TheVariants as read_fault
+
+-- so many bytes fill the room that there is for them: none, and 8,192 doubled some times
+abbrev pub IsFull : ℕ → Type 0
+IsFull n = (n ≡ 0) ⊎ ((k : ℕ) × (n ≡ 8192 * 2 ^ k))
+
+-- there is room for so many bytes: doubled each time, up to one more than the limit
+abbrev pub IsRoom : ℕ → Type 0
+IsRoom n = IsFull n ⊎ (n ≡ 1048577)
+
+-- so many bytes are taken where reading ends with this fault, or with none: one more than the limit exactly where there
+-- are too many, and want of memory comes only where the room is full
+abbrev pub EndsAt : Option ReadFault → ℕ → Type 0
+EndsAt None n = n ≤ 1048576
+EndsAt (Some read_fault.Read) n = n ≤ 1048576
+EndsAt (Some read_fault.Limit) n = n ≡ 1048577
+EndsAt (Some read_fault.Memory) n = (n ≤ 1048576) × IsFull n
+
+-- reading takes bytes off the front of what the reader has, where that is known, and ends with this fault, or with none
+abbrev pub TakesBytes : Option (List ℕ) → Option (List ℕ) → Option ReadFault → Type 0
+TakesBytes old new fault = (bytes : List ℕ) × Consumes old new bytes × EndsAt fault (length bytes)

@@ -1,0 +1,4 @@
+//! A whole text, read from any reader.
+#![tactic(auto)]
+
+pub mod text;

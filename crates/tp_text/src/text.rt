@@ -1,0 +1,156 @@
+//! A whole text, read within the limit.
+ghost use Rattle.std.specs.Prelude.{◌≡◌, ◌≢◌, ◌+◌, ◌<◌, ◌≤◌, Err, IfErr, IfOk, IfSome, OnErr, OnOk, drop, length, take, vec_len};
+ghost use Rattle.std.specs.Result.{result_err};
+ghost use Rattle.std.specs.Io.KnownBytes.{Consumes, IsAtEnd, Keeps};
+ghost use Rattle.tp_text.specs.declared.text.ReadFault.TheVariants as read_fault;
+ghost use Rattle.tp_text.specs.Reading.{IsFull, IsRoom, TakesBytes};
+
+use std::alloc::{AllocError, Global};
+use std::io::{ErrorKind, Read};
+use thiserror::Error;
+use tp_refusal::limit::TEXT_LIMIT;
+
+/// How many bytes are asked for at first.
+const FIRST_READ: usize = 8_192;
+
+/// Why a text was not read.
+#[derive(Clone, Copy, Debug, PartialEq, Eq, Hash, Error)]
+pub enum ReadFault {
+    /// 2 Read: the reader answered an error.
+    #[error("the text could not be read")]
+    Read,
+    /// 15 Limit: the text has more than 1,048,576 bytes.
+    #[error("the text has more than {TEXT_LIMIT} bytes")]
+    Limit,
+    /// 50 Memory: an allocation was refused.
+    #[error("out of memory")]
+    Memory,
+}
+
+/// Reads all that the reader has, and at most 1,048,577 bytes of it.
+///
+/// 2 `Read` where the reader answers an error, whatever its kind; an interrupted read is tried
+/// again. 15 `Limit` where there are more than 1,048,576 bytes, as soon as one more is read. 50
+/// `Memory` where an allocation was refused. Whichever comes first is answered; what was read isn't
+/// put back.
+pub fn read_text<R: Read>(alloc: Global, reader: &mut R) -> Result<Vec<u8>, ReadFault>
+    ensures whole { IfOk result (λ text.
+        IfSome (R.remaining reader.old) (λ all. text.items ≡ all)) }
+    ensures end { OnOk result (IsAtEnd (R.remaining reader.new)) }
+    ensures short { IfOk result (λ text. length text.items ≤ 1048576) }
+    ensures long { result ≡ Err read_fault.Limit
+        → IfSome (R.remaining reader.old) (λ all. 1048576 < length all) }
+    ensures taken { TakesBytes
+        (R.remaining reader.old) (R.remaining reader.new) (result_err result) }
+{
+    let mut text = Vec::new(alloc);
+    let mut size = 0;
+    while size <= TEXT_LIMIT {
+        match read_more(reader, &mut text, size) {
+            Ok(0) => {
+                text.truncate(size);
+                return Ok(text);
+            }
+            Ok(count) => size += count,
+            Err(fault) => return Err(fault),
+        }
+    }
+    Err(ReadFault::Limit)
+}
+
+/// One read, behind the first bytes of a text, `size` of them. It answers how many more there are
+/// then, and 0 only at the end.
+fn read_more<R: Read>(reader: &mut R, text: &mut Vec<u8>, size: usize) -> Result<usize, ReadFault>
+    requires size { size ≤ 1048576 }
+    requires within { size ≤ vec_len text.old }
+    requires most { vec_len text.old ≤ 1048577 }
+    requires doubled { IsRoom (vec_len text.old) }
+    ensures front { take size text.new.items ≡ take size text.old.items }
+    ensures within { IfOk result (λ count. size + count ≤ vec_len text.new) }
+    ensures most { vec_len text.new ≤ 1048577 }
+    ensures doubled { IsRoom (vec_len text.new) }
+    ensures more { IfOk result (λ count. Consumes
+        (R.remaining reader.old)
+        (R.remaining reader.new)
+        (take count (drop size text.new.items))) }
+    ensures end { IfOk result (λ count. count ≡ 0 → IsAtEnd (R.remaining reader.new)) }
+    ensures kept { OnErr result (Keeps (R.remaining reader.old) (R.remaining reader.new)) }
+    ensures fault { IfErr result (λ fault. fault ≢ ReadFault.Limit) }
+    ensures full { IfErr result (λ fault. fault ≡ ReadFault.Memory → IsFull size) }
+{
+    if make_room(text, size).is_err() {
+        return Err(ReadFault::Memory);
+    }
+    read_behind(reader, text.as_mut_slice(), size)
+}
+
+/// One read into what is behind the first `size` bytes, tried again where it is interrupted.
+fn read_behind<R: Read>(reader: &mut R, text: &mut [u8], size: usize) -> Result<usize, ReadFault>
+    requires { size < length text.old }
+    ensures front { take size text.new ≡ take size text.old }
+    ensures within { IfOk result (λ count. size + count ≤ length text.new) }
+    ensures more { IfOk result (λ count. Consumes
+        (R.remaining reader.old)
+        (R.remaining reader.new)
+        (take count (drop size text.new))) }
+    ensures end { IfOk result (λ count. count ≡ 0 → IsAtEnd (R.remaining reader.new)) }
+    ensures kept { OnErr result (Keeps (R.remaining reader.old) (R.remaining reader.new)) }
+    ensures fault { IfErr result (λ fault. fault ≡ ReadFault.Read) }
+{
+    read_again(reader, &mut text[size..])
+}
+
+/// One read, tried again where it is interrupted.
+fn read_again<R: Read>(reader: &mut R, part: &mut [u8]) -> Result<usize, ReadFault>
+    requires { 0 < length part.old }
+    ensures within { IfOk result (λ count. count ≤ length part.new) }
+    ensures more { IfOk result (λ count.
+        Consumes (R.remaining reader.old) (R.remaining reader.new) (take count part.new)) }
+    ensures end { IfOk result (λ count. count ≡ 0 → IsAtEnd (R.remaining reader.new)) }
+    ensures kept { OnErr result (Keeps (R.remaining reader.old) (R.remaining reader.new)) }
+    ensures fault { IfErr result (λ fault. fault ≡ ReadFault.Read) }
+{
+    for _ in 0..u64::MAX {
+        match reader.read(part) {
+            Ok(count) => return Ok(count),
+            Err(error) if error.kind() == ErrorKind::Interrupted => {}
+            Err(_) => return Err(ReadFault::Read),
+        }
+    }
+    Err(ReadFault::Read)
+}
+
+/// Makes room for a byte behind those of this number: where there is none, twice as much as there
+/// was, and never more than one byte beyond the limit.
+fn make_room(text: &mut Vec<u8>, size: usize) -> Result<(), AllocError>
+    requires size { size ≤ 1048576 }
+    requires within { size ≤ vec_len text.old }
+    requires most { vec_len text.old ≤ 1048577 }
+    requires doubled { IsRoom (vec_len text.old) }
+    ensures front { take size text.new.items ≡ take size text.old.items }
+    ensures within { size ≤ vec_len text.new }
+    ensures room { OnOk result (size < vec_len text.new) }
+    ensures full { OnErr result (IsFull size) }
+    ensures most { vec_len text.new ≤ 1048577 }
+    ensures doubled { IsRoom (vec_len text.new) }
+{
+    if size < text.len() {
+        return Ok(());
+    }
+    text.resize(next_room(size), 0)
+}
+
+/// The room behind a room that is full: twice as much, and never more than one byte beyond the
+/// limit.
+fn next_room(size: usize) -> usize
+    requires size { size ≤ 1048576 }
+    requires doubled { IsRoom size }
+    ensures more { size < result }
+    ensures most { result ≤ 1048577 }
+    ensures doubled { IsRoom result }
+{
+    if size == 0 {
+        return FIRST_READ;
+    }
+    (size * 2).min(TEXT_LIMIT + 1)
+}
