@@ -91,7 +91,7 @@ refuse_each_of_test() { # TESTS NAME
 # so that one which is given another name is missed here.
 declare -A least_refusing=(
     [tp_inbox]=3
-    [tp_tests]=6
+    [tp_tests]=7
 )
 
 refused_memory_in_tests_of() { # CRATE

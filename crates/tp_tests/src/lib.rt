@@ -4,6 +4,8 @@
 #![tactic(auto)]
 
 #[cfg(test)]
+mod asking;
+#[cfg(test)]
 mod configurations;
 #[cfg(test)]
 mod lists;
@@ -13,6 +15,8 @@ mod making;
 mod partners;
 #[cfg(test)]
 mod ports;
+#[cfg(test)]
+mod showing;
 #[cfg(test)]
 mod templates;
 #[cfg(test)]

@@ -14,38 +14,55 @@ use tp_refusal::memory::Memory;
 use tp_value::items::Items;
 use tp_value::types::Ty;
 
+/// A port type that receives and sends these types.
+pub fn port_type(alloc: Global, ins: &[Ty], outs: &[Ty]) -> Result<PortType, Memory> {
+    let ins = TypeList::from_items(alloc, Items::from_slice(alloc, ins)?)?;
+    let outs = TypeList::from_items(alloc, Items::from_slice(alloc, outs)?)?;
+    Ok(PortType { ins, outs })
+}
+
+/// Adds ports of these names, each of which receives and sends these types.
+fn add_ports(
+    alloc: Global,
+    ports: &mut IndexMap<String, PortType>,
+    names: &[&str],
+    ins: &[Ty],
+    outs: &[Ty],
+) -> Result<(), Memory> {
+    for name in names {
+        let name = String::from_str(alloc, *name)?;
+        ports.insert(name, port_type(alloc, ins, outs)?)?;
+    }
+    Ok(())
+}
+
 /// A component type with ports of these names, each of which receives and sends these types.
 fn comp_type(alloc: Global, names: &[&str], ins: &[Ty], outs: &[Ty]) -> Result<CompType, Memory>
     ensures { IfOk result (λ t. length t.ports.entries ≤ PORT_LIMIT) }
 {
     let mut ports = IndexMap::new(alloc);
-    for name in names {
-        let port_type = PortType {
-            ins: TypeList::from_items(alloc, Items::from_slice(alloc, ins)?)?,
-            outs: TypeList::from_items(alloc, Items::from_slice(alloc, outs)?)?,
-        };
-        ports.insert(String::from_str(alloc, *name)?, port_type)?;
+    let added = add_ports(alloc, &mut ports, names, ins, outs);
+    if added.is_ok() && ports.len() <= PORT_LIMIT {
+        return Ok(CompType { ports });
     }
-    if ports.len() > PORT_LIMIT {
-        return Err(Memory);
-    }
-    Ok(CompType { ports })
+    drop(ports);
+    Err(Memory)
 }
 
 /// No component. Type 0 has the ports p and q, which take integers both ways. Type 1 has the port
 /// s, which receives and sends these types.
 pub fn empty(alloc: Global, ins: &[Ty], outs: &[Ty]) -> Result<Config, Memory> {
     let both = [Ty::Integer];
-    let first = comp_type(
-        alloc,
-        ["p", "q"].as_slice(),
-        both.as_slice(),
-        both.as_slice(),
-    )?;
-    let second = comp_type(alloc, ["s"].as_slice(), ins, outs)?;
-    let mut types = Vec::new(alloc);
-    types.push(first)?;
-    types.push(second)?;
+    let both = both.as_slice();
+    let first = comp_type(alloc, ["p", "q"].as_slice(), both, both)?;
+    let second = match comp_type(alloc, ["s"].as_slice(), ins, outs) {
+        Ok(second) => second,
+        Err(Memory) => {
+            drop(first);
+            return Err(Memory);
+        }
+    };
+    let types = Vec::from_array(alloc, [first, second])?;
     Ok(Config::new(alloc, types))
 }
 
@@ -92,16 +109,27 @@ pub fn map(config: &mut Config, p: (&str, &str), q: (&str, &str)) -> Option<Resu
     Some(config.map(p, q))
 }
 
+/// Creates components of type 0 with these names.
+fn add_each(alloc: Global, config: &mut Config, names: &[&str]) -> Result<(), CreateFault> {
+    for name in names {
+        add(alloc, config, *name, 0, Role::Test)?;
+    }
+    Ok(())
+}
+
 /// The components mtc, a, b and c of type 0, and none of their ports connected.
 pub fn four(alloc: Global) -> Result<Config, CreateFault> {
     let both = [Ty::Integer];
     let Ok(mut config) = empty(alloc, both.as_slice(), both.as_slice()) else {
         return Err(CreateFault::Memory);
     };
-    for name in ["mtc", "a", "b", "c"] {
-        add(alloc, &mut config, name, 0, Role::Test)?;
+    match add_each(alloc, &mut config, ["mtc", "a", "b", "c"].as_slice()) {
+        Ok(()) => Ok(config),
+        Err(fault) => {
+            drop(config);
+            Err(fault)
+        }
     }
-    Ok(config)
 }
 
 /// The port of this number of the component of this number.

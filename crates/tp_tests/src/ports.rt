@@ -1,16 +1,16 @@
 //! The calls of a port's queue on their happy paths, with the values of the standard's rules, and
 //! readers and writers that fail.
+use crate::showing::{debug, says};
 use crate::writers::Short;
 use std::io;
 use std::io::{ErrorKind, Read};
 use std::process::Abort;
-use std::test::Fail;
 use tp_port::pattern::Pattern;
 use tp_port::replay::{QueueFault, replay, replay_text};
-use tp_port::text::{ReadFault, read_text};
-use tp_queue::event::{Env, Event, Status, TriggerAnswer};
+use tp_queue::event::{Env, Event};
 use tp_queue::queue::PortQueue;
 use tp_refusal::limit::TEXT_LIMIT;
+use tp_text::text::{ReadFault, read_text};
 
 fn env(sender: u32, number: u64, msg: i64) -> Env<i64> {
     Env {
@@ -21,59 +21,140 @@ fn env(sender: u32, number: u64, msg: i64) -> Env<i64> {
 }
 
 /// A queue with the messages 1 from sender 0 and 2 from sender 1.
-fn two<R: AllocGlobal + Abort>(rt: &R) -> Result<PortQueue<i64>, Fail> {
+fn two<R: AllocGlobal + Abort>(rt: &R) -> PortQueue<i64> {
     let mut queue = PortQueue::new(rt.alloc());
     assert!(rt; queue.arrive(env(0, 0, 1)).is_ok());
     assert!(rt; queue.arrive(env(1, 1, 2)).is_ok());
-    Ok(queue)
+    queue
+}
+
+/// One call of a queue.
+enum Call {
+    /// A message of sender 0, by its number and itself.
+    Arrive(u64, i64),
+    Receive(Pattern, Option<u32>),
+    Check(Pattern, Option<u32>),
+    Trigger(Pattern, Option<u32>),
+    Clear,
+    Start,
+    Stop,
+    Halt,
+}
+
+/// What a call answers, as it is printed.
+fn answer<R: AllocGlobal + Abort>(rt: &R, queue: &mut PortQueue<i64>, call: &Call) -> String {
+    match *call {
+        Call::Arrive(number, msg) => debug(rt, queue.arrive(env(0, number, msg))),
+        Call::Receive(wanted, from) => debug(rt, queue.receive(&wanted, from)),
+        Call::Check(wanted, from) => debug(rt, queue.check(&wanted, from)),
+        Call::Trigger(wanted, from) => debug(rt, queue.trigger(&wanted, from)),
+        Call::Clear => debug(rt, queue.clear()),
+        Call::Start => debug(rt, queue.start()),
+        Call::Stop => debug(rt, queue.stop()),
+        Call::Halt => debug(rt, queue.halt()),
+    }
+}
+
+/// A port's status, how many of its messages are ahead of the mark, how many there are, and whether
+/// it may send.
+fn state<R: AllocGlobal + Abort>(rt: &R, queue: &PortQueue<i64>) -> String {
+    let counts = (queue.ahead(), queue.queued_len());
+    debug(rt, (queue.status(), counts, queue.may_send()))
+}
+
+/// Carries out the calls of a table: beside each stand its answer, and the state behind it.
+fn carries_out<R: AllocGlobal + Abort>(
+    rt: &R,
+    queue: &mut PortQueue<i64>,
+    calls: &[(Call, &str, &str)],
+) {
+    for (place, (call, wanted, behind)) in calls.iter().enumerate() {
+        says(rt, place, answer(rt, queue, call), *wanted);
+        says(rt, place, state(rt, queue), *behind);
+    }
+}
+
+/// A queue of `two`, at which the calls of a table were carried out.
+fn answered<R: AllocGlobal + Abort>(rt: &R, calls: &[(Call, &str, &str)]) -> PortQueue<i64> {
+    let mut queue = two(rt);
+    carries_out(rt, &mut queue, calls);
+    queue
 }
 
 #[test]
-fn receives_in_order_and_only_what_matches(rt: HostRuntime) -> Result<(), Fail> {
-    let mut queue = two(&rt)?;
-    assert_eq!(rt; queue.receive(&Pattern::Number(2), None)?, None);
-    assert_eq!(rt; queue.receive(&Pattern::Any, Some(1))?, None);
-    assert_eq!(rt; queue.receive(&Pattern::Any, Some(0))?, Some(env(0, 0, 1)));
-    assert_eq!(rt;
-        queue.receive(&Pattern::Number(2), None)?,
-        Some(env(1, 1, 2))
-    );
-    assert_eq!(rt; queue.receive(&Pattern::Any, None)?, None);
-    assert_eq!(rt; queue.events().len(), 4);
-    Ok(())
+fn receives_in_order_and_only_what_matches(rt: HostRuntime) {
+    const CALLS: &[(Call, &str, &str)] = &[
+        (
+            Call::Receive(Pattern::Number(2), None),
+            "Ok(None)",
+            "(Started, (2, 2), true)",
+        ),
+        (
+            Call::Receive(Pattern::Any, Some(1)),
+            "Ok(None)",
+            "(Started, (2, 2), true)",
+        ),
+        (
+            Call::Receive(Pattern::Any, Some(0)),
+            "Ok(Some(Env { sender: 0, number: 0, msg: 1 }))",
+            "(Started, (1, 1), true)",
+        ),
+        (
+            Call::Receive(Pattern::Number(2), None),
+            "Ok(Some(Env { sender: 1, number: 1, msg: 2 }))",
+            "(Started, (0, 0), true)",
+        ),
+        (
+            Call::Receive(Pattern::Any, None),
+            "Ok(None)",
+            "(Started, (0, 0), true)",
+        ),
+    ];
+    let queue = answered(&rt, CALLS);
+    assert!(rt; queue.events().len() == 4);
+    drop(queue);
+}
+
+/// The top, and what is queued at the places 0 to 2.
+fn queued<R: AllocGlobal + Abort>(rt: &R, queue: &PortQueue<i64>) -> String {
+    let places = (queue.queued_at(0), queue.queued_at(1), queue.queued_at(2));
+    debug(rt, (queue.top(), places))
+}
+
+/// What that is of `two`.
+const QUEUED: &str = "(Some(Env { sender: 0, number: 0, msg: 1 }), \
+    (Some(Env { sender: 0, number: 0, msg: 1 }), \
+    Some(Env { sender: 1, number: 1, msg: 2 }), None))";
+
+#[test]
+fn checks_without_taking(rt: HostRuntime) {
+    const CALLS: &[(Call, &str, &str)] = &[
+        (
+            Call::Check(Pattern::Number(2), None),
+            "Ok(None)",
+            "(Started, (2, 2), true)",
+        ),
+        (
+            Call::Check(Pattern::Number(1), Some(0)),
+            "Ok(Some(Env { sender: 0, number: 0, msg: 1 }))",
+            "(Started, (2, 2), true)",
+        ),
+    ];
+    let queue = answered(&rt, CALLS);
+    assert!(rt; queue.events().len() == 3);
+    says(&rt, 2, queued(&rt, &queue), QUEUED);
+    drop(queue);
 }
 
 #[test]
-fn checks_without_taking(rt: HostRuntime) -> Result<(), Fail> {
-    let mut queue = two(&rt)?;
-    assert!(rt; queue.check(&Pattern::Number(2), None)?.is_none());
-    assert!(rt;
-        queue
-            .check(&Pattern::Number(1), Some(0))?
-            .is_some_and(|found| *found == env(0, 0, 1))
-    );
-    assert_eq!(rt; queue.queued_len(), 2);
-    assert!(rt;
-        queue
-            .queued_at(0)
-            .is_some_and(|first| *first == env(0, 0, 1))
-    );
-    assert!(rt;
-        queue
-            .queued_at(1)
-            .is_some_and(|second| *second == env(1, 1, 2))
-    );
-    assert!(rt; queue.queued_at(2).is_none());
-    Ok(())
-}
-
-#[test]
-fn looks_at_the_top(rt: HostRuntime) -> Result<(), Fail> {
-    let mut queue = two(&rt)?;
-    assert!(rt; queue.top().is_some_and(|top| *top == env(0, 0, 1)));
-    queue.stop()?;
-    assert!(rt; queue.top().is_none());
-    Ok(())
+fn looks_at_the_top(rt: HostRuntime) {
+    const STOPPED: &str = "(None, (Some(Env { sender: 0, number: 0, msg: 1 }), \
+        Some(Env { sender: 1, number: 1, msg: 2 }), None))";
+    let mut queue = two(&rt);
+    says(&rt, 0, queued(&rt, &queue), QUEUED);
+    assert!(rt; queue.stop().is_ok());
+    says(&rt, 1, queued(&rt, &queue), STOPPED);
+    drop(queue);
 }
 
 #[test]
@@ -85,57 +166,81 @@ fn satisfies_by_message_and_sender(rt: HostRuntime) {
 }
 
 #[test]
-fn triggers_take_or_discard(rt: HostRuntime) -> Result<(), Fail> {
-    let mut queue = two(&rt)?;
-    assert_eq!(rt;
-        queue.trigger(&Pattern::Any, Some(1))?,
-        TriggerAnswer::Dropped(env(0, 0, 1))
-    );
-    assert_eq!(rt;
-        queue.trigger(&Pattern::Number(2), Some(1))?,
-        TriggerAnswer::Took(env(1, 1, 2))
-    );
-    assert_eq!(rt; queue.trigger(&Pattern::Any, None)?, TriggerAnswer::Nothing);
-    Ok(())
+fn triggers_take_or_discard(rt: HostRuntime) {
+    const CALLS: &[(Call, &str, &str)] = &[
+        (
+            Call::Trigger(Pattern::Any, Some(1)),
+            "Ok(Dropped(Env { sender: 0, number: 0, msg: 1 }))",
+            "(Started, (1, 1), true)",
+        ),
+        (
+            Call::Trigger(Pattern::Number(2), Some(1)),
+            "Ok(Took(Env { sender: 1, number: 1, msg: 2 }))",
+            "(Started, (0, 0), true)",
+        ),
+        (
+            Call::Trigger(Pattern::Any, None),
+            "Ok(Nothing)",
+            "(Started, (0, 0), true)",
+        ),
+    ];
+    let queue = answered(&rt, CALLS);
+    assert!(rt; queue.events().len() == 4);
+    drop(queue);
 }
 
 #[test]
-fn halts_behind_what_is_queued(rt: HostRuntime) -> Result<(), Fail> {
-    let mut queue = two(&rt)?;
-    assert!(rt; queue.may_send());
-    assert_eq!(rt; queue.ahead(), 2);
-    assert_eq!(rt; queue.halt()?, Some(2));
-    assert!(rt; queue.arrive(env(0, 2, 3)).is_ok());
-    assert!(rt; !queue.may_send());
-    assert_eq!(rt; queue.status(), Status::Halted);
-    assert_eq!(rt; queue.receive(&Pattern::Any, None)?, Some(env(0, 0, 1)));
-    assert_eq!(rt; queue.ahead(), 1);
-    assert_eq!(rt; queue.receive(&Pattern::Any, None)?, Some(env(1, 1, 2)));
-    assert_eq!(rt; queue.receive(&Pattern::Any, None)?, None);
-    assert_eq!(rt; queue.trigger(&Pattern::Any, None)?, TriggerAnswer::Nothing);
-    assert_eq!(rt; queue.halt()?, None);
-    assert_eq!(rt; queue.queued_len(), 1);
-    assert_eq!(rt; queue.start()?, 1);
-    assert_eq!(rt; queue.status(), Status::Started);
-    assert_eq!(rt; queue.queued_len(), 0);
-    Ok(())
+fn halts_behind_what_is_queued(rt: HostRuntime) {
+    const CALLS: &[(Call, &str, &str)] = &[
+        (Call::Halt, "Ok(Some(2))", "(Halted, (2, 2), false)"),
+        (Call::Arrive(2, 3), "Ok(())", "(Halted, (2, 3), false)"),
+        (
+            Call::Receive(Pattern::Any, None),
+            "Ok(Some(Env { sender: 0, number: 0, msg: 1 }))",
+            "(Halted, (1, 2), false)",
+        ),
+        (
+            Call::Receive(Pattern::Any, None),
+            "Ok(Some(Env { sender: 1, number: 1, msg: 2 }))",
+            "(Halted, (0, 1), false)",
+        ),
+        (
+            Call::Receive(Pattern::Any, None),
+            "Ok(None)",
+            "(Halted, (0, 1), false)",
+        ),
+        (
+            Call::Trigger(Pattern::Any, None),
+            "Ok(Nothing)",
+            "(Halted, (0, 1), false)",
+        ),
+        (Call::Halt, "Ok(None)", "(Halted, (0, 1), false)"),
+        (Call::Start, "Ok(1)", "(Started, (0, 0), true)"),
+    ];
+    let queue = answered(&rt, CALLS);
+    assert!(rt; queue.events().len() == 8);
+    drop(queue);
 }
 
 #[test]
-fn clears_both_sides_and_stays_halted(rt: HostRuntime) -> Result<(), Fail> {
-    let mut queue = two(&rt)?;
-    assert_eq!(rt; queue.halt()?, Some(2));
-    assert!(rt; queue.arrive(env(0, 2, 3)).is_ok());
-    assert_eq!(rt; queue.clear()?, 3);
-    assert_eq!(rt; queue.status(), Status::Halted);
-    assert!(rt; queue.arrive(env(0, 3, 4)).is_ok());
-    assert_eq!(rt; queue.receive(&Pattern::Any, None)?, None);
-    queue.stop()?;
-    assert_eq!(rt; queue.status(), Status::Stopped);
-    assert_eq!(rt; queue.halt()?, None);
-    assert_eq!(rt; queue.status(), Status::Stopped);
+fn clears_both_sides_and_stays_halted(rt: HostRuntime) {
+    const CALLS: &[(Call, &str, &str)] = &[
+        (Call::Halt, "Ok(Some(2))", "(Halted, (2, 2), false)"),
+        (Call::Arrive(2, 3), "Ok(())", "(Halted, (2, 3), false)"),
+        (Call::Clear, "Ok(3)", "(Halted, (0, 0), false)"),
+        (Call::Arrive(3, 4), "Ok(())", "(Halted, (0, 1), false)"),
+        (
+            Call::Receive(Pattern::Any, None),
+            "Ok(None)",
+            "(Halted, (0, 1), false)",
+        ),
+        (Call::Stop, "Ok(())", "(Stopped, (0, 1), false)"),
+        (Call::Halt, "Ok(None)", "(Stopped, (0, 1), false)"),
+    ];
+    let queue = answered(&rt, CALLS);
+    assert!(rt; queue.events().len() == 8);
     assert!(rt; matches!(queue.events().last(), Some(Event::Halted)));
-    Ok(())
+    drop(queue);
 }
 
 /// Gives one byte a read, and an error of this kind in place of one of the reads.
@@ -162,71 +267,90 @@ impl Read for OneByOne<'_> {
     }
 }
 
-#[test]
-fn failed_reads_are_told_and_interrupted_ones_repeated(rt: HostRuntime) -> Result<(), Fail> {
-    for reads_left in 0..6 {
-        let mut failing = OneByOne {
-            text: b"halt\n".as_slice(),
-            reads_left,
-            kind: ErrorKind::PermissionDenied,
-        };
-        let mut out = Vec::new(rt.alloc());
-        assert_eq!(rt;
-            replay(rt.alloc(), &mut failing, &mut out),
-            Err(QueueFault::Read)
-        );
-        assert_eq!(rt; out.len(), 0);
-        let mut interrupted = OneByOne {
-            text: b"halt\n".as_slice(),
-            reads_left,
-            kind: ErrorKind::Interrupted,
-        };
-        let text = read_text(rt.alloc(), &mut interrupted)?;
-        assert_eq!(rt; text.as_slice(), b"halt\n".as_slice());
-    }
-    Ok(())
-}
-
-#[test]
-fn want_of_memory_of_the_reader_is_a_failed_read(rt: HostRuntime) -> Result<(), Fail> {
-    let mut failing = OneByOne {
+/// A reader of the line `halt`, with an error of this kind in place of one of the reads.
+fn halt_line(reads_left: u32, kind: ErrorKind) -> OneByOne<'static> {
+    OneByOne {
         text: b"halt\n".as_slice(),
-        reads_left: 3,
-        kind: ErrorKind::OutOfMemory,
-    };
-    let refused = read_text(rt.alloc(), &mut failing);
-    assert!(rt; refused.is_err_and(|fault| fault == ReadFault::Read));
-    Ok(())
-}
-
-#[test]
-fn failed_writes_are_told(rt: HostRuntime) -> Result<(), Fail> {
-    for room in 0..15 {
-        let mut short = Short { room };
-        let answer = replay_text(rt.alloc(), b"stop\n".as_slice(), &mut short);
-        assert_eq!(rt; answer, Err(QueueFault::Write));
+        reads_left,
+        kind,
     }
-    let mut enough = Short { room: 15 };
-    let answer = replay_text(rt.alloc(), b"stop\n".as_slice(), &mut enough);
-    assert_eq!(rt; answer, Ok(()));
-    Ok(())
+}
+
+/// What a replay of the line answers, and how much it writes.
+fn replayed_line<R: AllocGlobal>(
+    rt: &R,
+    mut line: OneByOne<'_>,
+) -> (Result<(), QueueFault>, usize) {
+    let mut out = Vec::new(rt.alloc());
+    let answer = replay(rt.alloc(), &mut line, &mut out);
+    (answer, out.len())
+}
+
+/// Whether what is read is the line.
+fn read_line<R: AllocGlobal>(rt: &R, mut line: OneByOne<'_>) -> Result<bool, ReadFault> {
+    match read_text(rt.alloc(), &mut line) {
+        Ok(text) => Ok(text.as_slice() == b"halt\n".as_slice()),
+        Err(fault) => Err(fault),
+    }
 }
 
 #[test]
-fn the_limit_is_allowed_and_one_more_is_not(rt: HostRuntime) -> Result<(), Fail> {
-    let text = vec![in rt.alloc(); b'\n'; TEXT_LIMIT]?;
-    let whole = read_text(rt.alloc(), &mut text.as_slice())?;
-    assert_eq!(rt; whole.len(), TEXT_LIMIT);
-    let more = vec![in rt.alloc(); b'\n'; TEXT_LIMIT + 1]?;
-    let mut rest = more.as_slice();
-    let refused = read_text(rt.alloc(), &mut rest);
-    assert!(rt; refused.is_err_and(|fault| fault == ReadFault::Limit));
-    assert_eq!(rt; rest.len(), 0);
+fn failed_reads_are_told_and_interrupted_ones_repeated(rt: HostRuntime) {
+    for reads_left in 0..6 {
+        let failing = halt_line(reads_left, ErrorKind::PermissionDenied);
+        assert!(rt; replayed_line(&rt, failing) == (Err(QueueFault::Read), 0));
+        let interrupted = halt_line(reads_left, ErrorKind::Interrupted);
+        assert!(rt; read_line(&rt, interrupted) == Ok(true));
+    }
+}
+
+#[test]
+fn want_of_memory_of_the_reader_is_a_failed_read(rt: HostRuntime) {
+    let failing = halt_line(3, ErrorKind::OutOfMemory);
+    assert!(rt; read_line(&rt, failing) == Err(ReadFault::Read));
+}
+
+/// What a replay of the line `stop` answers at a writer with this room.
+fn replayed<R: AllocGlobal>(rt: &R, room: usize) -> Result<(), QueueFault> {
+    let mut short = Short { room };
+    replay_text(rt.alloc(), b"stop\n".as_slice(), &mut short)
+}
+
+#[test]
+fn failed_writes_are_told(rt: HostRuntime) {
+    for room in 0..15 {
+        assert!(rt; replayed(&rt, room) == Err(QueueFault::Write));
+    }
+    assert!(rt; replayed(&rt, 15) == Ok(()));
+}
+
+/// So many line ends.
+fn line_ends<R: AllocGlobal + Abort>(rt: &R, count: usize) -> Vec<u8> {
+    (vec![in rt.alloc(); b'\n'; count]).expect(rt, "memory")
+}
+
+/// The length of what is read of these bytes, and how many are left of them.
+fn read_length<R: AllocGlobal>(rt: &R, text: &[u8]) -> (Result<usize, ReadFault>, usize) {
+    let mut rest = text;
+    match read_text(rt.alloc(), &mut rest) {
+        Ok(whole) => (Ok(whole.len()), rest.len()),
+        Err(fault) => (Err(fault), rest.len()),
+    }
+}
+
+/// What a replay of these bytes answers, and how much it writes.
+fn replayed_bytes<R: AllocGlobal>(rt: &R, text: &[u8]) -> (Result<(), QueueFault>, usize) {
     let mut out = Vec::new(rt.alloc());
-    let answer = replay_text(rt.alloc(), more.as_slice(), &mut out);
-    assert_eq!(rt; answer, Err(QueueFault::Limit));
-    let answer = replay_text(rt.alloc(), text.as_slice(), &mut out);
-    assert_eq!(rt; answer, Err(QueueFault::BadLine(1)));
-    assert_eq!(rt; out.len(), 0);
-    Ok(())
+    let answer = replay_text(rt.alloc(), text, &mut out);
+    (answer, out.len())
+}
+
+#[test]
+fn the_limit_is_allowed_and_one_more_is_not(rt: HostRuntime) {
+    let text = line_ends(&rt, TEXT_LIMIT);
+    assert!(rt; read_length(&rt, text.as_slice()) == (Ok(TEXT_LIMIT), 0));
+    assert!(rt; replayed_bytes(&rt, text.as_slice()) == (Err(QueueFault::BadLine(1)), 0));
+    let more = line_ends(&rt, TEXT_LIMIT + 1);
+    assert!(rt; read_length(&rt, more.as_slice()) == (Err(ReadFault::Limit), 0));
+    assert!(rt; replayed_bytes(&rt, more.as_slice()) == (Err(QueueFault::Limit), 0));
 }

@@ -1,9 +1,9 @@
 //! Whether the definitions of templates say what the standard's rules do: which values they match,
 //! and which types they fit. Their copies.
+use crate::showing::{debug, says};
 use crate::values::{LEVELS, deep_value, record_and_list, records, text};
 use std::alloc::Global;
 use std::process::Abort;
-use std::test::Fail;
 use tp_refusal::memory::Memory;
 use tp_value::equal::are_equal;
 use tp_value::fitting::template_fits;
@@ -15,21 +15,32 @@ use tp_value::types::{Ty, Types};
 use tp_value::value::Value;
 
 /// A list of integers.
-fn integers(alloc: Global, numbers: &[i64]) -> Result<Value, Memory> {
-    let mut elements = Items::new(alloc);
+fn integers<R: AllocGlobal + Abort>(rt: &R, numbers: &[i64]) -> Value {
+    let mut elements = Items::new(rt.alloc());
     for number in numbers {
-        elements.push(Value::Int(*number))?;
+        assert!(rt; elements.push(Value::Int(*number)).is_ok());
     }
-    Ok(Value::List(Shared::new(alloc, elements)?))
+    Value::List(Shared::new(rt.alloc(), elements).expect(rt, "memory"))
+}
+
+/// Adds templates of integers.
+fn add_exactly(members: &mut Items<Template>, numbers: &[i64]) -> Result<(), Memory> {
+    for number in numbers {
+        members.push(Template::Exact(Value::Int(*number)))?;
+    }
+    Ok(())
 }
 
 /// Templates of integers.
 fn exactly(alloc: Global, numbers: &[i64]) -> Result<Items<Template>, Memory> {
     let mut members = Items::new(alloc);
-    for number in numbers {
-        members.push(Template::Exact(Value::Int(*number)))?;
+    match add_exactly(&mut members, numbers) {
+        Ok(()) => Ok(members),
+        Err(Memory) => {
+            drop(members);
+            Err(Memory)
+        }
     }
-    Ok(members)
 }
 
 /// A pattern, as it is written.
@@ -45,115 +56,118 @@ fn pattern(alloc: Global, written: &[u8]) -> Result<Template, Memory> {
     Ok(Template::Pattern(parts))
 }
 
-/// Asserts what `matches` answers, of the template and of its copy, which is printed as its
-/// original.
-fn asks<R: AllocGlobal + Abort>(
-    rt: &R,
-    template: &Template,
-    value: &Value,
-    wanted: bool,
-) -> Result<(), Fail> {
-    let twin = template.copy(rt.alloc())?;
-    let original = format!(in rt.alloc(); "{template:?}")?;
-    let copied = format!(in rt.alloc(); "{twin:?}")?;
-    assert_eq!(rt; original, copied);
+/// Asserts whether the value matches the template.
+fn asks_one<R: Abort>(rt: &R, template: &Template, value: &Value, wanted: bool) {
     assert!(rt;
         matches(template, value) == wanted,
-        "{original} on {value:?}"
+        "{template:?} on {value:?}"
     );
-    assert!(rt;
-        matches(&twin, value) == wanted,
-        "the copy of {original} on {value:?}"
-    );
-    Ok(())
+}
+
+/// The same of the template and of its copy, which is printed as its original.
+fn asks<R: AllocGlobal + Abort>(rt: &R, template: &Template, value: &Value, wanted: bool) {
+    let twin = template.copy(rt.alloc()).expect(rt, "memory");
+    let printed = debug(rt, template);
+    says(rt, 0, debug(rt, &twin), printed.as_str());
+    asks_one(rt, template, value, wanted);
+    asks_one(rt, &twin, value, wanted);
+    drop(twin);
+}
+
+/// Asserts which of these integers match the template.
+fn asks_integers<R: AllocGlobal + Abort>(rt: &R, template: Template, table: &[(i64, bool)]) {
+    for (number, wanted) in table {
+        asks(rt, &template, &Value::Int(*number), *wanted);
+    }
+    drop(template);
 }
 
 #[test]
-fn integers_match_lists_complements_and_ranges(rt: HostRuntime) -> Result<(), Fail> {
-    let list = Template::OneOf(exactly(rt.alloc(), [1, 5].as_slice())?);
-    let complement = Template::NoneOf(exactly(rt.alloc(), [1, 5].as_slice())?);
+fn integers_match_lists_complements_and_ranges(rt: HostRuntime) {
+    let list = exactly(rt.alloc(), &[1, 5]).expect(&rt, "memory");
+    asks_integers(
+        &rt,
+        Template::OneOf(list),
+        &[(5, true), (6, false), (i64::MIN, false)],
+    );
+    let list = exactly(rt.alloc(), &[1, 5]).expect(&rt, "memory");
+    asks_integers(
+        &rt,
+        Template::NoneOf(list),
+        &[(5, false), (6, true), (i64::MIN, true)],
+    );
     let range = Template::Range(None, Some(5));
-    for (number, is_member, within) in [
-        (5, true, true),
-        (6, false, false),
-        (i64::MIN, false, true),
-    ] {
-        asks(&rt, &list, &Value::Int(number), is_member)?;
-        asks(&rt, &complement, &Value::Int(number), !is_member)?;
-        asks(&rt, &range, &Value::Int(number), within)?;
-    }
-    Ok(())
+    asks_integers(&rt, range, &[(5, true), (6, false), (i64::MIN, true)]);
 }
 
 /// Asserts whether the charstring matches the pattern.
-fn asks_pattern<R: AllocGlobal + Abort>(
-    rt: &R,
-    written: &[u8],
-    characters: &[u8],
-    wanted: bool,
-) -> Result<(), Fail> {
-    let template = pattern(rt.alloc(), written)?;
-    let value = text(rt.alloc(), characters)?;
-    asks(rt, &template, &value, wanted)
+fn asks_pattern<R: AllocGlobal + Abort>(rt: &R, written: &str, characters: &str, wanted: bool) {
+    let template = pattern(rt.alloc(), written.as_bytes()).expect(rt, "memory");
+    let value = text(rt.alloc(), characters.as_bytes()).expect(rt, "memory");
+    asks(rt, &template, &value, wanted);
+    drop((template, value));
 }
 
 #[test]
-fn charstrings_match_patterns(rt: HostRuntime) -> Result<(), Fail> {
-    asks_pattern(&rt, b"a*b?", b"abbb", true)?;
-    asks_pattern(&rt, b"a*b?", b"ab", false)?;
-    asks_pattern(&rt, b"", b"", true)?;
-    asks_pattern(&rt, b"", b"a", false)?;
-    asks_pattern(&rt, b"?", b"", false)?;
-    asks_pattern(&rt, b"?", b"a", true)?;
-    asks_pattern(&rt, b"*", b"", true)
+fn charstrings_match_patterns(rt: HostRuntime) {
+    const TABLE: &[(&str, &str, bool)] = &[
+        ("a*b?", "abbb", true),
+        ("a*b?", "ab", false),
+        ("", "", true),
+        ("", "a", false),
+        ("?", "", false),
+        ("?", "a", true),
+        ("*", "", true),
+    ];
+    for (written, characters, wanted) in TABLE {
+        asks_pattern(&rt, *written, *characters, *wanted);
+    }
 }
 
-/// Asserts whether the list of integers matches these elements' templates.
-fn asks_list<R: AllocGlobal + Abort>(
-    rt: &R,
-    template: &Template,
-    numbers: &[i64],
-    wanted: bool,
-) -> Result<(), Fail> {
-    let value = integers(rt.alloc(), numbers)?;
-    asks(rt, template, &value, wanted)
+/// Asserts whether the list of integers matches the template of a list.
+fn asks_list<R: AllocGlobal + Abort>(rt: &R, template: &Template, numbers: &[i64], wanted: bool) {
+    let value = integers(rt, numbers);
+    asks(rt, template, &value, wanted);
+    drop(value);
 }
 
-/// `{first, second}`.
-fn pair(alloc: Global, first: Template, second: Template) -> Result<Template, Memory> {
-    let mut members = Items::new(alloc);
-    members.push(first)?;
-    members.push(second)?;
-    Ok(Template::List(members))
-}
-
-#[test]
-fn lists_match_any_number_of_elements(rt: HostRuntime) -> Result<(), Fail> {
-    let many = Template::List(Items::from_vec(vec![in rt.alloc(); Template::AnyOrNone]?));
-    asks_list(&rt, &many, [].as_slice(), true)?;
-    let any = Template::List(Items::from_vec(vec![in rt.alloc(); Template::Any]?));
-    asks_list(&rt, &any, [].as_slice(), false)?;
-    asks_list(&rt, &any, [4].as_slice(), true)
+/// Asserts which lists of integers match the list of these elements' templates.
+fn asks_lists<R: AllocGlobal + Abort>(rt: &R, members: Vec<Template>, table: &[(&[i64], bool)]) {
+    let template = Template::List(Items::from_vec(members));
+    for (numbers, wanted) in table {
+        asks_list(rt, &template, *numbers, *wanted);
+    }
+    drop(template);
 }
 
 #[test]
-fn lists_match_one_of_some_and_any_number(rt: HostRuntime) -> Result<(), Fail> {
-    let first = Template::OneOf(exactly(rt.alloc(), [1, 2].as_slice())?);
-    let template = pair(rt.alloc(), first, Template::AnyOrNone)?;
-    asks_list(&rt, &template, [2].as_slice(), true)?;
-    asks_list(&rt, &template, [3, 1].as_slice(), false)
+fn lists_match_any_number_of_elements(rt: HostRuntime) {
+    let many = Vec::from_array(rt.alloc(), [Template::AnyOrNone]).expect(&rt, "memory");
+    asks_lists(&rt, many, &[(&[], true)]);
+    let any = Vec::from_array(rt.alloc(), [Template::Any]).expect(&rt, "memory");
+    asks_lists(&rt, any, &[(&[], false), (&[4], true)]);
 }
 
 #[test]
-fn lists_match_from_their_end(rt: HostRuntime) -> Result<(), Fail> {
+fn lists_match_one_of_some_and_any_number(rt: HostRuntime) {
+    let first = Template::OneOf(exactly(rt.alloc(), &[1, 2]).expect(&rt, "memory"));
+    let members = Vec::from_array(rt.alloc(), [first, Template::AnyOrNone]);
+    asks_lists(
+        &rt,
+        members.expect(&rt, "memory"),
+        &[(&[2], true), (&[3, 1], false)],
+    );
+}
+
+#[test]
+fn lists_match_from_their_end(rt: HostRuntime) {
     let one = Template::Exact(Value::Int(1));
-    let mut members = Items::new(rt.alloc());
-    members.push(Template::AnyOrNone)?;
-    members.push(one)?;
-    members.push(Template::Any)?;
-    let template = Template::List(members);
-    asks_list(&rt, &template, [1, 1, 2].as_slice(), true)?;
-    asks_list(&rt, &template, [1].as_slice(), false)
+    let members = Vec::from_array(rt.alloc(), [Template::AnyOrNone, one, Template::Any]);
+    asks_lists(
+        &rt,
+        members.expect(&rt, "memory"),
+        &[(&[1, 1, 2], true), (&[1], false)],
+    );
 }
 
 /// Asserts whether the template fits the type.
@@ -164,67 +178,101 @@ fn asks_fit<R: Abort>(rt: &R, types: &Types, ty: Ty, template: &Template, wanted
     );
 }
 
+/// Asserts whether the template fits the types of a table.
+fn asks_fits<R: Abort>(rt: &R, types: &Types, template: Template, table: &[(Ty, bool)]) {
+    for (ty, wanted) in table {
+        asks_fit(rt, types, *ty, &template, *wanted);
+    }
+    drop(template);
+}
+
 #[test]
-fn plain_templates_fit_their_types(rt: HostRuntime) -> Result<(), Fail> {
-    let types = record_and_list(&rt)?;
+fn plain_templates_fit_their_types(rt: HostRuntime) {
+    let types = record_and_list(&rt);
     let one_value = Template::Range(Some(5), Some(5));
-    asks_fit(&rt, &types, Ty::Integer, &one_value, true);
-    asks_fit(&rt, &types, Ty::Boolean, &one_value, false);
-    asks_fit(
+    asks_fits(
         &rt,
         &types,
-        Ty::Integer,
-        &Template::Range(Some(6), Some(5)),
-        false,
+        one_value,
+        &[(Ty::Integer, true), (Ty::Boolean, false)],
     );
-    asks_fit(&rt, &types, Ty::Integer, &Template::AnyOrNone, false);
-    let list = Template::NoneOf(exactly(rt.alloc(), [1, 5].as_slice())?);
-    asks_fit(&rt, &types, Ty::Integer, &list, true);
-    asks_fit(&rt, &types, Ty::Charstring, &list, false);
-    let letters = pattern(rt.alloc(), b"a*")?;
-    asks_fit(&rt, &types, Ty::Charstring, &letters, true);
-    Ok(())
+    asks_fits(
+        &rt,
+        &types,
+        Template::Range(Some(6), Some(5)),
+        &[(Ty::Integer, false)],
+    );
+    asks_fits(&rt, &types, Template::AnyOrNone, &[(Ty::Integer, false)]);
+    let list = Template::NoneOf(exactly(rt.alloc(), &[1, 5]).expect(&rt, "memory"));
+    asks_fits(
+        &rt,
+        &types,
+        list,
+        &[(Ty::Integer, true), (Ty::Charstring, false)],
+    );
+    let letters = pattern(rt.alloc(), b"a*").expect(&rt, "memory");
+    asks_fits(&rt, &types, letters, &[(Ty::Charstring, true)]);
+    drop(types);
 }
 
 #[test]
-fn templates_in_braces_fit_their_types(rt: HostRuntime) -> Result<(), Fail> {
-    let types = record_and_list(&rt)?;
-    let exact = Template::Exact(records(rt.alloc())?);
-    asks_fit(&rt, &types, Ty::Named(1), &exact, true);
-    let list = pair(rt.alloc(), Template::AnyOrNone, Template::Any)?;
-    asks_fit(&rt, &types, Ty::Named(1), &list, true);
-    asks_fit(&rt, &types, Ty::Named(0), &list, false);
-    let mut fields = Items::new(rt.alloc());
-    fields.push(Template::Any)?;
-    asks_fit(&rt, &types, Ty::Named(0), &Template::Record(fields), false);
-    Ok(())
+fn templates_in_braces_fit_their_types(rt: HostRuntime) {
+    let types = record_and_list(&rt);
+    let exact = Template::Exact(records(rt.alloc()).expect(&rt, "memory"));
+    asks_fits(&rt, &types, exact, &[(Ty::Named(1), true)]);
+    let pair = Vec::from_array(rt.alloc(), [Template::AnyOrNone, Template::Any]);
+    let list = Template::List(Items::from_vec(pair.expect(&rt, "memory")));
+    asks_fits(
+        &rt,
+        &types,
+        list,
+        &[(Ty::Named(1), true), (Ty::Named(0), false)],
+    );
+    let one = Vec::from_array(rt.alloc(), [Template::Any]).expect(&rt, "memory");
+    let fields = Template::Record(Items::from_vec(one));
+    asks_fits(&rt, &types, fields, &[(Ty::Named(0), false)]);
+    drop(types);
+}
+
+/// The template of a list that holds this one alone.
+fn list_of<R: AllocGlobal + Abort>(rt: &R, template: Template) -> Template {
+    let members = Vec::from_array(rt.alloc(), [template]).expect(rt, "memory");
+    Template::List(Items::from_vec(members))
 }
 
 #[test]
-fn deep_templates_fit_the_stack(rt: HostRuntime) -> Result<(), Fail> {
-    let value = deep_value(rt.alloc())?;
+fn deep_templates_fit_the_stack(rt: HostRuntime) {
+    let value = deep_value(rt.alloc()).expect(&rt, "memory");
     let mut template = Template::List(Items::new(rt.alloc()));
     for _ in 0..LEVELS {
-        let mut members = Items::new(rt.alloc());
-        members.push(template)?;
-        template = Template::List(members);
+        template = list_of(&rt, template);
     }
-    let twin = template.copy(rt.alloc())?;
+    let twin = template.copy(rt.alloc()).expect(&rt, "memory");
     assert!(rt; matches(&twin, &value));
-    Ok(())
+    drop((value, template, twin));
+}
+
+/// Adds a template of each kind that holds others.
+fn add_kinds(alloc: Global, members: &mut Items<Template>) -> Result<(), Memory> {
+    members.push(Template::OneOf(exactly(alloc, &[1, 2])?))?;
+    members.push(Template::NoneOf(exactly(alloc, &[3])?))?;
+    members.push(pattern(alloc, b"a*b?")?)?;
+    members.push(Template::Exact(records(alloc)?))?;
+    members.push(Template::Record(exactly(alloc, &[4])?))?;
+    members.push(Template::AnyOrNone)?;
+    members.push(Template::Range(Some(-1), None))
 }
 
 /// A template with one of each kind that holds others.
 fn nested(alloc: Global) -> Result<Template, Memory> {
     let mut members = Items::new(alloc);
-    members.push(Template::OneOf(exactly(alloc, [1, 2].as_slice())?))?;
-    members.push(Template::NoneOf(exactly(alloc, [3].as_slice())?))?;
-    members.push(pattern(alloc, b"a*b?")?)?;
-    members.push(Template::Exact(records(alloc)?))?;
-    members.push(Template::Record(exactly(alloc, [4].as_slice())?))?;
-    members.push(Template::AnyOrNone)?;
-    members.push(Template::Range(Some(-1), None))?;
-    Ok(Template::List(members))
+    match add_kinds(alloc, &mut members) {
+        Ok(()) => Ok(Template::List(members)),
+        Err(Memory) => {
+            drop(members);
+            Err(Memory)
+        }
+    }
 }
 
 /// Whether both are printed alike.
@@ -234,33 +282,33 @@ fn print_alike(alloc: Global, one: &Template, other: &Template) -> Result<bool, 
     Ok(one == other)
 }
 
-/// A value and a template of some depth.
-fn both_deep(alloc: Global) -> Result<(Value, Template), Memory> {
-    let value = records(alloc)?;
-    let template = nested(alloc)?;
-    Ok((value, template))
+/// A value's copy takes no memory, so none can be refused it.
+#[test]
+fn refused_memory_leaves_copies_of_values_whole(rt: HostRuntime) {
+    let value = match records(rt.alloc()) {
+        Ok(value) => value,
+        Err(Memory) => records(rt.alloc()).expect(&rt, "memory"),
+    };
+    let twin = value.copy(rt.alloc()).expect(&rt, "no memory is needed");
+    assert!(rt; are_equal(&value, &twin));
+    drop((value, twin));
 }
 
 /// Right also where an allocation of it was refused, whichever: the gate refuses each in turn.
 #[test]
-fn refused_memory_leaves_copies_whole(rt: HostRuntime) -> Result<(), Fail> {
-    let (value, template) = match both_deep(rt.alloc()) {
-        Ok(made) => made,
-        Err(Memory) => both_deep(rt.alloc())?,
+fn refused_memory_leaves_copies_whole(rt: HostRuntime) {
+    let template = match nested(rt.alloc()) {
+        Ok(template) => template,
+        Err(Memory) => nested(rt.alloc()).expect(&rt, "memory"),
     };
-    // A value's copy takes no memory, so none can be refused it.
-    match value.copy(rt.alloc()) {
-        Ok(twin) => assert!(rt; are_equal(&value, &twin)),
-        Err(Memory) => assert!(rt; false),
-    }
     let twin = match template.copy(rt.alloc()) {
         Ok(twin) => twin,
-        Err(Memory) => template.copy(rt.alloc())?,
+        Err(Memory) => template.copy(rt.alloc()).expect(&rt, "memory"),
     };
     let alike = match print_alike(rt.alloc(), &template, &twin) {
         Ok(alike) => alike,
-        Err(Memory) => print_alike(rt.alloc(), &template, &twin)?,
+        Err(Memory) => print_alike(rt.alloc(), &template, &twin).expect(&rt, "memory"),
     };
     assert!(rt; alike);
-    Ok(())
+    drop((template, twin));
 }

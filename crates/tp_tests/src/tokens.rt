@@ -1,11 +1,10 @@
 //! The tokens of texts, and how faults are printed.
-use std::alloc::{AllocError, Global};
+use crate::showing::{display, says};
 use std::process::Abort;
-use std::test::Fail;
 use tp_refusal::memory::Memory;
 use tp_token::fault::ScriptFault;
 use tp_token::lexer::lex;
-use tp_token::token::{Symbol, Token};
+use tp_token::token::{Placed, Symbol};
 use tp_token::word::{Word, word_of};
 
 /// The reserved words, as the notation lists them.
@@ -14,44 +13,49 @@ const WORDS: &str = "module type record of port message component in out inout f
     to from alt else for setverdict none pass inconc fail error all done true false integer boolean \
     charstring complement pattern infinity value sender";
 
-/// The same words as they are shown.
-const SHOWN_WORDS: &str = "Module Type Record Of Port Message Component In Out Inout Function \
-    Testcase Runs On System Var Create Connect Map Mtc SelfWord Start Stop Halt Clear Send Receive \
-    Trigger Check To From Alt Else For Setverdict NoneWord Pass Inconc Fail Error All Done True \
-    False Integer Boolean Charstring Complement Pattern Infinity Value Sender ";
+/// Their tokens.
+const SHOWN_WORDS: &str = "1 Word(Module); 1 Word(Type); 1 Word(Record); 1 Word(Of); 1 Word(Port); \
+    1 Word(Message); 1 Word(Component); 1 Word(In); 1 Word(Out); 1 Word(Inout); \
+    1 Word(Function); 1 Word(Testcase); 1 Word(Runs); 1 Word(On); 1 Word(System); \
+    1 Word(Var); 1 Word(Create); 1 Word(Connect); 1 Word(Map); 1 Word(Mtc); \
+    1 Word(SelfWord); 1 Word(Start); 1 Word(Stop); 1 Word(Halt); 1 Word(Clear); \
+    1 Word(Send); 1 Word(Receive); 1 Word(Trigger); 1 Word(Check); 1 Word(To); \
+    1 Word(From); 1 Word(Alt); 1 Word(Else); 1 Word(For); 1 Word(Setverdict); \
+    1 Word(NoneWord); 1 Word(Pass); 1 Word(Inconc); 1 Word(Fail); 1 Word(Error); \
+    1 Word(All); 1 Word(Done); 1 Word(True); 1 Word(False); 1 Word(Integer); \
+    1 Word(Boolean); 1 Word(Charstring); 1 Word(Complement); 1 Word(Pattern); \
+    1 Word(Infinity); 1 Word(Value); 1 Word(Sender); ";
 
 const LETTERS_64: &str = "abcdefghijklmnopqrstuvwxyzABCDEFGHIJKLMNOPQRSTUVWXYZ0123456789_M";
 
+/// The tokens of a text, and the line of each.
+fn shown_tokens<R: AllocGlobal + Abort>(rt: &R, tokens: &[Placed<'_>]) -> String {
+    let mut out = String::new(rt.alloc());
+    for Placed { token, line } in tokens {
+        write!(out, "{line} {token:?}; ").expect(rt, "memory");
+    }
+    out
+}
+
 /// What `lex` answers: each token and its line, or the fault.
-fn shown(alloc: Global, text: &[u8]) -> Result<String, AllocError> {
-    match lex(alloc, text) {
-        Ok(tokens) => {
-            let mut out = String::new(alloc);
-            for placed in &tokens {
-                let token = &placed.token;
-                let line = placed.line;
-                write!(out, "{line} {token:?}; ")?;
-            }
-            Ok(out)
-        }
-        Err(fault) => format!(in alloc; "{fault}"),
+fn shown<R: AllocGlobal + Abort>(rt: &R, text: &[u8]) -> String {
+    match lex(rt.alloc(), text) {
+        Ok(tokens) => shown_tokens(rt, tokens.as_slice()),
+        Err(fault) => display(rt, fault),
     }
 }
 
 /// Each text of the table is answered by what stands beside it.
-fn check(rt: &impl Abort, alloc: Global, table: &[(&[u8], &str)]) -> Result<(), AllocError> {
-    for (text, want) in table {
-        let answer = shown(alloc, text)?;
-        assert_eq!(rt; answer.as_str(), *want);
+fn check<R: AllocGlobal + Abort>(rt: &R, table: &[(&[u8], &str)]) {
+    for (place, (text, want)) in table.iter().enumerate() {
+        says(rt, place, shown(rt, *text), *want);
     }
-    Ok(())
 }
 
 #[test]
-fn tokens_of_each_kind(rt: HostRuntime) -> Result<(), Fail> {
+fn tokens_of_each_kind(rt: HostRuntime) {
     check(
         &rt,
-        rt.alloc(),
         &[
             (b"", ""),
             (
@@ -93,22 +97,12 @@ fn tokens_of_each_kind(rt: HostRuntime) -> Result<(), Fail> {
                 "1 Name(\"p\"); 1 Symbol(Dot); 1 Word(Send); 1 Symbol(LeftParen); 1 Word(Integer); 1 Symbol(Colon); 1 Symbol(Minus); 1 Number(5); 1 Symbol(RightParen); ",
             ),
         ],
-    )?;
-    Ok(())
+    );
 }
 
 #[test]
-fn each_reserved_word(rt: HostRuntime) -> Result<(), Fail> {
-    let tokens = lex(rt.alloc(), WORDS.as_bytes())?;
-    let mut words = String::new(rt.alloc());
-    for placed in &tokens {
-        if let Token::Word(word) = placed.token {
-            write!(words, "{word:?} ")?;
-        }
-    }
-    assert_eq!(rt; tokens.len(), 52);
-    assert_eq!(rt; words.as_str(), SHOWN_WORDS);
-    Ok(())
+fn each_reserved_word(rt: HostRuntime) {
+    says(&rt, 0, shown(&rt, WORDS.as_bytes()), SHOWN_WORDS);
 }
 
 #[test]
@@ -122,10 +116,9 @@ fn words_and_symbols_are_told_apart(rt: HostRuntime) {
 }
 
 #[test]
-fn white_space_and_comments(rt: HostRuntime) -> Result<(), Fail> {
+fn white_space_and_comments(rt: HostRuntime) {
     check(
         &rt,
-        rt.alloc(),
         &[
             (b"\t\x0b\x0c\r a\r\n\nb", "1 Name(\"a\"); 3 Name(\"b\"); "),
             (b"a//b\rc\nd", "1 Name(\"a\"); 2 Name(\"d\"); "),
@@ -138,15 +131,13 @@ fn white_space_and_comments(rt: HostRuntime) -> Result<(), Fail> {
             (b"a/* // \n\"\n\xff */b", "1 Name(\"a\"); 3 Name(\"b\"); "),
             (b"a/**/\n*/", "refused 10 Syntax line 2"),
         ],
-    )?;
-    Ok(())
+    );
 }
 
 #[test]
-fn refusals(rt: HostRuntime) -> Result<(), Fail> {
+fn refusals(rt: HostRuntime) {
     check(
         &rt,
-        rt.alloc(),
         &[
             (b"/*/", "refused 10 Syntax line 1"),
             (b"a\n/* \n *", "refused 10 Syntax line 2"),
@@ -172,155 +163,162 @@ fn refusals(rt: HostRuntime) -> Result<(), Fail> {
             (b"9223372036854775809 $", "refused 15 Limit line 1"),
             (b"$ 9223372036854775809", "refused 10 Syntax line 1"),
         ],
-    )?;
-    Ok(())
+    );
 }
 
 #[test]
-fn names_at_their_limit(rt: HostRuntime) -> Result<(), Fail> {
-    let answer = shown(rt.alloc(), LETTERS_64.as_bytes())?;
-    let want = format!(in rt.alloc(); "1 Name(\"{LETTERS_64}\"); ")?;
-    assert_eq!(rt; answer.as_str(), want.as_str());
-    let longer = format!(in rt.alloc(); "\n{LETTERS_64}a")?;
-    assert_eq!(rt;
-        lex(rt.alloc(), longer.as_bytes()).err(),
-        Some(ScriptFault::limit(2))
+fn names_at_their_limit(rt: HostRuntime) {
+    let want = format!(in rt.alloc(); "1 Name(\"{LETTERS_64}\"); ").expect(&rt, "memory");
+    says(&rt, 0, shown(&rt, LETTERS_64.as_bytes()), want.as_str());
+    let longer = format!(in rt.alloc(); "\n{LETTERS_64}a").expect(&rt, "memory");
+    says(
+        &rt,
+        1,
+        shown(&rt, longer.as_bytes()),
+        "refused 15 Limit line 2",
     );
-    Ok(())
 }
 
 /// The texts of this many pieces that are tried: each from 0 to 100.
 const LENGTHS: usize = 101;
 
-/// A piece so many times, with a text before and one behind.
-fn repeated(
-    alloc: Global,
-    before: &str,
-    piece: &str,
-    times: usize,
-    behind: &str,
-) -> Result<String, AllocError> {
-    let mut text = String::from_str(alloc, before)?;
+/// A text before, a piece that is repeated, and a text behind.
+type Repeated = (&'static str, &'static str, &'static str);
+
+/// The text with its piece so many times.
+fn repeated<R: AllocGlobal + Abort>(rt: &R, text: &Repeated, times: usize) -> String {
+    let (before, piece, behind) = *text;
+    let mut out = String::from_str(rt.alloc(), before).expect(rt, "memory");
     for _ in 0..times {
-        text.push_str(piece)?;
+        out.push_str(piece).expect(rt, "memory");
     }
-    text.push_str(behind)?;
-    Ok(text)
+    out.push_str(behind).expect(rt, "memory");
+    out
+}
+
+/// The text with its piece so many times is answered by the other with its piece as often.
+fn answers<R: AllocGlobal + Abort>(rt: &R, text: &Repeated, want: &Repeated, times: usize) {
+    let text = repeated(rt, text, times);
+    let want = repeated(rt, want, times);
+    says(rt, times, shown(rt, text.as_bytes()), want.as_str());
+}
+
+/// So for each number of pieces from the first up to the last, which is left out.
+fn answers_each<R: AllocGlobal + Abort>(
+    rt: &R,
+    (first, last): (usize, usize),
+    text: Repeated,
+    want: Repeated,
+) {
+    for times in first..last {
+        answers(rt, &text, &want, times);
+    }
+}
+
+const EACH: (usize, usize) = (0, LENGTHS);
+
+const SYNTAX: Repeated = ("refused 10 Syntax line 1", "", "");
+
+const LIMIT: Repeated = ("refused 15 Limit line 1", "", "");
+
+#[test]
+fn symbols_of_each_number(rt: HostRuntime) {
+    answers_each(&rt, EACH, ("", "+", ""), ("", "1 Symbol(Plus); ", ""));
+    answers_each(
+        &rt,
+        EACH,
+        ("", ". ", "."),
+        ("1 Symbol(Dot); ", "1 Symbol(Dot); ", ""),
+    );
 }
 
 #[test]
-fn symbols_of_each_number(rt: HostRuntime) -> Result<(), Fail> {
-    let alloc = rt.alloc();
+fn white_space_of_each_length(rt: HostRuntime) {
+    answers_each(&rt, EACH, ("", " ", ""), ("", "", ""));
+    answers_each(&rt, EACH, ("/*", "/", "*/a"), ("1 Name(\"a\"); ", "", ""));
     for length in 0..LENGTHS {
-        let text = repeated(alloc, "", "+", length, "")?;
-        let want = repeated(alloc, "", "1 Symbol(Plus); ", length, "")?;
-        assert_eq!(rt; shown(alloc, text.as_bytes())?, want);
-        let apart = repeated(alloc, "", ". ", length, ".")?;
-        let want = repeated(alloc, "", "1 Symbol(Dot); ", length, "1 Symbol(Dot); ")?;
-        assert_eq!(rt; shown(alloc, apart.as_bytes())?, want);
+        let lines = repeated(&rt, &("", "\n", "a"), length);
+        let want = format!(in rt.alloc(); "{} Name(\"a\"); ", length + 1).expect(&rt, "memory");
+        says(&rt, length, shown(&rt, lines.as_bytes()), want.as_str());
     }
-    Ok(())
 }
 
 #[test]
-fn white_space_of_each_length(rt: HostRuntime) -> Result<(), Fail> {
-    let alloc = rt.alloc();
-    for length in 0..LENGTHS {
-        let spaces = repeated(alloc, "", " ", length, "")?;
-        assert_eq!(rt; shown(alloc, spaces.as_bytes())?.as_str(), "");
-        let comment = repeated(alloc, "/*", "/", length, "*/a")?;
-        assert_eq!(rt;
-            shown(alloc, comment.as_bytes())?.as_str(),
-            "1 Name(\"a\"); "
-        );
-        let lines = repeated(alloc, "", "\n", length, "a")?;
-        let want = format!(in alloc; "{} Name(\"a\"); ", length + 1)?;
-        assert_eq!(rt; shown(alloc, lines.as_bytes())?, want);
-    }
-    Ok(())
+fn names_of_each_length(rt: HostRuntime) {
+    answers_each(&rt, (0, 64), ("a", "_", ""), ("1 Name(\"a", "_", "\"); "));
+    answers_each(&rt, (64, LENGTHS), ("a", "_", ""), LIMIT);
 }
 
 #[test]
-fn names_of_each_length(rt: HostRuntime) -> Result<(), Fail> {
-    let alloc = rt.alloc();
-    for length in 0..LENGTHS {
-        let text = repeated(alloc, "a", "_", length, "")?;
-        let want = if length < 64 {
-            repeated(alloc, "1 Name(\"a", "_", length, "\"); ")?
-        } else {
-            String::from_str(alloc, "refused 15 Limit line 1")?
-        };
-        assert_eq!(rt; shown(alloc, text.as_bytes())?, want);
-    }
-    Ok(())
+fn charstrings_of_each_length(rt: HostRuntime) {
+    answers_each(
+        &rt,
+        EACH,
+        ("\"~", "!", "\""),
+        ("1 Text([126", ", 33", "]); "),
+    );
+    answers_each(
+        &rt,
+        EACH,
+        ("\"~", "\"\"", "\""),
+        ("1 Text([126", ", 34", "]); "),
+    );
+    answers_each(&rt, EACH, ("\"", " ", ""), SYNTAX);
 }
 
 #[test]
-fn charstrings_of_each_length(rt: HostRuntime) -> Result<(), Fail> {
-    let alloc = rt.alloc();
-    for length in 0..LENGTHS {
-        let text = repeated(alloc, "\"~", "!", length, "\"")?;
-        let want = repeated(alloc, "1 Text([126", ", 33", length, "]); ")?;
-        assert_eq!(rt; shown(alloc, text.as_bytes())?, want);
-        let quotes = repeated(alloc, "\"~", "\"\"", length, "\"")?;
-        let want = repeated(alloc, "1 Text([126", ", 34", length, "]); ")?;
-        assert_eq!(rt; shown(alloc, quotes.as_bytes())?, want);
-        let open = repeated(alloc, "\"", " ", length, "")?;
-        assert_eq!(rt;
-            shown(alloc, open.as_bytes())?.as_str(),
-            "refused 10 Syntax line 1"
-        );
+fn numbers_of_each_length(rt: HostRuntime) {
+    answers_each(&rt, (0, 19), ("1", "0", ""), ("1 Number(1", "0", "); "));
+    answers_each(&rt, (19, LENGTHS), ("1", "0", ""), LIMIT);
+}
+
+/// How many tokens a text has, or its fault.
+fn count<R: AllocGlobal>(rt: &R, text: &[u8]) -> Result<usize, ScriptFault> {
+    match lex(rt.alloc(), text) {
+        Ok(tokens) => Ok(tokens.len()),
+        Err(fault) => Err(fault),
     }
-    Ok(())
 }
 
 #[test]
-fn numbers_of_each_length(rt: HostRuntime) -> Result<(), Fail> {
-    let alloc = rt.alloc();
-    for length in 0..LENGTHS {
-        let text = repeated(alloc, "1", "0", length, "")?;
-        let want = if length < 19 {
-            repeated(alloc, "1 Number(1", "0", length, "); ")?
-        } else {
-            String::from_str(alloc, "refused 15 Limit line 1")?
-        };
-        assert_eq!(rt; shown(alloc, text.as_bytes())?, want);
-    }
-    Ok(())
-}
-
-#[test]
-fn texts_at_their_limit(rt: HostRuntime) -> Result<(), Fail> {
-    let mut text = vec![in rt.alloc(); b' '; 1_048_576]?;
-    assert_eq!(rt; lex(rt.alloc(), &text)?.len(), 0);
-    text.push(b' ')?;
-    assert_eq!(rt; lex(rt.alloc(), &text).err(), Some(ScriptFault::limit(0)));
+fn texts_at_their_limit(rt: HostRuntime) {
+    let mut text = (vec![in rt.alloc(); b' '; 1_048_576]).expect(&rt, "memory");
+    assert!(rt; count(&rt, text.as_slice()) == Ok(0));
+    text.push(b' ').expect(&rt, "memory");
+    assert!(rt; count(&rt, text.as_slice()) == Err(ScriptFault::limit(0)));
     text[0] = b'#';
-    assert_eq!(rt; lex(rt.alloc(), &text).err(), Some(ScriptFault::limit(0)));
-    Ok(())
+    assert!(rt; count(&rt, text.as_slice()) == Err(ScriptFault::limit(0)));
 }
 
 /// With memory refused at any allocation (`rt try --test --fail-alloc 1..`) the answer is 50 or the
 /// tokens.
 #[test]
 fn refused_memory(rt: HostRuntime) {
-    match lex(
-        rt.alloc(),
-        b"p.send(charstring:\"a\"\"b\") to q; x := \"0123456789\" // end",
-    ) {
-        Ok(tokens) => assert_eq!(rt; tokens.len(), 14),
-        Err(fault) => assert_eq!(rt; fault, ScriptFault::Memory(Memory)),
+    let text = b"p.send(charstring:\"a\"\"b\") to q; x := \"0123456789\" // end";
+    match count(&rt, text.as_slice()) {
+        Ok(tokens) => assert_eq!(rt; tokens, 14),
+        Err(fault) => assert!(rt; fault == ScriptFault::Memory(Memory)),
     }
 }
 
 #[test]
-fn prints_faults(rt: HostRuntime) -> Result<(), Fail> {
-    for (fault, want) in [
-        (ScriptFault::syntax(7), "refused 10 Syntax line 7"),
-        (ScriptFault::limit(0), "refused 15 Limit line 0"),
-        (ScriptFault::from(Memory), "fault 50 Memory"),
-    ] {
-        assert_eq!(rt; format!(in rt.alloc(); "{fault}")?.as_str(), want);
-    }
-    Ok(())
+fn prints_faults(rt: HostRuntime) {
+    says(
+        &rt,
+        0,
+        display(&rt, ScriptFault::syntax(7)),
+        "refused 10 Syntax line 7",
+    );
+    says(
+        &rt,
+        1,
+        display(&rt, ScriptFault::limit(0)),
+        "refused 15 Limit line 0",
+    );
+    says(
+        &rt,
+        2,
+        display(&rt, ScriptFault::from(Memory)),
+        "fault 50 Memory",
+    );
 }

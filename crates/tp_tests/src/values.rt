@@ -3,7 +3,6 @@
 use crate::writers::Short;
 use std::alloc::Global;
 use std::process::Abort;
-use std::test::Fail;
 use tp_queue::event::{Env, TriggerAnswer};
 use tp_queue::queue::PortQueue;
 use tp_refusal::memory::Memory;
@@ -24,8 +23,8 @@ pub fn text(alloc: Global, characters: &[u8]) -> Result<Value, Memory> {
 }
 
 /// The name of a type.
-fn name(alloc: Global, characters: &str) -> Result<String, Fail> {
-    Ok(String::from_str(alloc, characters)?)
+fn name<R: AllocGlobal + Abort>(rt: &R, characters: &str) -> String {
+    String::from_str(rt.alloc(), characters).expect(rt, "memory")
 }
 
 fn field(alloc: Global, name: &[u8], ty: Ty) -> Result<Field, Memory> {
@@ -35,180 +34,192 @@ fn field(alloc: Global, name: &[u8], ty: Ty) -> Result<Field, Memory> {
 
 /// `record { integer id, charstring tag }`.
 fn record_type(alloc: Global) -> Result<TypeDef, Memory> {
-    let mut fields = Items::new(alloc);
-    fields.push(field(alloc, b"id", Ty::Integer)?)?;
-    fields.push(field(alloc, b"tag", Ty::Charstring)?)?;
-    Ok(TypeDef::Record(fields))
+    let id = field(alloc, b"id", Ty::Integer)?;
+    let tag = field(alloc, b"tag", Ty::Charstring)?;
+    let fields = Vec::from_array(alloc, [id, tag])?;
+    Ok(TypeDef::Record(Items::from_vec(fields)))
 }
 
 /// The record type under the name R, and `type record of R L`.
-pub fn record_and_list<R: AllocGlobal + Abort>(rt: &R) -> Result<Types, Fail> {
+pub fn record_and_list<R: AllocGlobal + Abort>(rt: &R) -> Types {
     let mut types = Types::new(rt.alloc());
-    assert_eq!(rt; types.len(), 0);
-    let first = types.add(name(rt.alloc(), "R")?, record_type(rt.alloc())?)?;
-    assert_eq!(rt; first, 0);
-    assert_eq!(rt; types.len(), 1);
-    let second = types.add(name(rt.alloc(), "L")?, TypeDef::ListOf(Ty::Named(0)))?;
-    assert_eq!(rt; second, 1);
-    Ok(types)
+    assert!(rt; types.len() == 0);
+    let record = record_type(rt.alloc()).expect(rt, "memory");
+    assert!(rt; types.add(name(rt, "R"), record) == Ok(0));
+    assert!(rt; types.len() == 1);
+    assert!(rt; types.add(name(rt, "L"), TypeDef::ListOf(Ty::Named(0))) == Ok(1));
+    types
 }
 
 /// A value of `R`.
 fn record(alloc: Global, id: i64, tag: &[u8]) -> Result<Value, Memory> {
-    let mut fields = Items::new(alloc);
-    fields.push(Value::Int(id))?;
-    fields.push(text(alloc, tag)?)?;
-    Ok(Value::Record(Shared::new(alloc, fields)?))
+    let tag = text(alloc, tag)?;
+    let fields = Vec::from_array(alloc, [Value::Int(id), tag])?;
+    Ok(Value::Record(Shared::new(alloc, Items::from_vec(fields))?))
 }
 
 /// A value of `L`.
 pub fn records(alloc: Global) -> Result<Value, Memory> {
-    let mut elements = Items::new(alloc);
-    elements.push(record(alloc, -5, b"a\"b")?)?;
-    elements.push(record(alloc, 0, b"")?)?;
-    Ok(Value::List(Shared::new(alloc, elements)?))
+    let first = record(alloc, -5, b"a\"b")?;
+    let second = record(alloc, 0, b"")?;
+    let elements = Vec::from_array(alloc, [first, second])?;
+    Ok(Value::List(Shared::new(alloc, Items::from_vec(elements))?))
 }
 
 /// Its text.
 const WRITTEN: &str = "{{id := -5, tag := \"a\"\"b\"}, {id := 0, tag := \"\"}}";
 
 #[test]
-fn types_have_the_numbers_in_which_they_came(rt: HostRuntime) -> Result<(), Fail> {
-    let mut types = record_and_list(&rt)?;
-    assert_eq!(rt; types.len(), 2);
-    let again = types.add(name(rt.alloc(), "R")?, TypeDef::ListOf(Ty::Integer));
-    assert_eq!(rt; again, Err(AddFault::Duplicate));
-    assert_eq!(rt; types.len(), 2);
-    assert_eq!(rt; types.find("R"), Some(0));
-    assert_eq!(rt; types.find("L"), Some(1));
-    assert_eq!(rt; types.find("r"), None);
-    assert_eq!(rt; types.name(1), Some("L"));
+fn types_have_the_numbers_in_which_they_came(rt: HostRuntime) {
+    let mut types = record_and_list(&rt);
+    assert!(rt; types.len() == 2);
+    let again = types.add(name(&rt, "R"), TypeDef::ListOf(Ty::Integer));
+    assert!(rt; again == Err(AddFault::Duplicate));
+    assert!(rt; types.len() == 2);
+    assert!(rt; types.find("R") == Some(0));
+    assert!(rt; types.find("L") == Some(1));
+    assert!(rt; types.find("r").is_none());
+    assert!(rt; types.name(1) == Some("L"));
     assert!(rt; types.definition(Ty::Integer).is_none());
-    Ok(())
+    drop(types);
 }
 
 #[test]
-fn values_equal_their_copies(rt: HostRuntime) -> Result<(), Fail> {
-    let types = record_and_list(&rt)?;
-    let value = records(rt.alloc())?;
+fn values_equal_their_copies(rt: HostRuntime) {
+    let types = record_and_list(&rt);
+    let value = records(rt.alloc()).expect(&rt, "memory");
     assert!(rt; has_type(&types, Ty::Named(1), &value));
     assert!(rt; !has_type(&types, Ty::Named(0), &value));
-    let twin = value.copy(rt.alloc())?;
+    let twin = value.copy(rt.alloc()).expect(&rt, "memory");
     assert!(rt; are_equal(&value, &twin));
-    let other = record(rt.alloc(), 0, b"")?;
+    let other = record(rt.alloc(), 0, b"").expect(&rt, "memory");
     assert!(rt; !are_equal(&value, &other));
-    Ok(())
+    drop((types, value, twin, other));
 }
 
-/// Asserts the text of a value of the type.
-fn writes<R: AllocGlobal + Abort>(
-    rt: &R,
-    types: &Types,
-    ty: Ty,
-    value: &Value,
-    wanted: &str,
-) -> Result<(), Fail> {
+/// Asserts that a value has the type, and its text.
+pub fn writes<R: AllocGlobal + Abort>(rt: &R, types: &Types, ty: Ty, value: &Value, wanted: &str) {
     let mut out = Vec::new(rt.alloc());
     assert!(rt; has_type(types, ty, value), "{value:?}");
-    write_value(types, ty, value, &mut out)?;
+    assert!(rt; write_value(types, ty, value, &mut out).is_ok());
     assert_eq!(rt; out.as_slice(), wanted.as_bytes());
-    Ok(())
 }
 
 #[test]
-fn values_are_written(rt: HostRuntime) -> Result<(), Fail> {
-    let types = record_and_list(&rt)?;
-    writes(&rt, &types, Ty::Boolean, &Value::Bool(true), "true")?;
-    writes(&rt, &types, Ty::Boolean, &Value::Bool(false), "false")?;
-    writes(
-        &rt,
-        &types,
-        Ty::Integer,
-        &Value::Int(i64::MIN),
-        "-9223372036854775808",
-    )?;
-    let none = Value::List(Shared::new(rt.alloc(), Items::new(rt.alloc()))?);
-    writes(&rt, &types, Ty::Named(1), &none, "{}")?;
-    let value = records(rt.alloc())?;
-    writes(&rt, &types, Ty::Named(1), &value, WRITTEN)
+fn values_are_written(rt: HostRuntime) {
+    let types = record_and_list(&rt);
+    writes(&rt, &types, Ty::Boolean, &Value::Bool(true), "true");
+    writes(&rt, &types, Ty::Boolean, &Value::Bool(false), "false");
+    let least = Value::Int(i64::MIN);
+    writes(&rt, &types, Ty::Integer, &least, "-9223372036854775808");
+    drop((types, least));
 }
 
 #[test]
-fn a_failed_write_is_told(rt: HostRuntime) -> Result<(), Fail> {
-    let types = record_and_list(&rt)?;
-    let value = records(rt.alloc())?;
-    for room in 0..WRITTEN.len() + 1 {
-        let mut short = Short { room };
-        let written = write_value(&types, Ty::Named(1), &value, &mut short);
-        assert!(rt; written.is_ok() == (room == WRITTEN.len()), "room {room}");
+fn lists_are_written(rt: HostRuntime) {
+    let types = record_and_list(&rt);
+    let items = Shared::new(rt.alloc(), Items::new(rt.alloc())).expect(&rt, "memory");
+    let none = Value::List(items);
+    writes(&rt, &types, Ty::Named(1), &none, "{}");
+    let value = records(rt.alloc()).expect(&rt, "memory");
+    writes(&rt, &types, Ty::Named(1), &value, WRITTEN);
+    drop((types, none, value));
+}
+
+/// Whether the value of `L` is written at a writer with this room.
+fn is_written(types: &Types, value: &Value, room: usize) -> bool {
+    let mut short = Short { room };
+    write_value(types, Ty::Named(1), value, &mut short).is_ok()
+}
+
+#[test]
+fn a_failed_write_is_told(rt: HostRuntime) {
+    let types = record_and_list(&rt);
+    let value = records(rt.alloc()).expect(&rt, "memory");
+    for room in 0..WRITTEN.len() {
+        assert!(rt; !is_written(&types, &value, room));
     }
-    Ok(())
+    assert!(rt; is_written(&types, &value, WRITTEN.len()));
+    drop((types, value));
 }
 
-/// Puts a message of sender 0 into the queue.
-fn arrive<R: Abort>(rt: &R, queue: &mut PortQueue<Message>, number: u64, msg: Message) {
-    let env = Env {
-        sender: 0,
-        number,
-        msg,
-    };
-    assert!(rt; queue.arrive(env).is_ok());
+/// A queue with the messages 0, an integer, and 1, a charstring, of sender 0.
+fn two_messages<R: AllocGlobal + Abort>(rt: &R) -> PortQueue<Message> {
+    let mut queue = PortQueue::new(rt.alloc());
+    let value = text(rt.alloc(), b"ab").expect(rt, "memory");
+    for (number, ty, value) in [(0, Ty::Integer, Value::Int(5)), (1, Ty::Charstring, value)] {
+        let env = Env {
+            sender: 0,
+            number,
+            msg: Message { ty, value },
+        };
+        assert!(rt; queue.arrive(env).is_ok());
+    }
+    queue
+}
+
+/// The number of a message that was received.
+fn number_of(answer: Result<Option<Env<Message>>, Memory>) -> Result<Option<u64>, Memory> {
+    match answer {
+        Ok(Some(env)) => Ok(Some(env.number)),
+        Ok(None) => Ok(None),
+        Err(Memory) => Err(Memory),
+    }
+}
+
+/// The number of a message that a trigger discarded.
+fn dropped(answer: Result<TriggerAnswer<Message>, Memory>) -> Option<u64> {
+    match answer {
+        Ok(TriggerAnswer::Dropped(env)) => Some(env.number),
+        Ok(_) | Err(Memory) => None,
+    }
+}
+
+/// The number of the message that a check for any finds.
+fn found(queue: &mut PortQueue<Message>) -> Option<u64> {
+    match queue.check(&MsgTemplate::Any, None) {
+        Ok(Some(env)) => Some(env.number),
+        Ok(None) | Err(Memory) => None,
+    }
 }
 
 #[test]
-fn a_port_queue_holds_messages_of_two_types(rt: HostRuntime) -> Result<(), Fail> {
+fn a_port_queue_holds_messages_of_two_types(rt: HostRuntime) {
+    let any = MsgTemplate::Any;
     let integer = MsgTemplate::Of(Ty::Integer, Template::Any);
-    let mut queue = PortQueue::new(rt.alloc());
-    let ty = Ty::Integer;
-    let value = Value::Int(5);
-    arrive(&rt, &mut queue, 0, Message { ty, value });
-    let ty = Ty::Charstring;
-    let value = text(rt.alloc(), b"ab")?;
-    arrive(&rt, &mut queue, 1, Message { ty, value });
-    assert!(rt; queue.receive(&integer, Some(1))?.is_none());
-    assert!(rt;
-        matches!(
-            queue.receive(&integer, Some(0))?,
-            Some(Env { number: 0, .. })
-        )
-    );
-    assert!(rt;
-        matches!(
-            queue.check(&MsgTemplate::Any, None)?,
-            Some(Env { number: 1, .. })
-        )
-    );
-    assert!(rt;
-        matches!(
-            queue.trigger(&integer, None)?,
-            TriggerAnswer::Dropped(Env { number: 1, .. })
-        )
-    );
-    assert!(rt; queue.receive(&MsgTemplate::Any, None)?.is_none());
-    Ok(())
+    let mut queue = two_messages(&rt);
+    assert!(rt; number_of(queue.receive(&integer, Some(1))) == Ok(None));
+    assert!(rt; number_of(queue.receive(&integer, Some(0))) == Ok(Some(0)));
+    assert!(rt; found(&mut queue) == Some(1));
+    assert!(rt; dropped(queue.trigger(&integer, None)) == Some(1));
+    assert!(rt; number_of(queue.receive(&any, None)) == Ok(None));
+    drop((any, integer, queue));
+}
+
+/// The verdicts, the worse behind the better.
+const VERDICTS: &[Verdict] = &[
+    Verdict::None,
+    Verdict::Pass,
+    Verdict::Inconc,
+    Verdict::Fail,
+    Verdict::Error,
+];
+
+/// Asserts that the verdict at this place becomes the worse of the two, by every other.
+fn gets_no_better<R: Abort>(rt: &R, place: usize, verdict: Verdict) {
+    for (other_place, other) in VERDICTS.iter().enumerate() {
+        let worst = if place < other_place { *other } else { verdict };
+        assert!(rt; verdict.join(*other) == worst);
+        if *other != Verdict::Error {
+            assert!(rt; verdict.set(*other) == worst);
+        }
+    }
 }
 
 #[test]
 fn verdicts_never_get_better(rt: HostRuntime) {
-    let order = [
-        Verdict::None,
-        Verdict::Pass,
-        Verdict::Inconc,
-        Verdict::Fail,
-        Verdict::Error,
-    ];
-    for (place, verdict) in order.iter().enumerate() {
-        for (other_place, other) in order.iter().enumerate() {
-            let worst = if place < other_place {
-                *other
-            } else {
-                *verdict
-            };
-            assert_eq!(rt; verdict.join(*other), worst);
-            if *other != Verdict::Error {
-                assert_eq!(rt; verdict.set(*other), worst);
-            }
-        }
+    for (place, verdict) in VERDICTS.iter().enumerate() {
+        gets_no_better(&rt, place, *verdict);
     }
 }
 
@@ -226,52 +237,60 @@ pub fn deep_value(alloc: Global) -> Result<Value, Memory> {
     Ok(value)
 }
 
-#[test]
-fn deep_values_fit_the_stack(rt: HostRuntime) -> Result<(), Fail> {
-    let mut types = Types::new(rt.alloc());
-    assert_eq!(rt; types.len(), 0);
-    let deep = types.add(name(rt.alloc(), "D")?, TypeDef::ListOf(Ty::Named(0)))?;
-    let value = deep_value(rt.alloc())?;
-    assert!(rt; has_type(&types, Ty::Named(deep), &value));
-    let twin = value.copy(rt.alloc())?;
-    assert!(rt; are_equal(&value, &twin));
+/// How many characters a value of type 0 has, written.
+fn written_length<R: AllocGlobal + Abort>(rt: &R, types: &Types, value: &Value) -> usize {
     let mut out = Vec::new(rt.alloc());
-    write_value(&types, Ty::Named(deep), &twin, &mut out)?;
-    assert!(rt; out.len() == 2 * (LEVELS as usize + 1));
-    Ok(())
+    assert!(rt; write_value(types, Ty::Named(0), value, &mut out).is_ok());
+    out.len()
 }
 
-/// A name, and the record type.
-fn named_record(alloc: Global, text: &str) -> Result<(String, TypeDef), Memory> {
-    let name = String::from_str(alloc, text)?;
-    let definition = record_type(alloc)?;
-    Ok((name, definition))
+#[test]
+fn deep_values_fit_the_stack(rt: HostRuntime) {
+    let mut types = Types::new(rt.alloc());
+    assert!(rt; types.len() == 0);
+    assert!(rt; types.add(name(&rt, "D"), TypeDef::ListOf(Ty::Named(0))) == Ok(0));
+    let value = deep_value(rt.alloc()).expect(&rt, "memory");
+    assert!(rt; has_type(&types, Ty::Named(0), &value));
+    let twin = value.copy(rt.alloc()).expect(&rt, "memory");
+    assert!(rt; are_equal(&value, &twin));
+    assert!(rt; written_length(&rt, &types, &twin) == 2 * (LEVELS as usize + 1));
+    drop((types, value, twin));
+}
+
+/// Adds the record type under this name, unless memory is refused.
+fn add_record(alloc: Global, types: &mut Types, text: &str) -> Result<u32, AddFault> {
+    let (Ok(name), Ok(definition)) = (String::from_str(alloc, text), record_type(alloc)) else {
+        return Err(AddFault::Memory);
+    };
+    if types.len() > 5 {
+        return Err(AddFault::Memory);
+    }
+    types.add(name, definition)
+}
+
+/// Asserts that nothing but want of memory refuses to add a type, which is then not there; and that
+/// the same call then adds it, with this number.
+fn adds_in_the_end<R: AllocGlobal + Abort>(rt: &R, types: &mut Types, text: &str, number: u16) {
+    match add_record(rt.alloc(), types, text) {
+        Ok(added) => assert!(rt; added == u32::from(number)),
+        Err(fault) => {
+            assert!(rt; fault == AddFault::Memory);
+            assert!(rt; types.len() == usize::from(number));
+            assert!(rt; types.find(text).is_none());
+            assert!(rt; add_record(rt.alloc(), types, text).is_ok());
+        }
+    }
+    assert!(rt; types.len() == usize::from(number) + 1);
+    assert!(rt; types.find(text) == Some(u32::from(number)));
+    assert!(rt; types.find("R") == Some(0));
 }
 
 /// A type is added or not, and then the types are as before, also where an allocation was refused.
 #[test]
-fn refused_memory_leaves_types_as_they_were(rt: HostRuntime) -> Result<(), Fail> {
+fn refused_memory_leaves_types_as_they_were(rt: HostRuntime) {
     let mut types = Types::new(rt.alloc());
-    for (number, text) in ["R", "L", "M", "N", "O"].iter().enumerate() {
-        let (name, definition) = match named_record(rt.alloc(), text) {
-            Ok(made) => made,
-            Err(Memory) => named_record(rt.alloc(), text)?,
-        };
-        assert!(rt; types.len() < 5);
-        match types.add(name, definition) {
-            Ok(added) => assert_eq!(rt; added as usize, number),
-            Err(fault) => {
-                assert_eq!(rt; fault, AddFault::Memory);
-                assert_eq!(rt; types.len(), number);
-                assert_eq!(rt; types.find(text), None);
-                let (name, definition) = named_record(rt.alloc(), text)?;
-                assert!(rt; types.len() < 5);
-                assert!(rt; types.add(name, definition).is_ok());
-            }
-        }
-        assert_eq!(rt; types.len(), number + 1);
-        assert_eq!(rt; types.find(text), Some(number as u32));
-        assert_eq!(rt; types.find("R"), Some(0));
+    for (number, text) in [(0, "R"), (1, "L"), (2, "M"), (3, "N"), (4, "O")] {
+        adds_in_the_end(&rt, &mut types, text, number);
     }
-    Ok(())
+    drop(types);
 }

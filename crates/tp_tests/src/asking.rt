@@ -1,0 +1,112 @@
+//! Questions to a configuration and calls of it, as tables say them: a test is a table, and one
+//! function goes through it, so that little of it has to be proved.
+use crate::making::{add, at, connect, map};
+use crate::showing::{display, says};
+use std::process::Abort;
+use tp_config::config::Config;
+use tp_config::port_type::{CompId, Role, RouteId};
+
+/// A question that a configuration answers with routes, with a refusal or with a number.
+pub enum Question {
+    /// The routes from a port, by the numbers of its component and its own.
+    From(u32, u32),
+    /// The routes into a component.
+    Into(u32),
+    /// How many components there are.
+    Count,
+    /// The route from a port, with no component named.
+    Route(u32, u32),
+    /// The route from a port to a component.
+    RouteTo(u32, u32, u32),
+}
+
+/// The routes as a text, each by its sender and its port.
+fn shown<R: AllocGlobal + Abort>(rt: &R, routes: &[RouteId]) -> String {
+    let mut out = String::new(rt.alloc());
+    for RouteId { source, to } in routes {
+        write!(out, "{}>{}.{} ", source.0, to.comp.0, to.port).expect(rt, "memory");
+    }
+    out
+}
+
+/// The one route as a text, or the number of the refusal.
+fn shown_route<R: AllocGlobal + Abort>(
+    rt: &R,
+    config: &Config,
+    port: (u32, u32),
+    to: Option<CompId>,
+) -> String {
+    match config.route(at(port.0, port.1), to) {
+        Ok(route) => shown(rt, [route].as_slice()),
+        Err(fault) => display(rt, fault.refusal().label().0),
+    }
+}
+
+/// What a configuration answers to a question.
+fn answer<R: AllocGlobal + Abort>(rt: &R, config: &Config, question: &Question) -> String {
+    match *question {
+        Question::From(comp, port) => {
+            let routes = config.routes_from(at(comp, port)).expect(rt, "memory");
+            shown(rt, routes.as_slice())
+        }
+        Question::Into(comp) => {
+            let routes = config.routes_into(CompId(comp)).expect(rt, "memory");
+            shown(rt, routes.as_slice())
+        }
+        Question::Count => display(rt, config.len()),
+        Question::Route(comp, port) => shown_route(rt, config, (comp, port), None),
+        Question::RouteTo(comp, port, to) => {
+            shown_route(rt, config, (comp, port), Some(CompId(to)))
+        }
+    }
+}
+
+/// Asserts what a configuration answers to each question of a table.
+pub fn answers<R: AllocGlobal + Abort>(rt: &R, config: &Config, table: &[(Question, &str)]) {
+    for (place, (question, wanted)) in table.iter().enumerate() {
+        says(rt, place, answer(rt, config, question), *wanted);
+    }
+}
+
+/// A component and a port of it, by their names.
+pub type Name = (&'static str, &'static str);
+
+/// A call of a configuration.
+pub enum Call {
+    Connect(Name, Name),
+    Map(Name, Name),
+    /// A component of this name, this type and this role.
+    Create(&'static str, u32, Role),
+}
+
+/// Carries out a call: the number of the refusal, or 0 for none.
+fn carry_out<R: AllocGlobal + Abort>(rt: &R, config: &mut Config, call: &Call) -> u8 {
+    match *call {
+        Call::Connect(p, q) => match connect(config, p, q).expect(rt, "two ports") {
+            Ok(()) => 0,
+            Err(fault) => fault.refusal().label().0,
+        },
+        Call::Map(p, q) => match map(config, p, q).expect(rt, "two ports") {
+            Ok(()) => 0,
+            Err(fault) => fault.refusal().label().0,
+        },
+        Call::Create(name, kind, role) => match add(rt.alloc(), config, name, kind, role) {
+            Ok(_) => 0,
+            Err(fault) => fault.refusal().label().0,
+        },
+    }
+}
+
+/// Carries out the calls of a table, each of which is refused with the number beside it (0: it is
+/// not). Behind each the configuration answers what the other table says.
+pub fn carries_out<R: AllocGlobal + Abort>(
+    rt: &R,
+    config: &mut Config,
+    calls: &[(Call, u8)],
+    behind: &[(Question, &str)],
+) {
+    for (place, (call, number)) in calls.iter().enumerate() {
+        assert_eq!(rt; carry_out(rt, config, call), *number, "call {place}");
+        answers(rt, config, behind);
+    }
+}

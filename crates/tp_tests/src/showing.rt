@@ -1,0 +1,24 @@
+//! What a value is printed as, and a comparison of texts. They take what they show, so that whoever
+//! calls them has nothing left to drop: a drop is written out, and proved, at each exit.
+use std::fmt::{Debug, Display};
+use std::process::Abort;
+
+/// A value as `{:?}` prints it.
+pub fn debug<R: AllocGlobal + Abort, D: Debug + Drop>(rt: &R, value: D) -> String {
+    format!(in rt.alloc(); "{value:?}").expect(rt, "memory")
+}
+
+/// A value as `{}` prints it.
+pub fn display<R: AllocGlobal + Abort, D: Display + Drop>(rt: &R, value: D) -> String {
+    format!(in rt.alloc(); "{value}").expect(rt, "memory")
+}
+
+/// Asserts that a text is as wanted, in this row of a table.
+pub fn is_shown<R: Abort>(rt: &R, place: usize, shown: &str, wanted: &str) {
+    assert_eq!(rt; shown, wanted, "in row {place}");
+}
+
+/// The same of a text that isn't needed any more.
+pub fn says<R: Abort>(rt: &R, place: usize, shown: String, wanted: &str) {
+    is_shown(rt, place, shown.as_str(), wanted);
+}
