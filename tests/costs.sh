@@ -1,0 +1,71 @@
+# tools/costs.py, on modules that are as old as the test says. `observe`, `count`, `at_least` and `set_up`
+# are those of ./test, `must` is that of tests/command_line.sh.
+
+# Each module, with the second at which it was written.
+make_modules() {
+    local at name
+    mkdir -p made/out/incremental/kept none/out/incremental || return
+    while read -r at name; do
+        touch -d "@$((1000000000 + at))" "made/out/incremental/kept/Rattle-low$name.oantt" || return
+    done <<'MODULES'
+0 -proofs.room.Room.TheLaws
+1 -proofs.room.Room.get.Statement.decls
+3 -proofs.room.Room.get.Lts
+13 -proofs.room.put.Code.Mir
+14 -proofs.room.put.Proof
+15 -proofs.Lemmas
+17 -proofs.TheLinks.low-room-put
+19 .specs.contracts.room.put
+20 -proofs.room.put.Kinds-31-0-1-2.decls
+MODULES
+}
+
+what_each_function_cost() {
+    set_up "there are modules" make_modules || return
+    observe "$root/tools/costs.py" made
+    must "what each function cost" 0 $'    20.0 s in all, 3 parts\n    13.0 s  65.0 %  room.Room.get\n     6.0 s  30.0 %  room.put\n     1.0 s   5.0 %  Lemmas\n' ''
+    observe "$root/tools/costs.py" made 1
+    must "the dearest alone" 0 $'    20.0 s in all, 3 parts\n    13.0 s  65.0 %  room.Room.get\n' ''
+    observe "$root/tools/costs.py" none
+    must "a crate that wasn't checked" 1 '' $'costs.py: no check has left a module in none/out/incremental\n'
+    observe "$root/tools/costs.py"
+    must "no crate" 1 '' $'usage: tools/costs.py CRATE_FOLDER [COUNT]\n'
+    observe "$root/tools/costs.py" made 0
+    must "no count" 1 '' $'usage: tools/costs.py CRATE_FOLDER [COUNT]\n'
+}
+
+# What rt ci took: the part of each process is told by its words and its folder.
+write_ci() {
+    cat >ci <<'CI'
+#!/usr/bin/env bash
+busy() { # FOLDER WORD..
+    cd -- "$1" && bash -c 'for ((n = 0; n < 400000; n += 1)); do :; done; sleep 1.2' rattle check "${@:2}"
+}
+echo "rt: ci"
+(busy low --crate-name low src/lib.rt)
+(busy low --crate-name low src/lib.rt --test) &
+(busy rt-edit-1 --crate-name low src/lib.rt)
+(busy high --crate-name high src/lib.rt)
+wait
+exit 3
+CI
+    chmod +x ci && mkdir low high rt-edit-1
+}
+
+what_each_crate_took() {
+    set_up "there is a gate" write_ci || return
+    observe python3 "$root/tests/gate_times.py" times ./ci
+    must "the gate's output and status" 3 $'rt: ci\n' ''
+    observe awk 'NR > 1 { for (n = 2; n <= NF; n += 1) $n = $n == "-" ? "-" : $n > 0 ? "some" : "none"; print }' times
+    must "what was seen of each crate" 0 \
+        $'low some some some some some some\nhigh some some - - - -\nall some some some\n' ''
+    observe python3 "$root/tests/gate_times.py" times
+    must "no command" 1 '' $'usage: tests/gate_times.py FILE COMMAND..\n'
+}
+
+costs() {
+    mkdir "$room/costs" && cd -- "$room/costs" || exit 1
+    at_least 5 what_each_function_cost
+    at_least 3 what_each_crate_took
+    cd -- "$root" || exit 1
+}

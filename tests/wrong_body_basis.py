@@ -1,0 +1,228 @@
+"""What a wrong body is tried on, as a hash: what the prover's answer can rest on.
+
+That is, in this order:
+
+- which toolchain it is (`rt version`), and HANDLES;
+- of the crate, its line of crates.txt and every file of its src/, specs/ and proofs/, whole;
+- of each crate below it the same, but of src/ what `reached` leaves, and of proofs/ not the proofs
+  of single functions, unless a text that is taken names one of them.
+
+A function is proved from the contracts of those that it calls. So of a crate below a contract can
+reach its definitions, its lemmas and all of its sources but the bodies of functions: the heads and
+clauses of all functions, private ones too, and types, constants, macros, imports, attributes and
+traits whole, with the bodies that these give their methods. Where the text isn't plainly a
+function's body, it is kept: what is taken needlessly costs a trial, and what is left out wrongly
+would let a line of the record stand that isn't true.
+"""
+import hashlib
+import os
+import re
+import subprocess
+
+PARTS = ("src", "specs", "proofs")
+# The files of proofs/ that are of one function.
+OF_A_FUNCTION = ("Answers.antt", "Invariants.antt", "Proof.antt")
+
+# A comment, a raw string, a string, a character.
+MASKED = re.compile(
+    r'//[^\n]*|b?r(#*)".*?"\1|b?"(?:\\.|[^"\\])*"'
+    r"|b?'(?:\\(?:x..|u\{\w+\}|.)|[^\\'\n])'",
+    re.S,
+)
+CLAUSE = re.compile(r"\b(requires|ensures)\b")
+FUNCTION = re.compile(r"[\s#!]*(pub\s*)?fn\s+\w+")
+ROOM = re.compile(r"[\s#!]*(pub\s*)?(mod|impl)\b")
+# A word by which something inside a body may be seen outside it.
+ITEM_WORD = re.compile(r"\b(const|enum|extern|fn|impl|macro_rules|mod|static|struct|trait|type)\b")
+BEHIND_A_BODY = re.compile(
+    r"\s*(\Z|\}|#|\w+\s*!"
+    r"|(pub|fn|const|static|struct|enum|trait|impl|mod|use|type|ghost|unsafe|extern)\b)"
+)
+CITED = re.compile(r"\bRattle(?:\.[\w«»-]+)*")
+
+
+class Unclear(Exception):
+    """A source whose functions can't be told apart from the rest."""
+
+
+def masked(text):
+    """The text with each comment, string and character blanked, so that brackets can be counted."""
+    return MASKED.sub(lambda it: re.sub(r"[^\n]", " ", it[0]), text)
+
+
+def closing(text, at):
+    """The place behind the bracket that closes the one at this place."""
+    depth = 0
+    for found in re.compile(r"[(\[{}\])]").finditer(text, at):
+        depth += 1 if found[0] in "([{" else -1
+        if depth == 0:
+            return found.end()
+    raise Unclear
+
+
+def head_from(text, at, end):
+    """The head of the item that begins here, without what stands in its round and square brackets,
+    and the place of the `{`, `;` or `}` that ends it, or of the text's end."""
+    head = ""
+    while at < end:
+        if text[at] in "{;}":
+            return head, at
+        if text[at] in "([":
+            at = closing(text, at)
+            continue
+        head += text[at]
+        at += 1
+    return head, end
+
+
+def body_of(text, head, at, end):
+    """The first and the last place of a function's body, whose head ends here. None where there is
+    no body, or where what stands in it may be seen outside."""
+    while CLAUSE.search(head):
+        if at == end or text[at] != "{":
+            return None
+        behind = closing(text, at)
+        head, at = head_from(text, behind, end)
+        if head.strip() and not CLAUSE.match(head.strip()):
+            raise Unclear
+    if at == end or text[at] != "{":
+        return None
+    behind = closing(text, at)
+    if not BEHIND_A_BODY.match(text[behind:end]):
+        raise Unclear
+    return None if ITEM_WORD.search(text[at:behind]) else (at, behind)
+
+
+def bodies(text, at, end):
+    """The bodies of the functions that stand between these places, in modules and impls too."""
+    found = []
+    while at < end:
+        head, place = head_from(text, at, end)
+        if place < end and text[place] == "}":
+            raise Unclear
+        behind = closing(text, place) if place < end and text[place] == "{" else place + 1
+        if FUNCTION.match(head):
+            behind = behind_function(text, head, place, end)
+            body = body_of(text, head, place, end)
+            found += [body] if body else []
+        elif ROOM.match(head) and behind > place + 1:
+            found += bodies(text, place + 1, behind - 1)
+        at = behind
+    return found
+
+
+def behind_function(text, head, at, end):
+    """The place behind a function, whose head ends here: behind its clauses and its body."""
+    while at < end and text[at] == "{" and CLAUSE.search(head):
+        head, at = head_from(text, closing(text, at), end)
+    return closing(text, at) if at < end and text[at] == "{" else at + 1
+
+
+def reached(source):
+    """What of a source a crate above it can rest on: all but comments, empty lines, and the bodies
+    of functions. Where these can't be told, all of it."""
+    try:
+        text = masked(source)
+        if "/*" in text:
+            raise Unclear
+        cut = bodies(text, 0, len(text))
+    except Unclear:
+        return source
+    left, at = "", 0
+    cut += [it.span() for it in MASKED.finditer(source) if it[0].startswith("//")]
+    for first, behind in sorted(cut):
+        if first >= at:
+            left += source[at:first]
+            at = behind
+    lines = (left + source[at:]).split("\n")
+    return "\n".join(line.rstrip() for line in lines if line.strip())
+
+
+def files_of(folder):
+    """The files below src/, specs/ and proofs/ of a crate, by their paths in it."""
+    found = []
+    for part in PARTS:
+        for at, _, names in os.walk(f"{folder}/{part}"):
+            inner = os.path.relpath(at, folder)
+            found += [f"{inner}/{name}" for name in names]
+    return sorted(found)
+
+
+def text_of(file):
+    with open(file, "rb") as it:
+        return it.read().decode(errors="surrogateescape")
+
+
+def texts_below(root, crate):
+    """What is taken of a crate below, and the proofs of its functions, by the names of their
+    modules."""
+    taken, proofs = {}, {}
+    for file in files_of(f"{root}/crates/{crate}"):
+        text = text_of(f"{root}/crates/{crate}/{file}")
+        if file.startswith("proofs/") and os.path.basename(file) in OF_A_FUNCTION:
+            proofs[f"Rattle.{crate}.{file.removesuffix('.antt').replace('/', '.')}"] = text
+        else:
+            taken[f"{crate}/{file}"] = reached(text) if file.endswith(".rt") else text
+    return taken, proofs
+
+
+def is_cited(module, cited):
+    """Whether one of the names that are cited is that of this module, of one round it, or of what
+    it has."""
+    return any(f"{module}.".startswith(f"{it}.") or it.startswith(f"{module}.") for it in cited)
+
+
+def with_cited(taken, proofs):
+    """The texts that are taken, and each proof of a function that one of them names."""
+    while True:
+        cited = {it for text in taken.values() for it in CITED.findall(text)}
+        more = {module: text for module, text in proofs.items() if is_cited(module, cited)}
+        if not more.keys() - taken.keys():
+            return taken
+        taken = {**taken, **more}
+
+
+def below(crate, uses):
+    """The crates of crates.txt below this one."""
+    found = set()
+    left = [crate]
+    while left:
+        more = [it for it in uses[left.pop()] if it in uses and it not in found]
+        found.update(more)
+        left += more
+    return sorted(found)
+
+
+def lines_of(root):
+    """The lines of crates.txt, without comments, by their crates."""
+    lines = [line.partition("#")[0].split() for line in text_of(f"{root}/crates.txt").split("\n")]
+    texts = [" ".join(line) for line in lines if line]
+    return {re.split("[ :]", text)[0]: text for text in texts if ":" in text}
+
+
+def toolchain():
+    """The toolchain's line, or nothing where there is none."""
+    try:
+        how = {"stdin": subprocess.DEVNULL, "capture_output": True, "text": True}
+        ran = subprocess.run(["rt", "version"], **how)
+    except OSError:
+        return ""
+    return ran.stdout.strip() if ran.returncode == 0 else ""
+
+
+def basis(root, crate, uses, kit):
+    """The hash of all that an edit of the crate is tried on, but of the edit itself."""
+    folder = f"{root}/crates/{crate}"
+    taken = {f"{crate}/{file}": text_of(f"{folder}/{file}") for file in files_of(folder)}
+    proofs = {}
+    for it in below(crate, uses):
+        its_taken, its_proofs = texts_below(root, it)
+        taken.update(its_taken)
+        proofs.update(its_proofs)
+    lines = [lines_of(root)[it] for it in [crate, *below(crate, uses)]]
+    handles = text_of(f"{root}/HANDLES") if os.path.exists(f"{root}/HANDLES") else ""
+    return sum_of([kit, handles, lines, sorted(with_cited(taken, proofs).items())])
+
+
+def sum_of(parts):
+    return hashlib.sha256(repr(parts).encode(errors="surrogateescape")).hexdigest()[:32]

@@ -1,0 +1,156 @@
+#!/usr/bin/env python3
+"""The record of wrong bodies, tests/wrong_bodies/record, and what the gate sees of it.
+
+    tests/wrong_body_record.py [--tried]
+
+A line for each edit that was seen refused: CRATE/NAME, the hash of what it was tried on, and the
+function in which it was refused, or `crate` where only a check of the whole crate tells it. The
+hash is of the edit's text and of what tests/wrong_body_basis.py says. A line whose hash is no
+longer that is stale, and shows nothing.
+
+Prints how many edits there are, how many of them are for `rt ci` (with --tried: it has passed),
+how many are recorded, stale and never recorded, and the command that tries what is wanting. The
+status is 1, with a line that begins with FAILED for each fault, where an edit can't be applied or
+can't be found by `./test wrong_bodies`, and where a line of the record has another form, stands
+twice or out of its order, or names no edit. A stale or missing line is no fault.
+"""
+import fcntl
+import os
+import re
+import sys
+
+sys.dont_write_bytecode = True
+
+from wrong_body_basis import basis, sum_of, toolchain  # noqa: E402
+from wrong_body_edits import ROOT, Edit, Unfit, crates, files_of, read, shelves, write  # noqa: E402
+
+RECORD = f"{ROOT}/tests/wrong_bodies/record"
+LINE = re.compile(r"(\w+/[\w.-]+) ([0-9a-f]{32}) (\S+)")
+
+
+class Basis:
+    """What edits are tried on in a tree: a hash for each crate, made once."""
+
+    def __init__(self, root):
+        self.root, self.kit, self.uses, self.made = root, toolchain(), crates(), {}
+
+    def sum(self, crate, text):
+        """The hash for an edit of the crate that has this text."""
+        if crate not in self.made:
+            self.made[crate] = basis(self.root, crate, self.uses, self.kit)
+        return sum_of([self.made[crate], text])
+
+
+def read_record():
+    """The lines of the record by their edits, and what is wrong with them."""
+    found, wrong, last = {}, [], ""
+    lines = read(RECORD).splitlines() if os.path.exists(RECORD) else []
+    for number, line in enumerate(lines, 1):
+        it = LINE.fullmatch(line)
+        if not it:
+            wrong.append(f"line {number} is no line of the record: {line}")
+            continue
+        if it[1] in found:
+            wrong.append(f"line {number} stands for {it[1]}, as an earlier one does")
+        elif it[1] < last:
+            wrong.append(f"line {number} stands for {it[1]}, which comes before {last}")
+        last = max(last, it[1])
+        found[it[1]] = (it[2], it[3])
+    return found, wrong
+
+
+def all_edits():
+    """The names of all edits, as CRATE/NAME, each with the files that have it."""
+    of_each = {crate: files_of(crate) for crate in crates()}
+    return {f"{crate}/{name}": files for crate, of in of_each.items() for name, files in of.items()}
+
+
+def update(seen):
+    """Writes the lines of edits that were tried, None for one that wasn't refused, and takes away
+    those of edits that are gone. Another run may write its own meanwhile."""
+    folder = os.open(os.path.dirname(RECORD), os.O_RDONLY)
+    try:
+        fcntl.flock(folder, fcntl.LOCK_EX)
+        lines = {**read_record()[0], **seen}
+        there = all_edits()
+        kept = sorted(name for name, line in lines.items() if line and name in there)
+        texts = [f"{name} {lines[name][0]} {lines[name][1]}\n" for name in kept]
+        write(f"{RECORD}.new", "".join(texts))
+        os.replace(f"{RECORD}.new", RECORD)
+    finally:
+        os.close(folder)
+
+
+def lost_edits():
+    """What lies on the shelves, and no command would try."""
+    wrong = []
+    shelf = f"{ROOT}/tests/wrong_bodies"
+    for name in sorted(os.listdir(shelf)):
+        if name != "record" and name not in crates():
+            wrong.append(f"tests/wrong_bodies/{name} belongs to no crate")
+    for name, files in sorted(all_edits().items()):
+        if len(files) > 1:
+            wrong.append(f"{name} stands on both shelves")
+        others = [it for it in files if not it.endswith(".edit")]
+        wrong += [f"{os.path.relpath(it, ROOT)} is no .edit" for it in others]
+    return wrong
+
+
+def state_of(name, files, lines, tried_on):
+    """What the record says of an edit: current, stale, or missing. Raises Unfit where it can't be
+    applied."""
+    crate = name.partition("/")[0]
+    edit = Edit(files[0], f"{ROOT}/crates/{crate}")
+    if name not in lines:
+        return "missing"
+    return "current" if lines[name][0] == tried_on.sum(crate, edit.text) else "stale"
+
+
+def states(lines):
+    """What the record says of each edit, by its name, and what is wrong with the edits."""
+    found, wrong, tried_on = {}, lost_edits(), Basis(ROOT)
+    for name, files in sorted(all_edits().items()):
+        try:
+            found[name] = state_of(name, files, lines, tried_on)
+        except Unfit as why:
+            wrong.append(f"{name} can't be applied: {why}")
+    return found, wrong
+
+
+def wanting():
+    """The edits that have no line, or a stale one."""
+    return [name for name, state in states(read_record()[0])[0].items() if state != "current"]
+
+
+def faults():
+    """What is wrong with the record and with the edits, and what the record says of each edit."""
+    lines, wrong = read_record()
+    found, more = states(lines)
+    there = all_edits()
+    gone = [f"{name} is no edit" for name in sorted(lines) if name not in there]
+    return [f"tests/wrong_bodies/record: {it}" for it in wrong + gone] + more, found
+
+
+def main(words):
+    if words not in ([], ["--tried"]):
+        sys.exit("usage: tests/wrong_body_record.py [--tried]")
+    wrong, found = faults()
+    for it in wrong:
+        print(f"FAILED: {it}")
+    of_each = [*found.values()]
+    current, stale, missing = (of_each.count(it) for it in ("current", "stale", "missing"))
+    shelf = [shelves(crate)[0] for crate in crates()]
+    first = sum(len(os.listdir(it)) for it in shelf if os.path.isdir(it))
+    tried = "tried by rt ci" if words else "for rt ci, which has not passed in this run"
+    recorded = f"{current} current, {stale} stale, {missing} never"
+    print(f"wrong bodies: {len(all_edits())}, {first} {tried}; recorded: {recorded}")
+    if not toolchain():
+        print("no line counts as current without the command rt, which says what toolchain this is")
+    elif stale + missing:
+        renews = "./test wrong_bodies stale tries them and writes their lines"
+        print(f"{stale + missing} wrong bodies have no current line: {renews}")
+    return 1 if wrong else 0
+
+
+if __name__ == "__main__":
+    sys.exit(main(sys.argv[1:]))

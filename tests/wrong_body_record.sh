@@ -1,0 +1,235 @@
+# The record of wrong bodies: what makes a line stale and what doesn't, what is a fault, and what a trial
+# writes; in a tree of two crates, with an `rt` that refuses what has the word `wrong`. `observe`, `count`,
+# `at_least` and `set_up` are those of ./test, `must` is that of tests/command_line.sh.
+
+# The toolchain's command of these tests: for each line of the sources with the word `wrong` it says that
+# the function there isn't proved, and `unproved` beside the crates stands for a crate that isn't.
+write_prover() { # FILE
+    cat >"$1" <<'RT'
+#!/bin/sh
+if [ "$1" = version ]; then echo "${KIT:-kit 1}"; exit; fi
+printf "fn ${PWD##*/}::room::%s: proved\n" Room::get hidden RoomFromu8::from RoomFromu16::from
+told=$(grep -n wrong src/room.rt | sed 's/^\([0-9]*\):.*/note: .\/src\/room.rt:\1:5: it is not proved/')
+if [ -e ../unproved ] || [ "$told" ]; then echo "$told"; echo logic=not-proved; exit 1; fi
+echo logic=proved
+RT
+    chmod +x "$1"
+}
+
+write_sources() { # CRATE
+    cat >"$1/src/room.rt" <<'RATTLE'
+// A comment.
+pub const LIMIT: usize = 64;
+macro_rules! three {
+    () => { 3 };
+}
+#[derive(Drop)]
+pub struct Room { size: u8 }
+impl Room {
+    /// It gets.
+    pub fn get(&self) -> u8
+        requires { self.now.size < 200 }
+        ensures size { result ≡ self.now.size }
+    {
+        let brace = '}'; // } } }
+        let text = "} fn { // ";
+        self.size + 0 + 1 - 1
+    }
+}
+fn hidden(x: u8) -> u8
+    ensures { result ≡ x }
+{
+    x * 1
+}
+impl From<u8> for Room {
+    fn from(size: u8) -> Room { Room { size } }
+}
+impl From<u16> for Room {
+    fn from(_size: u16) -> Room {
+        Room { size: 16 }
+    }
+}
+pub const fn known() -> u8 { 7 }
+pub trait Last {
+    fn last(&self) -> u8 { 5 }
+}
+fn holds() -> u8 {
+    impl Last for Room { fn last(&self) -> u8 { 9 } }
+    8
+}
+RATTLE
+    echo 'pub two : ℕ' >"$1/specs/Lib.antt"
+    echo 'lemma : two ≡ 2' >"$1/proofs/Lib.antt"
+    echo 'pub returns : goal.returns' | tee "$1/proofs/get/Answers.antt" >"$1/proofs/hidden/Answers.antt"
+}
+
+write_edit() { # FILE OLD NEW
+    printf 'file: src/room.rt\nold: %s\nnew: %s\n' "$2" "$3" >"$1"
+}
+
+# `high` stands on `low`, and cites the proof of one of its functions. Each has an edit on the second shelf
+# by which `get` is wrong, and `high` one on the first.
+make_record_tree() {
+    local crate
+    mkdir -p tree/tests/wrong_bodies/{low,high} tree/crates/high/must-fail prover || return
+    cp -- "$root"/tests/wrong_bod*.py tree/tests/ && write_prover prover/rt || return
+    printf 'high: low # the upper\nlow: thiserror\n' >tree/crates.txt
+    echo 'Handles allowed: none.' >tree/HANDLES
+    for crate in low high; do
+        mkdir -p tree/crates/$crate/{src,specs,proofs/get,proofs/hidden} || return
+        write_sources tree/crates/$crate || return
+        write_edit tree/tests/wrong_bodies/$crate/gets_more.edit 'self.size + 0' 'self.size + 1 /* wrong */' || return
+    done
+    echo 'use Rattle.low.proofs.hidden.Answers.{returns}' >>tree/crates/high/proofs/Lib.antt
+    write_edit tree/crates/high/must-fail/gives_another.edit 'x * 1' 'x * 2 /* wrong */'
+}
+
+# Runs a command of the tree.
+in_tree() { # FILE WORD..
+    PATH=$PWD/prover:$PATH observe python3 "tree/tests/$1" "${@:2}"
+}
+
+# What the gate says of the tree: so many edits are current, stale and without a line. FAULT.. are told.
+record_says() { # NAME CURRENT STALE NEVER [FAULT..]
+    local said='' wanted=0 count=$(($2 + $3 + $4))
+    if (($# > 4)); then wanted=1 && printf -v said 'FAILED: %s\n' "${@:5}"; fi
+    said+="wrong bodies: ${edits:-3}, 1 for rt ci, which has not passed in this run; recorded: $2 current, $3 stale, $4 never"$'\n'
+    if (($3 + $4 > 0)); then
+        said+="$(($3 + $4)) wrong bodies have no current line: ./test wrong_bodies stale tries them and writes their lines"$'\n'
+    fi
+    in_tree wrong_body_record.py
+    must "$1" "$wanted" "$said" ''
+}
+
+# A trial prints these lines, and leaves a record of these edits and functions.
+trial_says() { # NAME STATUS PRINTED RECORDED WORD..
+    in_tree wrong_bodies.py "${@:5}"
+    must "$1" "$2" "$3" ''
+    observe awk '{ print $1, $3 }' tree/tests/wrong_bodies/record
+    must "$1: its record" 0 "$4" ''
+}
+
+# What is said once a text of a file is another.
+edited_says() { # NAME FILE OLD NEW CURRENT STALE NEVER [FAULT..]
+    local file=tree/$2 text
+    text=$(cat -- "$file" && echo .) && cp -p -- "$file" kept || return
+    set_up "$2 has the text $3" grep -qF -- "$3" "$file" || return
+    printf %s "${text/"$3"/"$4"}" | sed '$d' >"$file"
+    record_says "$1" "${@:5}"
+    mv -- kept "$file"
+}
+
+what_makes_a_line_stale() {
+    local low=crates/low/src/room.rt high=crates/high/src/room.rt
+    edited_says "a body in the crate" $high '- 1' '- 1 - 0' 1 2 0
+    edited_says "a comment in the crate" $high 'A comment' 'Another' 1 2 0
+    edited_says "a proof in the crate" crates/high/proofs/get/Answers.antt returns other 1 2 0
+    edited_says "a body below" $low '- 1' '- 1 - 0' 2 1 0
+    edited_says "a body below without a pub" $low 'x * 1' 'x * 1 * 1' 2 1 0
+    edited_says "a comment below" $low 'It gets' 'It lends' 2 1 0
+    edited_says "a proof below that nothing cites" crates/low/proofs/get/Answers.antt returns other 2 1 0
+    edited_says "a proof below that is cited" crates/low/proofs/hidden/Answers.antt returns other 0 3 0
+    edited_says "a clause below" $low '≡ self.now.size' '≡ 1' 0 3 0
+    edited_says "a condition below" $low '< 200' '< 201' 0 3 0
+    edited_says "a clause below without a pub" $low '{ result ≡ x }' '{ x ≡ x }' 0 3 0
+    edited_says "a result below" $low 'fn get(&self) -> u8' 'fn get(&self) -> u16' 0 3 0
+    edited_says "a constant below" $low 'usize = 64' 'usize = 65' 0 3 0
+    edited_says "a macro below" $low '=> { 3 }' '=> { 4 }' 0 3 0
+    edited_says "an attribute below" $low 'derive(Drop)' 'derive(Copy)' 0 3 0
+    edited_says "a field below" $low '{ size: u8 }' '{ size: u16 }' 0 3 0
+    edited_says "the body of a const fn below" $low '{ 7 }' '{ 6 }' 0 3 0
+    edited_says "the body that a trait gives a method below" $low '{ 5 }' '{ 6 }' 0 3 0
+    edited_says "an impl inside a body below" $low '{ 9 }' '{ 6 }' 0 3 0
+    edited_says "a definition below" crates/low/specs/Lib.antt two three 0 3 0
+    edited_says "a lemma below" crates/low/proofs/Lib.antt '≡ 2' '≡ 3' 0 3 0
+    edited_says "what the crate below uses" crates.txt thiserror itoa 0 3 0
+    edited_says "a comment in the list of crates" crates.txt upper lower 3 0 0
+    edited_says "what a crate may do" HANDLES none Wait 0 3 0
+    edited_says "the edit" tests/wrong_bodies/high/gets_more.edit '+ 1' '+ 2' 2 1 0
+    touch tree/crates/low/src/more.rt
+    record_says "a source more below" 0 3 0
+    rm tree/crates/low/src/more.rt
+    KIT='kit 2' record_says "another toolchain" 0 3 0
+    touch tree/crates/*/src/* && cp -R tree elsewhere && mv tree first && mv elsewhere tree
+    LC_ALL=C record_says "another folder, another time" 3 0 0
+    rm -r tree && mv first tree
+}
+
+what_is_a_fault() {
+    local record=tests/wrong_bodies/record high=crates/high/src/room.rt edits
+    local line=0123456789abcdef0123456789abcdef
+    edited_says "an edit whose text is gone" $high 'x * 1' 'x' 1 1 0 \
+        "high/gives_another can't be applied: src/room.rt holds a text 0 times, and not once: x * 1"
+    edited_says "an edit whose text stands twice" $high 'usize = 64' 'usize = x * 1' 1 1 0 \
+        "high/gives_another can't be applied: src/room.rt holds a text 2 times, and not once: x * 1"
+    edited_says "an edit of another file" tests/wrong_bodies/high/gets_more.edit room.rt hall.rt 2 0 0 \
+        "high/gets_more can't be applied: there is no file src/hall.rt"
+    edited_says "an edit without a new text" tests/wrong_bodies/high/gets_more.edit 'new: ' 'now: ' 2 0 0 \
+        "high/gets_more can't be applied: its line 3 can't stand there: now: self.size + 1 /* wrong */"
+    edited_says "a line for no edit" $record 'low/gets_more' 'low/gets_none' 2 0 1 \
+        "$record: low/gets_none is no edit"
+    edited_says "a line twice" $record 'high/gives_another' "high/gets_more $line room"$'\nhigh/gives_another' 2 1 0 \
+        "$record: line 2 stands for high/gets_more, as an earlier one does"
+    edited_says "lines out of their order" $record 'high/gets_more' "low/gets_more $line room"$'\nhigh/gets_more' 3 0 0 \
+        "$record: line 2 stands for high/gets_more, which comes before low/gets_more" \
+        "$record: line 3 stands for high/gives_another, which comes before low/gets_more" \
+        "$record: line 4 stands for low/gets_more, as an earlier one does"
+    edited_says "a line of another form" $record room::Room::get "room get" 2 0 1 \
+        "$record: line 1 is no line of the record: $(sed -n '1s/room::Room::get/room get/p' tree/$record)"
+    cp tree/tests/wrong_bodies/high/gets_more.edit tree/crates/high/must-fail/
+    in_tree wrong_body_record.py
+    must "an edit on both shelves" 1 "FAILED: high/gets_more stands on both shelves"$'\n'"wrong bodies: 3, 2 for rt ci, which has not passed in this run; recorded: 3 current, 0 stale, 0 never"$'\n' ''
+    rm tree/crates/high/must-fail/gets_more.edit
+    mkdir tree/tests/wrong_bodies/gone
+    record_says "edits of no crate" 3 0 0 "tests/wrong_bodies/gone belongs to no crate"
+    rmdir tree/tests/wrong_bodies/gone
+}
+
+what_a_trial_writes() {
+    local both=$'high/gets_more room::Room::get\nhigh/gives_another room::hidden\n'
+    local shelf=tree/tests/wrong_bodies
+    trial_says "all are tried" 0 $'high/gets_more: refused\nhigh/gives_another: refused\nlow/gets_more: refused\nwrong bodies: 3 refused, 0 not told, 0 not refused\n' \
+        "$both"$'low/gets_more room::Room::get\n'
+    record_says "all are recorded" 3 0 0
+    trial_says "nothing is stale" 0 $'wrong bodies: 0 refused, 0 not told, 0 not refused\n' "$both"$'low/gets_more room::Room::get\n' stale
+    sed -i '/^low/d' $shelf/record
+    trial_says "one has no line" 0 $'low/gets_more: refused\nwrong bodies: 1 refused, 0 not told, 0 not refused\n' \
+        "$both"$'low/gets_more room::Room::get\n' --jobs 2 stale
+    touch tree/crates/unproved
+    sed -i 's/- 1/- 1 - 0/' tree/crates/low/src/room.rt
+    trial_says "a crate that isn't proved keeps its line" 1 \
+        $'low: the crate itself is not proved\nwrong bodies: 0 refused, 0 not told, 1 not refused\n' \
+        "$both"$'low/gets_more room::Room::get\n' stale
+    rm tree/crates/unproved
+    sed -i 's/wrong/right/' $shelf/low/gets_more.edit
+    trial_says "one isn't refused" 1 $'low/gets_more: NOT REFUSED\nwrong bodies: 0 refused, 0 not told, 1 not refused\n' \
+        "$both" low/gets_more
+    rm $shelf/high/gets_more.edit
+    trial_says "one is gone" 0 $'high/gives_another: refused\nwrong bodies: 1 refused, 0 not told, 0 not refused\n' \
+        $'high/gives_another room::hidden\n' high
+    write_edit $shelf/low/gets_more.edit 'size: 16' 'size: 17 /* wrong */'
+    trial_says "one of two impls of a trait" 0 $'low/gets_more: refused\nwrong bodies: 1 refused, 0 not told, 0 not refused\n' \
+        $'high/gives_another room::hidden\nlow/gets_more room::RoomFromu16::from\n' low/gets_more
+    write_edit $shelf/high/gets_more.edit none 'any /* wrong */'
+    in_tree wrong_bodies.py high
+    must "an edit that can't be applied ends all" 1 '' \
+        $'wrong_bodies: an edit of high can\'t be applied: src/room.rt holds a text 0 times, and not once: none\n'
+    echo none >>$shelf/record
+    in_tree wrong_bodies.py low
+    must "a record with a fault is told first" 1 '' \
+        $'wrong_bodies: tests/wrong_bodies/record: line 3 is no line of the record: none\n'
+}
+
+record_of_wrong_bodies() {
+    mkdir "$room/record" && cd -- "$room/record" || exit 1
+    if set_up "there is a tree of two crates with edits" make_record_tree; then
+        record_says "nothing is recorded" 0 0 3
+        cp -R tree kept_tree
+        in_tree wrong_bodies.py
+        at_least 28 what_makes_a_line_stale
+        at_least 10 what_is_a_fault
+        rm -r tree && mv kept_tree tree
+        at_least 17 what_a_trial_writes
+    fi
+    cd -- "$root" || exit 1
+}
