@@ -1,116 +1,177 @@
-# What ./tpr builds before it runs the program: in a tree of three crates, with an `rt` that only says what
-# it was asked for. `observe`, `judge`, `count`, `at_least` and `set_up` are those of ./test, `must` is that
-# of tests/command_line.sh.
+# What ./build builds, and that ./tpr then runs it and tries nothing: in a tree of four crates, with an `rt`
+# that only says what it was asked for. tests/trying.sh goes on with the same tree. `observe`, `judge`,
+# `count`, `at_least` and `set_up` are those of ./test, `must` is that of tests/command_line.sh.
 
 # The toolchain's command of these tests. The program that it makes prints its words and ends with 7. Files
-# beside the crates make it refuse a crate, fail once it has made the program, or edit a source meanwhile.
+# beside the crates of the tree TREE make it refuse a crate, fail once it has made the program, edit a source
+# meanwhile, or wait for another crate; and one is what it does where it tries.
 write_rt() { # FILE
     cat >"$1" <<'RT'
 #!/bin/sh
+# Waits until two crates are at work.
+meet() {
+    touch "$TREE/met in $crate"
+    for _ in 1 2 3 4 5 6 7 8 9 10 11 12 13 14 15 16 17 18 19 20; do
+        if [ -e "$TREE/met in low" ] && [ -e "$TREE/met in side" ]; then return; fi
+        sleep 0.5
+    done
+    exit 2
+}
 crate=${PWD##*/}
+if [ "$1" = try ]; then exec sh ../tried "$@"; fi
 echo "rt was asked in $crate: $*"
-if [ -e "../refused in $crate" ]; then exit 2; fi
+if [ -e "$TREE/refused in $crate" ]; then exit 2; fi
+if [ -e "$TREE/meet" ]; then meet; fi
 mkdir -p out/rlib && touch out/rlib/stamp
-if [ -e ../edits ]; then rm ../edits && sleep 0.1 && touch ../low/src/lib.rt; fi
+if [ -e "$TREE/edits" ]; then rm "$TREE/edits" && sleep 0.1 && touch "$TREE/low/src/lib.rt"; fi
 if [ "$1" = run ]; then printf '#!/bin/sh\nprintf "%%s;" "$@"\nexit 7\n' >out/tpr && chmod +x out/tpr; fi
-if [ -e "../fails in $crate" ]; then exit 2; fi
+if [ -e "$TREE/fails in $crate" ]; then exit 2; fi
 RT
     chmod +x "$1"
 }
 
-# A tree in which `tpr` stands on `low`, and `beside` doesn't matter to it; and folders of commands, two of
-# which lack one that a build needs.
+# Folders of commands: all but rt, rt alone, and one without python3.
+make_commands() {
+    local command python
+    python=$(python3 -c 'import sys; print(sys.executable)')
+    mkdir -p commands/without_rt commands/rt || return
+    for command in bash cat chmod env find mkdir mv readlink rm setsid sh sleep tail touch; do
+        ln -s -- "$(command -v "$command")" "commands/without_rt/$command" || return
+    done
+    printf '#!/bin/sh\nexec "%s" "$@"\n' "$python" >commands/without_rt/python3
+    chmod +x commands/without_rt/python3
+    write_rt commands/rt/rt
+    cp -R -- commands/without_rt commands/without_python && rm commands/without_python/python3 || return
+    write_rt commands/without_python/rt
+}
+
+# A tree in which `tpr` stands on `low` and `side`, and `beside` doesn't matter to it.
 make_tree() {
-    local crate command
-    mkdir -p "a tree" commands/without_rt commands/rt || return
-    cp -- "$root/tpr" "$root/build" "a tree/" || return
-    printf 'low: thiserror\nbeside: low\ntpr may_wait=5: low\n' >"a tree/crates.txt"
-    for crate in low beside tpr; do
+    local crate
+    mkdir -p "a tree" rooms || return
+    cp -- "$root/tpr" "$root/try" "$root/build" "a tree/" || return
+    printf 'low: thiserror\nside: thiserror\nbeside: low\ntpr may_wait=5: low side\n' >"a tree/crates.txt"
+    for crate in low side beside tpr; do
         mkdir -p "a tree/crates/$crate/"{src,specs,proofs} || return
         touch "a tree/crates/$crate/"{src/lib.rt,src/more.rt,specs/Lib.antt,proofs/Lib.antt} || return
     done
-    for command in bash chmod env find flock mkdir mv readlink rm sh sleep tail touch; do
-        ln -s -- "$(command -v "$command")" "commands/without_rt/$command" || return
-    done
-    write_rt commands/rt/rt
-    cp -R -- commands/without_rt commands/without_flock && write_rt commands/without_flock/rt || return
-    rm commands/without_flock/flock
+    minutes=$(sed -n 's/^MINUTES_OF_A_FIRST_BUILD = \([0-9]*\).*/\1/p' "a tree/build")
+    make_commands
 }
 
-call_tpr() { # FOLDER OF rt, PROGRAM
+# What is left in the folder of temporary files is told as said.
+call() { # FOLDER OF rt, COMMAND..
     local path=$PWD/commands/$1
     if [[ $1 == rt ]]; then path+=:$PWD/commands/without_rt; fi
-    PATH=$path observe "$2" run "a file"
+    TREE="$PWD/a tree/crates" PATH=$path TMPDIR=$PWD/rooms observe "${@:2}"
+    find rooms -mindepth 1 >>"$room/said"
 }
 
-# The program was built so, and ran.
-builds() { # NAME PROGRAM SAID..
-    local name=$1 said=''
-    call_tpr rt "$2"
-    shift 2
-    if (($# > 0)); then printf -v said 'tpr: %s\n' "$@"; fi
-    must "$name" 7 'run;a file;' "$said"
+# The program ran, and nothing was tried.
+runs() { # NAME PROGRAM
+    call rt "$2" run "a file"
+    must "$1, and the program runs" 7 'run;a file;' ''
 }
 
-# The program was not built, and didn't run.
+# The program was built so, and then runs.
+builds() { # NAME SAID..
+    local said=''
+    call rt "a tree/build" --jobs 2
+    if (($# > 1)); then printf -v said 'tpr: %s\n' "${@:2}"; fi
+    must "$1" 0 '' "$said"
+    runs "$1" "a tree/tpr"
+}
+
+# The program was not built.
 fails_to_build() { # NAME FOLDER OF rt, SAID..
     local said
-    call_tpr "$2" "a tree/tpr"
+    call "$2" "a tree/build" --jobs 2
     printf -v said '%s\n' "${@:3}"
     must "$1" 1 '' "$said"
 }
 
-builds_what_is_newer() {
+# What is said of a build; the functions below share it.
+builds_and_fails() {
     local log="what the build says is written to $PWD/a tree/out/build.log"
-    local first="building the program. A first build proves it too and takes about 25 minutes"
+    local first="building the program. A first build proves it too and takes about $minutes minutes"
     local again="a source is newer than the last build of the program, which is built again"
-    local low="crate 1 of 2, low; 0 minutes so far" last="crate 2 of 2, tpr; 0 minutes so far"
-    local asked_low="rt was asked in low: lib" asked_last="rt was asked in tpr: run -- queue"
+    local low="crate 1 of 3, low; 0 minutes so far" side="crate 2 of 3, side; 0 minutes so far"
+    local last="crate 3 of 3, tpr; 0 minutes so far"
+    local asked_low="rt was asked in low: lib --jobs 2" asked_last="rt was asked in tpr: run --jobs 2 -- queue"
     local ended="tpr: the build failed; all that it said is in $PWD/a tree/out/build.log"
-    local crates="a tree/crates" tpr="a tree/tpr"
-    set_up "there is a tree of three crates" make_tree || return
+    local crates="a tree/crates"
+    builds_at_first
+    builds_what_is_newer
+    fails_and_builds_again
+}
+
+builds_at_first() {
     fails_to_build "a first build without the toolchain" without_rt \
         "tpr: the program has to be built, and the toolchain's command rt is not on PATH"
-    fails_to_build "a first build without flock" without_flock \
-        "tpr: the program has to be built, and the command flock is not on PATH"
-    builds "a first build" "$tpr" "$first" "$log" "$low" "$last"
-    observe cat "a tree/out/build.log"
-    must "what rt was asked" 0 "$asked_low"$'\n'"$asked_last"$'\n' ''
-    builds "nothing is newer" "$tpr"
+    call rt "a tree/build" is_built
+    must "nothing is built yet" 1 '' ''
+    touch "$crates/meet"
+    builds "a first build, of two crates side by side" "$first" "$log" "$low" "$side" "$last"
+    rm "$crates/meet"
+    observe sort "a tree/out/build.log"
+    must "what rt was asked" 0 "$(printf 'rt was asked in %s\n' "low: lib --jobs 1" "side: lib --jobs 1" \
+        "tpr: run --jobs 2 -- queue")"$'\n' ''
+    observe ls "a tree/out"
+    must "what a build leaves" 0 $'build.log\nbuilt\nlock\n' ''
+    call rt "a tree/build" is_built
+    must "all is built" 0 '' ''
+    call rt "a tree/build" it
+    must "another word for the build" 4 '' $'usage: ./build [--jobs N | is_built]\n'
+    call rt "a tree/build" --jobs 0
+    must "on no processor" 4 '' $'usage: ./build [--jobs N | is_built]\n'
+}
+
+builds_what_is_newer() {
+    builds "nothing is newer"
     ln -s -- "$PWD/a tree/tpr" link
-    builds "the program by a link" ./link
+    runs "called by a link" ./link
     touch "$crates/low/proofs/Lib.antt"
-    builds "a newer proof" "$tpr"
+    builds "a newer proof"
     touch "$crates/tpr/specs/Lib.antt"
-    builds "a newer definition of tpr" "$tpr" "$again" "$log" "$last"
+    builds "a newer definition of tpr" "$again" "$log" "$last"
     touch "$crates/low/src/lib.rt"
-    builds "a newer source below tpr" "$tpr" "$again" "$log" "$low" "$last"
+    call rt "a tree/build" is_built
+    must "a source is newer" 1 '' ''
+    builds "a newer source below tpr" "$again" "$log" "$low" "$last"
     rm "$crates/low/src/more.rt"
-    builds "a source taken away" "$tpr" "$again" "$log" "$low" "$last"
+    builds "a source taken away" "$again" "$log" "$low" "$last"
     touch "a tree/crates.txt"
-    builds "a newer list of crates" "$tpr" "$again" "$log" "$low" "$last"
+    builds "a newer list of crates" "$again" "$log" "$low" "$side" "$last"
     touch "$crates/edits" "$crates/tpr/src/lib.rt"
-    builds "a source below tpr is edited while tpr is built" "$tpr" "$again" "$log" "$last"
-    builds "and counts as newer" "$tpr" "$again" "$log" "$low" "$last"
+    call rt "a tree/build" --jobs 2
+    must "a source below tpr is edited while tpr is built" 0 '' "$(printf 'tpr: %s\n' "$again" "$log" "$last")"$'\n'
+    builds "and counts as newer" "$again" "$log" "$low" "$last"
+    touch "$crates/beside/src/lib.rt"
+    builds "a newer crate on which tpr doesn't stand"
+}
+
+fails_and_builds_again() {
     touch "$crates/refused in low" "$crates/low/src/lib.rt"
     fails_to_build "a crate below tpr is refused" rt "tpr: $again" "tpr: $log" "tpr: $low" "$asked_low" "$ended"
     rm "$crates/refused in low"
-    builds "once it is no longer" "$tpr" "$again" "$log" "$low" "$last"
+    builds "once it is no longer" "$again" "$log" "$low" "$last"
     touch "$crates/fails in tpr" "$crates/tpr/src/lib.rt"
     fails_to_build "the program is made, and its first run fails" rt \
         "tpr: $again" "tpr: $log" "tpr: $last" "$asked_last" "$ended"
     fails_to_build "and fails again" rt "tpr: $again" "tpr: $log" "tpr: $last" "$asked_last" "$ended"
     rm "$crates/fails in tpr"
-    builds "once it fails no longer" "$tpr" "$again" "$log" "$last"
-    touch "$crates/beside/src/lib.rt"
-    builds "a newer crate on which tpr doesn't stand" "$tpr"
+    builds "once it fails no longer" "$again" "$log" "$last"
     mv "a tree/crates.txt" "a tree/list"
     fails_to_build "no list of crates" rt \
         "tpr: there is no crate tpr in $PWD/a tree/crates.txt"
+    mv "a tree/list" "a tree/crates.txt"
 }
 
 building() {
     mkdir "$room/building" && cd -- "$room/building" || exit 1
-    at_least 20 builds_what_is_newer
+    if set_up "there is a tree of three crates" make_tree; then
+        at_least 36 builds_and_fails
+        trying
+    fi
     cd -- "$root" || exit 1
 }

@@ -1,6 +1,6 @@
-# What the program makes of its command line, of what it reads and of where it prints. The name of
-# the program stands in `tpr`; `observe`, `judge`, `count`, `at_least`, `set_up` and `has_bytes` are those
-# of ./test.
+# What the program makes of its command line, of what it reads and of where it prints, called as users call
+# it: by ./tpr, where no other program is tested. `called`, `observe`, `judge`, `count`, `at_least`, `set_up` and
+# `has_bytes` are those of ./test.
 
 # The last run is one case. What it must print is a text.
 must() { # NAME STATUS PRINTED SAID
@@ -149,6 +149,7 @@ writing() {
 }
 
 command_line() {
+    local tpr=$called
     mkdir "$room/here"
     cd -- "$room/here" || exit 1
     at_least 9 command_lines

@@ -60,11 +60,9 @@ run_each_beside_a_load() {
     wait "${load[@]}" 2>/dev/null
 }
 
-# Runs an example where the process may map so many KiB: the program itself, since ./tpr needs some too.
+# Runs an example where the process may map so many KiB.
 run_within() { # KIB EXAMPLE
-    local program=$tpr
-    if [[ -z ${TPR-} ]]; then program=$root/crates/tpr/out/tpr; fi
-    (ulimit -v "$1" && exec timeout 20 "$program" run "$root/examples/$2.ttcn") >"$room/printed" 2>"$room/said" </dev/null
+    (ulimit -v "$1" && exec timeout 20 "$tpr" run "$root/examples/$2.ttcn") >"$room/printed" 2>"$room/said" </dev/null
     status=$?
 }
 
