@@ -1,0 +1,54 @@
+"""A rule that a script breaks, and where."""
+from __future__ import annotations
+
+import difflib
+from typing import Iterable, Optional
+
+from .constructs import Construct
+from .refusal_rules import Rule
+
+
+class RuleFault(Exception):
+    """The number, the token whose line is told, the token that is meant, and what is wrong.
+
+    `others` are further places to show, each with what it is; `instead` is what to write, and
+    `construct` what of the full language was meant.
+    """
+
+    def __init__(self, number: int, told: int, place: int, sentence: str, rule: Rule):
+        super().__init__(sentence)
+        self.number = number
+        self.told = told
+        self.place = place
+        self.sentence = sentence
+        self.rule = rule
+        self.others: list[tuple[int, str]] = []
+        self.instead = ""
+        self.construct: Optional[Construct] = None
+
+    def beside(self, place: int, label: str) -> "RuleFault":
+        self.others.append((place, label))
+        return self
+
+    def write(self, instead: str) -> "RuleFault":
+        self.instead = instead
+        return self
+
+    def meant(self, construct: Construct) -> "RuleFault":
+        self.construct = construct
+        return self
+
+
+def nearest(name: str, known: Iterable[str]) -> str:
+    """A question after the name that may be meant, or nothing."""
+    found = difflib.get_close_matches(name, list(known)[:500], 1, 0.7)
+    return f" (is `{found[0]}` meant?)" if found else ""
+
+
+def listed(names: Iterable[str], none: str = "none") -> str:
+    """The names in a row, at most six of them."""
+    shown = list(dict.fromkeys(names))
+    if not shown:
+        return none
+    more = f" and {len(shown) - 6} more" if len(shown) > 6 else ""
+    return ", ".join(f"`{name}`" for name in shown[:6]) + more
