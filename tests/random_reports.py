@@ -45,6 +45,7 @@ class Run:
         self.ends = {}
         self.counts = {}
         self.operations = self.random.choice([0, 0, 1, 3])
+        self.letters = "pqr"  # the names of its ports
 
     def report(self):
         for _ in range(self.random.randint(0, 120)):
@@ -71,7 +72,7 @@ class Run:
         self.histories[name].append(f"sent {receiver}.{port} {number} {message}")
 
     def receive(self, name):
-        port = self.random.choice("pqr")
+        port = self.random.choice(self.letters)
         queue = self.ports[name, port]
         if queue.deliverable() == 0:
             return
@@ -80,7 +81,7 @@ class Run:
         self.histories[name].append(f"{word} {port} {' '.join(map(str, top))}")
 
     def operate(self, name):
-        port, word = self.random.choice("pqr"), self.random.choice(["cleared", "started", "stopped", "halted"])
+        port, word = self.random.choice(self.letters), self.random.choice(["cleared", "started", "stopped", "halted"])
         self.ports[name, port].operate(word)
         self.histories[name].append(f"{word} {port}")
 
@@ -105,7 +106,7 @@ class Run:
             verdict = "error" if end.startswith("error") else verdict
             result = worst([result, verdict, "error" if end == "waiting" else "none"])
             yield from [f"component {name}", *history, f"end {end}", f"verdict {verdict}"]
-            for port in "pqr":
+            for port in self.letters:
                 yield from (f"left {port} {' '.join(map(str, env))}" for env in self.ports[name, port].queue)
         yield f"result {result}"
 

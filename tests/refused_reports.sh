@@ -96,6 +96,18 @@ left p mtc 0 integer:1|left q mtc 0 integer:1|left p mtc 1 integer:2|result none
     '1 component a|end done|verdict none|result none|' '1 result none|' '1 accepted|' '1 fault 50 Memory|' '1 |' '1 '
     '5 component mtc|end done|verdict none|result none||' '4 component mtc|end done|verdict none|result none'
     '0 component mtc|end done|verdict none|result none|' '4 component mtc|end waiting|verdict none|result none|'
+    # What a port forbids: a halt that causes what is ahead of its mark, a queue in another order than what came,
+    # a message that is taken behind the emptying that it came before, one that is discarded before an older one.
+    "2 component mtc|halted p|sent a.p 0 integer:1|took p a 0 integer:2|${ended}\
+component a|took p mtc 0 integer:1|sent mtc.p 0 integer:2|${ended}result none|"
+    "7 component mtc|${ended}left p b 0 integer:1|left p a 0 integer:1|component a|sent mtc.p 0 integer:1|\
+sent b.p 0 integer:1|${ended}component b|took p a 0 integer:1|sent mtc.p 0 integer:1|${ended}result none|"
+    "2 component mtc|took q a 0 integer:1|cleared p|took p a 0 integer:1|${ended}\
+component a|sent mtc.p 0 integer:1|sent mtc.q 0 integer:1|${ended}result none|"
+    "7 component mtc|took p b 0 integer:1|cleared p|${ended}component a|sent mtc.p 0 integer:1|sent b.p 0 integer:1|\
+${ended}component b|took p a 0 integer:1|sent mtc.p 0 integer:1|${ended}result none|"
+    "4 component mtc|found p a 0 integer:1|cleared p|took p a 0 integer:1|${ended}\
+component a|sent mtc.p 0 integer:1|${ended}result none|"
     '0 component mtc|end waiting|verdict none|result error|' '3 component mtc|end waiting|verdict error|result error|'
 )
 

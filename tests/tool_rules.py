@@ -2,19 +2,29 @@
 """The rules on what tools/ prints, told apart from its own code, as far as a shell can't see them.
 
     tests/tool_rules.py chart REPORT SVG ..      each chart is well-formed, and shows what its report says
-    tests/tool_rules.py orders REPORT..          the rows keep every history and every message
+    tests/tool_rules.py orders REPORT..          played on the ports, the rows do what the report says
+    tests/tool_rules.py played NUMBER            so do those of so many reports at random
+    tests/tool_rules.py tried NUMBER             of so many small reports, right or changed, those are refused
+                                                 of which no order at all is one that the ports allow
     tests/tool_rules.py cuts REPORT..            cut after any byte, a report is refused at that line
     tests/tool_rules.py random NUMBER            so many reports at random are read, drawn and compared
+    tests/tool_rules.py parts NUMBER             so do parts of the charts of so many reports
+    tests/tool_rules.py linear                   the time of an order goes with the lines, not the components
     tests/tool_rules.py junit XML T F E          valid, with so many tests, failures and errors
+    tests/tool_rules.py interrupted FILE COMMAND.. what it prints if Ctrl-C comes once there is the file
     tests/tool_rules.py terminal COMMAND..       what the command says on a terminal, its status at the end
 
 Each prints what is wrong and ends with status 1, or prints nothing and ends with status 0.
 """
+import functools
 import os
 import pty
+import random
 import re
+import signal
 import subprocess
 import sys
+import time
 import xml.etree.ElementTree as xml
 
 ROOT = os.path.dirname(os.path.dirname(os.path.realpath(__file__)))
@@ -25,10 +35,13 @@ from library.deliveries import deliveries_of  # noqa: E402
 from library.differences import EQUAL, compare  # noqa: E402
 from library.letters import letters_of  # noqa: E402
 from library.order import rows_of  # noqa: E402
+from library.part import Asked, part_of  # noqa: E402
 from library.reader import read_report  # noqa: E402
 from library.report import NotAReport  # noqa: E402
 from library.sequence import sequence_of  # noqa: E402
 from library.svg import svg_of  # noqa: E402
+from pages import report_of_many  # noqa: E402
+from played import Played, Small, Unplayable, changed, has_order  # noqa: E402
 from random_reports import Run  # noqa: E402
 
 SVG = "{http://www.w3.org/2000/svg}"
@@ -74,13 +87,18 @@ def check_drawing(report, svg):
     check_texts(root, lines)
 
 
-def check_texts(root, lines):
-    """The texts are there, none leaves the picture, and each row that shows something tells it."""
+def check_inside(root):
+    """No text leaves the picture."""
     width, height = float(root.get("width")), float(root.get("height"))
-    texts = list(root.iter(f"{SVG}text"))
-    for text in texts:
+    for text in root.iter(f"{SVG}text"):
         must(0 < float(text.get("y")) < height, f"{text.text!r} stands outside")
         check_width(text, width)
+
+
+def check_texts(root, lines):
+    """The texts are there, none leaves the picture, and each row that shows something tells it."""
+    check_inside(root)
+    texts = list(root.iter(f"{SVG}text"))
     shown = [text.text for text in texts]
     for line in lines:
         if re.match("component|set|result|end|verdict", line):
@@ -115,23 +133,41 @@ def check_orders(*files):
 
 
 def check_order(data, file):
-    """Each history in its order, and nothing done with a message before it was sent."""
-    report = read_report(data)
-    places = []
-    for row in rows_of(deliveries_of(report)):
-        places += [row.first] + ([row.second] if row.second else [])
-    for number, component in enumerate(report.components):
-        own = [place.entry for place in places if place.component == number]
-        must(own == list(range(len(component.entries))), f"{file}: {component.name} isn't in order")
-    sent = set()
-    for place in places:
-        component = report.components[place.component]
-        words = component.entries[place.entry].line.text.split(" ", 4)
-        if words[0] == "sent":
-            receiver, port = words[1].split(".")
-            sent.add((component.name, receiver, port, words[2]))
-        elif words[0] in ENDS:
-            must((words[2], component.name, words[1], words[3]) in sent, f"{file}: {words} comes before its sending")
+    """The rows are an order of all entries that the ports allow, and each message is discarded where it is
+    told to be."""
+    deliveries = deliveries_of(read_report(data))
+    rows = rows_of(deliveries)
+    places = [tuple(place) for row in rows for place in (row.first, row.second) if place]
+    discarded = {
+        tuple(place): [(message.route.sender, str(message.number)) for message in messages]
+        for place, messages in deliveries.discarded.items()
+    }
+    try:
+        Played(data.decode().splitlines()).play(places, discarded)
+    except Unplayable as wrong:
+        raise Wrong(f"{file}: {wrong}") from None
+
+
+def check_played(number):
+    for seed in range(int(number)):
+        check_order(Run(seed).report().encode(), f"seed {seed}")
+
+
+def check_tried(number):
+    """Each report of a small run, and three that differ from it in a line or two."""
+    counts = {True: 0, False: 0, None: 0}
+    for seed in range(int(number)):
+        lines = Small(seed).lines()
+        for text in (lines, *(changed(lines, f"{seed} {turn}") for turn in range(3))):
+            has = has_order(text)
+            counts[has] += 1
+            data = "".join(f"{line}\n" for line in text).encode()
+            is_refused = refused_at(data) is not None
+            must(has is None or has != is_refused, f"seed {seed}: an order {has}, refused {is_refused}: {text}")
+            if has:
+                check_order(data, f"seed {seed}: {text}")
+    least = int(number) // 2
+    must(counts[True] > least and counts[False] > least and counts[None] < least, f"too few were tried: {counts}")
 
 
 def check_cuts(*files):
@@ -156,7 +192,6 @@ def check_random(number):
     refused = 0
     for seed in range(int(number)):
         text = Run(seed).report()
-        check_order(text.encode(), f"seed {seed}")
         report = read_report(text.encode())
         sequence = sequence_of(report, f"seed {seed}")
         try:
@@ -171,6 +206,36 @@ def check_random(number):
     must(refused > 2 * int(number), f"only {refused} reports without a line were tried")
 
 
+def check_parts(number):
+    """A part of a chart is drawn within its picture, and tells each entry of its components and rows."""
+    for seed in range(int(number)):
+        report = read_report(Run(seed).report().encode())
+        whole = sequence_of(report, f"seed {seed}")
+        chance = random.Random(seed)
+        names = report.names()
+        only = tuple(chance.sample(names, chance.randint(1, len(names))))
+        rows = tuple(sorted(chance.choices(range(1, len(whole.steps) + 1), k=2))) if whole.steps else None
+        for asked in (Asked(only=only), Asked(rows=rows), Asked(only, rows, fold=True), Asked(fold=True)):
+            try:
+                check_part(part_of(whole, asked), whole, asked)
+            except (Wrong, xml.ParseError) as wrong:
+                raise Wrong(f"seed {seed}, {asked}: {wrong}") from None
+
+
+def check_part(part, whole, asked):
+    svg = xml.fromstring(svg_of(part).encode())
+    check_inside(svg)
+    drawn = letters_of(part)
+    must(all(name in drawn for name in part.names), "a name isn't drawn")
+    must(set(part.names) == set(asked.only or whole.names), f"{part.names} are drawn")
+    first, last = asked.rows or (1, len(whole.steps))
+    told = "\n".join(title.text or "" for title in svg.iter(f"{SVG}title"))
+    for step in whole.steps[first - 1 : last] if not asked.fold else []:
+        for line in step.lines.splitlines():
+            mine = re.match(r"line \d+ \((\w+): ", line)
+            must(not mine or mine[1] not in part.names or line in told, f"{line!r} isn't told")
+
+
 def check_missing_lines(text, seed):
     """Where no port is emptied, a report without one of its messages' lines is refused."""
     lines = text.splitlines(keepends=True)
@@ -181,6 +246,22 @@ def check_missing_lines(text, seed):
             must(refused_at(data) is not None, f"seed {seed} without line {number + 1} isn't refused")
             tried += 1
     return tried
+
+
+LEAST = 0.05  # a second's part, below which times say nothing
+
+
+def check_linear():
+    """Processor time of reading, matching and ordering: four times the lines take no more than eight times as
+    long, and 62 components no more than four times as long as two."""
+    times = {}
+    for components, rounds in ((2, 7_500), (62, 123), (62, 492)):
+        data = report_of_many(components, rounds).encode()
+        began = time.process_time()
+        rows_of(deliveries_of(read_report(data)))
+        times[components, rounds] = max(time.process_time() - began, LEAST)
+    must(times[62, 492] < 8 * times[62, 123], f"it isn't linear in the lines: {times}")
+    must(times[62, 123] < 4 * times[2, 7_500], f"it goes with the components: {times}")
 
 
 # The usual schema, as build servers read it. Of each element: the attributes that it must have, those
@@ -201,6 +282,7 @@ ELEMENTS = {
     "failure": ({"message", "type"}, set(), set()),
     "error": ({"message", "type"}, set(), set()),
     "system-out": (set(), set(), set()),
+    "system-err": (set(), set(), set()),
 }
 SECONDS = re.compile(r"[0-9]+\.[0-9]{3}")
 DATE = re.compile(r"[0-9]{4}-[01][0-9]-[0-3][0-9]T[0-2][0-9]:[0-5][0-9]:[0-5][0-9]")
@@ -215,6 +297,8 @@ def check_junit(file, tests, failures, errors):
     must([root.get(name) for name in ("tests", "failures", "errors")] == [tests, failures, errors], f"{root.attrib}")
     for suite in root:
         check_counts(suite, list(suite))
+    names = [(case.get("classname"), case.get("name")) for case in root.iter("testcase")]
+    must(len(set(names)) == len(names), f"two cases are alike: {names}")
 
 
 def check_element(element):
@@ -231,8 +315,9 @@ def check_element(element):
     if element.tag == "testcase":
         tags = [child.tag for child in element]
         must(len(set(tags) & {"failure", "error", "skipped"}) <= 1, "a case has two outcomes")
-        must(tags == sorted(tags), "the outcome of a case stands before what it printed")
-        must(tags.count("system-out") == 1 and len(tags) <= 2, "a case has its report, once")
+        order = ["error", "failure", "system-out", "system-err"]
+        must(tags == [tag for tag in order if tag in tags], f"{tags} isn't the order of a case's parts")
+        must(tags.count("system-out") == 1, "a case has its report, once")
 
 
 def check_counts(element, cases):
@@ -244,9 +329,9 @@ def check_counts(element, cases):
 
 
 def on_a_terminal(*command):
-    """Its standard error is a terminal. What is said there is printed."""
+    """Its standard output and error are a terminal. What is said there is printed."""
     ours, theirs = pty.openpty()
-    with subprocess.Popen(command, stdin=subprocess.DEVNULL, stdout=subprocess.DEVNULL, stderr=theirs) as process:
+    with subprocess.Popen(command, stdin=subprocess.DEVNULL, stdout=theirs, stderr=theirs) as process:
         os.close(theirs)
         said = b""
         while True:
@@ -260,13 +345,30 @@ def on_a_terminal(*command):
     print(said.decode(), f"status {process.returncode}", sep="\n")
 
 
+def interrupt(file, *command):
+    """As Ctrl-C does it, once the file is there. Ours may be ignored where the gate runs in the background."""
+    default = functools.partial(signal.signal, signal.SIGINT, signal.SIG_DFL)
+    with subprocess.Popen(command, stdout=subprocess.PIPE, preexec_fn=default) as process:
+        until = time.monotonic() + 60
+        while not os.path.exists(file) and time.monotonic() < until:
+            time.sleep(0.05)
+        process.send_signal(signal.SIGINT)
+        printed = process.stdout.read().decode()
+    print(printed, f"status {process.returncode}", sep="")
+
+
 CHECKS = {
     "chart": check_charts,
     "orders": check_orders,
+    "played": check_played,
+    "tried": check_tried,
     "cuts": check_cuts,
     "random": check_random,
+    "parts": check_parts,
+    "linear": check_linear,
     "junit": check_junit,
     "terminal": on_a_terminal,
+    "interrupted": interrupt,
 }
 
 if __name__ == "__main__":

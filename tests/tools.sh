@@ -72,6 +72,10 @@ rules_on_reports() {
     tool_must "reports that are cut behind any of their bytes" 0 prints ''
     observe python3 "$root/tests/tool_rules.py" random 150
     tool_must "reports at random" 0 prints ''
+    observe python3 "$root/tests/tool_rules.py" played 10000
+    tool_must "the charts' orders of 10,000 reports at random, played on the ports" 0 prints ''
+    observe python3 "$root/tests/tool_rules.py" tried 2000
+    tool_must "small reports, of which all orders are tried" 0 prints ''
 }
 
 charts_in_other_ways() {
@@ -99,6 +103,7 @@ a: left p mtc 1 integer:2
 
 result error
 "
+    charts_of_emptied_ports
     observe "$root/tools/chart" <&-
     tool_must "a chart of a closed standard input" 2 says_alone "chart: standard input"
     observe "$root/tools/chart" "$room/missing"
@@ -118,6 +123,43 @@ result error
     tool_must "what chart --help says" 0 grep -q '^  4  the command line is wrong$' "$room/printed"
 }
 
+# Which of two emptyings discards a message, and what can only have come behind one.
+charts_of_emptied_ports() {
+    local rest='end done|verdict none|'
+    tr '|' '\n' <<<"component mtc|cleared p|took p b 0 integer:2|cleared p|${rest}component a|sent mtc.p 0 integer:1|\
+sent b.p 0 integer:5|${rest}component b|took p a 0 integer:5|sent mtc.p 0 integer:2|${rest}result none" >"$room/first.report"
+    COLUMNS=90 observe "$root/tools/chart" --text "$room/first.report"
+    tool_must "a message that the first of two emptyings discards" 0 prints_in_letters "\
+first: result none
+
+ mtc a b
+ discarded p |#-- integer:1 --| |
+ [cleared p, discards 1] | |
+ | |-- integer:5 -->| took p
+ took p |<---------- integer:2 -----------|
+ [cleared p] . .
+ end done end done end done
+ verdict none verdict none verdict none
+
+result none
+"
+    tr '|' '\n' <<<"component mtc|took q a 0 integer:9|cleared p|took p a 0 integer:1|${rest}\
+component a|sent mtc.q 0 integer:9|sent mtc.p 0 integer:1|${rest}result none" >"$room/behind.report"
+    COLUMNS=90 observe "$root/tools/chart" --text "$room/behind.report"
+    tool_must "a message that comes behind an emptying" 0 prints_in_letters "\
+behind: result none
+
+ mtc a
+ took q |<-- integer:9 --|
+ [cleared p] |
+ took p |<-- integer:1 --|
+ end done end done
+ verdict none verdict none
+
+result none
+"
+}
+
 compared() { # NAME STATUS PRINTED A B
     observe "$root/tools/compare" "$4" "$5"
     tool_must "compare: $1" "$2" prints "$3"
@@ -132,40 +174,40 @@ comparisons() {
     two=$root/examples/everyone_is_told_to_stop.expected.2
     compared "two orders" 0 "${equal_but_for_the_order}\
 mtc, open: which came first
-  - line 4: took orders north 0 charstring:\"stopped\"
-  + line 4: took orders south 0 charstring:\"stopped\"
+  - report A, line 4: took orders north 0 charstring:\"stopped\"
+  + report B, line 4: took orders south 0 charstring:\"stopped\"
 " "$one" "$two"
     sed -e '4s/pass/fail/;9s/pass/fail/;17s/pass/fail/' -- "$base" >"$room/failed"
     compared "another verdict" 5 'different
 mtc, what it did by itself
-  - line 4: set pass
-  + line 4: set fail
+  - report A, line 4: set pass
+  + report B, line 4: set fail
 mtc, its verdict
-  - line 9: verdict pass
-  + line 9: verdict fail
+  - report A, line 9: verdict pass
+  + report B, line 9: verdict fail
 the result
-  - line 17: result pass
-  + line 17: result fail
+  - report A, line 17: result pass
+  + report B, line 17: result fail
 ' "$base" "$room/failed"
     sed -e 's/guess/guest/' -- "$base" >"$room/guest"
     compared "another message" 5 'different
 mtc, what went to system.server
-  - line 2: sent system.server 0 Request:{user := "ada", password := "guess"}
-  + line 2: sent system.server 0 Request:{user := "ada", password := "guest"}
+  - report A, line 2: sent system.server 0 Request:{user := "ada", password := "guess"}
+  + report B, line 2: sent system.server 0 Request:{user := "ada", password := "guest"}
 system, what came from mtc at server
-  - line 11: took server mtc 0 Request:{user := "ada", password := "guess"}
-  + line 11: took server mtc 0 Request:{user := "ada", password := "guest"}
+  - report A, line 11: took server mtc 0 Request:{user := "ada", password := "guess"}
+  + report B, line 11: took server mtc 0 Request:{user := "ada", password := "guest"}
 ' "$base" "$room/guest"
     sed -e '4{h;d};5{G}' -- "$base" >"$room/later"
     compared "a verdict that is set later" 5 'different
 mtc, the order of what it did
-  - line 4: set pass
-  + line 4: sent system.server 1 Request:{user := "ada", password := "secret"}
+  - report A, line 4: set pass
+  + report B, line 4: sent system.server 1 Request:{user := "ada", password := "secret"}
 ' "$base" "$room/later"
     compared "other components" 5 'different
 the components
-  - line 10: component system
-  + line 9: component north
+  - report A, line 10: component system
+  + report B, line 9: component north
 ' "$base" "$one"
 }
 
@@ -178,31 +220,31 @@ comparisons_of_two_senders() {
     set_up "there is a report of two senders" [ -s "$room/a_then_b" ] || return
     compared "two senders" 0 "${equal_but_for_the_order}\
 mtc, open: which came first
-  - line 2: took p a 0 integer:1
-  + line 2: took p b 0 integer:1
+  - report A, line 2: took p a 0 integer:1
+  + report B, line 2: took p b 0 integer:1
 " "$room/a_then_b" "$room/b_then_a"
     compared "a verdict between two senders" 5 'different
 mtc, the order of what it did
-  - line 3: took p b 0 integer:1
-  + line 3: set fail
+  - report A, line 3: took p b 0 integer:1
+  + report B, line 3: set fail
 ' "$room/a_then_b" "$room/a_then_fail"
     compared "the same behind each message" 0 "${equal_but_for_the_order}\
 mtc, open: which came first
-  - line 2: took p b 0 integer:1
-  + line 2: took p a 0 integer:1
+  - report A, line 2: took p b 0 integer:1
+  + report B, line 2: took p a 0 integer:1
 " "$room/b_then_a" "$room/a_then_fail"
     compared "a verdict at another place behind an open order" 5 'different
 mtc, the order of what it did
-  - line 4: took p a 1 integer:1
-  + line 4: set fail
+  - report A, line 4: took p a 1 integer:1
+  + report B, line 4: set fail
 mtc, open: which came first
-  - line 2: took p a 0 integer:1
-  + line 2: took p b 0 integer:1
+  - report A, line 2: took p a 0 integer:1
+  + report B, line 2: took p b 0 integer:1
 ' "$room/three" "$room/fail_between"
     compared "the order of its own sendings" 5 'different
 mtc, the order of what it did
-  - line 2: sent a.p 0 integer:2
-  + line 2: sent b.p 0 integer:2
+  - report A, line 2: sent a.p 0 integer:2
+  + report B, line 2: sent b.p 0 integer:2
 ' "$room/sent_to_a" "$room/sent_to_b"
 }
 
@@ -246,14 +288,18 @@ tools() {
     find_reports
     at_least 87 charts_of_examples
     at_least 2 charts_of_docs
-    at_least 3 rules_on_reports
-    at_least 10 charts_in_other_ways
+    at_least 5 rules_on_reports
+    at_least 12 charts_in_other_ways
+    at_least 16 parts_of_charts
+    pages
     at_least 66 cut_reports
     at_least 95 refused_reports
-    at_least 23 refusals_of_texts
+    at_least 28 refusals_of_texts
     at_least 14 suites_of_scripts
     at_least 8 suites_of_another_program
-    at_least 17 suites_that_cannot_be
+    at_least 19 suites_that_cannot_be
+    at_least 9 suites_of_what_is_wanted
+    at_least 17 suites_that_lose_nothing
     at_least 6 comparisons
     at_least 5 comparisons_of_two_senders
     at_least 9 comparisons_of_examples

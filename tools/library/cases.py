@@ -1,71 +1,82 @@
-"""The cases of a suite: each script with its runs, the table of them, and what is kept."""
+"""The cases of a suite: each script with its runs, and the table of them."""
 from __future__ import annotations
 
 import os
-from dataclasses import dataclass
+from dataclasses import dataclass, field, replace
+from typing import Callable, Optional
 
-from .command import NOT_WRITTEN, REFUSED, Stop, write_file
-from .report import NotAReport
-from .runs import RESULTS, Run
-from .sequence import sequence_of
-from .svg import svg_of
-from .words import counted
-
-ENDING = ".ttcn"
-_LONGEST_REASON = 110
+from .command import REFUSED, Stop
+from .judging import RESULTS, Reason
+from .wanted import ENDING
+from .words import counted, shown
+from .workers import Run
 
 
-@dataclass(frozen=True)
+@dataclass
 class Case:
-    """A script, and its runs, of which there is one at least."""
+    """A script, and the runs of it that are done, by their numbers. It is told of once all are."""
 
     script: str
-    runs: tuple[Run, ...]
-    wanted: frozenset[str]
+    runs: list[Run] = field(default_factory=list)
 
     def name(self) -> str:
         return os.path.basename(self.script).removesuffix(ENDING)
 
-    def unwanted(self) -> list[Run]:
-        return [run for run in self.runs if run.result not in self.wanted]
+    def add(self, run: Run, drop: Callable[[tuple[str, ...]], None]) -> None:
+        """Of runs that printed the same text the first one is kept."""
+        self.runs.append(run)
+        same = sorted((it for it in self.runs if it.digest == run.digest and it.kept), key=lambda it: it.number)
+        for other in same[1:]:
+            drop(other.kept)
+            self.runs[self.runs.index(other)] = replace(other, kept=())
 
     def is_wanted(self) -> bool:
-        return not self.unwanted()
+        return all(run.is_wanted for run in self.runs)
 
     def worst(self) -> Run:
         """The run that the case is told by: the worst of those that aren't wanted, else of all."""
-        return max(self.unwanted() or self.runs, key=lambda run: RESULTS.index(run.result))
+        unwanted = [run for run in self.runs if not run.is_wanted]
+        return max(unwanted or self.runs, key=lambda run: (RESULTS.index(run.result), -run.number))
 
     def seconds(self) -> float:
         return sum(run.seconds for run in self.runs)
 
-    def texts(self) -> list[str]:
-        """What was printed, each text once."""
-        return list(dict.fromkeys(run.printed for run in self.runs))
+    def judging(self) -> float:
+        return sum(run.judging for run in self.runs)
 
-    def reason(self) -> str:
+    def counts(self) -> list[str]:
+        """Of several runs, how many came to what, and how many reports differ."""
+        told = []
+        results = [run.result for run in self.runs]
+        if len(set(results)) > 1:
+            worst = self.worst().result
+            others = [f"{results.count(it)} {it}" for it in RESULTS if it in results and it != worst]
+            told.append(f"{worst} in {results.count(worst)} of {len(results)} runs, {', '.join(others)}")
+        texts = len({run.digest for run in self.runs})
+        return told + ([f"{texts} different reports"] if texts > 1 else [])
+
+    def reason(self, most: Optional[int] = None) -> str:
+        """The counts first, then the reasons, of each of which the end may be cut, and what is kept of it."""
         worst = self.worst()
-        reasons = [worst.reason] if worst.reason else []
-        if len(self.runs) > 1:
-            times = sum(run.result == worst.result for run in self.runs)
-            if times < len(self.runs):
-                reasons.append(f"{worst.result} in {times} of {len(self.runs)} runs")
-            if len(self.texts()) > 1:
-                reasons.append(f"{len(self.texts())} different reports")
-        return "; ".join(reasons)
+        kept = [run for run in self.runs if run.kept and run.digest == worst.digest]
+        reasons = [*worst.reasons]
+        if kept and not self.is_wanted():
+            reasons.append(Reason(f"kept: {shown(kept[0].kept[0])}"))
+        return "; ".join([*self.counts(), *(reason.text(most) for reason in reasons)])
 
 
 def scripts_of(places: list[str]) -> list[str]:
     """The scripts of files and of folders, those of a folder by their names, each once."""
-    scripts: list[str] = []
+    scripts: dict[str, str] = {}
     for place in places:
         found = _scripts_in(place) if os.path.isdir(place) else [place]
         if not os.path.exists(place):
             raise Stop(REFUSED, f"there is no file or folder {place}")
         if not found:
             raise Stop(REFUSED, f"there is no script *{ENDING} in {place}")
-        scripts += found
-    return list(dict.fromkeys(scripts))
+        for script in found:
+            scripts.setdefault(os.path.abspath(script), script)
+    return list(scripts.values())
 
 
 def _scripts_in(folder: str) -> list[str]:
@@ -76,54 +87,31 @@ def _scripts_in(folder: str) -> list[str]:
     return scripts
 
 
-def table_of(cases: list[Case]) -> str:
-    """A line for each case, with a star where its result isn't wanted, and how many there are of each."""
-    width = max(len("script"), *(len(case.script) for case in cases))
-    lines = [f"{'script':{width}}  {'result':9}  {'time':>8}  reason"]
-    for case in cases:
-        reason = case.reason()
-        if len(reason) > _LONGEST_REASON:
-            reason = reason[: _LONGEST_REASON - 2] + ".."
+class Table:
+    """A line for each case, with a star where its result isn't wanted."""
+
+    def __init__(self, scripts: list[str], most: Optional[int]):
+        self.width = max(len("script"), *(len(shown(script)) for script in scripts))
+        self.most = most  # letters of an entry, where it is for a terminal
+
+    def head(self) -> str:
+        return f"{'script':{self.width}}  {'result':9}  {'run time':>9}  reason\n"
+
+    def line(self, case: Case) -> str:
         result = case.worst().result + ("" if case.is_wanted() else " *")
-        line = f"{case.script:{width}}  {result:9}  {case.seconds():7.3f}s  {reason}"
-        lines.append(line.rstrip())
-    lines.append(summary_of(cases))
-    return "\n".join(lines) + "\n"
+        told = f"{shown(case.script):{self.width}}  {result:9}  {case.seconds():8.3f}s  "
+        return f"{told}{shown(case.reason(self.most))}".rstrip() + "\n"
 
 
-def summary_of(cases: list[Case]) -> str:
+def summary_of(cases: list[Case], all_scripts: int) -> str:
+    """How many there are of each result, the time of the runs, and that of judging them."""
     results = [case.worst().result for case in cases]
     counts = [f"{results.count(result)} {result}" for result in RESULTS if result in results]
     unwanted = sum(not case.is_wanted() for case in cases)
     wanted = "all as wanted" if unwanted == 0 else f"{unwanted} not as wanted (*)"
-    return f"{counted(len(cases), 'script')}: {', '.join(counts)}; {wanted}"
-
-
-def keep(cases: list[Case], folder: str) -> None:
-    """Writes each report and its chart into the folder, under the names of the scripts."""
-    above = os.path.commonpath([os.path.dirname(os.path.abspath(case.script)) for case in cases])
-    for case in cases:
-        below = os.path.relpath(os.path.abspath(case.script), above).removesuffix(ENDING)
-        _keep_case(case, os.path.join(folder, below))
-
-
-def _keep_case(case: Case, base: str) -> None:
-    try:
-        os.makedirs(os.path.dirname(base), exist_ok=True)
-    except OSError as error:
-        raise Stop(NOT_WRITTEN, f"{os.path.dirname(base)} can't be made: {error}") from None
-    by_text = {run.printed: run for run in case.runs}
-    for number, text in enumerate(case.texts(), 1):
-        numbered = f"{base}.{number}" if len(by_text) > 1 else base
-        _keep_run(by_text[text], numbered, case.name())
-
-
-def _keep_run(run: Run, base: str, title: str) -> None:
-    if run.report is None:
-        write_file(f"{base}.printed", run.printed)
-        return
-    write_file(f"{base}.report", run.printed)
-    try:
-        write_file(f"{base}.svg", svg_of(sequence_of(run.report, title)))
-    except NotAReport as fault:  # runs.py has looked at the report, so this would be a fault of the tool
-        raise AssertionError(str(fault)) from fault
+    runs, judging = sum(case.seconds() for case in cases), sum(case.judging() for case in cases)
+    of = counted(all_scripts, "script")
+    if len(cases) < all_scripts:
+        of = f"interrupted, {len(cases)} of {of}"
+    told = f"{of}: {', '.join(counts) or 'none done'}; {wanted}"
+    return f"the runs took {runs:.3f}s, judging them {judging:.3f}s\n{told}\n"

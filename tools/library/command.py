@@ -5,6 +5,7 @@ The statuses are those of tpr and ./tpr, with one more: 5, where what was asked 
 from __future__ import annotations
 
 import argparse
+import gc
 import sys
 from typing import Callable, NoReturn, Optional
 
@@ -64,7 +65,8 @@ def read_bytes(file: Optional[str]) -> bytes:
         with open(file, "rb") as opened:
             return opened.read()
     except (OSError, AttributeError, ValueError) as error:
-        raise Stop(REFUSED, f"{file or 'standard input'} can't be read: {error}") from None
+        why = getattr(error, "strerror", None) or "it is closed"
+        raise Stop(REFUSED, f"{file or 'standard input'} can't be read: {why}") from None
 
 
 def report_in(file: Optional[str]) -> Report:
@@ -82,10 +84,20 @@ def refusal_of(file: Optional[str], fault: NotAReport) -> Stop:
 def write_out(text: str) -> None:
     """Writes the answer on standard output."""
     try:
-        sys.stdout.buffer.write(text.encode("utf-8"))
+        # The name of a file may have bytes that are no text: they are written as they are.
+        sys.stdout.buffer.write(text.encode("utf-8", "surrogateescape"))
         sys.stdout.buffer.flush()
-    except (OSError, AttributeError, ValueError):
+    except (OSError, AttributeError):
         raise Stop(NOT_WRITTEN, "the answer can't be written") from None
+
+
+def say(text: str) -> None:
+    """Says it on standard error, if there is one."""
+    try:
+        sys.stderr.buffer.write(text.encode("utf-8", "surrogateescape"))
+        sys.stderr.buffer.flush()
+    except (OSError, AttributeError, ValueError):
+        pass
 
 
 def write_file(file: str, text: str) -> None:
@@ -93,15 +105,17 @@ def write_file(file: str, text: str) -> None:
         with open(file, "w", encoding="utf-8", newline="\n") as opened:
             opened.write(text)
     except OSError as error:
-        raise Stop(NOT_WRITTEN, f"{file} can't be written: {error}") from None
+        raise Stop(NOT_WRITTEN, f"{file} can't be written: {error.strerror}") from None
 
 
 def run(name: str, tool: Callable[[], int]) -> NoReturn:
     """Ends the process with the status of the tool."""
+    # What the tools make has no circles, so that looking for such costs a quarter of the time for nothing.
+    gc.disable()
     try:
         status = tool()
     except Stop as stop:
-        print(f"{name}: {stop.text}", file=sys.stderr)
+        say(f"{name}: {stop.text}\n")
         status = stop.status
     except KeyboardInterrupt:
         status = INTERRUPTED

@@ -2,7 +2,11 @@
 
 A connection's way is told by the sender, the receiver and the receiver's port: with the number it is
 one message. So `sent` on one side is matched with `took`, `found`, `dropped` and `left` on the other.
-A message that is none of these was discarded by a `cleared` or `started` of its port.
+A message that is none of these was discarded by a `cleared` or `started` of its port; by which one is
+settled where an order of all entries is sought (order.py).
+
+What a port has between two emptyings is an era: it holds the messages that the port delivered or kept
+then, in the order in which they came.
 """
 from __future__ import annotations
 
@@ -27,21 +31,53 @@ class Route(NamedTuple):
     port: str
 
 
-@dataclass
 class Message:
     """A message that was sent, and what became of it."""
 
-    route: Route
-    number: int
-    text: str
-    sent: Place
-    fate: str = ""  # took, dropped, discarded or left
-    gone: Optional[Place] = None  # the entry by which it went; none where it is left
-    found: list[Place] = field(default_factory=list)
+    __slots__ = ("route", "number", "text", "sent", "index", "fate", "gone", "found", "era", "turn", "latest")
+
+    def __init__(self, route: Route, number: int, text: str, sent: Place, index: int):
+        self.route = route
+        self.number = number
+        self.text = text
+        self.sent = sent
+        self.index = index  # among all messages
+        self.fate = ""  # took, dropped, discarded or left
+        self.gone: Optional[Place] = None  # the entry by which it went; none where it is left
+        self.found: list[Place] = []
+        self.era: Optional[int] = None  # in which it came; of what was discarded it may be open
+        self.turn = 0  # its place among what the port had in that era
+        self.latest = 0  # the emptying, from 1, by which it was discarded at the latest
 
     def told(self) -> str:
         """The message by its route and number, for whoever reads a refusal."""
         return f"message {self.number} from {self.route.sender} to {self.route.receiver}.{self.route.port}"
+
+
+@dataclass
+class Era:
+    """From one emptying of a port to the next: the entry that began it, and what was delivered or kept."""
+
+    began: Optional[Place]
+    queue: list[Message] = field(default_factory=list)
+
+
+@dataclass
+class Port:
+    """A port of a component: its eras, and what is known of it while the history is read."""
+
+    eras: list[Era] = field(default_factory=lambda: [Era(None)])
+    discarded: list[Message] = field(default_factory=list)  # by an emptying that is open
+    status: str = "started"
+    halted: Optional[Place] = None
+    nothing_ahead: bool = False  # the mark stands at the top, or the port is stopped
+    emptied: Optional[int] = None  # the entry of the last emptying
+    top: Optional[Message] = None  # what a `found` has told of the top
+
+    def queue(self, message: Message) -> None:
+        """The message is the next that came in this era, of those that are delivered or kept."""
+        message.era, message.turn = len(self.eras) - 1, len(self.eras[-1].queue)
+        self.eras[-1].queue.append(message)
 
 
 @dataclass
@@ -50,11 +86,21 @@ class Deliveries:
 
     report: Report
     messages: list[Message]
-    by_place: dict[Place, Message]
-    discarded: dict[Place, list[Message]]
+    at: list[list[Optional[Message]]]  # by component and entry
+    ports: dict[tuple[int, str], Port]
+    behind_mark: dict[Place, Message]  # the last message that was delivered behind a `halted`
+    discarded: dict[Place, list[Message]]  # by which entry is known once there is an order
 
     def entry(self, place: Place) -> Entry:
         return self.report.components[place.component].entries[place.entry]
+
+    def message(self, place: Place) -> Optional[Message]:
+        """The message that was sent or got by this entry, if it is such an entry."""
+        return self.at[place.component][place.entry]
+
+    def discard(self, message: Message, place: Place) -> None:
+        message.fate, message.gone = "discarded", place
+        self.discarded.setdefault(place, []).append(message)
 
     def told_line(self, place: Place) -> str:
         line = self.entry(place).line
@@ -64,46 +110,41 @@ class Deliveries:
 
 def deliveries_of(report: Report) -> Deliveries:
     """The messages of the report; NotAReport where its components don't agree on them."""
-    made = Deliveries(report, [], {}, {})
-    routes = _sendings(report, made)
+    at: list[list[Optional[Message]]] = [[None] * len(it.entries) for it in report.components]
+    made = Deliveries(report, [], at, {}, {}, {})
+    routes: Routes = {}
+    for place in range(len(report.components)):
+        _read_sendings(made, place, routes)
+    into: dict[str, list[Route]] = {}
+    for route in routes:
+        into.setdefault(route.receiver, []).append(route)
     for place, component in enumerate(report.components):
-        _Receiver(component, place, routes, made).read()
+        _Receiver(component, place, routes, made).read(into.get(component.name, []))
     return made
 
 
 Routes = dict[Route, list[Message]]
 
 
-def _sendings(report: Report, made: Deliveries) -> Routes:
-    """What was sent, by route: numbered from 0 on each."""
-    names = set(report.names())
-    routes: Routes = {}
-    for component_place, component in enumerate(report.components):
-        for entry_place, entry in enumerate(component.entries):
-            if not isinstance(entry, Sent):
-                continue
-            if entry.receiver not in names:
-                raise NotAReport(entry.line.number, f"there is no component {entry.receiver}")
-            route = Route(component.name, entry.receiver, entry.port)
-            on_route = routes.setdefault(route, [])
-            if entry.number != len(on_route):
-                raise NotAReport(entry.line.number, f"the number on this route is {len(on_route)}")
-            place = Place(component_place, entry_place)
-            message = Message(route, entry.number, entry.message, place)
-            on_route.append(message)
-            made.messages.append(message)
-            made.by_place[place] = message
-    return routes
-
-
-@dataclass
-class _Port:
-    """What is known of a port while its component's history is read."""
-
-    status: str = "started"
-    nothing_ahead: bool = False  # the mark stands at the top, or the port is stopped
-    emptied: Optional[int] = None  # the last entry that discarded what was queued
-    top: Optional[Message] = None  # what a `found` has told of the top
+def _read_sendings(made: Deliveries, component_place: int, routes: Routes) -> None:
+    """What a component has sent, by route: numbered from 0 on each."""
+    component = made.report.components[component_place]
+    names = set(made.report.names())
+    at, messages = made.at[component_place], made.messages
+    for entry_place, entry in enumerate(component.entries):
+        if not isinstance(entry, Sent):
+            continue
+        if entry.receiver not in names:
+            raise NotAReport(entry.line.number, f"there is no component {entry.receiver}")
+        route = Route(component.name, entry.receiver, entry.port)
+        on_route = routes.setdefault(route, [])
+        if entry.number != len(on_route):
+            raise NotAReport(entry.line.number, f"the number on this route is {len(on_route)}")
+        sent = Place(component_place, entry_place)
+        message = Message(route, entry.number, entry.message, sent, len(messages))
+        on_route.append(message)
+        messages.append(message)
+        at[entry_place] = message
 
 
 class _Receiver:
@@ -114,21 +155,24 @@ class _Receiver:
         self.place = place
         self.routes = routes
         self.made = made
-        self.ports: dict[str, _Port] = {}
+        self.ports: dict[str, Port] = {}
         self.next: dict[Route, int] = {}  # how many of a route are no longer queued
         self.since: dict[Route, int] = {}  # the entry behind which the next of a route can go
 
-    def read(self) -> None:
+    def read(self, into: list[Route]) -> None:
         for place, entry in enumerate(self.component.entries):
             if isinstance(entry, Received):
                 self.receive(place, entry)
             elif isinstance(entry, Operation):
-                self.operate(place, entry)
+                self.operate(Place(self.place, place), entry)
         self.read_left()
-        self.discard_the_rest()
+        self.discard_the_rest(into)
 
-    def port(self, name: str) -> _Port:
-        return self.ports.setdefault(name, _Port())
+    def port(self, name: str) -> Port:
+        port = self.ports.get(name)
+        if port is None:
+            port = self.ports[name] = self.made.ports[self.place, name] = Port()
+        return port
 
     def message(self, entry: Received) -> Message:
         """The message that the entry names: it was sent, and not yet gone."""
@@ -151,10 +195,14 @@ class _Receiver:
             raise NotAReport(entry.line.number, f"the port {entry.port} delivers nothing here")
         if port.top is not None and port.top is not message:
             raise NotAReport(entry.line.number, f"{port.top.told()} is at the top")
-        self.discard_up_to(message, entry.line.number)
+        if port.top is None:
+            self.discard_up_to(message, entry.line.number)
+            port.queue(message)
         here = Place(self.place, place)
-        self.made.by_place[here] = message
+        self.made.at[self.place][place] = message
         self.since[message.route] = place
+        if port.halted is not None:
+            self.made.behind_mark[port.halted] = message
         if entry.word == "found":
             message.found.append(here)
             port.top = message
@@ -163,18 +211,27 @@ class _Receiver:
         port.top = None
         self.next[message.route] = message.number + 1
 
-    def operate(self, place: int, entry: Operation) -> None:
+    def operate(self, here: Place, entry: Operation) -> None:
         port = self.port(entry.port)
         if entry.empties():
-            port.emptied, port.top = place, None
+            self.empty(port, here)
         if entry.word == "started":
-            port.status, port.nothing_ahead = "started", False
+            port.status, port.nothing_ahead, port.halted = "started", False, None
         elif entry.word == "stopped":
-            port.status, port.nothing_ahead = "stopped", True
+            port.status, port.nothing_ahead, port.halted = "stopped", True, None
         elif entry.word == "halted" and port.status == "started":
-            port.status = "halted"
+            port.status, port.halted = "halted", here
         elif entry.word == "cleared" and port.status == "halted":
             port.nothing_ahead = True
+
+    def empty(self, port: Port, here: Place) -> None:
+        """What was found and not taken is discarded here, and a new era begins."""
+        if port.top is not None:
+            self.made.discard(port.top, here)
+            self.next[port.top.route] = port.top.number + 1
+            self.since[port.top.route] = here.entry
+        port.eras.append(Era(here))
+        port.emptied, port.top = here.entry, None
 
     def discard_up_to(self, message: Message, line: int) -> None:
         """What came before the message on its route, and isn't gone, was discarded by the port."""
@@ -185,38 +242,40 @@ class _Receiver:
         self.discard(route, first, message.number, line)
 
     def discard(self, route: Route, first: int, behind: int, line: int) -> None:
-        emptied = self.port(route.port).emptied
-        if emptied is None or emptied < self.since.get(route, 0):
+        """By which emptying is open: it is the last one until here at the latest."""
+        port = self.port(route.port)
+        if port.emptied is None or port.emptied < self.since.get(route, 0):
             told = self.routes[route][first].told()
             raise NotAReport(line, f"{told} is neither taken, dropped, discarded nor left")
-        here = Place(self.place, emptied)
         for message in self.routes[route][first:behind]:
-            message.fate, message.gone = "discarded", here
-            self.made.discarded.setdefault(here, []).append(message)
+            message.fate, message.latest = "discarded", len(port.eras) - 1
+            port.discarded.append(message)
         self.next[route] = behind
 
     def read_left(self) -> None:
         """What is left: port by port, and on each route all that is behind the first of them."""
-        read: list[str] = []
+        read: dict[str, None] = {}
+        last = ""
         for entry in self.component.left:
             message = self.message(entry)
-            if entry.port not in read:
-                read.append(entry.port)
-                top = self.port(entry.port).top
-                if top is not None and top is not message:
-                    raise NotAReport(entry.line.number, f"{top.told()} is at the top")
-            if read[-1] != entry.port:
+            port = self.port(entry.port)
+            if entry.port != last and entry.port in read:
                 raise NotAReport(entry.line.number, f"what is left at {entry.port} stands above")
+            if port.top is not None and entry.port not in read and port.top is not message:
+                raise NotAReport(entry.line.number, f"{port.top.told()} is at the top")
+            read[entry.port] = None
+            last = entry.port
             self.discard_up_to(message, entry.line.number)
+            if message is not port.top:
+                port.queue(message)
             message.fate = "left"
             self.next[message.route] = message.number + 1
             self.since[message.route] = len(self.component.entries)
 
-    def discard_the_rest(self) -> None:
+    def discard_the_rest(self, into: list[Route]) -> None:
         """What of a route is neither gone nor left was discarded."""
-        for route, sent in self.routes.items():
-            if route.receiver != self.component.name:
-                continue
+        for route in into:
+            sent = self.routes[route]
             first = self.next.get(route, 0)
             if first < len(sent):
                 line = self.made.entry(sent[first].sent).line.number

@@ -13,11 +13,12 @@ open in a report"). So two reports agree where for each component
 from __future__ import annotations
 
 from collections import Counter
-from dataclasses import dataclass
+from dataclasses import dataclass, replace
 from itertools import zip_longest
 from typing import Optional
 
 from .report import Component, Entry, Line, Received, Report, Sent
+from .words import counted
 
 EQUAL, ORDER, DIFFERENT = "equal", "equal but for the order between senders", "different"
 
@@ -30,9 +31,11 @@ class Difference:
     first: Optional[Line]
     second: Optional[Line]
     is_open: bool = False
+    more: int = 0  # of this, further places that differ
 
     def text(self) -> str:
-        return f"{self.what}\n  - {_told(self.first)}\n  + {_told(self.second)}\n"
+        more = f"  and {counted(self.more, 'further place')}\n" if self.more else ""
+        return f"{self.what}\n  - {_told('A', self.first)}\n  + {_told('B', self.second)}\n{more}"
 
 
 @dataclass(frozen=True)
@@ -64,8 +67,8 @@ def compare(first: Report, second: Report) -> Comparison:
     return Comparison(answer, tuple(differences), tuple(orders))
 
 
-def _told(line: Optional[Line]) -> str:
-    return f"line {line.number}: {line.text}" if line else "nothing"
+def _told(report: str, line: Optional[Line]) -> str:
+    return f"report {report}, line {line.number}: {line.text}" if line else f"report {report}: nothing"
 
 
 def _of_names(first: Report, second: Report) -> Difference:
@@ -116,10 +119,13 @@ def _of_component(one: Component, other: Component) -> list[Difference]:
 def _first_of(
     what: str, ours: list[tuple[str, Line]], theirs: list[tuple[str, Line]]
 ) -> Optional[Difference]:
-    for mine, yours in zip_longest(ours, theirs):
-        if mine is None or yours is None or mine[0] != yours[0]:
-            return Difference(what, mine and mine[1], yours and yours[1])
-    return None
+    """The first place where these differ, and how many others there are."""
+    differ = [
+        (mine and mine[1], yours and yours[1])
+        for mine, yours in zip_longest(ours, theirs)
+        if mine is None or yours is None or mine[0] != yours[0]
+    ]
+    return Difference(what, *differ[0], more=len(differ) - 1) if differ else None
 
 
 def _of_places(one: Component, other: Component) -> list[Difference]:
@@ -133,7 +139,8 @@ def _of_places(one: Component, other: Component) -> list[Difference]:
         return []
     kinds = [[(_kind(entry), entry.line) for entry in component.entries] for component in (one, other)]
     first = _first_of(what, kinds[0], kinds[1])
-    return [first] if first else []
+    # What stands one place later from there on isn't a further difference.
+    return [replace(first, more=0)] if first else []
 
 
 def _kind(entry: Entry) -> str:

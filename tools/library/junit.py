@@ -6,34 +6,54 @@ error, where the test case didn't come to one: the result error, a script that i
 from __future__ import annotations
 
 import os
-import platform
 import xml.etree.ElementTree as xml
 from datetime import datetime
 
 from .cases import Case
-from .command import write_file
-from .words import readable
+from .command import NOT_WRITTEN, Stop, write_file
+from .words import counted, readable
 
 _FAILURES = ("none", "pass", "inconc", "fail")
 
 
+def look_whether_written(file: str) -> None:
+    """Refuses a file that can't be written, before anything is run."""
+    try:
+        with open(file, "ab"):
+            pass
+    except OSError as error:
+        raise Stop(NOT_WRITTEN, f"{file} can't be written: {error.strerror}") from None
+
+
 def write_junit(cases: list[Case], began: datetime, file: str) -> None:
     root = xml.Element("testsuites", _counts(cases, "tpr"))
-    folders = dict.fromkeys(os.path.dirname(case.script) for case in cases)
-    for folder in folders:
-        root.append(_suite(folder, [case for case in cases if os.path.dirname(case.script) == folder], began))
+    taken: set[str] = set()
+    for folder in dict.fromkeys(os.path.dirname(case.script) for case in cases):
+        inside = [case for case in cases if os.path.dirname(case.script) == folder]
+        root.append(_suite(folder, inside, began, _alone(_class_name(folder), taken)))
     xml.indent(root)
     text = xml.tostring(root, encoding="unicode")
     write_file(file, f'<?xml version="1.0" encoding="UTF-8"?>\n{text}\n')
 
 
-def _suite(folder: str, cases: list[Case], began: datetime) -> xml.Element:
+def _alone(name: str, taken: set[str]) -> str:
+    """The name, with a number where there is one like it."""
+    alone, number = name, 1
+    while alone in taken:
+        number += 1
+        alone = f"{name}_{number}"
+    taken.add(alone)
+    return alone
+
+
+def _suite(folder: str, cases: list[Case], began: datetime, class_name: str) -> xml.Element:
     suite = xml.Element("testsuite", _counts(cases, readable(folder or ".")))
     suite.set("skipped", "0")
     suite.set("timestamp", began.strftime("%Y-%m-%dT%H:%M:%S"))
-    suite.set("hostname", platform.node() or "localhost")
+    suite.set("hostname", "localhost")
+    taken: set[str] = set()
     for case in cases:
-        suite.append(_case(case, folder))
+        suite.append(_case(case, class_name, _alone(readable(case.name()), taken)))
     return suite
 
 
@@ -55,15 +75,18 @@ def _kind(case: Case) -> str:
     return "failure" if case.worst().result in _FAILURES else "error"
 
 
-def _case(case: Case, folder: str) -> xml.Element:
-    made = xml.Element("testcase", name=readable(case.name()), classname=_class_name(folder))
+def _case(case: Case, class_name: str, name: str) -> xml.Element:
+    made = xml.Element("testcase", name=name, classname=class_name)
     made.set("time", f"{case.seconds():.3f}")
     kind, worst = _kind(case), case.worst()
     if kind:
         reason = readable(case.reason() or "this result isn't wanted")
         told = xml.SubElement(made, kind, message=f"{worst.result}: {reason}", type=worst.result)
-        told.text = f"{readable(case.script)}\nresult {worst.result}\n{reason}\n"
+        run = f", run {worst.number} of {counted(len(case.runs), 'run')}" if len(case.runs) > 1 else ""
+        told.text = f"{readable(case.script)}{run}\nresult {worst.result}\n{reason}\n"
     xml.SubElement(made, "system-out").text = readable(worst.printed)
+    if worst.said:
+        xml.SubElement(made, "system-err").text = readable(worst.said)
     return made
 
 

@@ -10,7 +10,6 @@ SMALL = 6.65  # and of one of 11 pixels
 ROW = 27
 REPEAT = 40  # after so many rows the names of the components are written again
 STRIP = 30  # the height of that
-LONG = 14  # an arrow over more rows is drawn as its two ends
 LOOP = 26  # how far the arrow of a message to the component itself goes to the right
 STEM = 0.62  # how much of the way one end of a long arrow takes
 TITLE_LETTER = 11.2
@@ -77,14 +76,10 @@ class Layout:
         if arrow.sender == arrow.receiver:
             return self.spaces[arrow.sender + 1] - LOOP - 34
         way = abs(self.columns[arrow.receiver] - self.columns[arrow.sender]) - 30
-        return way * STEM if is_long(arrow) else way
+        return way * STEM if arrow.is_long() else way
 
     def room_outside(self, arrow: Arrow) -> float:
         return self.spaces[outer_space(arrow)] - 18
-
-
-def is_long(arrow: Arrow) -> bool:
-    return arrow.stop - arrow.start > LONG and arrow.sender != arrow.receiver
 
 
 def goes_right(arrow: Arrow) -> bool:
@@ -149,14 +144,14 @@ def _needs_of(step: Step, most: float) -> list[tuple[int, float]]:
     if step.sends:
         needs += _needs_of_text(step.sends, most)
     for arrow in step.ends:
-        needs.append((outer_space(arrow), width_of(arrow.outside(), SMALL) + 32))
+        needs.append((outer_space(arrow), width_of(arrow.at_receiver(), SMALL) + 32))
     return needs
 
 
 def _needs_of_text(arrow: Arrow, most: float) -> list[tuple[int, float]]:
     """The text of a message lies over all the spaces between sender and receiver."""
     if arrow.sender == arrow.receiver:
-        return [(arrow.sender + 1, min(width_of(arrow.message.text) + LOOP + 50, most))]
+        return [(arrow.sender + 1, min(width_of(arrow.at_sender()) + LOOP + 50, most))]
     first, last = sorted((arrow.sender, arrow.receiver))
-    width = width_of(arrow.message.text) / (STEM if is_long(arrow) else 1) + 44
+    width = width_of(arrow.at_sender()) / (STEM if arrow.is_long() else 1) + 44
     return [(space, min(width / (last - first), most)) for space in range(first + 1, last + 1)]

@@ -4,12 +4,13 @@ from __future__ import annotations
 import shutil
 
 from .layout import goes_right, outer_space
-from .sequence import Arrow, Foot, Sequence, Step
+from .sequence import Arrow, Badge, Foot, Sequence, Step
 
 _LEAST_GAP = 12
 _LONGEST_MARGIN = 40
 _ENDS = {"took": ">", "found": "?", "dropped": "x", "left": "]", "discarded": "#"}
 _WAITS = ")"
+_REPEAT = 40  # after so many rows the names of the components are written again
 
 
 def letters_of(sequence: Sequence) -> str:
@@ -25,12 +26,20 @@ class _Letters:
         spaces = _spaces(sequence, width)
         self.columns = [sum(spaces[: place + 1]) + place for place in range(len(sequence.names))]
         self.width = sum(spaces) + len(self.columns)
+        self.cut: list[str] = []
 
     def text(self) -> str:
         sequence = self.sequence
-        lines = [f"{sequence.title}: result {sequence.result}", "", self.beside(list(sequence.names))]
-        lines += [self.row(step) for step in sequence.steps]
+        lines = [f"{sequence.title}: result {sequence.result}", ""]
+        for step in sequence.steps:
+            if step.row % _REPEAT == 0:
+                lines.append(self.beside(list(sequence.names)))
+            lines.append(self.row(step))
+        if not sequence.steps:
+            lines.append(self.beside(list(sequence.names)))
         lines += self.feet()
+        if self.cut:
+            lines += ["", "cut above:", *self.cut]
         lines += ["", f"result {sequence.result}"]
         return "\n".join(line.rstrip() for line in lines) + "\n"
 
@@ -42,11 +51,16 @@ class _Letters:
         return line
 
     def row(self, step: Step) -> str:
+        if step.note:
+            return f"    ({step.note})"
         line = self.life_lines(step.row)
         if step.badge:
-            self.write_around(line, self.columns[step.badge.column], f"[{step.badge.text}]")
+            self.badge(line, step, step.badge)
         if step.sends and not step.ends:
             self.draw(line, step.sends, _WAITS, step.sends.message.text)
+        drawn = step.sends or (step.ends[0] if step.ends else None)
+        if drawn and step.sends and not self.has_room(drawn):
+            self.note_cut(step, drawn.message.text)
         for arrow in step.ends:
             if arrow.start == arrow.stop:
                 self.draw(line, arrow, _ENDS[arrow.word], arrow.message.text)
@@ -54,6 +68,18 @@ class _Letters:
             else:
                 self.draw_end(line, arrow)
         return "".join(line)
+
+    def badge(self, line: list[str], step: Step, badge: Badge) -> None:
+        text = _cut(badge.text, self.width - 4)
+        if text != badge.text:
+            self.note_cut(step, badge.text)
+        column = self.columns[badge.column]
+        place = min(max(column - (len(text) + 2) // 2, 0), max(self.width - len(text) - 2, 0))
+        self.write(line, place, f"[{text}]")
+
+    def note_cut(self, step: Step, text: str) -> None:
+        """The whole of a text that is cut stands below the chart."""
+        self.cut.append(f"  report line {step.numbers[0]}: {text}")
 
     def draw(self, line: list[str], arrow: Arrow, end: str, text: str) -> None:
         """An arrow with its text on it."""
@@ -66,6 +92,13 @@ class _Letters:
         shown = f" {_cut(text, room - 6)} " if room > 6 else ""
         shaft = shown.center(room - 1, "-")
         self.write(line, first, shaft + end if start < stop else _turned(end) + shaft)
+
+    def has_room(self, arrow: Arrow) -> bool:
+        """Whether the whole text fits on the arrow."""
+        start, stop = sorted((self.columns[arrow.sender], self.columns[arrow.receiver]))
+        if start == stop:
+            return start + len(arrow.message.text) + 5 < self.width
+        return len(arrow.message.text) <= stop - start - 7
 
     def draw_end(self, line: list[str], arrow: Arrow) -> None:
         """The end of an arrow that began in another row: it comes from the queue of the port."""

@@ -1,15 +1,29 @@
-"""One order of all entries: each history keeps its own, and no message is got before it was sent.
+"""One order of all entries that a run can have had: each history keeps its own, and played in this
+order on the ports (docs/MODEL.md), with each message queued as it is sent, every port delivers, discards
+and keeps what the report says.
 
-There are many such orders. This one goes on with a message as soon as it can, so that a chart has
-short arrows. Where there is none, what was read isn't a report of tpr.
+There are many such orders. This one goes on with a message as soon as it can, so that a chart has short
+arrows, and sends late what nobody waits for.
+
+What an order must have is told by search.py. All that a component can do is done as it comes, since none
+of it can stand in the way of anything else, but for one thing: an emptying, where the port still has to
+discard what isn't sent yet. Those are put off until nothing else can be done. Where there are several
+then, each is tried. Where no order is found, what was read isn't a report of tpr.
 """
 from __future__ import annotations
 
 from dataclasses import dataclass
 from typing import Optional
 
-from .deliveries import Deliveries, Message, Place
-from .report import NotAReport, Received, Sent
+from .deliveries import Deliveries, Place
+from .report import NotAReport
+from .search import Search
+
+_MOST_TRIES = 20_000
+
+
+class NoOrderFound(NotAReport):
+    """So many orders were tried that it isn't known whether there is one."""
 
 
 @dataclass(frozen=True)
@@ -21,121 +35,72 @@ class Row:
 
 
 def rows_of(deliveries: Deliveries) -> list[Row]:
-    """All entries in an order that keeps every history and has every sending before what follows
-    from it; NotAReport where there is none."""
-    return _Orderer(deliveries).rows()
+    """All entries in an order that a run can have had, and by which entries messages were discarded is
+    settled in the deliveries too. NotAReport where there is no such order."""
+    search = Search(deliveries)
+    _find(search)
+    for message, place in search.discardings():
+        deliveries.discard(message, place)
+    for messages in deliveries.discarded.values():
+        messages.sort(key=lambda message: search.moment[message.index])
+    return _paired(deliveries, search.order)
 
 
-def _last_sendings(messages: list[Message]) -> list[Place]:
-    """The last sending of each sender: those before it stand before it in that history."""
-    last = {message.sent.component: message.sent for message in messages}
-    return list(last.values())
+def _find(search: Search) -> None:
+    """Goes on to the end, and back to the last choice where it can't."""
+    choices: list[tuple[int, int]] = []  # how much was done, and which components are still to be tried
+    dead: set[tuple[int, ...]] = set()
+    first: Optional[NotAReport] = None
+    tries = 0
+    while True:
+        choice = search.go_on()
+        if choice == 0 and search.is_done():
+            return
+        if choice != 0 and not (dead and search.places() in dead):
+            choices.append((len(search.order), choice))
+        elif choice == 0:
+            first, tries = first or search.circle(), tries + 1
+        if first and tries > _MOST_TRIES:
+            told = f"no order of the entries was found in {_MOST_TRIES} tries: there may be one"
+            raise NoOrderFound(first.line, told)
+        if not _try_next(search, choices, dead):
+            assert first is not None
+            raise first
 
 
-class _Orderer:
-    def __init__(self, deliveries: Deliveries):
-        self.deliveries = deliveries
-        self.histories = [component.entries for component in deliveries.report.components]
-        self.names = {name: place for place, name in enumerate(deliveries.report.names())}
-        self.next = [0] * len(self.histories)
-        self.last = 0  # the component that did something last
-        self.before_discarding = {
-            place: _last_sendings(messages) for place, messages in deliveries.discarded.items()
-        }
+def _try_next(search: Search, choices: list[tuple[int, int]], dead: set[tuple[int, ...]]) -> bool:
+    """Goes back to the last choice that has something left, and takes the next of it."""
+    while choices:
+        done, left = choices.pop()
+        search.go_back(done)
+        if left:
+            component = search.best_of(left)
+            choices.append((done, left & ~(1 << component)))
+            search.carry_out(component)
+            return True
+        dead.add(search.places())
+    return False
 
-    def rows(self) -> list[Row]:
-        rows = []
-        left = sum(len(history) for history in self.histories)
-        while left > 0:
-            row = self.row()
-            rows.append(row)
-            left -= 1 if row.second is None else 2
-        return rows
 
-    def row(self) -> Row:
-        """The next row, for which the next entry of some component is chosen."""
-        ready = [place for place in range(len(self.histories)) if self.is_ready(place)]
-        if not ready:
-            raise self.circle()
-        component = min(ready, key=self.rank)
-        first = self.take(component)
-        message = self.deliveries.by_place.get(first)
-        if message is None or message.sent != first:
-            return Row(first)
-        receiver = self.names[message.route.receiver]
-        if not self.is_next(receiver, message):
-            return Row(first)
-        return Row(first, self.take(receiver))
+def _paired(deliveries: Deliveries, order: list[Place]) -> list[Row]:
+    """A sending and what is done with its message directly behind it are one row."""
+    rows: list[Row] = []
+    waiting: Optional[Place] = None
+    for place in order:
+        if waiting is not None:
+            same = deliveries.message(waiting) is deliveries.message(place)
+            rows.append(Row(waiting, place if same else None))
+            waiting = None
+            if same:
+                continue
+        if _is_sending(deliveries, place):
+            waiting = place
+        else:
+            rows.append(Row(place))
+    return rows + ([Row(waiting)] if waiting is not None else [])
 
-    def take(self, component: int) -> Place:
-        place = Place(component, self.next[component])
-        self.next[component] += 1
-        self.last = component
-        return place
 
-    def head(self, component: int) -> Optional[Place]:
-        """The component's next entry."""
-        place = self.next[component]
-        return Place(component, place) if place < len(self.histories[component]) else None
+def _is_sending(deliveries: Deliveries, place: Place) -> bool:
+    message = deliveries.message(place)
+    return message is not None and message.sent == place
 
-    def needed(self, place: Place) -> list[Place]:
-        """The sendings that stand before the entry: of the message that it got, or of those that it
-        discarded."""
-        entry = self.deliveries.entry(place)
-        if isinstance(entry, Received):
-            return [self.deliveries.by_place[place].sent]
-        return self.before_discarding.get(place, [])
-
-    def missing(self, place: Place) -> Optional[Place]:
-        """A sending that the entry needs and that hasn't been."""
-        for sent in self.needed(place):
-            if self.next[sent.component] <= sent.entry:
-                return sent
-        return None
-
-    def is_ready(self, component: int) -> bool:
-        place = self.head(component)
-        return place is not None and self.missing(place) is None
-
-    def is_next(self, component: int, message: Message) -> bool:
-        """Whether the component's next entry gets this message."""
-        place = self.head(component)
-        if place is None or not isinstance(self.deliveries.entry(place), Received):
-            return False
-        return self.deliveries.by_place[place] is message
-
-    def rank(self, component: int) -> tuple[int, int]:
-        """What comes first: what is done with a message that was sent, then what a component does by
-        itself, then a sending that its receiver waits for, then any other. Of two that are alike the
-        component that did something last comes first."""
-        place = self.head(component)
-        assert place is not None
-        entry = self.deliveries.entry(place)
-        near = 0 if component == self.last else component + 1
-        if isinstance(entry, Received):
-            return (0, near)
-        if not isinstance(entry, Sent):
-            return (1, near)
-        message = self.deliveries.by_place[place]
-        return (2 if self.is_next(self.names[message.route.receiver], message) else 3, near)
-
-    def circle(self) -> NotAReport:
-        """Why no entry can be next: each waits for a sending that stands behind another."""
-        waiting: list[Place] = []
-        component = next(c for c in range(len(self.histories)) if self.head(c) is not None)
-        while True:
-            place = self.head(component)
-            assert place is not None
-            if place in waiting:
-                break
-            waiting.append(place)
-            sent = self.missing(place)
-            assert sent is not None
-            component = sent.component
-        around = waiting[waiting.index(place) :]
-        told = "; ".join(
-            f"{self.deliveries.told_line(p)} needs {self.deliveries.told_line(self.missing(p) or p)}"
-            for p in around
-        )
-        line = min(self.deliveries.entry(place).line.number for place in around)
-        return NotAReport(line, f"no order has every message sent before it is got: {told}")

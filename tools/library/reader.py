@@ -108,13 +108,17 @@ class _Reader:
         return Component(name, line, entries, end, verdict[1], verdict_line, left)
 
     def entries(self) -> tuple[Entry, ...]:
-        entries = []
-        while (line := self.next()) is not None and not line.text.startswith("end "):
-            entry = _entry(line)
+        entries: list[Entry] = []
+        lines, first = self.lines, self.place
+        for place in range(first, len(lines)):
+            self.place = place
+            entry = _entry(lines[place])
             if entry is None:
+                if lines[place].text.startswith("end "):
+                    return tuple(entries)
                 raise self.refuse("an entry of the component or its end")
             entries.append(entry)
-            self.place += 1
+        self.place = len(lines)
         return tuple(entries)
 
     def end(self) -> End:
@@ -147,18 +151,29 @@ def _entry(line: Line) -> Optional[Entry]:
 
 def _sent(line: Line) -> Optional[Sent]:
     found = _SENT.fullmatch(line.text)
-    if found is None or not is_component_name(found[1]):
+    if found is None:
         return None
-    _check_message(line, found[2], found[3], found[4])
-    return Sent(line, found[1], found[2], int(found[3]), found[4])
+    receiver, port, digits, message = found.groups()
+    if not is_component_name(receiver):
+        return None
+    _check_message(line, port, digits, message)
+    return Sent(line, receiver, port, int(digits), message)
 
 
 def _received(line: Line) -> Optional[Received]:
     found = _RECEIVED.fullmatch(line.text)
-    if found is None or not is_component_name(found[3]):
+    if found is None:
         return None
-    _check_message(line, found[2], found[4], found[5])
-    return Received(line, found[1], found[2], found[3], int(found[4]), found[5])
+    word, port, sender, digits, message = found.groups()
+    if not is_component_name(sender):
+        return None
+    _check_message(line, port, digits, message)
+    return Received(line, word, port, sender, int(digits), message)
+
+
+# Messages that were read: each comes twice at least, and most of them often.
+_KNOWN: set[str] = set()
+_LONGEST_KNOWN, _MOST_KNOWN = 2_000, 20_000
 
 
 def _check_message(line: Line, port: str, number: str, message: str) -> None:
@@ -166,8 +181,12 @@ def _check_message(line: Line, port: str, number: str, message: str) -> None:
         raise NotAReport(line.number, f"{_short(port)} is no name of a port")
     if int(number) >= MOST_ON_A_ROUTE:
         raise NotAReport(line.number, f"no message has the number {number}")
+    if message in _KNOWN:
+        return
     if not is_message(message):
         raise NotAReport(line.number, f"{_short(message)} is no message")
+    if len(message) < _LONGEST_KNOWN and len(_KNOWN) < _MOST_KNOWN:
+        _KNOWN.add(message)
 
 
 def _operation(line: Line) -> Optional[Operation]:

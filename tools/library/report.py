@@ -2,7 +2,7 @@
 from __future__ import annotations
 
 from dataclasses import dataclass
-from typing import Optional, Union
+from typing import NamedTuple, Optional, Union
 
 
 class NotAReport(Exception):
@@ -14,16 +14,14 @@ class NotAReport(Exception):
         self.reason = reason
 
 
-@dataclass(frozen=True)
-class Line:
+class Line(NamedTuple):
     """A line of a report: its number, from 1, and its text."""
 
     number: int
     text: str
 
 
-@dataclass(frozen=True)
-class Sent:
+class Sent(NamedTuple):
     """`sent COMP.PORT NUMBER MESSAGE`"""
 
     line: Line
@@ -33,8 +31,7 @@ class Sent:
     message: str
 
 
-@dataclass(frozen=True)
-class Received:
+class Received(NamedTuple):
     """`took`, `found`, `dropped` or `left`, and `PORT SENDER NUMBER MESSAGE`"""
 
     line: Line
@@ -45,8 +42,7 @@ class Received:
     message: str
 
 
-@dataclass(frozen=True)
-class Operation:
+class Operation(NamedTuple):
     """`cleared`, `started`, `stopped` or `halted`, and a port"""
 
     line: Line
@@ -58,23 +54,20 @@ class Operation:
         return self.word in ("cleared", "started")
 
 
-@dataclass(frozen=True)
-class Otherwise:
+class Otherwise(NamedTuple):
     """`else`"""
 
     line: Line
 
 
-@dataclass(frozen=True)
-class VerdictSet:
+class VerdictSet(NamedTuple):
     """`set VERDICT`"""
 
     line: Line
     verdict: str
 
 
-@dataclass(frozen=True)
-class Failed:
+class Failed(NamedTuple):
     """`failed CODE`, behind which there is no further entry"""
 
     line: Line
@@ -84,8 +77,7 @@ class Failed:
 Entry = Union[Sent, Received, Operation, Otherwise, VerdictSet, Failed]
 
 
-@dataclass(frozen=True)
-class End:
+class End(NamedTuple):
     """`end done`, `end waiting` or `end error CODE`"""
 
     line: Line

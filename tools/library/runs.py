@@ -1,162 +1,182 @@
-"""Runs scripts, each in a process of its own and within a bound, and tells what came of it."""
+"""Runs one script in a process of its own, within a bound of time and of what it prints."""
 from __future__ import annotations
 
 import os
+import selectors
+import shutil
 import signal
 import subprocess
-import threading
 import time
 from dataclasses import dataclass
+from enum import Enum
 from typing import Optional
 
 from .command import NOT_BUILT, Stop
-from .deliveries import deliveries_of
-from .order import rows_of
-from .reader import read_report
-from .report import Component, End, Failed, NotAReport, Report, VerdictSet
-from .words import VERDICTS, told_code
 
-# What can come of a run, from the best to the worst: a report with its result, a refusal of the script,
-# a fault of the run, a run that was stopped at the bound, and anything else.
-RESULTS = (*VERDICTS, "refused", "fault", "stopped", "broken")
+_MEGABYTE = 1_000_000
+_PIECE = 1 << 16
 
-_MOST_SAID = 3
+
+class Stopped(Enum):
+    """Why a process was stopped."""
+
+    LATE = "it wasn't done within the bound"
+    MUCH = "it printed too much"
 
 
 @dataclass(frozen=True)
-class Run:
-    """One run of a script."""
+class Printed:
+    """What came of a process: its status, or why it was stopped, in words too."""
 
-    result: str
-    reason: str
-    printed: str
+    status: Optional[int]
+    stopped: Optional[Stopped]
+    told: str
+    printed: bytes
+    said: bytes
     seconds: float
-    report: Optional[Report] = None
+
+
+def program_of(named: str) -> str:
+    """The path of a program: a word without a slash is looked for on PATH, and then in the current folder."""
+    found = None if os.sep in named else shutil.which(named)
+    return os.path.abspath(found or named)
+
+
+def built(program: str, root: str) -> str:
+    """The program, built before the first clock starts: a repository's ./tpr is given up for the program
+    that its ./build builds, since without one it would compile all sources for each script."""
+    if _is_same(program, f"{root}/tpr"):
+        if subprocess.run([f"{root}/build"], stdin=subprocess.DEVNULL, check=False).returncode != 0:
+            raise Stop(NOT_BUILT, f"{root}/build has not built the program")
+        program = f"{root}/crates/tpr/out/tpr"
+    try:
+        nothing = subprocess.DEVNULL
+        ended = subprocess.run([program, "queue"], stdin=nothing, stdout=nothing, check=False)
+    except OSError as error:
+        raise Stop(NOT_BUILT, f"{program} can't be run: {error.strerror}") from None
+    if ended.returncode != 0:
+        raise Stop(NOT_BUILT, f"{program} queue, on no text, ended with status {ended.returncode}")
+    return program
+
+
+def _is_same(file: str, other: str) -> bool:
+    try:
+        return os.path.samefile(file, other)
+    except OSError:
+        return False
 
 
 class Runner:
-    """Runs the program, and stops it where it isn't done within the bound."""
+    """Runs the program, one script at a time."""
 
-    def __init__(self, program: str, bound: float):
+    def __init__(self, program: str, bound: float, megabytes: int):
         self.program = program
         self.bound = bound
+        self.megabytes = megabytes
         self.stopping = False
-        self.lock = threading.Lock()
-        self.processes: set[subprocess.Popen[bytes]] = set()
+        self.process: Optional[subprocess.Popen[bytes]] = None
 
-    def build(self) -> None:
-        """Has the program built before the first clock starts: ./tpr does so where it is needed."""
-        try:
-            nothing = subprocess.DEVNULL
-            built = subprocess.run([self.program, "queue"], stdin=nothing, stdout=nothing, check=False)
-        except OSError as error:
-            raise Stop(NOT_BUILT, f"{self.program} can't be run: {error}") from None
-        if built.returncode != 0:
-            raise Stop(NOT_BUILT, f"{self.program} queue, on no text, ended with status {built.returncode}")
-
-    def run(self, script: str) -> Run:
+    def run(self, script: str) -> Printed:
         began = time.monotonic()
         process = self.start(script)
+        reading = _Reading(process, began + self.bound, self.megabytes * _MEGABYTE)
         try:
-            printed, said = process.communicate(timeout=self.bound)
-            done = True
-        except subprocess.TimeoutExpired:
-            _kill(process)
-            printed, said = process.communicate()
-            done = False
+            stopped, status = reading.read(), None
+            if stopped is None:
+                stopped, status = self.end_of(process, began + self.bound)
+            told = self.told(stopped, process) if stopped else ""
+            return Printed(status, stopped, told, *reading.texts(), time.monotonic() - began)
         finally:
-            with self.lock:
-                self.processes.discard(process)
-        seconds = time.monotonic() - began
-        text = (printed + said).decode("utf-8", "replace")
-        if not done:
-            return Run("stopped", f"not done within {self.bound:g} seconds", text, seconds)
-        return _judge(process.returncode, printed, text, seconds)
+            _kill(process)
+            process.wait()
+            reading.close()
+            self.process = None
+
+    def end_of(self, process: subprocess.Popen[bytes], until: float) -> tuple[Optional[Stopped], Optional[int]]:
+        """The status of a process that has closed what it prints."""
+        try:
+            return None, process.wait(max(until - time.monotonic(), 0.01))
+        except subprocess.TimeoutExpired:
+            return Stopped.LATE, None
+
+    def told(self, stopped: Stopped, process: subprocess.Popen[bytes]) -> str:
+        """Why it was stopped."""
+        if stopped is Stopped.MUCH:
+            return f"printed more than {self.megabytes} MB"
+        status = process.poll()
+        if status is not None and status >= 0:
+            held = f"what it has started held its output open for {self.bound:g} seconds"
+            return f"ended with status {status}, and {held}"
+        return f"not done within {self.bound:g} seconds"
 
     def start(self, script: str) -> subprocess.Popen[bytes]:
         """Each in a group of its own, so that all that it has started can be stopped."""
-        with self.lock:
-            if self.stopping:
-                raise Stop(NOT_BUILT, "interrupted")
-            try:
-                process = subprocess.Popen(
-                    [self.program, "run", script],
-                    stdin=subprocess.DEVNULL,
-                    stdout=subprocess.PIPE,
-                    stderr=subprocess.PIPE,
-                    start_new_session=True,
-                )
-            except OSError as error:
-                raise Stop(NOT_BUILT, f"{self.program} can't be run: {error}") from None
-            self.processes.add(process)
-            return process
+        try:
+            self.process = subprocess.Popen(
+                [self.program, "run", script],
+                stdin=subprocess.DEVNULL,
+                stdout=subprocess.PIPE,
+                stderr=subprocess.PIPE,
+                start_new_session=True,
+            )
+        except OSError as error:
+            raise Stop(NOT_BUILT, f"{self.program} can't be run: {error.strerror}") from None
+        if self.stopping:
+            self.stop()
+        return self.process
 
     def stop(self) -> None:
-        """Stops all runs, and lets none begin."""
-        with self.lock:
-            self.stopping = True
-            for process in self.processes:
-                _kill(process)
+        """Stops the run, and lets none begin."""
+        self.stopping = True
+        if self.process is not None:
+            _kill(self.process)
+
+
+class _Reading:
+    """What a process prints and says, read as it comes."""
+
+    def __init__(self, process: subprocess.Popen[bytes], until: float, most: int):
+        self.process = process
+        self.until = until
+        self.most = most
+        self.pieces: dict[object, list[bytes]] = {process.stdout: [], process.stderr: []}
+        self.size = 0
+
+    def read(self) -> Optional[Stopped]:
+        """Up to the end of both; else why not."""
+        with selectors.DefaultSelector() as selector:
+            for pipe in self.pieces:
+                selector.register(pipe, selectors.EVENT_READ)
+            while selector.get_map():
+                left = self.until - time.monotonic()
+                if left <= 0 and self.process.poll() is None:
+                    return Stopped.LATE
+                ready = selector.select(max(left, 0))
+                if not ready and left <= 0:
+                    return Stopped.LATE
+                for key, _ in ready:
+                    if not self.take(key.fileobj):
+                        selector.unregister(key.fileobj)
+                if self.size > self.most:
+                    return Stopped.MUCH
+        return None
+
+    def take(self, pipe: object) -> bool:
+        piece = os.read(pipe.fileno(), _PIECE)  # type: ignore[attr-defined]
+        self.size += len(piece)
+        self.pieces[pipe].append(piece)
+        return bool(piece)
+
+    def texts(self) -> tuple[bytes, bytes]:
+        return b"".join(self.pieces[self.process.stdout]), b"".join(self.pieces[self.process.stderr])
+
+    def close(self) -> None:
+        for pipe in self.pieces:
+            pipe.close()  # type: ignore[attr-defined]
 
 
 def _kill(process: subprocess.Popen[bytes]) -> None:
     try:
         os.killpg(process.pid, signal.SIGKILL)
-    except ProcessLookupError:
+    except (ProcessLookupError, PermissionError):
         pass
-
-
-def _judge(status: int, printed: bytes, text: str, seconds: float) -> Run:
-    """What a run that ended by itself has come to."""
-    line = printed.decode("utf-8", "replace").rstrip("\n")
-    for wanted, word in ((2, "refused"), (3, "fault")):
-        if status == wanted and line.startswith(f"{word} ") and "\n" not in line:
-            return Run(word, line.removeprefix(f"{word} "), text, seconds)
-    if status < 0:
-        return Run("broken", f"ended by signal {-status}", text, seconds)
-    if status != 0:
-        return Run("broken", f"ended with status {status}", text, seconds)
-    try:
-        report = read_report(printed)
-        rows_of(deliveries_of(report))
-    except NotAReport as fault:
-        return Run("broken", f"what was printed is no report of tpr, {fault}", text, seconds)
-    return Run(report.result, reason_of(report), text, seconds, report)
-
-
-def reason_of(report: Report) -> str:
-    """Which components have made the result what it is, and at which lines of the report."""
-    if report.result in ("none", "pass"):
-        return ""
-    reasons = [_reason(component, report.result) for component in report.components]
-    told = [reason for reason in reasons if reason]
-    if len(told) > _MOST_SAID:
-        told[_MOST_SAID:] = [f"and {len(told) - _MOST_SAID} more"]
-    return "; ".join(told)
-
-
-def _reason(component: Component, result: str) -> str:
-    """What this component has to do with the result."""
-    if result == "error":
-        return _error_of(component, component.end)
-    if component.verdict != result:
-        return ""
-    for place, entry in enumerate(component.entries):
-        if isinstance(entry, VerdictSet) and entry.verdict == result:
-            return f"{component.name} set {result}, line {entry.line.number}{_behind(component, place)}"
-    return ""
-
-
-def _error_of(component: Component, end: End) -> str:
-    last = component.entries[-1] if component.entries else None
-    if isinstance(last, Failed):
-        behind = _behind(component, len(component.entries) - 1)
-        return f"{component.name} failed {told_code(last.code)}, line {last.line.number}{behind}"
-    if end.word == "waiting":
-        return f"{component.name} waits, line {end.line.number}{_behind(component, len(component.entries))}"
-    return ""
-
-
-def _behind(component: Component, place: int) -> str:
-    """The entry before this place."""
-    return f", behind: {component.entries[place - 1].line.text}" if place > 0 else ""

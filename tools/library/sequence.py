@@ -2,7 +2,7 @@
 from __future__ import annotations
 
 from dataclasses import dataclass
-from typing import Optional
+from typing import NamedTuple, Optional
 
 from .deliveries import Deliveries, Message, Place, deliveries_of
 from .order import Row, rows_of
@@ -11,11 +11,13 @@ from .words import counted, readable, told_code
 
 # How a message that stays in the queue ends in the row of its sending.
 _AT_THE_QUEUE = ("left", "discarded")
+LONG = 14  # an arrow over more rows is drawn as its two ends
+FAR = 3  # life lines: an arrow over more of them has the names of both ends at each
+_MOST_TOLD = 20  # of the messages that one entry discards
 _DOES = {"took": "takes", "found": "finds", "dropped": "drops"}
 
 
-@dataclass(frozen=True)
-class Arrow:
+class Arrow(NamedTuple):
     """An arrow of a message, from the row of its sending to the row where it ends."""
 
     message: Message
@@ -29,9 +31,27 @@ class Arrow:
         """What stands beside the receiver's life line, on the side away from the sender."""
         return f"{self.word} {self.message.route.port}"
 
+    def is_long(self) -> bool:
+        """Whether it is drawn as its two ends."""
+        return self.stop - self.start > LONG and self.sender != self.receiver
 
-@dataclass(frozen=True)
-class Badge:
+    def is_far(self) -> bool:
+        """Whether who sees one end may not see the other, so that each names the other."""
+        return self.is_long() or abs(self.receiver - self.sender) > FAR
+
+    def at_sender(self) -> str:
+        """The message, and where it goes."""
+        to = f"to {self.message.route.receiver} #{self.message.number} " if self.is_far() else ""
+        return to + self.message.text
+
+    def at_receiver(self) -> str:
+        """What stands beside the receiver's life line, and where the message comes from."""
+        if not self.is_far():
+            return self.outside()
+        return f"{self.outside()} from {self.message.route.sender} #{self.message.number}"
+
+
+class Badge(NamedTuple):
     """What a component does by itself, on its life line."""
 
     column: int
@@ -39,21 +59,21 @@ class Badge:
     verdict: Optional[str]
 
 
-@dataclass(frozen=True)
-class Step:
+class Step(NamedTuple):
     """One row of the chart: at most one message is sent in it, and at most one arrow of another row
     ends in it."""
 
     row: int
     said: str  # in words
     lines: str  # the lines of the report
+    numbers: tuple[int, ...]  # and their numbers
     sends: Optional[Arrow] = None  # of which the message's text is written in this row
     ends: tuple[Arrow, ...] = ()
     badge: Optional[Badge] = None
+    note: str = ""  # what is said across all life lines, in place of anything else
 
 
-@dataclass(frozen=True)
-class Foot:
+class Foot(NamedTuple):
     """What stands under a life line."""
 
     end: str
@@ -72,6 +92,11 @@ class Sequence:
     last_rows: tuple[int, ...]
     result: str
     summary: str
+    deliveries: Deliveries
+
+    def line_of(self, place: Place) -> int:
+        """The line of the report at which an entry stands."""
+        return self.deliveries.entry(place).line.number
 
 
 def sequence_of(report: Report, title: str) -> Sequence:
@@ -79,23 +104,24 @@ def sequence_of(report: Report, title: str) -> Sequence:
     deliveries = deliveries_of(report)
     steps = _Steps(deliveries, _split(deliveries, rows_of(deliveries)))
     return Sequence(
-        readable(title),
+        " ".join(readable(title).split()),
         tuple(report.names()),
         tuple(steps.all()),
         tuple(_foot(component) for component in report.components),
         tuple(steps.last_rows),
         report.result,
         _summary(deliveries),
+        deliveries,
     )
 
 
 def _split(deliveries: Deliveries, rows: list[Row]) -> list[Row]:
-    """Where a message was found directly behind its sending and stays queued in the end, its row
-    shows the queue, and the next one that it was found."""
+    """Where a message was found directly behind its sending and is left in the end, its row shows the
+    queue, and the next one that it was found."""
     split = []
     for row in rows:
-        message = deliveries.by_place.get(row.first)
-        if row.second and message and message.fate in _AT_THE_QUEUE:
+        message = deliveries.message(row.first)
+        if row.second and message and message.fate == "left":
             split += [Row(row.first), Row(row.second)]
         else:
             split.append(row)
@@ -126,31 +152,44 @@ class _Steps:
 
     def step(self, number: int, row: Row) -> Step:
         entry = self.deliveries.entry(row.first)
-        lines = self.lines(row)
+        lines = self.lines(row), self.numbers(row)
         if isinstance(entry, Sent):
             return self.sending(number, row, lines)
         if isinstance(entry, Received):
-            message = self.deliveries.by_place[row.first]
+            message = self.deliveries.message(row.first)
+            assert message is not None
             arrow = self.arrow(message, entry.word, row.first)
-            return Step(number, self.got(message, entry), lines, ends=(arrow,))
+            return Step(number, self.got(message, entry), *lines, ends=(arrow,))
         badge = self.badge(row.first)
-        return Step(number, f"{self.names[badge.column]}: {badge.text}", lines, badge=badge)
+        return Step(number, f"{self.names[badge.column]}: {badge.text}", *lines, badge=badge)
 
-    def sending(self, number: int, row: Row, lines: str) -> Step:
-        message = self.deliveries.by_place[row.first]
+    def sending(self, number: int, row: Row, lines: tuple[str, tuple[int, ...]]) -> Step:
+        message = self.deliveries.message(row.first)
+        assert message is not None
         route = message.route
         said = f"{route.sender} sends {message.text} to port {route.port} of {route.receiver}"
         if row.second:
             entry = self.deliveries.entry(row.second)
             assert isinstance(entry, Received)
             arrow = self.arrow(message, entry.word, row.second)
-            return Step(number, f"{said}, which {_DOES[entry.word]} it", lines, arrow, (arrow,))
-        if message.fate in _AT_THE_QUEUE:
+            return Step(number, f"{said}, which {_DOES[entry.word]} it", *lines, arrow, (arrow,))
+        if message.fate in _AT_THE_QUEUE and not (message.found and message.fate == "discarded"):
             arrow = self.arrow(message, message.fate, row.first)
-            what = "is left in the queue" if message.fate == "left" else "is discarded from the queue later"
-            return Step(number, f"{said}, where it {what}", lines, arrow, (arrow,))
-        assert message.gone is not None
-        return Step(number, said, lines, self.arrow(message, message.fate, message.gone))
+            return Step(number, f"{said}, where {self.stays(message)}", *lines, arrow, (arrow,))
+        stop = message.gone if message.fate != "discarded" else message.found[0]
+        assert stop is not None
+        return Step(number, said, *lines, self.arrow(message, self.word_at(stop), stop))
+
+    def stays(self, message: Message) -> str:
+        """What becomes of a message that stays in the queue."""
+        if message.gone is None:
+            return "it is left in the queue"
+        return f"{self.deliveries.told_line(message.gone)} discards it"
+
+    def word_at(self, place: Place) -> str:
+        entry = self.deliveries.entry(place)
+        assert isinstance(entry, Received)
+        return entry.word
 
     def arrow(self, message: Message, word: str, stop: Place) -> Arrow:
         sender, receiver = (self.columns[name] for name in message.route[:2])
@@ -169,12 +208,21 @@ class _Steps:
         if isinstance(entry, Otherwise):
             return Badge(place.component, "else", None)
         assert isinstance(entry, Operation)
-        return Badge(place.component, f"{entry.word} {entry.port}", None)
+        discards = len(self.deliveries.discarded.get(place, ()))
+        told = f", discards {discards}" if discards else ""
+        return Badge(place.component, f"{entry.word} {entry.port}{told}", None)
+
+    def numbers(self, row: Row) -> tuple[int, ...]:
+        places = [row.first] if row.second is None else [row.first, row.second]
+        return tuple(self.deliveries.entry(place).line.number for place in places)
 
     def lines(self, row: Row) -> str:
         """The lines of the report that the row stands for."""
         places = [row.first] if row.second is None else [row.first, row.second]
-        return "\n".join(self.deliveries.told_line(place) for place in places)
+        told = [self.deliveries.told_line(place) for place in places]
+        for message in self.deliveries.discarded.get(row.first, [])[:_MOST_TOLD]:
+            told.append(f"discards {self.deliveries.told_line(message.sent)}")
+        return "\n".join(told)
 
 
 def _foot(component: Component) -> Foot:

@@ -17,7 +17,6 @@ from .layout import (
     cut,
     cut_middle,
     goes_right,
-    is_long,
     layout_of,
     width_of,
 )
@@ -182,12 +181,15 @@ class _Drawing:
     def row(self, step: Step) -> str:
         """The texts of a row, with what is told of it and the lines of the report that it stands for."""
         parts = []
+        if step.note:
+            note = cut(step.note, self.layout.width - 40, SMALL)
+            parts.append(_text(self.layout.width / 2, self.layout.y(step.row) + 4, note, "small middle halo"))
         if step.badge:
             parts.append(self.badge(step.row, step.badge))
         if step.sends:
             parts.append(self.text_of(step.sends, step.row))
         for arrow in step.ends:
-            parts += [self.text_again(arrow)] if is_long(arrow) else []
+            parts += [self.text_again(arrow)] if arrow.is_long() else []
             parts.append(self.outside(arrow))
         said = cut(step.said, 120, 1)
         return f'<g aria-label="{escape(said)}"><title>{_told(step.lines)}</title>{"".join(parts)}</g>'
@@ -200,7 +202,7 @@ class _Drawing:
     def text_of(self, arrow: Arrow, row: int) -> str:
         """The message, above the beginning or the middle of its arrow."""
         x, y = self.layout.columns[arrow.sender], self.layout.y(row)
-        text = cut(arrow.message.text, self.layout.room(arrow))
+        text = cut(arrow.at_sender(), self.layout.room(arrow))
         if arrow.sender == arrow.receiver:
             return _text(x + LOOP + 12, y + 4, text, "halo")
         if arrow.start == arrow.stop:
@@ -218,7 +220,7 @@ class _Drawing:
 
     def outside(self, arrow: Arrow) -> str:
         x, y = self.layout.columns[arrow.receiver], self.layout.y(arrow.stop) + 4
-        text = cut(arrow.outside(), self.layout.room_outside(arrow), SMALL)
+        text = cut(arrow.at_receiver(), self.layout.room_outside(arrow), SMALL)
         if goes_right(arrow):
             return _text(x + 9, y, text, "small halo")
         return _text(x - 9, y, text, "small end halo")
@@ -226,7 +228,7 @@ class _Drawing:
     def arrow(self, arrow: Arrow) -> str:
         if arrow.sender == arrow.receiver:
             return self.loop(arrow)
-        if is_long(arrow):
+        if arrow.is_long():
             return self.two_ends(arrow)
         start, stop = self.layout.columns[arrow.sender], self.layout.columns[arrow.receiver]
         begins = f"M{_number(start)} {self.height(arrow.start)}"

@@ -1,6 +1,7 @@
 """The words of a report, and the numbers and names of refusals, as docs/PROFILE.md has them."""
 from __future__ import annotations
 
+import functools
 import re
 
 # From the best to the worst (ES 201 873-1, 24.1).
@@ -16,6 +17,18 @@ RESERVED = frozenset(
     to trigger true type value var""".split()
 )
 
+# The words that the full language reserves besides.
+RESERVED_ELSEWHERE = frozenset(
+    """action activate address alive altstep and and4b any anytype bitstring break call case catch
+    const continue control deactivate decmatch default disconnect display do encode enumerated
+    except exception execute extends extension external float friend getcall getreply getverdict
+    goto group hexstring if ifpresent import interleave kill killed label language length log match
+    mixed mod modifies modulepar noblock not not4b not_a_number nowait null octetstring omit
+    optional or or4b override param permutation present private procedure public raise read
+    recursive rem repeat reply return running select set signature subset superset template timeout
+    timer union universal unmap valueof variant verdicttype while with xor xor4b""".split()
+)
+
 MOST_COMPONENTS = 64
 MOST_ON_A_ROUTE = 100_000
 
@@ -24,6 +37,7 @@ _NO_LETTER = re.compile("[^\t\n\r\x20-\ud7ff\ue000-\ufffd\U00010000-\U0010ffff]"
 _WORD = re.compile(r"[A-Za-z][A-Za-z0-9_]{0,63}")
 
 
+@functools.lru_cache(maxsize=4096)
 def is_name(word: str) -> bool:
     """Whether a script can have declared it: a port, a type, a field, a component that is created."""
     return _WORD.fullmatch(word) is not None and word not in RESERVED
@@ -36,6 +50,14 @@ def is_component_name(word: str) -> bool:
 def readable(text: str) -> str:
     """The text with what an XML file can't have replaced."""
     return _NO_LETTER.sub("\ufffd", text)
+
+
+_CONTROL = re.compile("[\x00-\x1f\x7f-\x9f]")
+
+
+def shown(text: str) -> str:
+    """The text on one line, as a terminal can show it."""
+    return _CONTROL.sub(lambda found: f"\\x{ord(found[0]):02x}", text)
 
 
 def worst(verdicts: list[str]) -> str:

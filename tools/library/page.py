@@ -1,0 +1,114 @@
+"""A chart as one HTML page that stands alone: its data, its style and its script are in it.
+
+The page draws what one looks at, as one scrolls. `script_lines` is for whoever knows of which line of the
+script a line of the report comes: the page then says it beside the line.
+"""
+from __future__ import annotations
+
+import json
+import os
+import re
+from html import escape
+from typing import Mapping, Optional
+
+from .sequence import Arrow, Sequence, Step
+
+_FOLDER = os.path.join(os.path.dirname(os.path.realpath(__file__)), "page")
+_PLACES = re.compile("{(title|style|code|data)}")
+_STAYS = ("left", "discarded")
+
+
+def page_of(sequence: Sequence, script_lines: Optional[Mapping[int, str]] = None) -> str:
+    """The whole file."""
+    data = json.dumps(_Data(sequence, script_lines or {}).all(), separators=(",", ":"))
+    parts = {
+        "title": escape(sequence.title),
+        "style": _part("page.css"),
+        "code": "\n".join(_part(name) for name in ("told.js", "drawing.js", "acting.js")),
+        # A `<` in the data could end the script that it stands in.
+        "data": data.replace("<", "\\u003c"),
+    }
+    return _PLACES.sub(lambda found: parts[found[1]], _part("page.html"))
+
+
+def _part(name: str) -> str:
+    with open(os.path.join(_FOLDER, name), encoding="utf-8") as opened:
+        return opened.read()
+
+
+class _Data:
+    """What the page is told: lists of numbers and texts, each text of a message once."""
+
+    def __init__(self, sequence: Sequence, script_lines: Mapping[int, str]):
+        self.sequence = sequence
+        self.script_lines = script_lines
+        self.texts: dict[str, int] = {}
+        self.messages: dict[int, list[object]] = {}  # by the message's own number
+        self.row_of_line: dict[int, int] = {}
+
+    def all(self) -> dict[str, object]:
+        sequence = self.sequence
+        for step in sequence.steps:
+            for number in step.numbers:
+                self.row_of_line[number] = step.row
+        rows = [self.row(step) for step in sequence.steps]
+        order = {index: place for place, index in enumerate(self.messages)}
+        for row in rows:
+            if row[0] != 2:
+                row[1] = order[row[1]]  # type: ignore[index]
+        return {
+            "title": sequence.title,
+            "result": sequence.result,
+            "summary": sequence.summary,
+            "names": sequence.names,
+            "feet": [[foot.end, foot.verdict, list(foot.left)] for foot in sequence.feet],
+            "last": sequence.last_rows,
+            "rows": rows,
+            "messages": list(self.messages.values()),
+            "texts": list(self.texts),
+            "script": {str(line): told for line, told in self.script_lines.items()},
+        }
+
+    def row(self, step: Step) -> list[object]:
+        """0 for a sending, with what became of it in this row; 1 for what was got; 2 for what a component
+        did by itself. The lines of the report stand at the end."""
+        if step.badge is not None:
+            return [2, step.badge.column, step.badge.text, step.badge.verdict or "", *step.numbers]
+        arrow = step.sends or step.ends[0]
+        index = self.message(arrow)
+        if step.sends is None:
+            self.end(index, arrow, step.row, step.numbers[0])
+            return [1, index, arrow.word, *step.numbers]
+        ended = arrow.word if step.ends else ""
+        if ended and ended not in _STAYS:
+            self.end(index, arrow, step.row, step.numbers[1])
+        return [0, index, ended, *step.numbers]
+
+    def message(self, arrow: Arrow) -> int:
+        """Sender, receiver, port, number, text, fate, the row and line of its sending, those of its end, and
+        those where it was found."""
+        message = arrow.message
+        if message.index not in self.messages:
+            text = self.texts.setdefault(message.text, len(self.texts))
+            ways = [arrow.sender, arrow.receiver, message.route.port, message.number]
+            self.messages[message.index] = [*ways, text, message.fate, *self.sent(arrow), *self.discarding(arrow), []]
+        return message.index
+
+    def sent(self, arrow: Arrow) -> list[int]:
+        line = self.sequence.line_of(arrow.message.sent)
+        return [arrow.start, line]
+
+    def discarding(self, arrow: Arrow) -> list[int]:
+        """Of a message that was discarded, the entry that did it; that of another end comes later."""
+        message = arrow.message
+        if message.fate != "discarded" or message.gone is None:
+            return [-1, 0]
+        line = self.sequence.line_of(message.gone)
+        return [self.row_of_line[line], line]
+
+    def end(self, index: int, arrow: Arrow, row: int, line: int) -> None:
+        told = self.messages[index]
+        if arrow.word == "found":
+            told[10].append([row, line])  # type: ignore[union-attr]
+        else:
+            told[8:10] = [row, line]
