@@ -61,8 +61,81 @@ script_of_the_profile() {
     answered "docs/PROFILE.md, the script" accepted
 }
 
+# A script of docs/FROM_TTCN3.md stands below a heading `### LETTER NAME`, in fences, and behind it in backquotes what
+# `check` prints, and where that is `accepted` the last line of the report too.
+construct_script() { # HEADING ANSWERS
+    local answer=${2#'`'}
+    answer=${answer%%'`'*}
+    if [[ $answer == accepted ]]; then
+        answered "docs/FROM_TTCN3.md, $1" accepted
+        observe "$tpr" run "$room/script" </dev/null
+        set_up "the script $1 of docs/FROM_TTCN3.md ends with ${2#*, }" \
+            [ "$2" == "\`accepted\`, \`$(tail -n 1 -- "$room/printed")\`" ] && count 0
+    else
+        answer=${answer#refused }
+        answered "docs/FROM_TTCN3.md, $1" "${answer% line *} ${answer##* }"
+    fi
+}
+
+construct_scripts() {
+    local line heading='' is_inside=''
+    while IFS= read -r line; do
+        if [[ $line == '```' ]]; then
+            if [[ $is_inside ]]; then is_inside=''; else is_inside=yes && : >"$room/script"; fi
+        elif [[ $is_inside ]]; then
+            printf '%s\n' "$line" >>"$room/script"
+        elif [[ $line == '### '[A-Z]' '* ]]; then
+            heading=${line#'### '}
+        elif [[ $heading && $line == '`'* ]]; then
+            construct_script "$heading" "$line"
+            heading=''
+        fi
+    done <docs/FROM_TTCN3.md
+}
+
+# Each contract that docs/CONTRACTS.md shows stands so in the source that is named above it, line by line.
+quoted_contracts() {
+    local line source='' quote='' is_inside=''
+    while IFS= read -r line; do
+        if [[ $line == '```' && $is_inside ]]; then
+            is_inside=''
+            stands_in "$source" "$quote"
+            source=''
+        elif [[ $line == '```' ]]; then
+            is_inside=yes quote=''
+        elif [[ $is_inside ]]; then
+            quote+=$line$'\n'
+        elif [[ $line == '`crates/'*'`' ]]; then
+            line=${line#'`'} source=${line%'`'}
+        fi
+    done <docs/CONTRACTS.md
+}
+
+stands_in() { # SOURCE QUOTE
+    set_up "docs/CONTRACTS.md names the source of what it shows: ${2%%$'\n'*}" test -f "$1" || return
+    if [[ $2 && $'\n'$(<"$1")$'\n' == *$'\n'"$2"* ]]; then
+        count 0
+    else
+        echo "FAILED: docs/CONTRACTS.md shows what doesn't stand in $1: ${2%%$'\n'*}"
+        count 1
+    fi
+}
+
+# Each wrong body that docs/CONTRACTS.md names is there.
+named_wrong_bodies() {
+    local name
+    for name in $(grep -oE '`tp_[a-z]+/[a-z_]+`' docs/CONTRACTS.md | tr -d '`' | awk '!seen[$0]++'); do
+        set_up "docs/CONTRACTS.md names a wrong body that is there: $name" \
+            test -f "crates/${name%/*}/must-fail/${name#*/}.edit" -o \
+            -f "tests/wrong_bodies/${name%/*}/${name#*/}.edit" && count 0
+    done
+}
+
 documents() {
     at_least 26 refusal_scripts
+    at_least 26 construct_scripts
     at_least 3 first_example
     at_least 1 script_of_the_profile
+    at_least 9 quoted_contracts
+    at_least 19 named_wrong_bodies
 }
