@@ -23,7 +23,7 @@ use Rattle.tp_behaviour.specs.Paths.{AreOperated, IsStep, operated}
 use Rattle.tp_behaviour.specs.Seen.{Grew}
 use Rattle.tp_behaviour.specs.Stations.{IsPlain}
 use Rattle.tp_behaviour.proofs.Entries.{no_arrival}
-use Rattle.tp_behaviour.proofs.Noted.{quiet, sent_same}
+use Rattle.tp_behaviour.proofs.Noted.{quiet, sent_on_same}
 
 pub plain_operated : (o : PortOperation) (port : ℕ) → IsPlain (operated o port)
 plain_operated operation.Start port = tt
@@ -45,7 +45,7 @@ own_more c k e plain own q from to =
     let h = quiet e plain in
     let came : arrived_on q (k ++ e ∷ []) ≡ arrived_on q k =
     arrived_more q k (e ∷ []) ∙ ap (λ l. arrived_on q k ++ l) (arrived_alone q e (no_arrival q e h.here)) ∙ append-nil (arrived_on q k) in
-    ap length came ∙ own q from to ∙ ap length (sym (sent_same q k e (h.unsent q)))
+    ap length came ∙ own q from to ∙ ap length (sym (sent_on_same q k e (h.unsent q.to.comp)))
 
 pub stepped_verdict : (r : Actor) (v : Verdict) (k n : List Entry) → moments n ≡ moments k ++ record { before = k; entry = entry.Verdict v } ∷ []
     → (turns : List ℤ) (vs : List (Option Held)) → Grew (λ ts. IsStep r turns vs (b.SetVerdict v) ts vs) k n

@@ -9,10 +9,10 @@ use Rattle.tp_config.specs.declared.port_type.RouteId.{RouteId}
 use Rattle.tp_inbox.specs.declared.stamped.Stamped.{Stamped}
 use Rattle.tp_inbox.specs.declared.entry.Entry.{Entry}
 use Rattle.tp_inbox.specs.declared.entry.Entry.TheVariants as entry
-use Rattle.tp_inbox.specs.History.{is_arrival, arrivals, arrival_on, arrived_on, same_route, sending_on, sent_on}
+use Rattle.tp_inbox.specs.History.{is_arrival, arrivals, arrival_on, arrived_on, same_route, sending_on, sent_on, sending_to, sent_to}
 use Rattle.tp_inbox.specs.Routed.{IsArrivalOn}
 use Rattle.tp_behaviour.specs.Stations.{IsSentBy}
-use Rattle.tp_behaviour.proofs.Outboxes.{route_same}
+use Rattle.tp_inbox.proofs.Putting.{route_same}
 
 -- what is no arrival came on no route
 pub no_arrival : (q : RouteId) (e : Entry) → is_arrival e ≡ false → arrival_on q e ≡ None
@@ -58,6 +58,21 @@ unsent out (entry.Sent r n m) is = absurd (true≢false (sym is))
 unsent out entry.Else is = tt
 unsent out (entry.Verdict v) is = tt
 unsent out (entry.Failed c) is = tt
+
+-- nor is it sent to any component
+unsent_to : (c : CompId) (e : Entry) → is_arrival e ≡ true → sending_to c e ≡ None
+unsent_to c (entry.Arrive p env stamp) is = refl
+unsent_to c (entry.Took p env i) is = refl
+unsent_to c (entry.Found p env i) is = refl
+unsent_to c (entry.Dropped p env i) is = refl
+unsent_to c (entry.Cleared p) is = refl
+unsent_to c (entry.Started p) is = refl
+unsent_to c (entry.Stopped p) is = refl
+unsent_to c (entry.Halted p) is = refl
+unsent_to c (entry.Sent r n m) is = absurd (true≢false (sym is))
+unsent_to c entry.Else is = refl
+unsent_to c (entry.Verdict v) is = refl
+unsent_to c (entry.Failed x) is = refl
 
 -- what goes out on these routes doesn't go out on another
 no_sending : (q : RouteId) (out : List RouteId) (e : Entry) → (Contains out q → ⊥) → IsSentBy out e → sending_on q e ≡ None
@@ -132,3 +147,13 @@ arrived_in q (e ∷ k) = by (is_arrival e) refl (arrived_in q k) where
 pub sent_more : (q : RouteId) (k es : List Entry) → sent_on q (k ++ es) ≡ sent_on q k ++ sent_on q es
 unfolding sent_on
 sent_more q k es = filter_map-append (sending_on q) k es
+
+-- what was sent to a component, over two parts of a history
+pub sent_to_more : (c : CompId) (k l : List Entry) → sent_to c (k ++ l) ≡ sent_to c k ++ sent_to c l
+unfolding sent_to
+sent_to_more c k l = filter_map-append (sending_to c) k l
+
+-- arrivals are sent to nobody
+pub arrivals_to_none : (c : CompId) (es : List Entry) → All (λ e. is_arrival e ≡ true) es → sent_to c es ≡ []
+unfolding sent_to
+arrivals_to_none c es are = all_none (sending_to c) (λ e. is_arrival e ≡ true) es (unsent_to c) are

@@ -4,6 +4,7 @@ mod LastingRules
 mod Viewed
 mod Looks
 pub mod Outboxes
+pub mod Filed
 mod Entries
 mod Manned
 mod Noted

@@ -6,14 +6,16 @@ use Rattle.std.proofs.lemmas.List.Elements.{All-push, filter-append}
 use Rattle.std.proofs.lemmas.List.{append-nil}
 use Rattle.tp_queue.specs.declared.event.Env.{Env}
 use Rattle.tp_value.specs.declared.message.Message.{Message}
+use Rattle.tp_config.specs.declared.port_type.CompId.{CompId}
 use Rattle.tp_config.specs.declared.port_type.RouteId.{RouteId}
 use Rattle.tp_queue.specs.declared.operation.ReceiveKind.{ReceiveKind}
 use Rattle.tp_queue.specs.declared.operation.ReceiveKind.TheVariants as kind
 use Rattle.tp_inbox.specs.declared.entry.Entry.{Entry}
 use Rattle.tp_inbox.specs.declared.entry.Entry.TheVariants as entry
-use Rattle.tp_inbox.specs.History.{IsTimely, is_arrival, arrivals, sending_on, sent_on}
+use Rattle.tp_inbox.specs.History.{IsTimely, is_arrival, arrivals, posted_on, sending_to, sent_on, sent_to}
 use Rattle.tp_inbox.specs.Desks.{Journal, adding}
 use Rattle.tp_inbox.specs.Ledgers.{IsDeskOf}
+use Rattle.tp_inbox.proofs.Ways.{sent_by_routes}
 use Rattle.tp_behaviour.specs.declared.choice.Guard.{Guard}
 use Rattle.tp_behaviour.specs.declared.choice.Sight.{Sight}
 use Rattle.tp_behaviour.specs.declared.choice.Sight.TheVariants as sight
@@ -26,29 +28,29 @@ use Rattle.tp_behaviour.specs.Moments.{Moment, moments}
 use Rattle.tp_behaviour.specs.Outboxes.{routes_of}
 use Rattle.tp_behaviour.specs.Seen.{Saw}
 use Rattle.tp_behaviour.specs.Stations.{IsManned, IsNoted, IsPlain, IsSentBy}
-use Rattle.tp_behaviour.proofs.Entries.{sent_more}
+use Rattle.tp_behaviour.proofs.Entries.{sent_to_more}
 use Rattle.tp_behaviour.proofs.Manned.{all_as}
 use Rattle.tp_behaviour.proofs.Moments.{moments-own}
 
 -- neither does it arrive, nor is it sent
 pub record Quiet (e : Entry) : Type 0 where
   pub here : is_arrival e ≡ false
-  pub unsent : (q : RouteId) → sending_on q e ≡ None
+  pub unsent : (c : CompId) → sending_to c e ≡ None
   pub by_none : (out : List RouteId) → IsSentBy out e
 
 pub quiet : (e : Entry) → IsPlain e → Quiet e
 quiet (entry.Arrive p env stamp) h = absurd h
-quiet (entry.Took p env i) h = record { here = refl; unsent = λ q. refl; by_none = λ out. tt }
-quiet (entry.Found p env i) h = record { here = refl; unsent = λ q. refl; by_none = λ out. tt }
-quiet (entry.Dropped p env i) h = record { here = refl; unsent = λ q. refl; by_none = λ out. tt }
-quiet (entry.Cleared p) h = record { here = refl; unsent = λ q. refl; by_none = λ out. tt }
-quiet (entry.Started p) h = record { here = refl; unsent = λ q. refl; by_none = λ out. tt }
-quiet (entry.Stopped p) h = record { here = refl; unsent = λ q. refl; by_none = λ out. tt }
-quiet (entry.Halted p) h = record { here = refl; unsent = λ q. refl; by_none = λ out. tt }
+quiet (entry.Took p env i) h = record { here = refl; unsent = λ c. refl; by_none = λ out. tt }
+quiet (entry.Found p env i) h = record { here = refl; unsent = λ c. refl; by_none = λ out. tt }
+quiet (entry.Dropped p env i) h = record { here = refl; unsent = λ c. refl; by_none = λ out. tt }
+quiet (entry.Cleared p) h = record { here = refl; unsent = λ c. refl; by_none = λ out. tt }
+quiet (entry.Started p) h = record { here = refl; unsent = λ c. refl; by_none = λ out. tt }
+quiet (entry.Stopped p) h = record { here = refl; unsent = λ c. refl; by_none = λ out. tt }
+quiet (entry.Halted p) h = record { here = refl; unsent = λ c. refl; by_none = λ out. tt }
 quiet (entry.Sent r n m) h = absurd h
-quiet entry.Else h = record { here = refl; unsent = λ q. refl; by_none = λ out. tt }
-quiet (entry.Verdict v) h = record { here = refl; unsent = λ q. refl; by_none = λ out. tt }
-quiet (entry.Failed c) h = record { here = refl; unsent = λ q. refl; by_none = λ out. tt }
+quiet entry.Else h = record { here = refl; unsent = λ c. refl; by_none = λ out. tt }
+quiet (entry.Verdict v) h = record { here = refl; unsent = λ c. refl; by_none = λ out. tt }
+quiet (entry.Failed c) h = record { here = refl; unsent = λ c. refl; by_none = λ out. tt }
 
 -- it has no stamp that could come too late
 pub plain_timely : (k : List Entry) (e : Entry) → IsPlain e → IsTimely k e
@@ -70,13 +72,18 @@ pub arrivals_same : (k : List Entry) (e : Entry) → is_arrival e ≡ false → 
 unfolding arrivals
 arrivals_same k e is = filter-append is_arrival k (e ∷ []) ∙ ap (λ b. filter is_arrival k ++ cond b (e ∷ []) []) is ∙ append-nil (filter is_arrival k)
 
-sent_alone : (q : RouteId) (e : Entry) → sending_on q e ≡ None → sent_on q (e ∷ []) ≡ []
-unfolding sent_on
-sent_alone q e none = ap (λ o. cons_option o []) none
+sent_alone : (c : CompId) (e : Entry) → sending_to c e ≡ None → sent_to c (e ∷ []) ≡ []
+unfolding sent_to
+sent_alone c e none = ap (λ o. cons_option o []) none
 
 -- nothing more was sent
-pub sent_same : (q : RouteId) (k : List Entry) (e : Entry) → sending_on q e ≡ None → sent_on q (k ++ e ∷ []) ≡ sent_on q k
-sent_same q k e none = sent_more q k (e ∷ []) ∙ ap (λ l. sent_on q k ++ l) (sent_alone q e none) ∙ append-nil (sent_on q k)
+sent_same : (c : CompId) (k : List Entry) (e : Entry) → sending_to c e ≡ None → sent_to c (k ++ e ∷ []) ≡ sent_to c k
+sent_same c k e none = sent_to_more c k (e ∷ []) ∙ ap (λ l. sent_to c k ++ l) (sent_alone c e none) ∙ append-nil (sent_to c k)
+
+-- nor on a route
+pub sent_on_same : (q : RouteId) (k : List Entry) (e : Entry) → sending_to q.to.comp e ≡ None → sent_on q (k ++ e ∷ []) ≡ sent_on q k
+sent_on_same q k e none =
+    sym (sent_by_routes q.to.comp q refl (k ++ e ∷ [])) ∙ ap (posted_on q) (sent_same q.to.comp k e none) ∙ sent_by_routes q.to.comp q refl k
 
 -- the trace, with one moment more, of which this holds as it does of those before
 pub fresh_more : (r : Actor) (k : List Entry) (e : Entry) → is_arrival e ≡ false → Fresh r.comp k → (LooksAtPorts e → HasOwn r.comp k)
@@ -94,9 +101,9 @@ noted r s d e m grown plain own = (
     posted = m.posted;
     desk = subst (IsDeskOf s.owner.inbox) (sym grown) m.desk;
     arrived = ap arrivals log ∙ arrivals_same s.desk.log e q.here ∙ m.arrived;
-    noted = all_as (IsNoted s.desk.log) (IsNoted d.log) s.outbox (λ x h. ap (sent_on x.route) log ∙ sent_same x.route s.desk.log e (q.unsent x.route) ∙ h)
-        m.noted;
-    home = m.home;
+    noted = all_as (IsNoted s.desk.log) (IsNoted d.log) s.outbox
+        (λ x h. ap (sent_to x.inbox.comp) log ∙ sent_same x.inbox.comp s.desk.log e (q.unsent x.inbox.comp) ∙ h) m.noted;
+    theirs = m.theirs;
     sent = subst (All (IsSentBy (routes_of s.outbox))) (sym log)
         (All-push (IsSentBy (routes_of s.outbox)) s.desk.log e m.sent (q.by_none (routes_of s.outbox)));
     fresh = subst (Fresh r.comp) (sym log) (fresh_more r s.desk.log e q.here m.fresh own);

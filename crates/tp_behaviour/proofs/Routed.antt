@@ -1,7 +1,7 @@
 -- What a send comes to: to one component, and to all.
 use Rattle.std.proofs.Common.{◌≡◌, ◌∙◌, ◌⊎◌, inl, inr, ℕ, ◌+◌, ◌<◌, None, Option, List, [], ◌∷◌, ◌++◌, ap, arith, eq-eqb, false, get_or, length, map, refl, subst, sym, take, true, true≢false}
 use Rattle.std.specs.Prelude.{◌==◌}
-use Rattle.std.specs.List.{AllZip}
+use Rattle.std.specs.List.{AllZip, flat_map}
 use Rattle.std.proofs.lemmas.Bool.{eqb-true}
 use Rattle.std.proofs.lemmas.List.{append_assoc, append-nil, take_more}
 use Rattle.std.proofs.lemmas.Slice.Zip.{all_zipped_more}
@@ -19,7 +19,7 @@ use Rattle.tp_inbox.specs.declared.entry.Entry.{Entry}
 use Rattle.tp_inbox.specs.declared.entry.Entry.TheVariants as entry
 use Rattle.tp_inbox.specs.History.{history_of, next_of, sent_on}
 use Rattle.tp_inbox.specs.Desks.{Journal}
-use Rattle.tp_inbox.specs.Ledgers.{Inbox, Sending as Sender}
+use Rattle.tp_inbox.specs.Ledgers.{Inbox, Sending as Sender, end_of}
 use Rattle.tp_inbox.proofs.Ports.{history-same}
 use Rattle.tp_behaviour.specs.declared.station.Station.{Station}
 use Rattle.tp_behaviour.specs.Ends.{IsFailure, route_number}
@@ -30,7 +30,7 @@ use Rattle.tp_behaviour.specs.Outboxes.{routes_of}
 use Rattle.tp_behaviour.specs.Paths.{IsSentOn, IsStarted, IsStep, own_port}
 use Rattle.tp_behaviour.specs.Seen.{Grew}
 use Rattle.tp_behaviour.specs.Sends.{Sends}
-use Rattle.tp_behaviour.specs.Stations.{IsSame, end_of}
+use Rattle.tp_behaviour.specs.Stations.{IsSame}
 
 -- what is sent is set
 is_set : (vs : Values) (s : Sent) (m : Message) → IsSentAs vs s m → SendsUnset vs s → ⊥
@@ -90,12 +90,15 @@ cause_none r vs x m routes k started sent all are none = IsFailure.no_route_at_a
     set (inr h) = all_named vs x.to all h
 
 -- the routes stay the same
-route_of_end : (ss : List Sender) → map (λ (e : Inbox × RouteId). e.1) (map end_of ss) ≡ routes_of ss
-route_of_end [] = refl
-route_of_end (s ∷ ss) = ap (λ l. s.route ∷ l) (route_of_end ss)
+abbrev SenderEnd : Type 0
+SenderEnd = Inbox × CompId × List RouteId
+
+routes_of_ends : (ss : List Sender) → flat_map (λ (e : SenderEnd). e.2) (map end_of ss) ≡ routes_of ss
+routes_of_ends [] = refl
+routes_of_ends (s ∷ ss) = ap (λ l. s.routes ++ l) (routes_of_ends ss)
 
 pub routes_stay : (a b : Station) → IsSame a b → routes_of b.outbox ≡ routes_of a.outbox
-routes_stay a b same = sym (route_of_end b.outbox) ∙ ap (map (λ (e : Inbox × RouteId). e.1)) same.ends ∙ route_of_end a.outbox
+routes_stay a b same = sym (routes_of_ends b.outbox) ∙ ap (flat_map (λ (e : SenderEnd). e.2)) same.ends ∙ routes_of_ends a.outbox
 
 -- a message went out on each of these routes, and the port is still started
 pub record IsSentOnEach (port : ℕ) (m : Message) (routes : List RouteId) (before after : List Entry) : Type 0 where

@@ -1,52 +1,79 @@
 -- The senders of a component.
-use Rattle.std.specs.Prelude.{◌≡◌, ◌≤◌, ◌<◌, ◌==◌, ℕ, cond, Some, List, [], ◌∷◌, ◌++◌, All, Contains, length, map, slice_get}
+use Rattle.std.specs.Prelude.{◌≡◌, ◌≢◌, ◌≤◌, ◌<◌, ◌==◌, ℕ, cond, Some, List, [], ◌∷◌, ◌++◌, All, Contains, length, map, slice_get}
+use Rattle.std.specs.List.{flat_map}
 use Rattle.indexmap.specs.IndexMap.{IndexMap, get}
+use Rattle.tp_config.specs.declared.port_type.CompId.{CompId}
 use Rattle.tp_config.specs.declared.port_type.RouteId.{RouteId}
 use Rattle.tp_inbox.specs.declared.stamped.Stamped.{Stamped}
 use Rattle.tp_inbox.specs.declared.entry.Entry.{Entry}
-use Rattle.tp_inbox.specs.History.{arrived_on, same_route}
-use Rattle.tp_inbox.specs.Ledgers.{Inbox, Sending, putting}
+use Rattle.tp_inbox.specs.History.{arrived_on, posted_on}
+use Rattle.tp_inbox.specs.Ledgers.{Inbox, Sending, posting}
 use Rattle.tp_inbox.specs.Places.{route_eq}
+use Rattle.tp_behaviour.specs.declared.outbox.RoutePlace.{RoutePlace}
 
--- the routes of these senders
+-- the routes of these senders, sender after sender
 abbrev pub routes_of : List Sending → List RouteId
-routes_of senders = map (λ (s : Sending). s.route) senders
+routes_of senders = flat_map (λ (s : Sending). s.routes) senders
 
--- the sender, after a message was put on this route
+-- the sender, after a message was put on this route: it is another's where the route leads to another inbox
 abbrev pub put_on : RouteId → Stamped → Sending → Sending
-put_on route m s = cond (same_route route s.route) (putting s m) s
+put_on route m s = cond (s.inbox.comp.0 == route.to.comp.0) (posting s route m) s
 
--- the message was put on this route, by the sender that there is, with this number
+-- the message was put on this route, by the sender that there is into the inbox to which the route leads, with this
+-- number
 abbrev pub HasPut : RouteId → Stamped → ℕ → List Sending → List Sending → Type 0
 HasPut route m n before after =
-    ((s : Sending) × Contains before s × (s.route ≡ route) × (n ≡ length s.ledger))
+    ((s : Sending) × Contains before s × (route.to.comp ≡ s.inbox.comp) × (n ≡ length (posted_on route s.ledger)))
     × (after ≡ map (put_on route m) before)
 
--- the sender on this route has put as many messages as a route takes
+-- the sender that has this route has put as many messages there as a route takes
 abbrev pub IsRouteFull : RouteId → List Sending → Type 0
 IsRouteFull route senders =
-    (s : Sending) × Contains senders s × (s.route ≡ route) × (100000 ≤ length s.ledger)
+    (s : Sending) × Contains senders s × Contains s.routes route × (100000 ≤ length (posted_on route s.ledger))
 
 -- a sender from a component to itself
 abbrev pub LeadsBack : Sending → Type 0
-LeadsBack s = s.route.to.comp ≡ s.route.source
+LeadsBack s = s.inbox.comp ≡ s.source
 
--- the places, with this one more if a sender on this route leads back
-abbrev pub IsListed : RouteId → ℕ → List ℕ → List ℕ → Type 0
-IsListed route place before after = after ≡ cond (route.to.comp.0 == route.source.0) (before ++ place ∷ []) before
+-- the places, with this one more if the sender leads back
+abbrev pub IsListed : Sending → ℕ → List ℕ → List ℕ → Type 0
+IsListed s place before after = after ≡ cond (s.inbox.comp.0 == s.source.0) (before ++ place ∷ []) before
 
 -- if it leads back, it leads to the component of this inbox
 abbrev pub IsHome : Inbox → Sending → Type 0
-IsHome inbox s = LeadsBack s → s.route.to.comp ≡ inbox.comp
+IsHome inbox s = LeadsBack s → s.inbox.comp ≡ inbox.comp
 
--- as many of the arrivals came on the sender's route as it has put
+-- its routes lead to its inbox's component
+abbrev pub IsAimed : Sending → Type 0
+IsAimed s = All (λ (r : RouteId). r.to.comp ≡ s.inbox.comp) s.routes
+
+-- as many of the arrivals came on this route as the sender has put there
+abbrev pub IsLevelOn : List Entry → Sending → RouteId → Type 0
+IsLevelOn es s r = length (arrived_on r es) ≡ length (posted_on r s.ledger)
+
+-- so it is on each of the sender's routes
 abbrev pub IsLevel : List Entry → Sending → Type 0
-IsLevel es s = length (arrived_on s.route es) ≡ length s.ledger
+IsLevel es s = All (IsLevelOn es s) s.routes
 
--- each sender is found by its route, and those that lead back are listed, and no others
-pub record AreSendersFiled {S : Type 0} (senders : List Sending) (places : IndexMap RouteId ℕ S)
+-- the first n of these routes are found, each at its place with the sender at this place
+abbrev pub AreFiledAt : {S : Type 0} → ℕ → List RouteId → ℕ → IndexMap RouteId RoutePlace S → Type 0
+AreFiledAt n routes place places =
+    (w : ℕ) (r : RouteId) → w < n → slice_get routes w ≡ Some r
+    → get route_eq places r ≡ Some record { sender = place; way = w }
+
+-- what is found of routes that none of these is stays the same
+abbrev pub KeepsOtherRoutes : {S : Type 0} → List RouteId → IndexMap RouteId RoutePlace S → IndexMap RouteId RoutePlace S → Type 0
+KeepsOtherRoutes routes before after =
+    (r : RouteId) → All (λ (q : RouteId). q ≢ r) routes → get route_eq after r ≡ get route_eq before r
+
+-- each route of each sender is found at its place; the routes of a sender lead to its inbox's component, and no two
+-- senders to the same; those that lead back are listed, and no others
+pub record AreSendersFiled {S : Type 0} (senders : List Sending) (places : IndexMap RouteId RoutePlace S)
     (loops : List ℕ) : Type 0 where
-  pub found : (k : ℕ) (s : Sending) → slice_get senders k ≡ Some s → get route_eq places s.route ≡ Some k
+  pub found : (k : ℕ) (s : Sending) → slice_get senders k ≡ Some s → AreFiledAt (length s.routes) s.routes k places
+  pub aimed : All IsAimed senders
+  pub apart : (j k : ℕ) (s t : Sending) → slice_get senders j ≡ Some s → slice_get senders k ≡ Some t
+      → s.inbox.comp ≡ t.inbox.comp → j ≡ k
   pub within : All (λ k. k < length senders) loops
   pub back : All (λ k. (s : Sending) → slice_get senders k ≡ Some s → LeadsBack s) loops
   pub listed : (k : ℕ) (s : Sending) → slice_get senders k ≡ Some s → LeadsBack s → Contains loops k

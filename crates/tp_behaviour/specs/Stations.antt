@@ -10,8 +10,8 @@ use Rattle.tp_play.specs.declared.body.VariableType.{VariableType}
 use Rattle.tp_play.specs.declared.body.VariableType.TheVariants as variable_type
 use Rattle.tp_inbox.specs.declared.entry.Entry.{Entry}
 use Rattle.tp_inbox.specs.declared.entry.Entry.TheVariants as entry
-use Rattle.tp_inbox.specs.History.{arrivals, numbered, sent_on}
-use Rattle.tp_inbox.specs.Ledgers.{Inbox, IsDeskOf, Sending}
+use Rattle.tp_inbox.specs.History.{arrivals, sent_to}
+use Rattle.tp_inbox.specs.Ledgers.{Inbox, IsDeskOf, Sending, end_of}
 use Rattle.tp_behaviour.specs.declared.held.Held.{Held}
 use Rattle.tp_behaviour.specs.declared.held.Held.TheVariants as held
 use Rattle.tp_behaviour.specs.declared.post.Post.{Post}
@@ -19,7 +19,7 @@ use Rattle.tp_behaviour.specs.declared.station.Station.{Station}
 use Rattle.tp_behaviour.specs.declared.station.State.{State}
 use Rattle.tp_behaviour.specs.Fresh.{Fresh}
 use Rattle.tp_behaviour.specs.Held.{Actor, Values}
-use Rattle.tp_behaviour.specs.Outboxes.{IsHome, routes_of}
+use Rattle.tp_behaviour.specs.Outboxes.{IsAimed, routes_of}
 use Rattle.tp_behaviour.specs.Paths.{own_port}
 
 -- who the behaviour is
@@ -51,9 +51,13 @@ IsPlain (entry.Arrive port e stamp) = ⊥
 IsPlain (entry.Sent x number m) = ⊥
 IsPlain _ = ⊤
 
--- the sender has put what the history says was sent on its route
+-- the sender has put what the history says was sent to the component of its inbox, over all routes, in this order
 abbrev pub IsNoted : List Entry → Sending → Type 0
-IsNoted k s = sent_on s.route k ≡ numbered 0 s.ledger
+IsNoted k s = sent_to s.inbox.comp k ≡ s.ledger
+
+-- the sender is this component's, and its routes lead to the component of its inbox
+abbrev pub IsSenderOf : CompId → Sending → Type 0
+IsSenderOf c s = (s.source ≡ c) × IsAimed s
 
 -- the parts of a station say the same of what has happened, and each operation on ports so far was a fresh one
 pub record IsManned (r : Actor) (s : Station) : Type 0 where
@@ -61,16 +65,11 @@ pub record IsManned (r : Actor) (s : Station) : Type 0 where
   pub desk : IsDeskOf s.owner.inbox s.desk
   pub arrived : arrivals s.desk.log ≡ s.owner.drained
   pub noted : All (IsNoted s.desk.log) s.outbox
-  -- what it sends to itself goes to its inbox's component
-  pub home : All (IsHome s.owner.inbox) s.outbox
+  pub theirs : All (IsSenderOf r.comp) s.outbox
   pub sent : All (IsSentBy (routes_of s.outbox)) s.desk.log
   pub fresh : Fresh r.comp s.desk.log
 
--- which inbox a sender puts into, and on which route
-abbrev pub end_of : Sending → Inbox × RouteId
-end_of s = (s.inbox, s.route)
-
--- its inbox is the same, and its senders put into the same inboxes, on the same routes
+-- its inbox is the same, and its senders put into the same inboxes, for the same component and on the same routes
 pub record IsSame (before after : Station) : Type 0 where
   pub inbox : after.owner.inbox ≡ before.owner.inbox
   pub ends : map end_of after.outbox ≡ map end_of before.outbox

@@ -1,10 +1,10 @@
 //! A component's senders.
-ghost use Rattle.std.specs.Prelude.{◌≡◌, ◌≢◌, ◌↔◌, ◌<◌, [], ◌∷◌, ◌++◌, ℕ, All, Contains, IfErr, IsTrue, OnErr, OnOk, Some, slice_get, vec_capacity, vec_len};
+ghost use Rattle.std.specs.Prelude.{◌≡◌, ◌≢◌, ◌↔◌, ◌<◌, [], ◌∷◌, ◌++◌, ℕ, All, Contains, IfErr, IsTrue, OnErr, OnOk, Some, length, slice_get, vec_capacity, vec_len};
 ghost use Rattle.tp_inbox.specs.declared.entry.Entry.TheVariants as entry;
 ghost use Rattle.tp_inbox.specs.History.{next_of};
 ghost use Rattle.tp_inbox.specs.Desks.{adding};
 ghost use Rattle.tp_inbox.specs.Ledgers.{Sending};
-ghost use Rattle.tp_behaviour.specs.Outboxes.{HasPut, IsRouteFull, IsHome, IsLevel, IsListed, LeadsBack, routes_of};
+ghost use Rattle.tp_behaviour.specs.Outboxes.{AreFiledAt, HasPut, IsAimed, IsRouteFull, IsHome, IsLevel, IsListed, KeepsOtherRoutes, LeadsBack, routes_of};
 
 use indexmap::IndexMap;
 use std::alloc::Global;
@@ -17,13 +17,22 @@ use tp_inbox::sender::{PutFault, Sender};
 use tp_refusal::memory::Memory;
 use tp_value::message::Message;
 
-/// The senders of a component, at most one for each route, seen by contracts as their list.
+/// Where a route begins: with which of a component's senders, and which of the sender's routes it is.
+#[derive(Clone, Copy, Drop)]
+pub(crate) struct RoutePlace {
+    /// The place of the sender.
+    sender: usize,
+    /// The place of the route among the sender's.
+    way: usize,
+}
+
+/// The senders of a component, at most one into each inbox, seen by contracts as their list.
 #[derive(Drop)]
 pub struct Outbox {
     senders: Vec<Sender>,
-    /// The place of each route's sender.
-    places: IndexMap<RouteId, usize>,
-    /// The places of the senders on routes from the component to itself.
+    /// Where each route begins.
+    places: IndexMap<RouteId, RoutePlace>,
+    /// The places of the senders from the component to itself: there is one at most.
     loops: Vec<usize>,
 }
 
@@ -43,23 +52,48 @@ impl Model for Outbox {
     ghost invariant = { λ o. AreSendersFiled o.senders.items o.places o.loops.items };
 }
 
-/// Whether this owner has drained as much of the sender's route, which leads to its component, as
-/// the sender has put. Takes no memory.
+/// Whether this owner has drained as much of each of the sender's routes, which lead to its
+/// component, as the sender has put there. Takes no memory.
 fn has_come(owner: &Owner, sender: &Sender) -> bool
-    requires { sender.now.route.to.comp ≡ owner.now.inbox.comp }
-    ensures { IsTrue result ↔ IsLevel owner.now.drained sender.now }
+    requires { sender.now.inbox.comp ≡ owner.now.inbox.comp }
+    ensures { IsTrue result → IsLevel owner.now.drained sender.now }
 {
-    owner.drained(sender.route()) == sender.count()
+    for way in 0..sender.ways() {
+        if owner.drained(sender.route(way)) != sender.count(way) {
+            return false;
+        }
+    }
+    true
 }
 
-/// Lists the place of a sender on this route, where it leads back to its component.
-fn list(loops: &mut Vec<usize>, route: RouteId, place: usize)
+/// Lists the place of a sender, where it leads back to its component.
+fn list(loops: &mut Vec<usize>, sender: &Sender, place: usize)
     requires { vec_len loops.old < vec_capacity loops.old }
-    ensures { IsListed route place loops.old.items loops.new.items }
+    ensures { IsListed sender.now place loops.old.items loops.new.items }
 {
-    if route.to.comp.0 == route.source.0 {
+    if sender.receiver().0 == sender.source().0 {
         loops.push_reserved(place);
     }
+}
+
+/// Files each route of a sender, with this place of the sender.
+///
+/// 50 `Memory` where an allocation was refused: some of them may be filed then.
+fn file(
+    places: &mut IndexMap<RouteId, RoutePlace>,
+    sender: &Sender,
+    place: usize,
+) -> Result<(), Memory>
+    ensures filed { OnOk result
+        (AreFiledAt (length sender.now.routes) sender.now.routes place places.new) }
+    ensures others { KeepsOtherRoutes sender.now.routes places.old places.new }
+    ensures aimed { IsAimed sender.now }
+{
+    for way in 0..sender.ways() {
+        let here = RoutePlace { sender: place, way };
+        places.insert(sender.route(way), here)?;
+    }
+    Ok(())
 }
 
 impl Outbox {
@@ -74,20 +108,19 @@ impl Outbox {
         }
     }
 
-    /// Adds a sender on a route on which there is none yet, behind the others.
+    /// Adds a sender into an inbox into which there is none yet, behind the others.
     ///
     /// 50 `Memory` where an allocation was refused: there is no sender more.
     pub fn add(&mut self, sender: Sender) -> Result<(), Memory>
-        requires { All (λ s. s.route ≢ sender.route) self.old }
+        requires { All (λ s. s.inbox.comp ≢ sender.inbox.comp) self.old }
         ensures ok { OnOk result (self.new ≡ self.old ++ sender ∷ []) }
         ensures err { OnErr result (self.new ≡ self.old) }
     {
-        let route = sender.route();
         let place = self.senders.len();
         self.senders.reserve(1)?;
         self.loops.reserve(1)?;
-        self.places.insert(route, place)?;
-        list(&mut self.loops, route, place);
+        file(&mut self.places, &sender, place)?;
+        list(&mut self.loops, &sender, place);
         self.senders.push_reserved(sender);
         Ok(())
     }
@@ -121,19 +154,20 @@ impl Outbox {
         true
     }
 
-    /// The place of the sender on this route.
-    fn sender_place(&self, route: RouteId) -> usize
+    /// Where this route begins.
+    fn route_place(&self, route: RouteId) -> RoutePlace
         requires { Contains (routes_of self.now) route }
-        ensures { (s : Sending) × (slice_get self.now result ≡ Some s) × (s.route ≡ route) }
+        ensures { (s : Sending) × (slice_get self.now result.sender ≡ Some s)
+            × (slice_get s.routes result.way ≡ Some route) }
     {
         match self.places.get(&route) {
             Some(place) => *place,
-            // Each sender is filed under its route, and there is one on this.
+            // Each route of each sender is filed, and this is one of them.
             None => unreachable!(),
         }
     }
 
-    /// Sends a message on this route, of which there is a sender: [`Desk::send`], by that sender.
+    /// Sends a message on this route, which one of the senders has: [`Desk::send`], by that sender.
     ///
     /// 15 `Limit` only where the route has taken all that it takes; else 50 `Memory` where an
     /// allocation was refused, or where no stamp is left. Nothing is put or noted then.
@@ -153,7 +187,7 @@ impl Outbox {
         ensures limit { IfErr result (λ fault.
             fault ≡ PutFault.Limit → IsRouteFull route self.old) }
     {
-        let place = self.sender_place(route);
-        desk.send(rt, &mut self.senders[place], message)
+        let place = self.route_place(route);
+        desk.send(rt, &mut self.senders[place.sender], place.way, message)
     }
 }

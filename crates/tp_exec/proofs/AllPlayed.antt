@@ -9,17 +9,16 @@ use Rattle.std.proofs.lemmas.List.Folds.{flat_map-map}
 use Rattle.std.proofs.lemmas.Option.{get_or_from_slice_get, none-some, same_Some, slice_get-get_or, slice_get-map, slice_get_within}
 use Rattle.std.proofs.lemmas.Simd.{map-map}
 use Rattle.tp_config.specs.declared.port_type.CompId.{CompId}
-use Rattle.tp_config.specs.declared.port_type.RouteId.{RouteId}
 use Rattle.tp_config.specs.Setup.{Setup}
 use Rattle.tp_play.specs.TestCases.{Made}
 use Rattle.tp_inbox.specs.Ledgers.{Inbox}
 use Rattle.tp_behaviour.specs.declared.station.Station.{Station}
 use Rattle.tp_exec.specs.declared.played.Played.{Played}
 use Rattle.tp_exec.specs.Returns.{HasReturned, IsWaiting, badge_of, badges_of, station_number}
-use Rattle.tp_exec.specs.Rounds.{ArePlayed, AreStations, HasNotBegun, HasPlayed, IsStaffed, all_ways, comes_from, stations_of, ways_in}
+use Rattle.tp_exec.specs.Rounds.{ArePlayed, AreStations, HasNotBegun, HasPlayed, IsStaffed, Way, all_ways, comes_from, stations_of, ways_in}
 
 abbrev Badge : Type 0
-Badge = Inbox × List (Inbox × RouteId)
+Badge = Inbox × List Way
 
 -- of what an element comes
 picked : {X Y : Type 0} (f : X → Y) (o : Option X) (y : Y) → option_map f o ≡ Some y → (x : X) × (o ≡ Some x) × (f x ≡ y)
@@ -48,7 +47,7 @@ all_waiting made stations are begun = λ k d low.
 -- the ways of a run are those of its badges
 same_ways : (xs ys : List Station) → map badge_of xs ≡ map badge_of ys → all_ways xs ≡ all_ways ys
 same_ways xs ys same =
-    let h : Badge → List (Inbox × RouteId) = λ b. ways_in b.0 in
+    let h : Badge → List Way = λ b. ways_in b.0 in
     sym (flat_map-map h badge_of xs) ∙ ap (flat_map h) same ∙ flat_map-map h badge_of ys
 
 module _ (made : Made) (stations : List Station) (played : List Played) (are : AreStations made.config stations)

@@ -1,92 +1,133 @@
 -- All senders of one inbox have come back.
-use Rattle.std.proofs.Common.{◌≡◌, ◌≢◌, ◌⊎◌, inl, inr, ℕ, suc, ◌<◌, true, false, cond, List, [], ◌∷◌, ◌++◌, length, map, refl, sym, ap, ◌∙◌, subst, All, AllPairs, arith}
-use Rattle.std.specs.Prelude.{slice_index_or}
+use Rattle.std.proofs.Common.{◌≡◌, ◌≢◌, ℕ, zero, suc, ◌+◌, List, [], ◌∷◌, ◌++◌, Contains, get_or, length, map, refl, sym, ap, ◌∙◌, subst, All, AllPairs, arith}
 use Rattle.std.specs.List.{AllZip}
-use Rattle.std.proofs.lemmas.Bool.{cases_Bool}
-use Rattle.std.proofs.lemmas.List.{get_or-map, length-map}
-use Rattle.std.proofs.lemmas.List.Elements.{All-nil, All-cons, All-head, All-tail, All-append}
+use Rattle.std.proofs.lemmas.List.Elements.{All-nil, All-cons, All-append, All-contains, Contains-get_or}
 use Rattle.tp_queue.specs.declared.event.Env.{Env}
 use Rattle.tp_value.specs.declared.message.Message.{Message}
+use Rattle.tp_config.specs.declared.port_type.CompId.{CompId}
 use Rattle.tp_config.specs.declared.port_type.RouteId.{RouteId}
+use Rattle.tp_config.proofs.RouteLaws.{map_cases, map_contains}
 use Rattle.tp_inbox.specs.declared.entry.Entry.{Entry}
 use Rattle.tp_inbox.specs.declared.entry.Entry.TheVariants as entry
+use Rattle.tp_inbox.specs.declared.posted.Posted.{Posted}
 use Rattle.tp_inbox.specs.declared.stamped.Stamped.{Stamped}
-use Rattle.tp_inbox.specs.History.{arrivals, arrived_on, count_of, numbered, same_route, sent_on}
-use Rattle.tp_inbox.specs.Routed.{AreDelivered, IsArrivalOn, rest_arrivals}
-use Rattle.tp_inbox.specs.Ledgers.{Inbox, Sending, put_by}
+use Rattle.tp_inbox.specs.History.{arrivals, arrived_from, arrived_on, numbered, posted_on, sent_to}
+use Rattle.tp_inbox.specs.Routed.{AreDelivered, AreNumbered, IsArrivalOn, rest_arrivals, routes_by, sources_of}
+use Rattle.tp_inbox.specs.Ledgers.{AreSenders, Inbox, IsSenderInto, Sending, put_by}
 use Rattle.tp_inbox.proofs.Arrivals.{arrivals-append}
+use Rattle.tp_inbox.proofs.Ways.{came_by_routes, sent_by_routes}
 use Rattle.tp_behaviour.specs.Outboxes.{routes_of}
-use Rattle.tp_behaviour.proofs.Outboxes.{route_itself, route_same}
 use Rattle.tp_exec.specs.declared.ended.Ended.{Ended}
-use Rattle.tp_exec.specs.Held.{HasCome, IsHandedBack, counts_of, ways_on}
+use Rattle.tp_exec.specs.Held.{HasAll, HasCome, HasComeFrom, IsCounted, IsHandedBack, ShareNone, ways_by}
+use Rattle.tp_exec.specs.Rounds.{Way, way_by, ways_in}
+use Rattle.tp_exec.proofs.Pairs.{flat_there, mapped_pairs}
+use Rattle.tp_exec.proofs.Senders.{among_by, by_among, source_there, sources_apart}
 
--- they are those of the inbox, in its order
-pub back_senders : (logs : ℕ → List Entry) (i : Inbox) (routes : List RouteId) (ss : List Sending) → AllZip (IsHandedBack logs) (ways_on i routes) ss
-    → All (λ (s : Sending). s.inbox ≡ i) ss × (map (λ (s : Sending). s.route) ss ≡ routes)
-back_senders logs i [] [] z = (All-nil (λ (s : Sending). s.inbox ≡ i), refl)
+-- they are those of these components into the inbox
+back_senders : (logs : ℕ → List Entry) (i : Inbox) (cs : List CompId) (ss : List Sending) → AllZip (IsHandedBack logs) (ways_by i cs) ss
+    → All (IsSenderInto i) ss × (map (λ (s : Sending). s.source) ss ≡ cs)
+back_senders logs i [] [] z = (All-nil (IsSenderInto i), refl)
 back_senders logs i [] (s ∷ ss) z = absurd z
-back_senders logs i (r ∷ routes) [] z = absurd z
-back_senders logs i (r ∷ routes) (s ∷ ss) z =
-    let more = back_senders logs i routes ss z.1 in
-    (All-cons (λ (s : Sending). s.inbox ≡ i) s ss z.0.0 more.0, λ k. z.0.1 k ∷ more.1 k)
+back_senders logs i (c ∷ cs) [] z = absurd z
+back_senders logs i (c ∷ cs) (s ∷ ss) z =
+    let more = back_senders logs i cs ss z.1 in
+    let from : s.source ≡ c = ap (λ (w : Way). w.1) z.0.0 in
+    let into : IsSenderInto i s =
+    (ap (λ (w : Way). w.0) z.0.0, ap (λ (w : Way). w.2) z.0.0 ∙ ap (λ (d : CompId). routes_by d i.routes) (sym from)) in
+    (All-cons (IsSenderInto i) s ss into more.0, λ k. from k ∷ more.1 k)
 
--- these count what a sender has put on its route
-abbrev IsCounted : List (RouteId × ℕ) → Sending → Type 0
-IsCounted counts s = count_of s.route counts ≡ length s.ledger
+-- those of the inbox, in its order
+pub are_senders : (logs : ℕ → List Entry) (i : Inbox) (ss : List Sending) → AllZip (IsHandedBack logs) (ways_in i) ss → AreSenders i ss
+are_senders logs i ss z = back_senders logs i (sources_of i.routes) ss z
 
-counted_first : (r : RouteId) (n : ℕ) (counts : List (RouteId × ℕ)) → count_of r ((r, n) ∷ counts) ≡ n
-counted_first r n counts = ap (λ b. cond b n (count_of r counts)) (route_itself r)
+-- among them is that of each of these components
+back_from : (logs : ℕ → List Entry) (i : Inbox) (cs : List CompId) (ss : List Sending) → AllZip (IsHandedBack logs) (ways_by i cs) ss → (c : CompId)
+    → Contains cs c → (s : Sending) × Contains ss s × IsHandedBack logs (way_by i c) s
+back_from logs i [] ss z c h = absurd (omega (arith, h.1))
+back_from logs i (d ∷ cs) [] z c h = absurd z
+back_from logs i (d ∷ cs) (s ∷ ss) z c (zero, low, is) =
+    (s, (0, omega arith, refl), subst (λ (e : CompId). IsHandedBack logs (way_by i e) s) is z.0)
+back_from logs i (d ∷ cs) (s ∷ ss) z c (suc k, low, is) =
+    let w = back_from logs i cs ss z.1 c (k, omega arith, is) in
+    let there = w.1.1 in
+    (w.0, (suc w.1.0, omega arith, w.1.2), w.2)
 
-counted_later : (r q : RouteId) (n : ℕ) (counts : List (RouteId × ℕ)) → q ≢ r → count_of r ((q, n) ∷ counts) ≡ count_of r counts
-counted_later r q n counts apart = by (cases_Bool (same_route r q)) where
-  by : (same_route r q ≡ true) ⊎ (same_route r q ≡ false) → count_of r ((q, n) ∷ counts) ≡ count_of r counts
-  by (inl same) = absurd (apart (sym (route_same r q same)))
-  by (inr other) = ap (λ b. cond b n (count_of r counts)) other
+-- they have all routes of the inbox
+pub have_all : (i : Inbox) (ss : List Sending) → AreSenders i ss → All (Contains (routes_of ss)) i.routes
+have_all i ss are = λ k d low.
+    let r : RouteId = get_or i.routes k d in
+    let here : Contains i.routes r = Contains-get_or i.routes k d low in
+    let c : Contains (map (λ (s : Sending). s.source) ss) r.source =
+    subst (λ cs. Contains cs r.source) (sym are.1) (source_there i.routes r here) in
+    let s = map_cases (λ (s : Sending). s.source) ss r.source c in
+    let into = All-contains (IsSenderInto i) ss s.0 are.0 s.1 in
+    flat_there (λ (t : Sending). t.routes) ss s.0 r s.1
+    (subst (λ rs. Contains rs r) (sym into.1) (among_by s.0.source i.routes r here (sym s.2)))
 
--- the counts of senders of different routes count what each has put
-counted : (ss : List Sending) → AllPairs (λ (r q : RouteId). r ≢ q) (routes_of ss) → All (IsCounted (counts_of (map put_by ss))) ss
-counted [] apart = All-nil (IsCounted [])
-counted (s ∷ ss) apart =
-    let more = counted ss (λ i j d below low. apart (suc i) (suc j) d (omega (arith, below)) (omega (arith, low))) in
-    All-cons (IsCounted (counts_of (map put_by (s ∷ ss)))) s ss (counted_first s.route (length s.ledger) (counts_of (map put_by ss)))
-    (λ k d low. let x = slice_index_or ss k d in counted_later x.route s.route (length s.ledger) (counts_of (map put_by ss)) (differs k d low) ∙ more k d low)
+-- and no two of them have one route
+pub share_none : (i : Inbox) (ss : List Sending) → AreSenders i ss → AllPairs ShareNone ss
+share_none i ss are = λ a b d below within k p low j q few same.
+    let s : Sending = get_or ss a d in
+    let t : Sending = get_or ss b d in
+    let apart : s.source ≢ t.source =
+    mapped_pairs (λ (c e : CompId). c ≢ e) (λ (x : Sending). x.source) ss
+    (subst (AllPairs (λ (c e : CompId). c ≢ e)) (sym are.1) (sources_apart i.routes)) a b d below within in
+    let one = from_own s (are.0 a d (omega (arith, below, within))) (get_or s.routes k p) (Contains-get_or s.routes k p low) in
+    let other = from_own t (are.0 b d within) (get_or t.routes j q) (Contains-get_or t.routes j q few) in
+    apart (sym one ∙ ap (λ (r : RouteId). r.source) (sym same) ∙ other)
   where
-    differs : (k : ℕ) (d : Sending) → k < length ss → s.route ≢ (slice_index_or ss k d).route
-    differs k d low same =
-        let long : length (routes_of ss) ≡ length ss = length-map ss (λ (x : Sending). x.route) in
-        apart 0 (suc k) s.route (omega arith) (omega (arith, low, long)) (same ∙ sym (get_or-map (λ (x : Sending). x.route) ss k d s.route low))
+    from_own : (s : Sending) → IsSenderInto i s → (r : RouteId) → Contains s.routes r → r.source ≡ s.source
+    from_own s into r has = (by_among s.source i.routes r (subst (λ rs. Contains rs r) into.1 has)).1
 
--- what was put on this route is what has come on it
-abbrev Came : List Entry → RouteId × List Stamped → Type 0
-Came log v = arrived_on v.0 log ≡ numbered 0 v.1
+pub length-numbered : (n : ℕ) (ms : List Stamped) → length (numbered n ms) ≡ length ms
+length-numbered n [] = refl
+length-numbered n (m ∷ ms) = ap suc (length-numbered (n + 1) ms)
 
--- what has come from them is what their components have noted as sent, and is counted
-come_on : (logs : ℕ → List Entry) (i : Inbox) (e : Ended) (routes : List RouteId) (ss : List Sending) → AllZip (IsHandedBack logs) (ways_on i routes) ss
-    → AreDelivered e.desk.log (map put_by ss)
-    → All (IsCounted e.counts.items) ss → All (HasCome logs e) routes
-come_on logs i e [] ss z came counts = All-nil (HasCome logs e)
-come_on logs i e (r ∷ routes) [] z came counts = absurd z
-come_on logs i e (r ∷ routes) (s ∷ ss) z came counts =
-    All-cons (HasCome logs e) r routes record {
-      ledger = s.ledger;
-      sent = subst (λ q. sent_on q (logs r.source.0) ≡ numbered 0 s.ledger) z.0.1 z.0.2;
-      arrived = subst (λ q. arrived_on q e.desk.log ≡ numbered 0 s.ledger) z.0.1 (All-head (Came e.desk.log) (put_by s) (map put_by ss) came);
-      counted = subst (λ q. count_of q e.counts.items ≡ length s.ledger) z.0.1 (All-head (IsCounted e.counts.items) s ss counts);
-    } (come_on logs i e routes ss z.1 (All-tail (Came e.desk.log) (put_by s) (map put_by ss) came) (All-tail (IsCounted e.counts.items) s ss counts))
+-- what a component has put is what came from it
+abbrev Came : CompId → List Entry → CompId × List Posted → Type 0
+Came comp log v = arrived_from comp v.0 log ≡ v.1
 
--- all that was sent to the component has come
-pub has_come : (logs : ℕ → List Entry) (i : Inbox) (e : Ended) (ss : List Sending) → AllZip (IsHandedBack logs) (ways_on i i.routes) ss
-    → AllPairs (λ (r q : RouteId). r ≢ q) i.routes
-    → AreDelivered e.desk.log (map put_by ss) → e.counts.items ≡ counts_of (map put_by ss) → All (HasCome logs e) i.routes
-has_come logs i e ss z apart came counts =
-    come_on logs i e i.routes ss z came
-    (subst (λ cs. All (IsCounted cs) ss) (sym counts)
-    (counted ss (subst (AllPairs (λ (r q : RouteId). r ≢ q)) (sym (back_senders logs i i.routes ss z).1) apart)))
+module _ (logs : ℕ → List Entry) (i : Inbox) (e : Ended) (ss : List Sending) (z : AllZip (IsHandedBack logs) (ways_in i) ss)
+    (came : AreDelivered i.comp e.desk.log (map put_by ss)) (order : AreNumbered i.routes e.desk.log)
+    (here : All (λ (r : RouteId). r.to.comp ≡ i.comp) i.routes)
+    (counts : (s : Sending) (r : RouteId) → Contains ss s → Contains s.routes r → Contains i.routes r → IsCounted e.counts.items s r) where
+  -- what a component's history says was sent there is what its sender has put
+  put_as : (c : CompId) (s : Sending) → IsHandedBack logs (way_by i c) s → sent_to i.comp (logs c.0) ≡ s.ledger
+  put_as c s back = ap (λ (j : Inbox). sent_to j.comp (logs c.0)) (sym (ap (λ (w : Way). w.0) back.0)) ∙ back.1
 
--- the counts stand beside the inbox's routes
-pub counted_routes : (ss : List Sending) → map (λ (c : RouteId × ℕ). c.0) (counts_of (map put_by ss)) ≡ map (λ (s : Sending). s.route) ss
-counted_routes [] = refl
-counted_routes (s ∷ ss) = ap (λ l. s.route ∷ l) (counted_routes ss)
+  -- and this is what came
+  came_as : (c : CompId) (s : Sending) → Contains ss s → IsHandedBack logs (way_by i c) s → arrived_from i.comp c e.desk.log ≡ s.ledger
+  came_as c s there back =
+      ap (λ (d : CompId). arrived_from i.comp d e.desk.log) (sym (ap (λ (w : Way). w.1) back.0))
+      ∙ All-contains (Came i.comp e.desk.log) (map put_by ss) (put_by s) came (map_contains put_by ss s there)
+
+  come_on : (r : RouteId) → Contains i.routes r → HasCome logs e r
+  come_on r known =
+      let w = back_from logs i (sources_of i.routes) ss z r.source (source_there i.routes r known) in
+      let s : Sending = w.0 in
+      let to : r.to.comp ≡ i.comp = All-contains (λ (q : RouteId). q.to.comp ≡ i.comp) i.routes r here known in
+      let has : Contains s.routes r = subst (λ (v : Way). Contains v.2 r) (sym w.2.0) (among_by r.source i.routes r known refl) in
+      let put : arrived_on r e.desk.log ≡ posted_on r s.ledger =
+      came_by_routes i.comp r.source e.desk.log s.ledger (came_as r.source s w.1 w.2) r refl to in
+      let ordered = All-contains (λ (q : RouteId). (ms : List Stamped) × (arrived_on q e.desk.log ≡ numbered 0 ms)) i.routes r order known in
+      record {
+        ledger = ordered.0;
+        sent = sym (sent_by_routes i.comp r to (logs r.source.0)) ∙ ap (posted_on r) (put_as r.source s w.2) ∙ sym put ∙ ordered.1;
+        arrived = ordered.1;
+        counted = counts s r w.1 has known ∙ ap length (sym put ∙ ordered.1) ∙ length-numbered 0 ordered.0;
+      }
+
+  come_from : (c : CompId) → Contains (sources_of i.routes) c → HasComeFrom logs i e c
+  come_from c known =
+      let w = back_from logs i (sources_of i.routes) ss z c known in
+      put_as c w.0 w.2 ∙ sym (came_as c w.0 w.1 w.2)
+
+  -- all that was sent to the component has come
+  pub has_all : HasAll logs i e
+  has_all = record {
+    routes = λ k d low. come_on (get_or i.routes k d) (Contains-get_or i.routes k d low);
+    sources = λ k d low. come_from (get_or (sources_of i.routes) k d) (Contains-get_or (sources_of i.routes) k d low);
+  }
 
 arrivals_rest : (rest : List (ℕ × Env Message × ℕ)) → arrivals (rest_arrivals rest) ≡ rest_arrivals rest
 unfolding arrivals

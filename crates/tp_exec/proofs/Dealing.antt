@@ -1,19 +1,18 @@
 -- How the senders come to the stations of those who send by them.
-use Rattle.std.proofs.Common.{◌≡◌, ◌≢◌, ◌⊎◌, inl, inr, ℕ, zero, suc, ◌<◌, Bool, cond, eq-eqb, ne_eqb, Some, List, [], ◌∷◌, ◌++◌, length, slice_get, map, refl, sym, ap, ◌∙◌, subst, append_assoc, arith}
+use Rattle.std.proofs.Common.{◌≡◌, ◌≢◌, ◌⊎◌, inl, inr, ℕ, zero, suc, ◌<◌, Bool, true, cond, eq-eqb, ne_eqb, Some, List, [], ◌∷◌, ◌++◌, get_or, length, slice_get, map, refl, sym, ap, ◌∙◌, subst, append_assoc, arith}
 use Rattle.std.specs.Prelude.{All, AllPairs, filter, slice_set}
 use Rattle.std.specs.Global.{Global}
 use Rattle.std.specs.declared.vec.IntoIter.{IntoIter}
 use Rattle.std.specs.Vec.Iter.{into_iter_items, into_iter_len}
 use Rattle.std.proofs.lemmas.List.{append-nil, length-map}
-use Rattle.std.proofs.lemmas.List.Elements.{All-head, All-tail}
+use Rattle.std.proofs.lemmas.Bool.{eqb-true}
+use Rattle.std.proofs.lemmas.List.Elements.{All-head, All-tail, filter_passes}
 use Rattle.std.proofs.lemmas.List.Kept.{AllPairs-filter}
 use Rattle.std.proofs.lemmas.Option.{same_Some}
-use Rattle.tp_config.specs.Routes.{AreDistinct}
 use Rattle.tp_inbox.specs.Ledgers.{Sending}
 use Rattle.tp_behaviour.specs.declared.station.Station.{Station}
-use Rattle.tp_behaviour.specs.Outboxes.{routes_of}
-use Rattle.tp_exec.specs.Openings.{AreHandedOut, HasGiven, IsBare, IsFirstThere, IsFromOneOf, giving, is_of, rest_of}
-use Rattle.tp_exec.proofs.Pairs.{mapped_pairs, pairs_before}
+use Rattle.tp_exec.specs.Openings.{AreApart, AreHandedOut, AreTwo, HasGiven, IsBare, IsFirstThere, IsFromOneOf, giving, is_of, rest_of}
+use Rattle.tp_exec.proofs.Pairs.{all_before, pairs_before}
 
 -- of all the senders, those before the rest have been handed out
 pub record AreDealt (before : List Station) (all rest : List Sending) (now : List Station) : Type 0 where
@@ -25,12 +24,12 @@ pub record AreDealt (before : List Station) (all rest : List Sending) (now : Lis
 pub as_many : (before now : List Station) → map rest_of now ≡ map rest_of before → length now ≡ length before
 as_many before now same = sym (length-map now rest_of) ∙ ap length same ∙ length-map before rest_of
 
-from_here : (y : Sending) (more : List Sending) → filter (is_of y.route.source.0) (y ∷ more) ≡ y ∷ filter (is_of y.route.source.0) more
-from_here y more = ap (λ (b : Bool). cond b (y ∷ filter (is_of y.route.source.0) more) (filter (is_of y.route.source.0) more))
-    (eq-eqb y.route.source.0 y.route.source.0 refl)
+from_here : (y : Sending) (more : List Sending) → filter (is_of y.source.0) (y ∷ more) ≡ y ∷ filter (is_of y.source.0) more
+from_here y more = ap (λ (b : Bool). cond b (y ∷ filter (is_of y.source.0) more) (filter (is_of y.source.0) more))
+    (eq-eqb y.source.0 y.source.0 refl)
 
-from_else : (k : ℕ) (y : Sending) (more : List Sending) → y.route.source.0 ≢ k → filter (is_of k) (y ∷ more) ≡ filter (is_of k) more
-from_else k y more n = ap (λ (b : Bool). cond b (y ∷ filter (is_of k) more) (filter (is_of k) more)) (ne_eqb y.route.source.0 k n)
+from_else : (k : ℕ) (y : Sending) (more : List Sending) → y.source.0 ≢ k → filter (is_of k) (y ∷ more) ≡ filter (is_of k) more
+from_else k y more n = ap (λ (b : Bool). cond b (y ∷ filter (is_of k) more) (filter (is_of k) more)) (ne_eqb y.source.0 k n)
 
 -- what stands at a place of the list was there before, or was put there
 set_cases : {X : Type 0} (xs : List X) (j k : ℕ) (v y : X) → slice_get (slice_set xs j v) k ≡ Some y → ((k ≡ j) × (v ≡ y))
@@ -79,33 +78,36 @@ dealt_last before all now h = record { same = h.same; senders = λ k x stands. s
 -- one more
 module _ (before : List Station) (all rest : List Sending) (y : Sending) (now : List Station) (h : AreDealt before all (y ∷ rest) now) where
   pub dealt_within : IsFromOneOf now y
-  dealt_within = subst (λ n. y.route.source.0 < n) (sym (as_many before now h.same)) (All-head (IsFromOneOf before) y rest h.within)
+  dealt_within = subst (λ n. y.source.0 < n) (sym (as_many before now h.same)) (All-head (IsFromOneOf before) y rest h.within)
 
-  -- none of the senders that are there is on the route of the next one
-  pub dealt_apart : AreDistinct (routes_of all) → IsFirstThere now y
+  -- none of the senders that are there puts into the inbox of the next one
+  pub dealt_apart : AreApart all → IsFirstThere now y
   dealt_apart apart x stands =
-      let R : Sending → Sending → Type 0 = λ z w. z.route ≢ w.route in
-      let k = y.route.source.0 in
+      let k = y.source.0 in
+      let ours : Sending → Type 0 = λ z. is_of k z ≡ true in
       let is : x.outbox ++ y ∷ filter (is_of k) rest ≡ filter (is_of k) all = ap (λ l. x.outbox ++ l) (sym (from_here y rest)) ∙ h.dealt k x stands in
-      pairs_before R x.outbox (filter (is_of k) rest) y
-      (subst (AllPairs R) (sym is) (AllPairs-filter R (is_of k) all (mapped_pairs (λ r q. r ≢ q) (λ (z : Sending). z.route) all apart)))
+      let two : All (λ (z : Sending). AreTwo z y) x.outbox =
+      pairs_before AreTwo x.outbox (filter (is_of k) rest) y (subst (AllPairs AreTwo) (sym is) (AllPairs-filter AreTwo (is_of k) all apart)) in
+      let here : All ours x.outbox =
+      all_before ours x.outbox (y ∷ filter (is_of k) rest) (subst (All ours) (sym is) (filter_passes (is_of k) all)) in
+      λ j d low. two j d low (λ i. record { 0 = eqb-true (get_or x.outbox j d).source.0 k (here j d low) i })
 
   pub dealt_next : (after : List Station) → HasGiven y now after → AreDealt before all rest after
   dealt_next after given = record {
-    same = ap (map rest_of) given.2 ∙ kept now y.route.source.0 given.0 y given.1 ∙ h.same;
-    dealt = λ k z stands. by k z (set_cases now y.route.source.0 k (giving given.0 y) z (subst (λ l. slice_get l k ≡ Some z) given.2 stands));
+    same = ap (map rest_of) given.2 ∙ kept now y.source.0 given.0 y given.1 ∙ h.same;
+    dealt = λ k z stands. by k z (set_cases now y.source.0 k (giving given.0 y) z (subst (λ l. slice_get l k ≡ Some z) given.2 stands));
     within = All-tail (IsFromOneOf before) y rest h.within;
   }
     where
-      had : (given.0.outbox ++ y ∷ []) ++ filter (is_of y.route.source.0) rest ≡ filter (is_of y.route.source.0) all
+      had : (given.0.outbox ++ y ∷ []) ++ filter (is_of y.source.0) rest ≡ filter (is_of y.source.0) all
       had =
-          append_assoc given.0.outbox (y ∷ []) (filter (is_of y.route.source.0) rest)
+          append_assoc given.0.outbox (y ∷ []) (filter (is_of y.source.0) rest)
           ∙ ap (λ l. given.0.outbox ++ l) (sym (from_here y rest))
-          ∙ h.dealt y.route.source.0 given.0 given.1
+          ∙ h.dealt y.source.0 given.0 given.1
 
-      by : (k : ℕ) (z : Station) → ((k ≡ y.route.source.0) × (giving given.0 y ≡ z)) ⊎ ((y.route.source.0 ≢ k) × (slice_get now k ≡ Some z)) → z.outbox
+      by : (k : ℕ) (z : Station) → ((k ≡ y.source.0) × (giving given.0 y ≡ z)) ⊎ ((y.source.0 ≢ k) × (slice_get now k ≡ Some z)) → z.outbox
           ++ filter (is_of k) rest ≡ filter (is_of k) all
       by k z (inl w) =
           subst (λ j. z.outbox ++ filter (is_of j) rest ≡ filter (is_of j) all) (sym w.0)
-          (subst (λ (u : Station). u.outbox ++ filter (is_of y.route.source.0) rest ≡ filter (is_of y.route.source.0) all) w.1 had)
+          (subst (λ (u : Station). u.outbox ++ filter (is_of y.source.0) rest ≡ filter (is_of y.source.0) all) w.1 had)
       by k z (inr w) = ap (λ l. z.outbox ++ l) (sym (from_else k y rest w.0)) ∙ h.dealt k z w.1

@@ -1,10 +1,14 @@
 pub mod Pairs
+pub mod Senders
+pub mod Counted
+pub mod Outgoing
 pub mod RouteEnds
 pub mod Ways
 pub mod OpenedInboxes
 pub mod Dealing
 pub mod Manning
 pub mod NoCircle
+pub mod Overtaking
 pub mod Holding
 pub mod Coming
 pub mod Sources
@@ -13,6 +17,7 @@ pub mod Settled
 pub mod Openings
 pub mod Runs
 pub mod Reported
+pub mod Refused
 pub mod Known
 pub mod Returned
 pub mod Crossing

@@ -1,41 +1,38 @@
 -- What the stations of a run are once the senders are handed out.
 use Rattle.std.proofs.Common.{◌≡◌, ℕ, zero, suc, ◌+◌, ◌<◌, Bool, true, false, Some, List, [], ◌∷◌, ◌++◌, Contains, get_or, length, slice_get, map, refl, sym, ap, ◌∙◌, subst, cond, eq-eqb, arith}
-use Rattle.std.specs.Prelude.{All, filter}
+use Rattle.std.specs.Prelude.{All, AllPairs, filter}
 use Rattle.std.proofs.lemmas.Bool.{eqb-true}
-use Rattle.std.proofs.lemmas.List.Elements.{All-nil, All-filter, Contains-get_or}
+use Rattle.std.proofs.lemmas.List.Elements.{All-contains, All-nil, All-filter, Contains-get_or}
 use Rattle.std.proofs.lemmas.Option.{same_Some, slice_get-get_or}
 use Rattle.tp_config.specs.declared.port_type.CompId.{CompId}
 use Rattle.tp_config.specs.declared.port_type.RouteId.{RouteId}
 use Rattle.tp_config.specs.Setup.{Setup, ports_at}
 use Rattle.tp_config.specs.Allowed.{IsSetup}
-use Rattle.tp_config.specs.Routes.{AreDistinct, routes_into}
-use Rattle.tp_config.proofs.RouteLaws.{map_contains}
+use Rattle.tp_config.specs.Routes.{routes_into}
+use Rattle.tp_config.proofs.RouteLaws.{map_cases, map_contains}
 use Rattle.tp_inbox.specs.declared.entry.Entry.{Entry}
 use Rattle.tp_inbox.specs.Desks.{Journal}
-use Rattle.tp_inbox.specs.History.{arrivals, numbered, sent_on}
-use Rattle.tp_inbox.specs.Ledgers.{Draining, Inbox, Sending}
+use Rattle.tp_inbox.specs.History.{arrivals, sent_to}
+use Rattle.tp_inbox.specs.Ledgers.{Draining, Sending, end_of}
+use Rattle.tp_inbox.specs.Routed.{sources_of}
 use Rattle.tp_behaviour.specs.declared.station.Station.{Station}
 use Rattle.tp_behaviour.specs.Fresh.{Fresh}
 use Rattle.tp_behaviour.specs.Moments.{moments}
-use Rattle.tp_behaviour.specs.Outboxes.{IsHome, routes_of}
+use Rattle.tp_behaviour.specs.Outboxes.{routes_of}
 use Rattle.tp_behaviour.specs.Paths.{own_port}
-use Rattle.tp_behaviour.specs.Stations.{IsNoted, IsPosted, IsSentBy, end_of}
+use Rattle.tp_behaviour.specs.Stations.{IsNoted, IsPosted, IsSenderOf, IsSentBy}
 use Rattle.tp_exec.specs.declared.inboxes.Opened.{Opened}
-use Rattle.tp_exec.specs.Openings.{AreHandedOut, AreOpened, IsFromOneOf, IsOpened, IsUnused, is_of, rest_of}
-use Rattle.tp_exec.specs.Rounds.{AreStations, HasNotBegun, IsStaffed, all_ways, comp_at, comes_from, ways_in}
+use Rattle.tp_exec.specs.Openings.{AreApart, AreHandedOut, AreOpened, IsFromOneOf, IsOpened, IsUnused, is_of, rest_of}
+use Rattle.tp_exec.specs.Rounds.{AreStations, HasNotBegun, IsStaffed, Way, all_ways, comp_at, comes_from, way_by, ways_in}
 use Rattle.tp_exec.proofs.Dealing.{as_many}
-use Rattle.tp_exec.proofs.Pairs.{passed, passes}
+use Rattle.tp_exec.proofs.Pairs.{flat_there, mapped_pairs, passed, passes}
 use Rattle.tp_exec.proofs.RouteEnds.{among_those_into, receiver_within, source_is}
-use Rattle.tp_exec.proofs.Sources.{leads_to, source_within}
-use Rattle.tp_exec.proofs.Ways.{routes_apart, routes_of_ways, way_in, way_of}
+use Rattle.tp_exec.proofs.Senders.{among_by, by_among, source_there}
+use Rattle.tp_exec.proofs.Sources.{leads_to, sources_within}
+use Rattle.tp_exec.proofs.Ways.{AreOfTwo, IsWayInto, way_in, way_of, ways_apart}
 
 all_from : {X : Type 0} (P : X → Type 0) (xs : List X) → ((x : X) → Contains xs x → P x) → All P xs
 all_from P xs h k d low = h (get_or xs k d) (Contains-get_or xs k d low)
-
--- the routes of senders are those of their ways
-routes_of_ends : (ss : List Sending) → map (λ (v : Inbox × RouteId). v.1) (map end_of ss) ≡ routes_of ss
-routes_of_ends [] = refl
-routes_of_ends (y ∷ ss) = ap (λ l. y.route ∷ l) (routes_of_ends ss)
 
 -- those of one component are those of the ways from it
 ends_from : (k : ℕ) (ss : List Sending) → map end_of (filter (is_of k) ss) ≡ filter (comes_from k) (map end_of ss)
@@ -64,20 +61,24 @@ same_ways (x ∷ xs) (y ∷ ys) e =
     let tail : map rest_of xs ≡ map rest_of ys = cc in
     ap (λ (v : Draining × Journal). ways_in v.0.inbox ++ all_ways xs) head ∙ ap (λ l. ways_in y.owner.inbox ++ l) (same_ways xs ys tail)
 
--- before the senders are handed out: no two are on one route, and each comes from a component that has a station
+-- before the senders are handed out: no component has two into one inbox, and each has a station
 module _ (s : Setup) (l : IsSetup s) (o : Opened) (h : AreOpened s (length s.components) o) where
-  pub senders_apart : AreDistinct (routes_of o.senders.items)
+  pub senders_apart : AreApart o.senders.items
   senders_apart =
-      subst AreDistinct (sym (sym (routes_of_ends o.senders.items) ∙ ap (map (λ (v : Inbox × RouteId). v.1)) h.senders ∙ routes_of_ways o.stations.items))
-      (routes_apart s l 0 o.stations.items
-      (λ k x stands. (h.each k x stands).routes ∙ ap (λ j. routes_into s (comp_at j)) (let e : k ≡ 0 + k = omega arith in e)))
+      mapped_pairs AreOfTwo end_of o.senders.items
+      (subst (AllPairs AreOfTwo) (sym h.senders)
+      (ways_apart 0 o.stations.items (λ k x stands. (h.each k x stands).comp ∙ ap comp_at (let e : k ≡ 0 + k = omega arith in e))))
 
   pub senders_within : All (IsFromOneOf o.stations.items) o.senders.items
   senders_within =
       all_from (IsFromOneOf o.stations.items) o.senders.items (λ y inside.
       let w = way_of o.stations.items (end_of y) (subst (λ ws. Contains ws (end_of y)) h.senders (map_contains end_of o.senders.items y inside)) in
-      subst (λ n. y.route.source.0 < n) (sym h.count)
-      (source_within s l (comp_at w.0) y.route (subst (λ rs. Contains rs y.route) (h.each w.0 w.1 w.2).routes w.4)))
+      let there : Contains (sources_of (routes_into s (comp_at w.place))) w.source =
+      subst (λ rs. Contains (sources_of rs) w.source) (h.each w.place w.station w.stands).routes w.has in
+      let low : w.source.0 < length s.components =
+      All-contains (λ (c : CompId). c.0 < length s.components) (sources_of (routes_into s (comp_at w.place))) w.source
+      (sources_within s l (comp_at w.place)) there in
+      subst (λ n. y.source.0 < n) (sym h.count) (subst (λ (v : Way). v.1.0 < length s.components) w.is low))
 
 -- and after
 module _ (s : Setup) (l : IsSetup s) (o : Opened) (xs : List Station) (h : AreOpened s (length s.components) o)
@@ -109,23 +110,33 @@ module _ (s : Setup) (l : IsSetup s) (o : Opened) (xs : List Station) (h : AreOp
       → r.source ≡ comp_at k
       → Contains (routes_of x.outbox) r
   has_way k x stands j y there r inside from =
-      let w : Inbox × RouteId = (y.owner.inbox, r) in
+      let w : Way = way_by y.owner.inbox r.source in
       let kept : Contains (filter (comes_from k) (all_ways xs)) w =
-      passes (comes_from k) (all_ways xs) w (way_in xs j y r there inside) (eq-eqb r.source.0 k (ap (λ (c : CompId). c.0) from)) in
-      subst (λ rs. Contains rs r) (ap (map (λ (v : Inbox × RouteId). v.1)) (sym (ends k x stands)) ∙ routes_of_ends x.outbox)
-      (map_contains (λ (v : Inbox × RouteId). v.1) (filter (comes_from k) (all_ways xs)) w kept)
+      passes (comes_from k) (all_ways xs) w (way_in xs j y r.source there (source_there y.owner.inbox.routes r inside))
+      (eq-eqb r.source.0 k (ap (λ (c : CompId). c.0) from)) in
+      let sender = map_cases end_of x.outbox w (subst (λ ws. Contains ws w) (sym (ends k x stands)) kept) in
+      let has : Contains sender.0.routes r =
+      subst (λ (v : Way). Contains v.2 r) (sym sender.2) (among_by r.source y.owner.inbox.routes r inside refl) in
+      flat_there (λ (z : Sending). z.routes) x.outbox sender.0 r sender.1 has
 
   -- and no others
-  is_way : (k : ℕ) (x : Station) → slice_get xs k ≡ Some x → (y : Sending) → Contains x.outbox y
-      → ((j : ℕ) × (z : Station) × (slice_get xs j ≡ Some z) × (y.inbox ≡ z.owner.inbox) × Contains z.owner.inbox.routes y.route) × (y.route.source.0 ≡ k)
+  is_way : (k : ℕ) (x : Station) → slice_get xs k ≡ Some x → (y : Sending) → Contains x.outbox y → IsWayInto xs (end_of y) × (y.source.0 ≡ k)
   is_way k x stands y inside =
       let w = passed (comes_from k) (all_ways xs) (end_of y) (subst (λ ws. Contains ws (end_of y)) (ends k x stands) (map_contains end_of x.outbox y inside)) in
-      (way_of xs (end_of y) w.0, eqb-true y.route.source.0 k w.1)
+      (way_of xs (end_of y) w.0, eqb-true y.source.0 k w.1)
 
-  -- into its own inbox it puts by senders that lead back, and by no others
-  home : (k : ℕ) (x : Station) → slice_get xs k ≡ Some x → All (IsHome x.owner.inbox) x.outbox
-  home k x stands = all_from (IsHome x.owner.inbox) x.outbox (λ y inside back.
-      back ∙ ap comp_at (is_way k x stands y inside).1 ∙ sym (opened k x stands).comp)
+  -- its senders are its own, and their routes lead to the components of their inboxes
+  theirs : (k : ℕ) (x : Station) → slice_get xs k ≡ Some x → All (IsSenderOf (comp_at k)) x.outbox
+  theirs k x stands = all_from (IsSenderOf (comp_at k)) x.outbox (λ y inside.
+      let w = is_way k x stands y inside in
+      let v = w.0 in
+      let into = opened v.place v.station v.stands in (
+        ap comp_at w.1,
+        all_from (λ (r : RouteId). r.to.comp ≡ y.inbox.comp) y.routes (λ r has.
+            let among = by_among v.source v.station.owner.inbox.routes r (subst (λ (u : Way). Contains u.2 r) (sym v.is) has) in
+            let leads : r.to.comp ≡ comp_at v.place = leads_to s l (comp_at v.place) r (subst (λ rs. Contains rs r) into.routes among.0) in
+            leads ∙ sym into.comp ∙ ap (λ (u : Way). u.0.comp) v.is),
+      ))
 
   posted : (k : ℕ) (x : Station) (references : List ℕ) → slice_get xs k ≡ Some x
       → IsPosted (record { config = s; comp = comp_at k; references = references }) x.owner.inbox (routes_of x.outbox)
@@ -147,11 +158,11 @@ module _ (s : Setup) (l : IsSetup s) (o : Opened) (xs : List Station) (h : AreOp
       }
 
   noted : (k : ℕ) (x : Station) → slice_get xs k ≡ Some x → All (IsNoted x.desk.log) x.outbox
-  unfolding sent_on
+  unfolding sent_to
   noted k x stands =
       let empty : x.desk.log ≡ [] = ap (λ (d : Journal). d.log) (opened k x stands).desk in
       let unused : All IsUnused x.outbox = subst (All IsUnused) (sym (given.senders k x stands)) (All-filter (is_of k) IsUnused o.senders.items h.unused) in
-      λ j d low. ap (sent_on (get_or x.outbox j d).route) empty ∙ sym (ap (numbered 0) (unused j d low))
+      λ j d low. ap (sent_to (get_or x.outbox j d).inbox.comp) empty ∙ sym (unused j d low)
 
   fresh : (c : CompId) (log : List Entry) → log ≡ [] → Fresh c log
   unfolding moments
@@ -166,7 +177,7 @@ module _ (s : Setup) (l : IsSetup s) (o : Opened) (xs : List Station) (h : AreOp
         desk = (ap (λ (d : Journal). d.comp) mine.desk ∙ sym mine.comp, ap (λ (d : Journal). d.ports) mine.desk ∙ sym mine.ports);
         arrived = ap arrivals empty ∙ sym mine.drained;
         noted = noted k x stands;
-        home = home k x stands;
+        theirs = theirs k x stands;
         sent = subst (All (IsSentBy (routes_of x.outbox))) (sym empty) (All-nil (IsSentBy (routes_of x.outbox)));
         fresh = fresh (comp_at k) x.desk.log empty;
       }

@@ -154,7 +154,7 @@ among_arrived r k n stamp env is from =
     given (arrival_on r) k n (entry.Arrive r.to.port env stamp) x is (ap (λ b. cond b (Some x) None) met)
 
 -- in a list that is numbered the number tells the place
-number_is : (n : ℕ) (xs : List (ℕ × Stamped)) → map (λ x. x.0) xs ≡ numbers_from n xs → (i : ℕ) (y : ℕ × Stamped) → slice_get xs i ≡ Some y → y.0 ≡ n + i
+pub number_is : (n : ℕ) (xs : List (ℕ × Stamped)) → map (λ x. x.0) xs ≡ numbers_from n xs → (i : ℕ) (y : ℕ × Stamped) → slice_get xs i ≡ Some y → y.0 ≡ n + i
 number_is n [] are i y is = absurd (cc)
 number_is n (x ∷ xs) are zero y is =
     let here : x.0 ≡ n = head_is x.0 n (map (λ x. x.0) xs) (numbers_from (1 + n) xs) are in
@@ -169,11 +169,11 @@ one_number xs are i j y z at there same =
     let place : i ≡ j = omega (arith, number_is 0 xs are i y at, number_is 0 xs are j z there, same) in
     same_Some y z (sym at ∙ ap (slice_get xs) place ∙ there)
 
-reported : (o : Option CompReport) (n : ℕ) (e : Entry) → slice_get (log_of o) n ≡ Some e → (x : CompReport) × (o ≡ Some x)
+pub reported : (o : Option CompReport) (n : ℕ) (e : Entry) → slice_get (log_of o) n ≡ Some e → (x : CompReport) × (o ≡ Some x)
 reported None n e is = absurd (cc)
 reported (Some x) n e is = (x, refl)
 
-abbrev history : Report → ℕ → List Entry
+abbrev pub history : Report → ℕ → List Entry
 history report c = log_of (slice_get report.components.items c)
 
 all_clocked : (made : Made) (report : Report) → IsReportOf made report → (c : CompId) (o : Option CompReport) → slice_get report.components.items c.0 ≡ o
@@ -182,7 +182,7 @@ all_clocked made report h c None is = clocked_at_start
 all_clocked made report h c (Some x) is = (h.each c x is).clocked
 
 -- what arrives is delivered
-on_route : (made : Made) (report : Report) → IsReportOf made report → (r : RouteId) (k stamp : ℕ) (env : Env Message)
+pub on_route : (made : Made) (report : Report) → IsReportOf made report → (r : RouteId) (k stamp : ℕ) (env : Env Message)
     → slice_get (history report r.to.comp.0) k ≡ Some (entry.Arrive r.to.port env stamp) → env.sender ≡ r.source.0 → IsDelivered report.components.items r
 on_route made report h r k stamp env into from =
     let x = reported (slice_get report.components.items r.to.comp.0) k (entry.Arrive r.to.port env stamp) into in

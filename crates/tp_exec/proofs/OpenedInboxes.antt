@@ -5,14 +5,14 @@ use Rattle.std.proofs.lemmas.List.{append-nil, length_push, map-append}
 use Rattle.std.proofs.lemmas.List.Concat.{flat_map-append}
 use Rattle.std.proofs.lemmas.List.Elements.{All-nil, All-cons, All-append, All-push}
 use Rattle.std.proofs.lemmas.Option.{same_Some}
-use Rattle.tp_config.specs.declared.port_type.RouteId.{RouteId}
+use Rattle.tp_config.specs.declared.port_type.CompId.{CompId}
 use Rattle.tp_config.specs.Setup.{Setup}
-use Rattle.tp_inbox.specs.Ledgers.{Inbox, Sending, new_sender}
+use Rattle.tp_inbox.specs.Ledgers.{Inbox, Sending, end_of, new_sender}
+use Rattle.tp_inbox.specs.Routed.{sources_of}
 use Rattle.tp_behaviour.specs.declared.station.Station.{Station}
-use Rattle.tp_behaviour.specs.Stations.{end_of}
 use Rattle.tp_exec.specs.declared.inboxes.Opened.{Opened}
 use Rattle.tp_exec.specs.Openings.{AreOpened, IsBare, IsOpened, IsUnused}
-use Rattle.tp_exec.specs.Rounds.{all_ways, ways_in}
+use Rattle.tp_exec.specs.Rounds.{all_ways, way_by, ways_in}
 
 -- what stands at a place of a list with one more is of the list, or is the one
 push_cases : {X : Type 0} (xs : List X) (x : X) (k : ℕ) (y : X) → slice_get (xs ++ x ∷ []) k ≡ Some y → (slice_get xs k ≡ Some y) ⊎ ((k ≡ length xs) × (x ≡ y))
@@ -26,13 +26,13 @@ push_cases (z ∷ zs) x (suc k) y e =
     ]
 
 -- the senders of an inbox are those of the ways into it
-new_ends : (i : Inbox) (routes : List RouteId) → map end_of (map (new_sender i) routes) ≡ map (λ r. (i, r)) routes
+new_ends : (i : Inbox) (cs : List CompId) → map end_of (map (new_sender i) cs) ≡ map (way_by i) cs
 new_ends i [] = refl
-new_ends i (r ∷ routes) = ap (λ l. (i, r) ∷ l) (new_ends i routes)
+new_ends i (c ∷ cs) = ap (λ l. way_by i c ∷ l) (new_ends i cs)
 
-new_unused : (i : Inbox) (routes : List RouteId) → All IsUnused (map (new_sender i) routes)
+new_unused : (i : Inbox) (cs : List CompId) → All IsUnused (map (new_sender i) cs)
 new_unused i [] = All-nil IsUnused
-new_unused i (r ∷ routes) = All-cons IsUnused (new_sender i r) (map (new_sender i) routes) refl (new_unused i routes)
+new_unused i (c ∷ cs) = All-cons IsUnused (new_sender i c) (map (new_sender i) cs) refl (new_unused i cs)
 
 -- none yet
 pub opened_none : (s : Setup) (o : Opened) → o.stations.items ≡ [] → o.senders.items ≡ [] → o.closers.items ≡ [] → AreOpened s 0 o
@@ -47,7 +47,7 @@ opened_none s o stations senders closers = record {
 
 -- one more
 pub opened_next : (s : Setup) (n : ℕ) (o now : Opened) (x : Station) (ys : List Sending) → AreOpened s n o → IsOpened s n x → x.outbox ≡ []
-    → ys ≡ map (new_sender x.owner.inbox) x.owner.inbox.routes → now.stations.items ≡ o.stations.items ++ x ∷ []
+    → ys ≡ map (new_sender x.owner.inbox) (sources_of x.owner.inbox.routes) → now.stations.items ≡ o.stations.items ++ x ∷ []
     → now.senders.items ≡ o.senders.items ++ ys → length now.closers.items ≡ length o.closers.items + 1 → AreOpened s (n + 1) now
 opened_next s n o now x ys h one bare mine stations senders closers = record {
   count = ap length stations ∙ length_push o.stations.items x ∙ ap (λ k. k + 1) h.count;
@@ -57,18 +57,18 @@ opened_next s n o now x ys h one bare mine stations senders closers = record {
       ap (map end_of) (senders ∙ ap (λ l. o.senders.items ++ l) mine)
       ∙ map-append end_of o.senders.items new
       ∙ ap (λ l. l ++ map end_of new) h.senders
-      ∙ ap (λ l. all_ways o.stations.items ++ l) (new_ends x.owner.inbox x.owner.inbox.routes)
+      ∙ ap (λ l. all_ways o.stations.items ++ l) (new_ends x.owner.inbox (sources_of x.owner.inbox.routes))
       ∙ ap (λ l. all_ways o.stations.items ++ l) (sym (append-nil (ways_in x.owner.inbox)))
       ∙ sym (flat_map-append (λ (y : Station). ways_in y.owner.inbox) o.stations.items (x ∷ []))
       ∙ sym (ap all_ways stations);
   unused =
       subst (All IsUnused) (sym (senders ∙ ap (λ l. o.senders.items ++ l) mine))
-      (All-append IsUnused o.senders.items new h.unused (new_unused x.owner.inbox x.owner.inbox.routes));
+      (All-append IsUnused o.senders.items new h.unused (new_unused x.owner.inbox (sources_of x.owner.inbox.routes)));
   closers = closers ∙ ap (λ k. k + 1) h.closers;
 }
   where
     new : List Sending
-    new = map (new_sender x.owner.inbox) x.owner.inbox.routes
+    new = map (new_sender x.owner.inbox) (sources_of x.owner.inbox.routes)
 
     by : (k : ℕ) (y : Station) → (slice_get o.stations.items k ≡ Some y) ⊎ ((k ≡ length o.stations.items) × (x ≡ y)) → IsOpened s k y
     by k y (inl old) = h.each k y old

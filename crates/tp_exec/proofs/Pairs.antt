@@ -1,8 +1,9 @@
--- On lists of which no two elements are equal, or which otherwise differ in pairs.
-use Rattle.std.proofs.Common.{◌≡◌, ◌≢◌, zero, suc, Bool, true, false, cond, List, [], ◌∷◌, ◌++◌, Contains, get_or, map, refl, sym, subst, arith}
+-- On lists whose elements differ in pairs, and on what is among others.
+use Rattle.std.proofs.Common.{◌≡◌, inl, inr, zero, suc, Bool, true, false, cond, List, [], ◌∷◌, ◌++◌, Contains, get_or, map, refl, sym, subst, arith}
 use Rattle.std.specs.Prelude.{All, AllPairs, filter}
+use Rattle.std.specs.List.{flat_map}
 use Rattle.std.proofs.lemmas.List.{get_or-map, length-map}
-use Rattle.std.proofs.lemmas.List.Elements.{All-nil, All-cons, All-head, All-tail, All-append, Contains-get_or}
+use Rattle.std.proofs.lemmas.List.Elements.{All-nil, All-cons, All-head, All-map, All-tail, All-append, Contains-append_cases, Contains-append_left, Contains-append_right, Contains-get_or}
 use Rattle.std.proofs.lemmas.List.Kept.{AllPairs-cons}
 
 all_middle : {X : Type 0} (P : X → Type 0) (xs ys : List X) (x : X) → All P (xs ++ x ∷ ys) → P x
@@ -29,19 +30,28 @@ mapped_pairs R f xs h i j d below within =
     subst (λ a. R a (f (get_or xs j d))) first
     (subst (λ b. R (get_or (map f xs) i (f d)) b) second (h i j (f d) below (let long = length-map xs f in omega (arith, within, long))))
 
--- two lists of different elements, none of which is in both
-pub append_distinct : {X : Type 0} (xs ys : List X) → AllPairs (λ x y. x ≢ y) xs → AllPairs (λ x y. x ≢ y) ys → ((x : X) → Contains xs x → Contains ys x → ⊥)
-    → AllPairs (λ x y. x ≢ y) (xs ++ ys)
-append_distinct [] ys d e apart = e
-append_distinct {X = X} (x ∷ xs) ys d e apart =
-    AllPairs-cons R x (xs ++ ys) (All-append (R x) xs ys (pairs_head R x xs d) others)
-    (append_distinct xs ys (pairs_tail R x xs d) e (λ y here there. apart y (let low = here.1 in (suc here.0, omega arith, here.2)) there))
-  where
-    R : X → X → Type 0
-    R = λ y z. y ≢ z
+-- and what f gives of a list that differs so
+pub pairs_mapped : {X Y : Type 0} (R : Y → Y → Type 0) (f : X → Y) (xs : List X) → AllPairs (λ x y. R (f x) (f y)) xs → AllPairs R (map f xs)
+pairs_mapped R f [] h = λ i j d below within. absurd (omega (arith, within))
+pairs_mapped R f (x ∷ xs) h =
+    AllPairs-cons R (f x) (map f xs) (All-map (R (f x)) f xs (pairs_head (λ y z. R (f y) (f z)) x xs h))
+    (pairs_mapped R f xs (pairs_tail (λ y z. R (f y) (f z)) x xs h))
 
+-- two lists that differ in pairs, and of which each element of the one is so to each of the other
+pub append_pairs : {X : Type 0} (R : X → X → Type 0) (xs ys : List X) → AllPairs R xs → AllPairs R ys
+    → ((x y : X) → Contains xs x → Contains ys y → R x y) → AllPairs R (xs ++ ys)
+append_pairs R [] ys d e apart = e
+append_pairs R (x ∷ xs) ys d e apart =
+    AllPairs-cons R x (xs ++ ys) (All-append (R x) xs ys (pairs_head R x xs d) others)
+    (append_pairs R xs ys (pairs_tail R x xs d) e (λ y z here there. apart y z (let low = here.1 in (suc here.0, omega arith, here.2)) there))
+  where
     others : All (R x) ys
-    others k z low same = apart x (0, omega arith, refl) (subst (Contains ys) (sym same) (Contains-get_or ys k z low))
+    others k z low = apart x (get_or ys k z) (0, omega arith, refl) (Contains-get_or ys k z low)
+
+-- what holds of a list holds of its beginning
+pub all_before : {X : Type 0} (P : X → Type 0) (xs ys : List X) → All P (xs ++ ys) → All P xs
+all_before P [] ys h = All-nil P
+all_before P (x ∷ xs) ys h = All-cons P x xs (All-head P x (xs ++ ys) h) (all_before P xs ys (All-tail P x (xs ++ ys) h))
 
 -- an element that passes the test is among those that do
 pub passes : {X : Type 0} (p : X → Bool) (xs : List X) (x : X) → Contains xs x → p x ≡ true → Contains (filter p xs) x
@@ -66,3 +76,20 @@ passed p (y ∷ ys) x h = by (p y) refl (λ g. passed p ys x g) h where
   by true good rest (zero, low, is) = ((0, omega arith, is), subst (λ z. p z ≡ true) is good)
   by true good rest (suc k, low, is) = later (rest (k, omega arith, is))
   by false bad rest g = later (rest g)
+
+-- what is of one of the lists is of all of them together
+pub flat_there : {X Y : Type 0} (f : X → List Y) (xs : List X) (x : X) (y : Y) → Contains xs x → Contains (f x) y → Contains (flat_map f xs) y
+flat_there f [] x y h here = absurd (omega (arith, h.1))
+flat_there f (z ∷ xs) x y (zero, low, is) here =
+    Contains-append_left (f z) (flat_map f xs) y (subst (λ u. Contains (f u) y) (sym is) here)
+flat_there f (z ∷ xs) x y (suc k, low, is) here =
+    Contains-append_right (f z) (flat_map f xs) y (flat_there f xs x y (k, omega arith, is) here)
+
+-- and what is of all of them is of one
+pub flat_from : {X Y : Type 0} (f : X → List Y) (xs : List X) (y : Y) → Contains (flat_map f xs) y → (x : X) × Contains xs x × Contains (f x) y
+flat_from f [] y h = absurd (omega (arith, h.1))
+flat_from f (x ∷ xs) y h =
+    elim (Contains-append_cases (f x) (flat_map f xs) y h) [
+      | inl here ↦ (x, (0, omega arith, refl), here)
+      | inr later ↦ let w = flat_from f xs y later in let low = w.1.1 in (w.0, (suc w.1.0, omega arith, w.1.2), w.2)
+    ]

@@ -8,16 +8,17 @@ use Rattle.std.specs.Vec.Iter.{into_iter_items}
 use Rattle.std.proofs.lemmas.List.{length-map}
 use Rattle.std.proofs.lemmas.List.Elements.{All-nil, All-append, All-head, All-map, All-tail}
 use Rattle.std.proofs.lemmas.Option.{same_Some, slice_get-get_or, slice_get-map}
-use Rattle.tp_config.specs.declared.port_type.RouteId.{RouteId}
+use Rattle.tp_config.specs.declared.port_type.CompId.{CompId}
 use Rattle.tp_config.specs.Setup.{Setup}
 use Rattle.tp_config.specs.Allowed.{IsSetup}
 use Rattle.tp_config.specs.Routes.{routes_into}
 use Rattle.tp_inbox.specs.declared.entry.Entry.{Entry}
-use Rattle.tp_inbox.specs.Ledgers.{Inbox, Sending}
-use Rattle.tp_behaviour.specs.Stations.{IsManned, IsNoted, end_of}
+use Rattle.tp_inbox.specs.Ledgers.{Sending, end_of}
+use Rattle.tp_inbox.specs.Routed.{sources_of}
+use Rattle.tp_behaviour.specs.Stations.{IsManned, IsNoted}
 use Rattle.tp_exec.specs.declared.idle.Idle.{Idle}
 use Rattle.tp_exec.specs.declared.played.Played.{Played}
-use Rattle.tp_exec.specs.Rounds.{AreStations, all_ways, comp_at, comes_from, stations_of, ways_in}
+use Rattle.tp_exec.specs.Rounds.{AreStations, Way, all_ways, comp_at, comes_from, stations_of, way_by, ways_in}
 use Rattle.tp_exec.specs.Held.{AreAtHand, IsIdle, idle_of, log_at, outbox_of, ways_to}
 use Rattle.tp_exec.proofs.Sources.{sources_within}
 
@@ -37,13 +38,15 @@ mapped_at f xs k x is = slice_get-map f xs k ∙ ap (option_map f) is
 all_places : {A : Type 0} (P : A → Type 0) (xs : List A) → ((k : ℕ) (x : A) → slice_get xs k ≡ Some x → P x) → All P xs
 all_places P xs h = λ k d low. h k (slice_index_or xs k d) (slice_get-get_or xs k d low)
 
--- what holds of all routes into inboxes holds of all ways
-all_routes : (P : RouteId → Type 0) (xs : List Idle) → All (λ (x : Idle). All P x.owner.inbox.routes) xs → All (λ (way : Inbox × RouteId). P way.1) (ways_to xs)
-all_routes P [] h = All-nil (λ (way : Inbox × RouteId). P way.1)
-all_routes P (x ∷ xs) h =
-    let Q : Idle → Type 0 = λ x. All P x.owner.inbox.routes in
-    All-append (λ (way : Inbox × RouteId). P way.1) (ways_in x.owner.inbox) (ways_to xs)
-    (All-map (λ (way : Inbox × RouteId). P way.1) (λ r. (x.owner.inbox, r)) x.owner.inbox.routes (All-head Q x xs h)) (all_routes P xs (All-tail Q x xs h))
+-- what holds of all components with routes into inboxes holds of all ways
+all_sources : (P : CompId → Type 0) (xs : List Idle) → All (λ (x : Idle). All P (sources_of x.owner.inbox.routes)) xs
+    → All (λ (way : Way). P way.1) (ways_to xs)
+all_sources P [] h = All-nil (λ (way : Way). P way.1)
+all_sources P (x ∷ xs) h =
+    let Q : Idle → Type 0 = λ x. All P (sources_of x.owner.inbox.routes) in
+    All-append (λ (way : Way). P way.1) (ways_in x.owner.inbox) (ways_to xs)
+    (All-map (λ (way : Way). P way.1) (way_by x.owner.inbox) (sources_of x.owner.inbox.routes) (All-head Q x xs h))
+    (all_sources P xs (All-tail Q x xs h))
 
 same_ways : (played : List Played) → all_ways (stations_of played) ≡ ways_to (map idle_of played)
 same_ways [] = refl
@@ -56,7 +59,7 @@ module _ (s : Setup) (l : IsSetup s) (played : List Played) (h : AreStations s (
   pub station_at : (k : ℕ) (p : Played) → slice_get played k ≡ Some p → slice_get (stations_of played) k ≡ Some p.station
   station_at k p is = mapped_at (λ (x : Played). x.station) played k p is
 
-  manned_at : (k : ℕ) (p : Played) → slice_get played k ≡ Some p → IsManned (record { config = s; comp = comp_at k; references = [] }) p.station
+  pub manned_at : (k : ℕ) (p : Played) → slice_get played k ≡ Some p → IsManned (record { config = s; comp = comp_at k; references = [] }) p.station
   manned_at k p is = h.staffed k p.station (station_at k p is) []
 
   idle_at : (k : ℕ) (p : Played) → slice_get played k ≡ Some p → IsIdle s (idle_of p)
@@ -70,11 +73,13 @@ module _ (s : Setup) (l : IsSetup s) (played : List Played) (h : AreStations s (
   pub all_idle : All (IsIdle s) (map idle_of played)
   all_idle = All-map (IsIdle s) idle_of played (all_places (λ p. IsIdle s (idle_of p)) played idle_at)
 
-  all_within : All (λ (way : Inbox × RouteId). way.1.source.0 < length s.components) (ways_to (map idle_of played))
+  all_within : All (λ (way : Way). way.1.0 < length s.components) (ways_to (map idle_of played))
   all_within =
-      let P : RouteId → Type 0 = λ r. r.source.0 < length s.components in
-      all_routes P (map idle_of played)
-      (λ k d low. let i = all_idle k d low in subst (All P) (sym i.routes) (sources_within s l (slice_index_or (map idle_of played) k d).desk.comp))
+      let P : CompId → Type 0 = λ c. c.0 < length s.components in
+      all_sources P (map idle_of played)
+      (λ k d low.
+      let i = all_idle k d low in
+      subst (λ rs. All P (sources_of rs)) (sym i.routes) (sources_within s l (slice_index_or (map idle_of played) k d).desk.comp))
 
   module _ (hands : List Hand) (are : map into_iter_items hands ≡ map outbox_of played) where
     hands_long : length hands ≡ length played
@@ -101,5 +106,5 @@ module _ (s : Setup) (l : IsSetup s) (played : List Played) (h : AreStations s (
           let log : log_at played k ≡ p.0.station.desk.log = ap (λ o. option_map_or (λ (x : Played). x.station.desk.log) o []) p.1 in
           subst (λ (ss : List Sending). All (IsNoted (log_at played k)) ss) (sym (has_outbox k d low p.0 p.1))
           (subst (λ (k : List Entry). All (IsNoted k) p.0.station.outbox) (sym log) (manned_at k p.0 p.1).noted);
-      within = subst (λ n. All (λ (way : Inbox × RouteId). way.1.source.0 < n) (ways_to (map idle_of played))) (sym (hands_long ∙ long)) all_within;
+      within = subst (λ n. All (λ (way : Way). way.1.0 < n) (ways_to (map idle_of played))) (sym (hands_long ∙ long)) all_within;
     }

@@ -16,7 +16,7 @@ use Rattle.tp_play.specs.TestCases.{Made, behaviour_at}
 use Rattle.tp_inbox.specs.declared.stamped.Stamped.{Stamped}
 use Rattle.tp_inbox.specs.declared.entry.Entry.{Entry}
 use Rattle.tp_inbox.specs.Desks.{Journal, at_port}
-use Rattle.tp_inbox.specs.History.{IsClocked, arrived_on, count_of, numbered, sent_on}
+use Rattle.tp_inbox.specs.History.{IsClocked, arrived_from, arrived_on, count_of, numbered, sent_on, sent_to}
 use Rattle.tp_report.specs.declared.report.CompReport.{CompReport}
 use Rattle.tp_report.specs.declared.report.Report.{Report}
 use Rattle.tp_report.specs.Reports.{IsDeskIn, IsReportable}
@@ -26,10 +26,11 @@ use Rattle.tp_behaviour.specs.declared.outcome.Outcome.TheVariants as outcome
 use Rattle.tp_behaviour.specs.Fresh.{Fresh}
 use Rattle.tp_behaviour.specs.Outcomes.{WaitsWithin}
 use Rattle.tp_exec.specs.declared.ended.Ended.{Ended}
-use Rattle.tp_exec.specs.Delivery.{FollowsBehaviour, IsCompReport, IsDelivered, IsOnRoute, IsReportOf, numbers_from}
+use Rattle.tp_exec.specs.Delivery.{FollowsBehaviour, IsCompReport, IsDelivered, IsDeliveredBetween, IsOnRoute, IsReportOf, numbers_from}
 use Rattle.tp_exec.specs.Rounds.{BehaviourEnded}
 use Rattle.tp_exec.specs.Settlings.{IsOfARun}
 use Rattle.tp_exec.specs.Reporting.{IsAtRest, IsReportedAs, IsRest, end_as}
+use Rattle.tp_exec.proofs.Coming.{length-numbered}
 use Rattle.tp_exec.proofs.Known.{all_at, known}
 
 -- two lists, element by element
@@ -88,10 +89,6 @@ numbers n (m ∷ ms) =
     let next : n + 1 ≡ 1 + n = omega arith in
     ap (λ l. n ∷ l) (numbers (n + 1) ms ∙ ap (λ i. numbers_from i (numbered (n + 1) ms)) next)
 
-length-numbered : (n : ℕ) (ms : List Stamped) → length (numbered n ms) ≡ length ms
-length-numbered n [] = refl
-length-numbered n (m ∷ ms) = ap suc (length-numbered (n + 1) ms)
-
 module _ (made : Made) (ended : List Ended) (run : IsOfARun made ended) where
   -- what a waiting component waits for are operations on its ports
   pub waits_within : All (λ (e : Ended). WaitsWithin e.desk.ports e.outcome) ended
@@ -145,6 +142,13 @@ module _ (made : Made) (ended : List Ended) (run : IsOfARun made ended) (xs : Li
         counted = ap (count_of r) to.2.counts ∙ t.counted ∙ sym (length-numbered 0 t.ledger) ∙ ap length (sym numbered_so);
       }
 
+  between : (c d : CompId) (x y : CompReport) → slice_get xs c.0 ≡ Some x → slice_get xs d.0 ≡ Some y → IsDeliveredBetween c d x.desk.log y.desk.log
+  between c d x y from to =
+      let w = first_at Told ended xs c.0 x told from in
+      let v = first_at Told ended xs d.0 y told to in
+      ap (λ (j : Journal). sent_to d j.log) w.2.desk ∙ run.come.between c d w.0 v.0 w.1 v.1
+      ∙ ap (λ (j : Journal). arrived_from d c j.log) (sym v.2.desk)
+
   -- **the report of a run**
   pub report_of : All IsAtRest ended → (report : Report) → report.components.items ≡ xs → report.result ≡ overall_verdict (endings xs) (locals xs)
       → IsReportOf made report
@@ -152,6 +156,7 @@ module _ (made : Made) (ended : List Ended) (run : IsOfARun made ended) (xs : Li
     everyone = ap length are ∙ all_told;
     each = λ c x at. component rest c x (ap (λ l. slice_get l c.0) (sym are) ∙ at);
     delivered = λ c r h. subst (λ l. IsDelivered l r) (sym are) (delivered c r h);
+    between = λ c d x y from to. between c d x y (ap (λ l. slice_get l c.0) (sym are) ∙ from) (ap (λ l. slice_get l d.0) (sym are) ∙ to);
     result = is ∙ ap (λ l. overall_verdict (endings l) (locals l)) (sym are);
   }
 

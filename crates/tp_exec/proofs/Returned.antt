@@ -32,7 +32,7 @@ manned_for s c references others x h = record {
   desk = h.desk;
   arrived = h.arrived;
   noted = h.noted;
-  home = h.home;
+  theirs = h.theirs;
   sent = h.sent;
   fresh = h.fresh;
 }

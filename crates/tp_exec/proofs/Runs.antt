@@ -1,24 +1,19 @@
 -- What a run comes to, from what the threads left and what was settled.
-use Rattle.std.proofs.Common.{◌≡◌, ℕ, suc, Bool, true, false, cond, Option, Some, None, List, [], ◌∷◌, ◌++◌, get_or, refl, sym, ap, ◌∙◌, subst}
-use Rattle.std.specs.Prelude.{All, Contains, filter, slice_get}
-use Rattle.std.specs.List.{flat_map}
+use Rattle.std.proofs.Common.{◌≡◌, ℕ, Bool, true, false, cond, Option, Some, None, List, [], ◌∷◌, ◌++◌, refl, sym, ap, ◌∙◌, subst}
+use Rattle.std.specs.Prelude.{All, Contains, slice_get}
 use Rattle.std.specs.Option.{option_map}
-use Rattle.std.proofs.lemmas.Bool.{eqb-true, false≢true}
-use Rattle.std.proofs.lemmas.List.Elements.{All-append, All-cons, All-contains, All-contains_itself, All-filter, All-head, All-map, All-nil, All-tail, All-weaker, filter_passes}
+use Rattle.std.proofs.lemmas.Bool.{false≢true}
+use Rattle.std.proofs.lemmas.List.Elements.{All-append, All-cons, All-head, All-nil, All-tail, All-weaker}
 use Rattle.std.proofs.lemmas.Option.{slice_get-map}
 use Rattle.tp_config.specs.declared.port_type.CompId.{CompId}
 use Rattle.tp_config.specs.declared.port_type.RouteId.{RouteId}
 use Rattle.tp_config.specs.Setup.{Setup}
-use Rattle.tp_config.specs.Routes.{routes_into}
-use Rattle.tp_config.proofs.RouteLaws.{map_cases, map_contains}
 use Rattle.tp_play.specs.declared.body.Body.{Body}
 use Rattle.tp_play.specs.Behaviours.{Behaviour}
 use Rattle.tp_play.specs.TestCases.{Made, behaviour_at}
 use Rattle.tp_inbox.specs.declared.entry.Entry.{Entry}
 use Rattle.tp_inbox.specs.declared.entry.Entry.TheVariants as entry
 use Rattle.tp_inbox.specs.History.{is_arrival}
-use Rattle.tp_inbox.specs.Ledgers.{Inbox, Sending}
-use Rattle.tp_inbox.proofs.Made.{routes_here}
 use Rattle.tp_behaviour.specs.declared.outcome.Outcome.{Outcome}
 use Rattle.tp_behaviour.specs.declared.outcome.Outcome.TheVariants as outcome
 use Rattle.tp_behaviour.specs.declared.station.Station.{Station}
@@ -27,11 +22,12 @@ use Rattle.tp_behaviour.specs.Held.{Actor}
 use Rattle.tp_behaviour.specs.Moments.{Moment, moments, moments_after, own}
 use Rattle.tp_behaviour.specs.Outboxes.{routes_of}
 use Rattle.tp_behaviour.specs.Outcomes.{HasEnded, WaitsWithin}
-use Rattle.tp_behaviour.specs.Stations.{IsSentBy, end_of}
+use Rattle.tp_behaviour.specs.Stations.{IsSentBy}
 use Rattle.tp_exec.specs.declared.ended.Ended.{Ended}
 use Rattle.tp_exec.specs.declared.played.Played.{Played}
-use Rattle.tp_exec.specs.Rounds.{ArePlayed, AreStations, BehaviourEnded, all_ways, comp_at, comes_from, stations_of, ways_in}
+use Rattle.tp_exec.specs.Rounds.{ArePlayed, AreStations, BehaviourEnded, comp_at, stations_of}
 use Rattle.tp_exec.specs.Settlings.{AreSettled, IsComponentOf, IsOfARun, IsSentOut}
+use Rattle.tp_exec.proofs.Outgoing.{IsOut, ways_out}
 use Rattle.tp_exec.proofs.Settled.{same_moments}
 
 -- histories with one trace differ by arrivals
@@ -81,8 +77,7 @@ module _ (out : List RouteId) where
   quiet (entry.Verdict v) is = tt
   quiet (entry.Failed c) is = tt
 
-  gone_out : (s : Setup) (c : CompId) → ((r : RouteId) → Contains out r → (r.source ≡ c) × Contains (routes_into s r.to.comp) r) → (e : Entry) → IsSentBy out e
-      → IsSentOut s c e
+  gone_out : (s : Setup) (c : CompId) → ((r : RouteId) → Contains out r → IsOut s c r) → (e : Entry) → IsSentBy out e → IsSentOut s c e
   gone_out s c ways (entry.Sent r n m) h = ways r h
   gone_out s c ways (entry.Arrive p e stamp) h = tt
   gone_out s c ways (entry.Took p e b) h = tt
@@ -95,46 +90,6 @@ module _ (out : List RouteId) where
   gone_out s c ways entry.Else h = tt
   gone_out s c ways (entry.Verdict v) h = tt
   gone_out s c ways (entry.Failed code) h = tt
-
--- what holds of what each gives holds of what all give
-all_flat : {A B : Type 0} (Q : B → Type 0) (f : A → List B) (xs : List A) → ((k : ℕ) (x : A) → slice_get xs k ≡ Some x → All Q (f x)) → All Q (flat_map f xs)
-all_flat Q f [] each = All-nil Q
-all_flat Q f (x ∷ xs) each =
-    All-append Q (f x) (flat_map f xs) (each 0 x refl) (all_flat Q f xs (λ k y at. each (suc k) y at))
-
--- what is left by a filter was there
-among : {A : Type 0} (p : A → Bool) (xs : List A) (x : A) → Contains (filter p xs) x → Contains xs x
-among p xs x h = All-contains (Contains xs) (filter p xs) x (All-filter p (Contains xs) xs (All-contains_itself xs)) h
-
-abbrev IsWay : Setup → RouteId → Type 0
-IsWay s r = Contains (routes_into s r.to.comp) r
-
--- each route into a component is one into the component to which it leads
-into_own : (s : Setup) (c : CompId) → All (IsWay s) (routes_into s c)
-into_own s c k d low =
-    let r : RouteId = get_or (routes_into s c) k d in
-    subst (λ (q : CompId). Contains (routes_into s q) r) (sym (routes_here s c k d low)) (All-contains_itself (routes_into s c) k d low)
-
-module _ (s : Setup) (stations : List Station) (are : AreStations s stations) where
-  all_are_ways : All (λ (w : Inbox × RouteId). IsWay s w.1) (all_ways stations)
-  all_are_ways =
-      all_flat (λ (w : Inbox × RouteId). IsWay s w.1) (λ (x : Station). ways_in x.owner.inbox) stations (λ k x at.
-      let inbox : Inbox = x.owner.inbox in
-      All-map (λ (w : Inbox × RouteId). IsWay s w.1) (λ (r : RouteId). (inbox, r)) inbox.routes
-      (subst (All (IsWay s)) (sym (are.routes k x at)) (into_own s (comp_at k))))
-
-  -- the routes of a component's senders are routes from it
-  ways_out : (k : ℕ) (x : Station) → slice_get stations k ≡ Some x → (r : RouteId) → Contains (routes_of x.outbox) r → (r.source ≡ comp_at k) × IsWay s r
-  ways_out k x at r h =
-      let w = map_cases (λ (q : Sending). q.route) x.outbox r h in
-      let kept : Contains (filter (comes_from k) (all_ways stations)) (end_of w.0) =
-      subst (λ l. Contains l (end_of w.0)) (are.senders k x at) (map_contains end_of x.outbox w.0 w.1) in
-      let from : comes_from k (end_of w.0) ≡ true = All-contains (λ (y : Inbox × RouteId). comes_from k y ≡ true) (filter (comes_from k) (all_ways stations))
-      (end_of w.0) (filter_passes (comes_from k) (all_ways stations)) kept in
-      let source : w.0.route.source.0 ≡ k = eqb-true w.0.route.source.0 k from in
-      let way : IsWay s w.0.route = All-contains (λ (y : Inbox × RouteId). IsWay s y.1) (all_ways stations) (end_of w.0) all_are_ways
-      (among (comes_from k) (all_ways stations) (end_of w.0) kept) in
-      subst (λ (q : RouteId). (q.source ≡ comp_at k) × IsWay s q) w.2 (λ i. record { 0 = source i }, way)
 
 -- a behaviour that has ended has done so in each history with its trace
 ended_so : (r : Actor) (body : Body) (o : Outcome) (k l : List Entry) → moments l ≡ moments k → HasEnded r body o k → HasEnded r body o l

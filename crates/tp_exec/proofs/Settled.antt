@@ -1,5 +1,5 @@
 -- What a run has come to, once all has come to each component.
-use Rattle.std.proofs.Common.{◌≡◌, ℕ, zero, suc, ◌<◌, Bool, true, false, cond, Some, List, [], ◌∷◌, length, map, refl, sym, ap, ◌∙◌, subst, All, Contains, arith}
+use Rattle.std.proofs.Common.{◌≡◌, ◌≢◌, ◌⊎◌, inl, inr, ℕ, zero, suc, ◌<◌, Bool, true, false, cond, Some, List, [], ◌∷◌, length, map, refl, sym, ap, ◌∙◌, subst, All, Contains, arith}
 use Rattle.std.specs.Prelude.{filter, slice_get}
 use Rattle.std.specs.List.{AllZip}
 use Rattle.std.specs.Option.{option_map_or}
@@ -16,19 +16,23 @@ use Rattle.tp_config.specs.Allowed.{IsSetup}
 use Rattle.tp_config.specs.Routes.{routes_into}
 use Rattle.tp_inbox.specs.declared.entry.Entry.{Entry}
 use Rattle.tp_inbox.specs.declared.entry.Entry.TheVariants as entry
-use Rattle.tp_inbox.specs.History.{arrivals, is_arrival, sent_on}
-use Rattle.tp_inbox.specs.Routed.{IsArrivalOn, rest_arrivals}
-use Rattle.tp_inbox.proofs.Rests.{rest_sends_nothing}
+use Rattle.tp_inbox.specs.History.{arrivals, arrived_from, is_arrival, sent_on, sent_to}
+use Rattle.tp_inbox.specs.Ledgers.{Inbox}
+use Rattle.tp_inbox.specs.Routed.{IsArrivalOn, rest_arrivals, sources_of}
+use Rattle.tp_inbox.proofs.Rests.{rest_sends_nothing, rest_sends_to_none}
 use Rattle.tp_behaviour.specs.Moments.{moments}
+use Rattle.tp_behaviour.specs.Outboxes.{routes_of}
 use Rattle.tp_behaviour.proofs.Moments.{moments-arrivals}
 use Rattle.tp_exec.specs.declared.ended.Ended.{Ended}
 use Rattle.tp_exec.specs.declared.played.Played.{Played}
-use Rattle.tp_exec.specs.Delivery.{IsOnRoute}
+use Rattle.tp_exec.specs.Delivery.{IsDeliveredBetween, IsOnRoute}
 use Rattle.tp_exec.specs.Rounds.{AreStations, comp_at, stations_of}
 use Rattle.tp_exec.specs.Settlings.{AreSettled, IsAllThere, IsSettled}
-use Rattle.tp_exec.specs.Held.{HasCome, IsDone, IsEndOf, idle_of, log_at}
+use Rattle.tp_exec.specs.Held.{HasCome, HasComeFrom, IsDone, IsEndOf, idle_of, log_at}
+use Rattle.tp_exec.proofs.Outgoing.{none_came, none_sent, ways_out}
+use Rattle.tp_exec.proofs.Senders.{source_or_not}
 use Rattle.tp_exec.proofs.Sources.{leads_to, receiver_within, source_within}
-use Rattle.tp_exec.proofs.Parting.{at_place, long, station_at}
+use Rattle.tp_exec.proofs.Parting.{at_place, long, manned_at, station_at}
 
 -- of two lists that fit place by place, what stands beside an element of the second
 beside_second : {A B C : Type 0} (f : A → B) (R : B → C → Type 0) (xs : List A) (ys : List C) → AllZip R (map f xs) ys → (k : ℕ) (y : C)
@@ -117,6 +121,10 @@ module _ (s : Setup) (l : IsSetup s) (played : List Played) (h : AreStations s (
   routes_at : (k : ℕ) (p : Played) → slice_get played k ≡ Some p → p.station.owner.inbox.routes ≡ routes_into s (comp_at k)
   routes_at k p is = h.routes k p.station (station_at s l played h k p is)
 
+  -- the history of a component before the last messages came
+  log_of : (k : ℕ) (p : Played) → slice_get played k ≡ Some p → log_at played k ≡ p.station.desk.log
+  log_of k p is = ap (λ o. option_map_or (λ (x : Played). x.station.desk.log) o []) is
+
   there : (k : ℕ) (r : RouteId) → Contains (routes_into s (comp_at k)) r → IsAllThere ended r
   there k r is =
       let receiver = comp_of r.to.comp.0 (receiver_within s l (comp_at k) r is) in
@@ -124,9 +132,8 @@ module _ (s : Setup) (l : IsSetup s) (played : List Played) (h : AreStations s (
       let to : r.to.comp ≡ comp_at k = leads_to s l (comp_at k) r is in
       let into : Contains (routes_into s r.to.comp) r = subst (λ c. Contains (routes_into s c) r) (sym to) is in
       let known : Contains receiver.0.station.owner.inbox.routes r = subst (λ rs. Contains rs r) (sym (routes_at r.to.comp.0 receiver.0 receiver.1)) into in
-      let come = All-contains (HasCome (log_at played) receiver.2.0) receiver.0.station.owner.inbox.routes r receiver.2.2.come known in
-      let log : log_at played r.source.0 ≡ source.0.station.desk.log = ap (λ o. option_map_or (λ (x : Played). x.station.desk.log) o []) source.1 in
-      let sent = sent_as source.0 source.2.0 source.2.2.end r ∙ ap (sent_on r) (sym log) ∙ come.sent in record {
+      let come = All-contains (HasCome (log_at played) receiver.2.0) receiver.0.station.owner.inbox.routes r receiver.2.2.come.routes known in
+      let sent = sent_as source.0 source.2.0 source.2.2.end r ∙ ap (sent_on r) (sym (log_of r.source.0 source.0 source.1)) ∙ come.sent in record {
         source = source.2.0;
         source_is = source.2.1;
         receiver = receiver.2.0;
@@ -137,6 +144,39 @@ module _ (s : Setup) (l : IsSetup s) (played : List Played) (h : AreStations s (
         counted = come.counted;
       }
 
+  -- one with routes to a component has sent there what has come from it, and one with none has sent nothing
+  from_to : (c d : CompId) (p q : Played) (y : Ended) → slice_get played c.0 ≡ Some p → slice_get played d.0 ≡ Some q → IsDone (log_at played) (idle_of q) y
+      → q.station.owner.inbox.comp ≡ d → IsDeliveredBetween c d p.station.desk.log y.desk.log
+  from_to c d p q y at to done here = by (source_or_not inbox.routes c) where
+    inbox : Inbox
+    inbox = q.station.owner.inbox
+
+    log : List Entry
+    log = p.station.desk.log
+
+    by : Contains (sources_of inbox.routes) c ⊎ ((r : RouteId) → Contains inbox.routes r → r.source ≢ c) → sent_to d log ≡ arrived_from d c y.desk.log
+    by (inl has) =
+        let come : HasComeFrom (log_at played) inbox y c =
+        All-contains (HasComeFrom (log_at played) inbox y) (sources_of inbox.routes) c done.come.sources has in
+        subst (λ (e : CompId). sent_to e log ≡ arrived_from e c y.desk.log) here (ap (sent_to inbox.comp) (sym (log_of c.0 p at)) ∙ come)
+    by (inr none) =
+        let out : List RouteId = routes_of p.station.outbox in
+        let stations = stations_of played in
+        let not_there : (r : RouteId) → Contains out r → r.to.comp ≢ d = λ r has leads.
+        let w = ways_out s stations h c.0 p.station (station_at s l played h c.0 p at) r has in
+        let into : Contains inbox.routes r = subst (λ rs. Contains rs r) (sym (routes_at d.0 q to))
+        (subst (λ (e : CompId). Contains (routes_into s e) r) leads w.1) in
+        none r into w.0 in
+        none_sent d out not_there log (manned_at s l played h c.0 p at).sent ∙ sym (none_came d c inbox.routes none y.desk.log done.end.routed)
+
+  between : (c d : CompId) (x y : Ended) → slice_get ended c.0 ≡ Some x → slice_get ended d.0 ≡ Some y → IsDeliveredBetween c d x.desk.log y.desk.log
+  between c d x y from to =
+      let p = player_of c.0 x from in
+      let q = player_of d.0 y to in
+      let sent : sent_to d x.desk.log ≡ sent_to d p.0.station.desk.log =
+      ap (sent_to d) p.2.end.grown ∙ rest_sends_to_none d p.0.station.desk.log p.2.end.rest in
+      sent ∙ from_to c d p.0 q.0 y p.1 q.1 q.2 (manned_at s l played h d.0 q.0 q.1).posted.comp
+
   -- all messages have come to those who played
   pub all_settled : AreSettled s played ended
   all_settled = record {
@@ -146,6 +186,7 @@ module _ (s : Setup) (l : IsSetup s) (played : List Played) (h : AreStations s (
       routed = λ k e is. let p = player_of k e is in
           all_on s (comp_at k) e.desk.log (subst (λ rs. All (IsArrivalOn rs) (arrivals e.desk.log)) (routes_at k p.0 p.1) p.2.end.routed);
       there = there;
+      between = between;
       counts = λ k e is. let p = player_of k e is in p.2.end.counts ∙ routes_at k p.0 p.1;
     };
   }

@@ -1,5 +1,5 @@
 -- Where the routes into a component come from.
-use Rattle.std.proofs.Common.{◌≡◌, ◌<◌, Contains, All, length, subst}
+use Rattle.std.proofs.Common.{◌≡◌, ◌<◌, Contains, All, get_or, length, subst}
 use Rattle.std.proofs.lemmas.List.Elements.{Contains-get_or}
 use Rattle.tp_config.specs.declared.port_type.CompId.{CompId}
 use Rattle.tp_config.specs.declared.port_type.PortRef.{PortRef}
@@ -10,6 +10,8 @@ use Rattle.tp_config.specs.Routes.{beside, route_to, routes_from, routes_into}
 use Rattle.tp_config.proofs.Beside.{beside_back}
 use Rattle.tp_config.proofs.RouteLaws.{beside_ports, both_ways, map_cases}
 use Rattle.tp_config.proofs.Routing.{port_component, route_component}
+use Rattle.tp_inbox.specs.Routed.{sources_of}
+use Rattle.tp_exec.proofs.Senders.{source_from}
 
 -- a port from which a route leads is one of a component
 from_component : (s : Setup) → IsSetup s → (p : PortRef) (r : RouteId) → Contains (routes_from s p) r → IsComponent s r.source
@@ -30,5 +32,9 @@ leads_to s l c r h = ((both_ways s l c r).0 h).0
 pub receiver_within : (s : Setup) → IsSetup s → (c : CompId) (r : RouteId) → Contains (routes_into s c) r → IsComponent s r.to.comp
 receiver_within s l c r h = let w = (both_ways s l c r).0 h in route_component s l w.1.0 r w.1.1
 
-pub sources_within : (s : Setup) → IsSetup s → (c : CompId) → All (λ (r : RouteId). r.source.0 < length s.components) (routes_into s c)
-sources_within s l c = λ k d low. source_within s l c _ (Contains-get_or (routes_into s c) k d low)
+-- the components from which routes lead into a component are those of the configuration
+pub sources_within : (s : Setup) → IsSetup s → (c : CompId) → All (λ (d : CompId). d.0 < length s.components) (sources_of (routes_into s c))
+sources_within s l c = λ k d low.
+    let from : CompId = get_or (sources_of (routes_into s c)) k d in
+    let w = source_from (routes_into s c) from (Contains-get_or (sources_of (routes_into s c)) k d low) in
+    subst (λ (e : CompId). e.0 < length s.components) w.2 (source_within s l c w.0 w.1)

@@ -10,7 +10,7 @@ use Rattle.tp_play.specs.TestCases.{Made, behaviour_at}
 use Rattle.tp_inbox.specs.declared.entry.Entry.{Entry}
 use Rattle.tp_inbox.specs.declared.entry.Entry.TheVariants as entry
 use Rattle.tp_inbox.specs.Desks.{at_port}
-use Rattle.tp_inbox.specs.History.{IsClocked, sent_on, arrived_on, count_of}
+use Rattle.tp_inbox.specs.History.{IsClocked, sent_on, sent_to, arrived_from, arrived_on, count_of}
 use Rattle.tp_inbox.specs.declared.ending.End.{End}
 use Rattle.tp_report.specs.declared.report.Report.{Report}
 use Rattle.tp_report.specs.declared.report.CompReport.{CompReport}
@@ -37,6 +37,12 @@ pub record IsDelivered (components : List CompReport) (r : RouteId) : Type 0 whe
   pub same : sent_on r pair.source.desk.log ≡ arrived_on r pair.receiver.desk.log
   pub numbered : map (λ s. s.0) (sent_on r pair.source.desk.log) ≡ numbers_from 0 (sent_on r pair.source.desk.log)
   pub counted : count_of r pair.receiver.counts.items ≡ length (sent_on r pair.source.desk.log)
+
+-- what came to the component d from the component c, over all ports of d, is what c sent to d, over all ports of c: all
+-- of it, in the order in which it was sent and each once, at the port to which it was sent. So it is where c sends at
+-- one port and then at another, and where no ports of theirs are connected or mapped: then it is nothing
+abbrev pub IsDeliveredBetween : CompId → CompId → List Entry → List Entry → Type 0
+IsDeliveredBetween c d sent came = sent_to d sent ≡ arrived_from d c came
 
 -- the arrival came on a route of the configuration
 abbrev pub IsOnRoute : Setup → CompId → Entry → Type 0
@@ -75,4 +81,6 @@ pub record IsReportOf (made : Made) (report : Report) : Type 0 where
   pub each : (c : CompId) (x : CompReport) → slice_get report.components.items c.0 ≡ Some x → IsCompReport made c x
   pub delivered : (c : CompId) (r : RouteId) → Contains (routes_into made.config c) r
       → IsDelivered report.components.items r
+  pub between : (c d : CompId) (x y : CompReport) → slice_get report.components.items c.0 ≡ Some x
+      → slice_get report.components.items d.0 ≡ Some y → IsDeliveredBetween c d x.desk.log y.desk.log
   pub result : report.result ≡ overall_verdict (endings report.components.items) (locals report.components.items)

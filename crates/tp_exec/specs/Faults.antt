@@ -17,3 +17,9 @@ run_refusal run_fault.Restless = refusal.Restless
 abbrev pub run_fault_text : RunFault → List ℕ
 run_fault_text f =
     codes "fault " ++ decimal (label (run_refusal f)).0 ++ codes " " ++ (label (run_refusal f)).1 ++ codes "\n"
+
+-- threads alone don't come to this: that a behaviour waits is known once all messages have come
+abbrev pub IsThreadFault : RunFault → Type 0
+IsThreadFault run_fault.NoThread = Unit {0}
+IsThreadFault run_fault.Memory = Unit {0}
+IsThreadFault run_fault.Restless = ⊥

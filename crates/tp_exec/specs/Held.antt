@@ -1,25 +1,28 @@
 -- Who has which senders while they come back to their inboxes, and what is known once they have.
-use Rattle.std.specs.Prelude.{◌≡◌, ◌<◌, ◌++◌, ℕ, List, [], All, filter, length, map, slice_get, slice_index_or}
+use Rattle.std.specs.Prelude.{◌≡◌, ◌≢◌, ◌<◌, ◌++◌, ℕ, Some, List, [], All, filter, length, map, slice_get, slice_index_or}
 use Rattle.std.specs.Global.{Global}
 use Rattle.std.specs.List.{AllZip, flat_map}
 use Rattle.std.specs.Option.{option_map_or}
 use Rattle.std.specs.declared.vec.IntoIter.{IntoIter}
 use Rattle.std.specs.Vec.Iter.{into_iter_items}
+use Rattle.indexmap.specs.IndexMap.{IndexMap, get}
 use Rattle.tp_queue.specs.declared.event.Env.{Env}
 use Rattle.tp_value.specs.declared.message.Message.{Message}
+use Rattle.tp_config.specs.declared.port_type.CompId.{CompId}
 use Rattle.tp_config.specs.declared.port_type.RouteId.{RouteId}
 use Rattle.tp_config.specs.Setup.{Setup}
 use Rattle.tp_config.specs.Routes.{routes_into}
 use Rattle.tp_inbox.specs.declared.entry.Entry.{Entry}
 use Rattle.tp_inbox.specs.declared.stamped.Stamped.{Stamped}
-use Rattle.tp_inbox.specs.History.{arrivals, arrived_on, count_of, numbered, sent_on}
-use Rattle.tp_inbox.specs.Ledgers.{Inbox, IsDeskOf, Sending}
-use Rattle.tp_inbox.specs.Routed.{IsArrivalOn, rest_arrivals}
-use Rattle.tp_behaviour.specs.Stations.{IsNoted, end_of}
+use Rattle.tp_inbox.specs.History.{arrivals, arrived_from, arrived_on, count_of, numbered, posted_on, sent_on, sent_to}
+use Rattle.tp_inbox.specs.Ledgers.{Inbox, IsDeskOf, Sending, end_of}
+use Rattle.tp_inbox.specs.Places.{route_eq}
+use Rattle.tp_inbox.specs.Routed.{IsArrivalOn, rest_arrivals, sources_of}
+use Rattle.tp_behaviour.specs.Stations.{IsNoted}
 use Rattle.tp_exec.specs.declared.ended.Ended.{Ended}
 use Rattle.tp_exec.specs.declared.idle.Idle.{Idle}
 use Rattle.tp_exec.specs.declared.played.Played.{Played}
-use Rattle.tp_exec.specs.Rounds.{comes_from, ways_in}
+use Rattle.tp_exec.specs.Rounds.{Way, comes_from, way_by, ways_in}
 
 -- a component without its senders
 abbrev pub idle_of : Played → Idle
@@ -32,46 +35,61 @@ outbox_of p = p.station.outbox
 abbrev pub log_at : List Played → ℕ → List Entry
 log_at played k = option_map_or (λ (p : Played). p.station.desk.log) (slice_get played k) []
 
--- the ways on these routes into an inbox
-abbrev pub ways_on : Inbox → List RouteId → List (Inbox × RouteId)
-ways_on inbox routes = map (λ r. (inbox, r)) routes
+-- the ways into an inbox from these components
+abbrev pub ways_by : Inbox → List CompId → List Way
+ways_by inbox sources = map (way_by inbox) sources
 
 -- the ways into the inboxes of these, inbox after inbox
-abbrev pub ways_to : List Idle → List (Inbox × RouteId)
+abbrev pub ways_to : List Idle → List Way
 ways_to idles = flat_map (λ (x : Idle). ways_in x.owner.inbox) idles
 
--- how many messages were put on each of these routes
-abbrev pub counts_of : List (RouteId × List Stamped) → List (RouteId × ℕ)
-counts_of sent = map (λ s. (s.0, length s.1)) sent
+-- the table has, for this route, how many messages the sender has put on it
+abbrev pub IsFiled : {S : Type 0} → IndexMap RouteId ℕ S → Sending → RouteId → Type 0
+IsFiled counts s r = get route_eq counts r ≡ Some (length (posted_on r s.ledger))
+
+-- the same of each of the sender's routes
+abbrev pub AreFiledOf : {S : Type 0} → IndexMap RouteId ℕ S → Sending → Type 0
+AreFiledOf counts s = All (IsFiled counts s) s.routes
+
+-- no route of the one sender is one of the other
+abbrev pub ShareNone : Sending → Sending → Type 0
+ShareNone s t = All (λ (r : RouteId). All (λ (q : RouteId). q ≢ r) t.routes) s.routes
+
+-- of routes that none of these is, the one table has what the other has
+abbrev pub KeepsOthers : {S : Type 0} → List RouteId → IndexMap RouteId ℕ S → IndexMap RouteId ℕ S → Type 0
+KeepsOthers routes before after =
+    (r : RouteId) → All (λ (q : RouteId). q ≢ r) routes → get route_eq after r ≡ get route_eq before r
+
+-- how many messages were put on the route is counted
+abbrev pub IsCounted : List (RouteId × ℕ) → Sending → RouteId → Type 0
+IsCounted counts s r = count_of r counts ≡ length (posted_on r s.ledger)
 
 -- each component, whose history is this, has those of the senders on these ways that are from it, in their order, and
 -- has noted what they have put
-pub record AreAtHand (logs : ℕ → List Entry) (hands : List (IntoIter Sending Global)) (ways : List (Inbox × RouteId))
-    : Type 0 where
+pub record AreAtHand (logs : ℕ → List Entry) (hands : List (IntoIter Sending Global)) (ways : List Way) : Type 0 where
   pub each : (k : ℕ) (d : IntoIter Sending Global) → k < length hands
       → map end_of (into_iter_items (slice_index_or hands k d)) ≡ filter (comes_from k) ways
   pub noted : (k : ℕ) (d : IntoIter Sending Global) → k < length hands
       → All (IsNoted (logs k)) (into_iter_items (slice_index_or hands k d))
-  pub within : All (λ (way : Inbox × RouteId). way.1.source.0 < length hands) ways
+  pub within : All (λ (way : Way). way.1.0 < length hands) ways
 
 -- the sender is that on this way, and its component has noted what it has put
-abbrev pub IsHandedBack : (ℕ → List Entry) → Inbox × RouteId → Sending → Type 0
-IsHandedBack logs way s = (s.inbox ≡ way.0) × (s.route ≡ way.1) × IsNoted (logs way.1.source.0) s
+abbrev pub IsHandedBack : (ℕ → List Entry) → Way → Sending → Type 0
+IsHandedBack logs way s = (end_of s ≡ way) × IsNoted (logs way.1.0) s
 
 -- whoever has senders has, first of all, those on these ways
-abbrev pub CanTake : List (IntoIter Sending Global) → List (Inbox × RouteId) → Type 0
-CanTake hands ways = (logs : ℕ → List Entry) × (more : List (Inbox × RouteId)) × AreAtHand logs hands (ways ++ more)
+abbrev pub CanTake : List (IntoIter Sending Global) → List Way → Type 0
+CanTake hands ways = (logs : ℕ → List Entry) × (more : List Way) × AreAtHand logs hands (ways ++ more)
 
 -- without those on these ways they have all others
-abbrev pub Leaves : List (IntoIter Sending Global) → List (Inbox × RouteId) → List (IntoIter Sending Global) → Type 0
+abbrev pub Leaves : List (IntoIter Sending Global) → List Way → List (IntoIter Sending Global) → Type 0
 Leaves hands ways after =
-    (logs : ℕ → List Entry) (more : List (Inbox × RouteId)) → AreAtHand logs hands (ways ++ more)
-    → AreAtHand logs after more
+    (logs : ℕ → List Entry) (more : List Way) → AreAtHand logs hands (ways ++ more) → AreAtHand logs after more
 
 -- those on these ways are these
-abbrev pub Gives : List (IntoIter Sending Global) → List (Inbox × RouteId) → List Sending → Type 0
+abbrev pub Gives : List (IntoIter Sending Global) → List Way → List Sending → Type 0
 Gives hands ways senders =
-    (logs : ℕ → List Entry) (more : List (Inbox × RouteId)) → AreAtHand logs hands (ways ++ more)
+    (logs : ℕ → List Entry) (more : List Way) → AreAtHand logs hands (ways ++ more)
     → AllZip (IsHandedBack logs) ways senders
 
 -- its inbox and its desk are those of one component, into which the inbox's routes lead, and what it has drained is
@@ -99,13 +117,22 @@ pub record HasCome (logs : ℕ → List Entry) (e : Ended) (r : RouteId) : Type 
   pub arrived : arrived_on r e.desk.log ≡ numbered 0 ledger
   pub counted : count_of r e.counts.items ≡ length ledger
 
+-- over all routes into this inbox has come from that component, in its order, what its history says was sent there
+abbrev pub HasComeFrom : (ℕ → List Entry) → Inbox → Ended → CompId → Type 0
+HasComeFrom logs inbox e c = sent_to inbox.comp (logs c.0) ≡ arrived_from inbox.comp c e.desk.log
+
+-- all has come to the component: on each route into this inbox, and from each component with such routes
+pub record HasAll (logs : ℕ → List Entry) (inbox : Inbox) (e : Ended) : Type 0 where
+  pub routes : All (HasCome logs e) inbox.routes
+  pub sources : All (HasComeFrom logs inbox e) (sources_of inbox.routes)
+
 -- the component has ended, and all has come to it
 pub record IsDone (logs : ℕ → List Entry) (x : Idle) (e : Ended) : Type 0 where
   pub end : IsEndOf x e
-  pub come : All (HasCome logs e) x.owner.inbox.routes
+  pub come : HasAll logs x.owner.inbox e
 
 -- all has come to the component that the senders into its inbox, of those that these have, have put
 abbrev pub AllCome : List (IntoIter Sending Global) → Idle → Ended → Type 0
 AllCome hands x e =
-    (logs : ℕ → List Entry) (more : List (Inbox × RouteId)) → AreAtHand logs hands (ways_in x.owner.inbox ++ more)
-    → All (HasCome logs e) x.owner.inbox.routes
+    (logs : ℕ → List Entry) (more : List Way) → AreAtHand logs hands (ways_in x.owner.inbox ++ more)
+    → HasAll logs x.owner.inbox e

@@ -8,3 +8,4 @@ pub mod Rounds
 pub mod Seats
 pub mod Settlings
 pub mod Reporting
+pub mod Laws

@@ -1,11 +1,10 @@
 -- How the stations of a run come about: first each with its inbox alone, then with the senders of the ways from it.
-use Rattle.std.specs.Prelude.{◌≡◌, ◌≢◌, ◌<◌, ◌==◌, ◌++◌, ℕ, Bool, Some, List, [], ◌∷◌, All, filter, length, map, slice_get, slice_set}
+use Rattle.std.specs.Prelude.{◌≡◌, ◌≢◌, ◌<◌, ◌==◌, ◌++◌, ℕ, Bool, Some, List, [], ◌∷◌, All, AllPairs, filter, length, map, slice_get, slice_set}
 use Rattle.tp_config.specs.Setup.{Setup, ports_at}
 use Rattle.tp_config.specs.Routes.{routes_into}
 use Rattle.tp_inbox.specs.Desks.{Journal, new_desk}
-use Rattle.tp_inbox.specs.Ledgers.{Draining, Sending}
+use Rattle.tp_inbox.specs.Ledgers.{Draining, Sending, end_of}
 use Rattle.tp_behaviour.specs.declared.station.Station.{Station}
-use Rattle.tp_behaviour.specs.Stations.{end_of}
 use Rattle.tp_exec.specs.declared.inboxes.Opened.{Opened}
 use Rattle.tp_exec.specs.Rounds.{all_ways, comp_at}
 
@@ -35,29 +34,35 @@ pub record AreOpened (s : Setup) (n : ℕ) (o : Opened) : Type 0 where
   pub unused : All IsUnused o.senders.items
   pub closers : length o.closers.items ≡ n
 
--- the sender's route comes from the component of this number
+-- the sender is that of the component of this number
 abbrev pub is_of : ℕ → Sending → Bool
-is_of k y = y.route.source.0 == k
+is_of k y = y.source.0 == k
 
--- the sender's route comes from one of the components of these stations
+-- the sender is that of one of the components of these stations
 abbrev pub IsFromOneOf : List Station → Sending → Type 0
-IsFromOneOf stations y = y.route.source.0 < length stations
+IsFromOneOf stations y = y.source.0 < length stations
 
--- the station of its route's source has no sender on its route
+-- two senders of one component put into the inboxes of two
+abbrev pub AreTwo : Sending → Sending → Type 0
+AreTwo y z = y.source ≡ z.source → y.inbox.comp ≢ z.inbox.comp
+
+-- no component has two senders into one inbox
+abbrev pub AreApart : List Sending → Type 0
+AreApart senders = AllPairs AreTwo senders
+
+-- the station of its component has no sender into its inbox
 abbrev pub IsFirstThere : List Station → Sending → Type 0
 IsFirstThere stations y =
-    (x : Station) → slice_get stations y.route.source.0 ≡ Some x → All (λ (z : Sending). z.route ≢ y.route) x.outbox
+    (x : Station) → slice_get stations y.source.0 ≡ Some x → All (λ (z : Sending). z.inbox.comp ≢ y.inbox.comp) x.outbox
 
 -- the station with one sender more
 abbrev pub giving : Station → Sending → Station
 giving x y = record x { outbox = x.outbox ++ y ∷ [] }
 
--- the sender has come to the station of its route's source, and nothing else has changed
+-- the sender has come to the station of its component, and nothing else has changed
 abbrev pub HasGiven : Sending → List Station → List Station → Type 0
 HasGiven y before after =
-    (x : Station)
-    × (slice_get before y.route.source.0 ≡ Some x)
-    × (after ≡ slice_set before y.route.source.0 (giving x y))
+    (x : Station) × (slice_get before y.source.0 ≡ Some x) × (after ≡ slice_set before y.source.0 (giving x y))
 
 -- what a station has beside its senders
 abbrev pub rest_of : Station → Draining × Journal

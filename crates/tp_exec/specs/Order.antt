@@ -40,3 +40,20 @@ pub data HappensBefore (report : Report) : Spot → Spot → Type 0 where
 -- **nothing happened before itself**: no message depends on its own coming
 abbrev pub NoCircle : Report → Type 0
 NoCircle report = (a : Spot) → ¬ HappensBefore report a a
+
+-- what was sent on this route under this number came to its receiver, at this place of the receiver's history
+pub record CameAt (report : Report) (a : ℕ) (r : RouteId) (number : ℕ) : Type 0 where
+  pub envelope : Env Message
+  pub stamp : ℕ
+  pub stands : StandsAt report (record { comp = r.to.comp.0; place = a }) (entry.Arrive r.to.port envelope stamp)
+  pub sender : envelope.sender ≡ r.source.0
+  pub numbered : envelope.number ≡ number
+
+-- **no message overtakes another**: of two that one component sent to one other, at whatever ports, that came first which
+-- was sent first
+abbrev pub NoneOvertakes : Report → Type 0
+NoneOvertakes report =
+    (r q : RouteId) (i j n o a b : ℕ) (m w : Stamped) → r.source ≡ q.source → r.to.comp ≡ q.to.comp → i < j
+    → StandsAt report (record { comp = r.source.0; place = i }) (entry.Sent r n m)
+    → StandsAt report (record { comp = q.source.0; place = j }) (entry.Sent q o w)
+    → CameAt report a r n → CameAt report b q o → a < b

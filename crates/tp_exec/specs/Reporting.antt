@@ -17,6 +17,7 @@ use Rattle.tp_behaviour.specs.Choices.{NoneOpen}
 use Rattle.tp_exec.specs.declared.ended.Ended.{Ended}
 use Rattle.tp_exec.specs.declared.fault.RunFault.{RunFault}
 use Rattle.tp_exec.specs.declared.fault.RunFault.TheVariants as run_fault
+use Rattle.tp_exec.specs.Settlings.{IsOfARun}
 
 -- one, where there is something to do
 abbrev pub one_with : Option Behaviour → ℕ
@@ -59,8 +60,20 @@ pub record IsReportedAs (s : Setup) (e : Ended) (x : CompReport) : Type 0 where
   pub counts : x.counts.items ≡ e.counts.items
   pub sound : IsSoundJournal e.desk
 
--- why there is no report of what a run came to: memory was refused, or a behaviour waits for what is there
+-- why there is no report of what a run came to: a behaviour waits for what is there; or none does, and memory was
+-- refused
 abbrev pub IsRefusal : List Ended → RunFault → Type 0
 IsRefusal ended run_fault.NoThread = ⊥
-IsRefusal ended run_fault.Memory = Unit {0}
+IsRefusal ended run_fault.Memory = All IsAtRest ended
 IsRefusal ended run_fault.Restless = ¬ All IsAtRest ended
+
+-- a run of the test case came to what it came to, and a behaviour waits for what is there
+abbrev pub IsRestless : Made → Type 0
+IsRestless made = (ended : List Ended) × IsOfARun made ended × (¬ All IsAtRest ended)
+
+-- this is why a run of the test case has no report: that a behaviour waits for what is there is said only where one
+-- does
+abbrev pub IsRunFault : Made → RunFault → Type 0
+IsRunFault made run_fault.NoThread = Unit {0}
+IsRunFault made run_fault.Memory = Unit {0}
+IsRunFault made run_fault.Restless = IsRestless made

@@ -1,24 +1,23 @@
 -- What goes into the threads of a run, and what comes back.
 use Rattle.std.specs.Prelude.{◌≡◌, ◌≢◌, ℕ, Some, None, List, [], map}
 use Rattle.tp_config.specs.declared.port_type.CompId.{CompId}
-use Rattle.tp_config.specs.declared.port_type.RouteId.{RouteId}
 use Rattle.tp_play.specs.Seen.{as_behaviour}
 use Rattle.tp_play.specs.TestCases.{Made, behaviour_at}
-use Rattle.tp_inbox.specs.Ledgers.{Inbox}
+use Rattle.tp_inbox.specs.Ledgers.{Inbox, end_of}
 use Rattle.tp_behaviour.specs.declared.post.Post.{Post}
 use Rattle.tp_behaviour.specs.declared.station.Station.{Station}
 use Rattle.tp_behaviour.specs.Moments.{moments}
 use Rattle.tp_behaviour.specs.Outcomes.{CanBehave, HasEnded, WaitsWithin}
-use Rattle.tp_behaviour.specs.Stations.{IsManned, end_of, role_of}
+use Rattle.tp_behaviour.specs.Stations.{IsManned, role_of}
 use Rattle.tp_exec.specs.declared.played.Played.{Played}
-use Rattle.tp_exec.specs.Rounds.{HasNotBegun, HasPlayed, IsStaffed}
+use Rattle.tp_exec.specs.Rounds.{HasNotBegun, HasPlayed, IsStaffed, Way}
 
 -- whose inbox and whose senders they are
-abbrev pub badge_of : Station → Inbox × List (Inbox × RouteId)
+abbrev pub badge_of : Station → Inbox × List Way
 badge_of x = (x.owner.inbox, map end_of x.outbox)
 
 -- the same of all that came back
-abbrev pub badges_of : List Played → List (Inbox × List (Inbox × RouteId))
+abbrev pub badges_of : List Played → List (Inbox × List Way)
 badges_of played = map (λ (p : Played). badge_of p.station) played
 
 -- the number of the component whose station it is

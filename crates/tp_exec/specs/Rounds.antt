@@ -8,10 +8,11 @@ use Rattle.tp_config.specs.Routes.{routes_into}
 use Rattle.tp_play.specs.Behaviours.{Behaviour}
 use Rattle.tp_play.specs.TestCases.{Made, behaviour_at}
 use Rattle.tp_inbox.specs.declared.entry.Entry.{Entry}
-use Rattle.tp_inbox.specs.Ledgers.{Inbox}
+use Rattle.tp_inbox.specs.Ledgers.{Inbox, end_of}
+use Rattle.tp_inbox.specs.Routed.{routes_by, sources_of}
 use Rattle.tp_behaviour.specs.declared.station.Station.{Station}
 use Rattle.tp_behaviour.specs.declared.outcome.Outcome.{Outcome}
-use Rattle.tp_behaviour.specs.Stations.{IsManned, end_of}
+use Rattle.tp_behaviour.specs.Stations.{IsManned}
 use Rattle.tp_behaviour.specs.Outcomes.{HasEnded, WaitsWithin}
 use Rattle.tp_exec.specs.declared.played.Played.{Played}
 
@@ -23,16 +24,24 @@ comp_at k = record { 0 = k }
 abbrev pub IsStaffed : Setup → ℕ → Station → Type 0
 IsStaffed s k x = (references : List ℕ) → IsManned (record { config = s; comp = comp_at k; references = references }) x
 
--- the way comes from this component
-abbrev pub comes_from : ℕ → Inbox × RouteId → Bool
-comes_from k way = way.1.source.0 == k
+-- a way: an inbox, a component that sends into it, and its routes there
+abbrev pub Way : Type 0
+Way = Inbox × CompId × List RouteId
 
--- the ways into an inbox: one for each of its routes
-abbrev pub ways_in : Inbox → List (Inbox × RouteId)
-ways_in inbox = map (λ r. (inbox, r)) inbox.routes
+-- the way into this inbox from this component
+abbrev pub way_by : Inbox → CompId → Way
+way_by inbox source = (inbox, source, routes_by source inbox.routes)
+
+-- the way comes from this component
+abbrev pub comes_from : ℕ → Way → Bool
+comes_from k way = way.1.0 == k
+
+-- the ways into an inbox: one for each component that has routes into it
+abbrev pub ways_in : Inbox → List Way
+ways_in inbox = map (way_by inbox) (sources_of inbox.routes)
 
 -- the ways of a run, inbox after inbox
-abbrev pub all_ways : List Station → List (Inbox × RouteId)
+abbrev pub all_ways : List Station → List Way
 all_ways stations = flat_map (λ (x : Station). ways_in x.owner.inbox) stations
 
 -- the stations of all components, in their order: each has the inbox of its component, into which the component's

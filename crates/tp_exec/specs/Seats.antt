@@ -1,14 +1,14 @@
 -- Where the components of a run are while their threads run.
 use Rattle.std.specs.Prelude.{◌≡◌, List}
-use Rattle.tp_config.specs.declared.port_type.RouteId.{RouteId}
 use Rattle.tp_play.specs.TestCases.{Made}
 use Rattle.tp_inbox.specs.Ledgers.{Inbox}
 use Rattle.tp_exec.specs.declared.threads.Seat.{Seat}
 use Rattle.tp_exec.specs.declared.threads.Seat.TheVariants as seat
 use Rattle.tp_exec.specs.Returns.{HasReturned, badge_of}
+use Rattle.tp_exec.specs.Rounds.{Way}
 
 -- whose inbox and whose senders are there, or will come back
-abbrev pub badge_at : Seat → Inbox × List (Inbox × RouteId)
+abbrev pub badge_at : Seat → Inbox × List Way
 badge_at (seat.Away h) = badge_of h.promise.station.value
 badge_at (seat.Here p) = badge_of p.station
 

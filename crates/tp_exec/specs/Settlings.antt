@@ -16,7 +16,7 @@ use Rattle.tp_behaviour.specs.Fresh.{Fresh}
 use Rattle.tp_behaviour.specs.Outcomes.{WaitsWithin}
 use Rattle.tp_exec.specs.declared.played.Played.{Played}
 use Rattle.tp_exec.specs.declared.ended.Ended.{Ended}
-use Rattle.tp_exec.specs.Delivery.{IsOnRoute}
+use Rattle.tp_exec.specs.Delivery.{IsDeliveredBetween, IsOnRoute}
 use Rattle.tp_exec.specs.Rounds.{BehaviourEnded, comp_at}
 
 -- the component is the one that played, and has done what it did; its history has more arrivals behind it, that is all
@@ -45,6 +45,9 @@ pub record HasAllCome (s : Setup) (ended : List Ended) : Type 0 where
   -- each arrival is of a route
   pub routed : (k : ℕ) (e : Ended) → slice_get ended k ≡ Some e → All (IsOnRoute s (comp_at k)) e.desk.log
   pub there : (k : ℕ) (r : RouteId) → Contains (routes_into s (comp_at k)) r → IsAllThere ended r
+  -- from each component to each, over all routes in one order
+  pub between : (c d : CompId) (x y : Ended) → slice_get ended c.0 ≡ Some x → slice_get ended d.0 ≡ Some y
+      → IsDeliveredBetween c d x.desk.log y.desk.log
   pub counts : (k : ℕ) (e : Ended) → slice_get ended k ≡ Some e
       → map (λ n. n.0) e.counts.items ≡ routes_into s (comp_at k)
 

@@ -2,10 +2,8 @@
 //! component that it sends for.
 ghost use Rattle.std.specs.Prelude.{◌≡◌, ◌+◌, All, IfOk, OnOk, length};
 ghost use Rattle.tp_config.specs.Allowed.{IsSetup};
-ghost use Rattle.tp_config.specs.Routes.{AreDistinct};
 ghost use Rattle.tp_config.specs.Setup.{IsComponent};
-ghost use Rattle.tp_behaviour.specs.Outboxes.{routes_of};
-ghost use Rattle.tp_exec.specs.Openings.{AreHandedOut, AreOpened, HasGiven};
+ghost use Rattle.tp_exec.specs.Openings.{AreApart, AreHandedOut, AreOpened, HasGiven};
 ghost use Rattle.tp_exec.specs.Openings.{IsBare, IsFirstThere, IsFromOneOf};
 ghost use Rattle.tp_exec.specs.Rounds.{AreStations, HasNotBegun};
 
@@ -27,7 +25,7 @@ use tp_refusal::memory::Memory;
 struct Opened {
     /// A station for each of these components, with no sender.
     stations: Vec<Station>,
-    /// The senders on the routes into these inboxes, inbox after inbox.
+    /// The senders into these inboxes, inbox after inbox.
     senders: Vec<Sender>,
     /// What closes each of these inboxes.
     closers: Vec<Closer>,
@@ -83,7 +81,7 @@ fn open_inboxes(
     Ok(opened)
 }
 
-/// Gives a sender to the component that sends by it, which has none on its route yet.
+/// Gives a sender to the component that sends by it, which has none into its inbox yet.
 ///
 /// 50 `Memory` where an allocation was refused.
 fn hand_to(stations: &mut Vec<Station>, sender: Sender) -> Result<(), Memory>
@@ -91,7 +89,7 @@ fn hand_to(stations: &mut Vec<Station>, sender: Sender) -> Result<(), Memory>
     requires apart { IsFirstThere stations.old.items sender }
     ensures { OnOk result (HasGiven sender stations.old.items stations.new.items) }
 {
-    let source = sender.route().source;
+    let source = sender.source();
     stations[source.0 as usize].outbox.add(sender)
 }
 
@@ -101,7 +99,7 @@ fn hand_to(stations: &mut Vec<Station>, sender: Sender) -> Result<(), Memory>
 fn hand_out(stations: Vec<Station>, senders: Vec<Sender>) -> Result<Vec<Station>, Memory>
     requires bare { All IsBare stations.items }
     requires within { All (IsFromOneOf stations.items) senders.items }
-    requires apart { AreDistinct (routes_of senders.items) }
+    requires apart { AreApart senders.items }
     ensures { IfOk result (λ manned. AreHandedOut stations.items senders.items manned.items) }
 {
     let mut manned = stations;
@@ -112,7 +110,7 @@ fn hand_out(stations: Vec<Station>, senders: Vec<Sender>) -> Result<Vec<Station>
 }
 
 /// A station for each component of the configuration, in their order, and what closes their
-/// inboxes. Each component has the senders on the routes from it.
+/// inboxes. Each component has its senders: one into each inbox to which a route leads from it.
 ///
 /// 50 `Memory` only where an allocation was refused.
 pub(crate) fn make_stations(

@@ -1,10 +1,12 @@
 //! The executor: each component's behaviour in a thread of its own, and the report of a run.
 #![tactic(auto)]
 
+mod counting;
 mod ended;
 pub mod fault;
 mod idle;
 mod inboxes;
+pub mod laws;
 mod played;
 mod reporting;
 mod returning;

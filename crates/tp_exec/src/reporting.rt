@@ -5,7 +5,7 @@ ghost use Rattle.tp_config.specs.Setup.{IsComponent};
 ghost use Rattle.tp_report.specs.Reports.{IsReportable};
 ghost use Rattle.tp_report.specs.Verdicts.{endings, locals, overall_verdict};
 ghost use Rattle.tp_exec.specs.Delivery.{IsReportOf};
-ghost use Rattle.tp_exec.specs.Reporting.{IsRefusal, IsReportedAs, end_as};
+ghost use Rattle.tp_exec.specs.Reporting.{IsAtRest, IsRefusal, IsReportedAs, end_as};
 ghost use Rattle.tp_exec.specs.Settlings.{IsOfARun};
 
 use crate::ended::Ended;
@@ -81,8 +81,8 @@ fn conclude(components: Vec<CompReport>) -> Report
 
 /// The report of the components of a run, in their order.
 ///
-/// 50 `Memory` where an allocation was refused; else 61 `Restless` where a behaviour waits and one
-/// of its branches is open in its final queues.
+/// 61 `Restless` where a behaviour waits and one of its branches is open in its final queues; else
+/// 50 `Memory` where an allocation was refused.
 pub(crate) fn make_report(
     alloc: Global,
     test_case: &TestCase,
@@ -91,16 +91,16 @@ pub(crate) fn make_report(
     requires { IsOfARun test_case.now ended.items }
     ensures report { IfOk result (IsReportOf test_case.now) }
     ensures text { IfOk result (IsReportable test_case.now.config) }
+    ensures rest { IfOk result (λ _. All IsAtRest ended.items) }
     ensures refusal { IfErr result (IsRefusal ended.items) }
 {
     // It says that the configuration is a lawful one.
     let _lawful = test_case.components();
-    let at_rest = are_at_rest(ended.as_slice());
+    if !are_at_rest(ended.as_slice()) {
+        return Err(RunFault::Restless);
+    }
     let Ok(components) = report_components(alloc, test_case.config(), ended) else {
         return Err(RunFault::Memory);
     };
-    if !at_rest {
-        return Err(RunFault::Restless);
-    }
     Ok(conclude(components))
 }

@@ -2,14 +2,17 @@
 ghost use Rattle.std.specs.Prelude.{◌≡◌, ◌∷◌, [], IfOk, MatchOption, OnOk, map};
 ghost use Rattle.std.specs.Vec.Iter.{into_iter_items};
 ghost use Rattle.tp_inbox.specs.Ledgers.{Inbox};
-ghost use Rattle.tp_exec.specs.Held.{CanTake, Gives, Leaves, idle_of, outbox_of, ways_on};
+ghost use Rattle.tp_inbox.specs.Routed.{sources_of};
+ghost use Rattle.tp_exec.specs.Held.{CanTake, Gives, Leaves, idle_of, outbox_of, ways_by};
+ghost use Rattle.tp_exec.specs.Rounds.{way_by};
 
 use crate::idle::Idle;
 use crate::played::Played;
+use indexmap::IndexSet;
 use std::alloc::Global;
 use std::vec::IntoIter;
 use tp_behaviour::station::Station;
-use tp_config::port_type::RouteId;
+use tp_config::port_type::{CompId, RouteId};
 use tp_inbox::sender::Sender;
 use tp_refusal::memory::Memory;
 
@@ -43,37 +46,51 @@ pub(crate) fn part_played(
     Ok((idles, hands))
 }
 
-/// Takes the sender on this route from the component that has it, where it is the next. Takes no
-/// memory.
-fn take_one(route: RouteId, hands: &mut Vec<IntoIter<Sender>>) -> Option<Sender>
-    requires { (i : Inbox) × CanTake hands.old.items ((i, route) ∷ []) }
-    ensures held { (i : Inbox) → Leaves hands.old.items ((i, route) ∷ []) hands.new.items }
-    ensures back { (i : Inbox) → MatchOption result
-        (¬ CanTake hands.old.items ((i, route) ∷ []))
-        (λ s. Gives hands.old.items ((i, route) ∷ []) (s ∷ [])) }
+/// The components from which these routes lead, each once, in the order of its first route.
+///
+/// 50 `Memory` where an allocation was refused.
+pub(crate) fn distinct_sources(alloc: Global, routes: &[RouteId]) -> Result<Vec<CompId>, Memory>
+    ensures { IfOk result (λ sources. sources.items ≡ sources_of routes.now) }
 {
-    hands[route.source.0 as usize].next()
+    let mut seen = IndexSet::new(alloc);
+    for place in 0..routes.len() {
+        seen.insert(routes[place].source)?;
+    }
+    let sources = Vec::from_slice(alloc, seen.as_slice())?;
+    Ok(sources)
 }
 
-/// Takes the senders on these routes into one inbox, in their order, from the components that have
-/// them: each is the next of its component's, so that none is looked for.
+/// Takes this component's sender into an inbox from the component, where it is the next. Takes no
+/// memory.
+fn take_one(source: CompId, hands: &mut Vec<IntoIter<Sender>>) -> Option<Sender>
+    requires { (i : Inbox) × CanTake hands.old.items (way_by i source ∷ []) }
+    ensures held { (i : Inbox) → Leaves hands.old.items (way_by i source ∷ []) hands.new.items }
+    ensures back { (i : Inbox) → MatchOption result
+        (¬ CanTake hands.old.items (way_by i source ∷ []))
+        (λ s. Gives hands.old.items (way_by i source ∷ []) (s ∷ [])) }
+{
+    hands[source.0 as usize].next()
+}
+
+/// Takes the senders of these components into one inbox, in their order, from the components: each
+/// is the next of its component's, so that none is looked for.
 ///
 /// 50 `Memory` where an allocation was refused.
 pub(crate) fn take_back(
     alloc: Global,
-    routes: Vec<RouteId>,
+    sources: Vec<CompId>,
     hands: &mut Vec<IntoIter<Sender>>,
 ) -> Result<Vec<Sender>, Memory>
-    requires { (i : Inbox) × CanTake hands.old.items (ways_on i routes.items) }
+    requires { (i : Inbox) × CanTake hands.old.items (ways_by i sources.items) }
     ensures held { OnOk result ((i : Inbox)
-        → Leaves hands.old.items (ways_on i routes.items) hands.new.items) }
+        → Leaves hands.old.items (ways_by i sources.items) hands.new.items) }
     ensures back { IfOk result (λ back. (i : Inbox)
-        → Gives hands.old.items (ways_on i routes.items) back.items) }
+        → Gives hands.old.items (ways_by i sources.items) back.items) }
 {
     let mut back = Vec::new(alloc);
-    for route in routes {
-        let Some(sender) = take_one(route, hands) else {
-            // There is a sender for each of these routes, by the condition.
+    for source in sources {
+        let Some(sender) = take_one(source, hands) else {
+            // Each of these components has a sender, by the condition.
             unreachable!();
         };
         back.push(sender)?;

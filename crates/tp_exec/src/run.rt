@@ -1,8 +1,8 @@
 //! A run.
-ghost use Rattle.std.specs.Prelude.{◌≡◌, IfOk, length};
+ghost use Rattle.std.specs.Prelude.{◌≡◌, IfErr, IfOk, length};
 ghost use Rattle.tp_exec.specs.Delivery.{IsReportOf};
-ghost use Rattle.tp_exec.specs.Order.{NoCircle};
-ghost use Rattle.tp_exec.specs.Reporting.{living_below};
+ghost use Rattle.tp_exec.specs.Order.{NoCircle, NoneOvertakes};
+ghost use Rattle.tp_exec.specs.Reporting.{IsRunFault, living_below};
 ghost use Rattle.tp_report.specs.Reports.{IsReportable};
 
 use crate::fault::RunFault;
@@ -34,8 +34,9 @@ fn count_living(test_case: &TestCase) -> u32
 /// Carries the test case out and reports what happened: **delivery**.
 ///
 /// 51 `NoThread` where the starting of a thread was refused; else 50 `Memory` where an allocation
-/// was refused; else 61 `Restless` where a behaviour waits and one of its branches is open in its
-/// final queues.
+/// was refused before all messages had come; else 61 `Restless` where a behaviour waits and one of
+/// its branches is open in its final queues; else 50 `Memory` where there was no memory for the
+/// report.
 pub fn run<R: Threads + Wait + Sync, G: Gate>(
     rt: &R,
     alloc: Global,
@@ -44,7 +45,9 @@ pub fn run<R: Threads + Wait + Sync, G: Gate>(
 ) -> Result<Report, RunFault>
     ensures report { IfOk result (IsReportOf test_case.now) }
     ensures order { IfOk result NoCircle }
+    ensures overtaking { IfOk result NoneOvertakes }
     ensures text { IfOk result (IsReportable test_case.now.config) }
+    ensures fault { IfErr result (IsRunFault test_case.now) }
 {
     let Ok(floor) = Floor::new(alloc, count_living(test_case)) else {
         return Err(RunFault::Memory);

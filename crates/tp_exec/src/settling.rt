@@ -1,19 +1,21 @@
 //! What is left in the inboxes.
-ghost use Rattle.std.specs.Prelude.{◌≡◌, ◌++◌, ◌<◌, All, IfOk, OnOk, map};
+ghost use Rattle.std.specs.Prelude.{◌≡◌, ◌++◌, ◌<◌, All, Contains, IfOk, OnOk, map};
+ghost use Rattle.tp_config.specs.declared.port_type.RouteId.{RouteId as Route};
 ghost use Rattle.tp_config.specs.Routes.{routes_into};
 ghost use Rattle.tp_inbox.specs.Desks.{adding_all};
-ghost use Rattle.tp_inbox.specs.Ends.{seen_sent};
 ghost use Rattle.tp_inbox.specs.History.{arrivals};
-ghost use Rattle.tp_inbox.specs.Ledgers.{AreSenders, IsDeskOf, put_by};
-ghost use Rattle.tp_inbox.specs.Routed.{AreDelivered, AreRoutes, IsArrivalOn, rest_arrivals};
-ghost use Rattle.tp_exec.specs.Held.{AllCome, CanTake, Gives, IsEndOf, IsIdle, Leaves, counts_of};
+ghost use Rattle.tp_inbox.specs.Ledgers.{AreSenders, IsDeskOf, Sending, put_by};
+ghost use Rattle.tp_inbox.specs.Routed.{AreDelivered, AreNumbered, AreRoutes, IsArrivalOn};
+ghost use Rattle.tp_inbox.specs.Routed.{rest_arrivals};
+ghost use Rattle.tp_exec.specs.Held.{AllCome, CanTake, Gives, IsCounted, IsEndOf, IsIdle, Leaves};
 ghost use Rattle.tp_exec.specs.Rounds.{AreStations, stations_of, ways_in};
 ghost use Rattle.tp_exec.specs.Settlings.{AreSettled};
 
+use crate::counting::count_all;
 use crate::ended::Ended;
 use crate::idle::Idle;
 use crate::played::Played;
-use crate::returning::{part_played, take_back};
+use crate::returning::{distinct_sources, part_played, take_back};
 use std::alloc::Global;
 use std::sync::Wait;
 use std::vec::IntoIter;
@@ -23,26 +25,9 @@ use tp_inbox::desk::Desk;
 use tp_inbox::gathered::{Settled, gather};
 use tp_inbox::owner::Owner;
 use tp_inbox::sender::Sender;
-use tp_inbox::stamped::Stamped;
 use tp_queue::event::Env;
 use tp_refusal::memory::Memory;
 use tp_value::message::Message;
-
-/// How many messages were put on each of these routes.
-///
-/// 50 `Memory` where an allocation was refused.
-fn count_all(
-    alloc: Global,
-    sent: Vec<(RouteId, Vec<Stamped>)>,
-) -> Result<Vec<(RouteId, u64)>, Memory>
-    ensures { IfOk result (λ counts. counts.items ≡ counts_of (seen_sent sent.items)) }
-{
-    let mut counts = Vec::new(alloc);
-    for (route, ledger) in sent {
-        counts.push((route, ledger.len() as u64))?;
-    }
-    Ok(counts)
-}
 
 /// Adds what was still in the inbox to the history, in its order.
 ///
@@ -59,7 +44,7 @@ fn append(desk: &mut Desk, rest: Vec<(u32, Env<Message>, u64)>) -> Result<(), Me
     Ok(())
 }
 
-/// What the senders into this inbox have put, and what is still in it.
+/// What is still in this inbox, once its senders have ended.
 ///
 /// 50 `Memory` where an allocation was refused.
 fn settle<R: Wait>(
@@ -72,9 +57,10 @@ fn settle<R: Wait>(
     requires arrived { arrivals desk.now.log ≡ owner.drained }
     requires senders { AreSenders owner.inbox senders.items }
     ensures are { AreRoutes owner.inbox.comp owner.inbox.ports owner.inbox.routes }
-    ensures sent { IfOk result (λ x. seen_sent x.sent.items ≡ map put_by senders.items) }
-    ensures delivered { IfOk result (λ x.
-        AreDelivered (desk.now.log ++ rest_arrivals x.rest.items) (map put_by senders.items)) }
+    ensures delivered { IfOk result (λ x. AreDelivered owner.inbox.comp
+        (desk.now.log ++ rest_arrivals x.rest.items) (map put_by senders.items)) }
+    ensures numbered { IfOk result (λ x. AreNumbered owner.inbox.routes
+        (desk.now.log ++ rest_arrivals x.rest.items)) }
     ensures routed { IfOk result (λ x. All (IsArrivalOn owner.inbox.routes)
         (arrivals (desk.now.log ++ rest_arrivals x.rest.items))) }
     ensures within { IfOk result (λ x. All (λ y. y.0 < desk.now.ports) x.rest.items) }
@@ -86,7 +72,8 @@ fn settle<R: Wait>(
     }
 }
 
-/// The senders into this component's inbox, taken from the components that have them.
+/// The senders into this component's inbox, taken from the components that have them, and how many
+/// messages they have put on each route into it.
 ///
 /// 50 `Memory` where an allocation was refused.
 fn take_senders(
@@ -94,18 +81,25 @@ fn take_senders(
     config: &Config,
     idle: &Idle,
     hands: &mut Vec<IntoIter<Sender>>,
-) -> Result<Vec<Sender>, Memory>
+) -> Result<(Vec<Sender>, Vec<(RouteId, u64)>), Memory>
     requires routes { idle.now.owner.inbox.routes
         ≡ routes_into config.now idle.now.desk.comp }
     requires held { CanTake hands.old.items (ways_in idle.now.owner.inbox) }
     ensures held { OnOk result
         (Leaves hands.old.items (ways_in idle.now.owner.inbox) hands.new.items) }
-    ensures back { IfOk result (λ back.
-        Gives hands.old.items (ways_in idle.now.owner.inbox) back.items) }
+    ensures back { IfOk result (λ taken.
+        Gives hands.old.items (ways_in idle.now.owner.inbox) taken.0.items) }
+    ensures routes { IfOk result (λ taken.
+        map (λ n. n.0) taken.1.items ≡ idle.now.owner.inbox.routes) }
+    ensures counted { IfOk result (λ taken. (s : Sending) (r : Route) →
+        Contains taken.0.items s → Contains s.routes r → Contains idle.now.owner.inbox.routes r
+        → IsCounted taken.1.items s r) }
 {
     let routes = config.routes_into(idle.desk.comp())?;
-    let senders = take_back(alloc, routes, hands)?;
-    Ok(senders)
+    let sources = distinct_sources(alloc, routes.as_slice())?;
+    let senders = take_back(alloc, sources, hands)?;
+    let counts = count_all(alloc, routes, senders.as_slice())?;
+    Ok((senders, counts))
 }
 
 /// The component once all has come to it: what was still in its inbox is added to its history.
@@ -125,14 +119,13 @@ fn settle_one<R: Wait>(
     ensures end { IfOk result (IsEndOf idle) }
     ensures come { IfOk result (AllCome hands.old.items idle) }
 {
-    let senders = take_senders(alloc, config, &idle, hands)?;
+    let (senders, counts) = take_senders(alloc, config, &idle, hands)?;
     let Idle {
         owner,
         mut desk,
         outcome,
     } = idle;
-    let Settled { sent, rest } = settle(rt, owner, &desk, senders)?;
-    let counts = count_all(alloc, sent)?;
+    let Settled { sent: _, rest } = settle(rt, owner, &desk, senders)?;
     append(&mut desk, rest)?;
     Ok(Ended {
         desk,

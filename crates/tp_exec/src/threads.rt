@@ -1,7 +1,8 @@
 //! The threads of a run.
-ghost use Rattle.std.specs.Prelude.{◌≡◌, ◌≢◌, ◌≤◌, [], All, IfOk, IfSome, None};
+ghost use Rattle.std.specs.Prelude.{◌≡◌, ◌≢◌, ◌≤◌, [], All, IfErr, IfOk, IfSome, None};
 ghost use Rattle.std.specs.Prelude.{length, map, vec_capacity};
 ghost use Rattle.tp_play.specs.TestCases.{Made, behaviour_at};
+ghost use Rattle.tp_exec.specs.Faults.{IsThreadFault};
 ghost use Rattle.tp_exec.specs.Returns.{CanBegin, HasBehaved, HasReturned, IsBack, IsBusy};
 ghost use Rattle.tp_exec.specs.Returns.{IsPostOf, IsWaiting, badge_of, badges_of, station_number};
 ghost use Rattle.tp_exec.specs.Rounds.{ArePlayed, AreStations, HasNotBegun, stations_of};
@@ -197,6 +198,7 @@ fn join_all<R: Threads>(
     ensures badges { IfOk result (λ back. badges_of back.items ≡ map badge_at seats.items) }
     ensures returned { IfOk result (λ back. (made : Made) →
         All (IsSeat made) seats.items → All (HasReturned made) back.items) }
+    ensures fault { IfErr result IsThreadFault }
 {
     let mut back = list;
     let mut short = false;
@@ -226,6 +228,7 @@ fn play_each<R: Threads + Wait + Sync, G: Gate>(
     requires { All (IsWaiting test_case.now) stations.items }
     ensures badges { IfOk result (λ back. badges_of back.items ≡ map badge_of stations.items) }
     ensures returned { IfOk result (λ back. All (HasReturned test_case.now) back.items) }
+    ensures fault { IfErr result IsThreadFault }
 {
     thread::scope(
         thread::scope_env(),
@@ -236,6 +239,7 @@ fn play_each<R: Threads + Wait + Sync, G: Gate>(
                 badges_of back.items ≡ map badge_of stations.items) }
             ensures returned { IfOk result (λ back.
                 All (HasReturned test_case.entry.now) back.items) }
+            ensures fault { IfErr result IsThreadFault }
         {
             let count = stations.len();
             let (Ok(back), Ok(mut seats)) = (
@@ -280,6 +284,7 @@ pub(crate) fn play_all<R: Threads + Wait + Sync, G: Gate>(
     ensures stations { IfOk result (λ played.
         AreStations test_case.now.config (stations_of played.items)) }
     ensures played { IfOk result (λ played. ArePlayed test_case.now played.items) }
+    ensures fault { IfErr result IsThreadFault }
 {
     play_each(rt, gate, test_case, hall, stations)
 }

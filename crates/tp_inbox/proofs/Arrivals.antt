@@ -1,5 +1,5 @@
 -- The arrivals that envelopes make, route by route.
-use Rattle.std.proofs.Common.{◌≡◌, ◌≢◌, ◌⊎◌, inl, inr, ℕ, zero, suc, ◌<◌, Bool, true, false, cond, eqb, eq-eqb, ne_eqb, Some, None, List, [], ◌∷◌, ◌++◌, length, refl, sym, ap, ◌∙◌, ⊎_elim, arith}
+use Rattle.std.proofs.Common.{◌≡◌, ◌≢◌, ◌⊎◌, inl, inr, ℕ, zero, suc, ◌<◌, Bool, true, false, cond, eqb, eq-eqb, ne_eqb, Some, None, List, [], ◌∷◌, ◌++◌, length, map, refl, sym, ap, ◌∙◌, ⊎_elim, arith}
 use Rattle.std.specs.Prelude.{slice_index_or, ◌&&◌, ◌==◌, All, filter}
 use Rattle.std.specs.List.{filter_map, cons_option}
 use Rattle.std.proofs.lemmas.Bool.{and_parts, and_from, eqb-true}
@@ -11,9 +11,11 @@ use Rattle.tp_config.specs.declared.port_type.RouteId.{RouteId}
 use Rattle.tp_inbox.specs.declared.entry.Entry.{Entry}
 use Rattle.tp_inbox.specs.declared.entry.Entry.TheVariants as entry
 use Rattle.tp_inbox.specs.declared.envelope.Envelope.{Envelope}
-use Rattle.tp_inbox.specs.History.{is_arrival, arrivals, arrival_on, arrived_on}
-use Rattle.tp_inbox.specs.Envelopes.{of, InOrder, AreRouted}
-use Rattle.tp_inbox.specs.Routed.{AreRoutes, route_at, absent_route, arrival_of, arrivals_of, IsArrivalOn, AreNumbered}
+use Rattle.tp_inbox.specs.declared.posted.Posted.{Posted}
+use Rattle.tp_inbox.specs.History.{is_arrival, arrivals, arrival_on, arrived_on, arrival_from, arrived_from}
+use Rattle.tp_inbox.specs.Envelopes.{of, has, among, InOrder, AreRouted}
+use Rattle.tp_inbox.specs.Routed.{AreRoutes, route_at, absent_route, arrival_of, arrivals_of, IsArrivalOn, AreNumbered, posted_of}
+use Rattle.tp_inbox.specs.Ends.{AreFrom}
 use Rattle.tp_inbox.proofs.Routes.{same_or_not}
 
 true_and : (a b : ℕ) (c d : ℕ) → (eqb a b && eqb c d) ≡ true → (a ≡ b) × (c ≡ d)
@@ -159,6 +161,72 @@ pub arrived_in : (r : RouteId) (log : List Entry) → arrived_on r log ≡ arriv
 unfolding arrived_on arrivals
 arrived_in r [] = refl
 arrived_in r (e ∷ log) = arrived_step r e log (filter is_arrival log) (is_arrival e) refl (arrived_in r log)
+
+pub arrived_from-append : (comp source : CompId) (xs ys : List Entry) → arrived_from comp source (xs ++ ys)
+    ≡ arrived_from comp source xs ++ arrived_from comp source ys
+unfolding arrived_from
+arrived_from-append comp source xs ys = filter_map-append (arrival_from comp source) xs ys
+
+none_arrived : (comp source : CompId) (e : Entry) → is_arrival e ≡ false → arrival_from comp source e ≡ None
+none_arrived comp source (entry.Arrive p env stamp) n = absurd (cc)
+none_arrived comp source (entry.Took p env b) n = refl
+none_arrived comp source (entry.Found p env b) n = refl
+none_arrived comp source (entry.Dropped p env b) n = refl
+none_arrived comp source (entry.Cleared p) n = refl
+none_arrived comp source (entry.Started p) n = refl
+none_arrived comp source (entry.Stopped p) n = refl
+none_arrived comp source (entry.Halted p) n = refl
+none_arrived comp source (entry.Sent q number m) n = refl
+none_arrived comp source entry.Else n = refl
+none_arrived comp source (entry.Verdict v) n = refl
+none_arrived comp source (entry.Failed code) n = refl
+
+came_step : (comp source : CompId) (e : Entry) (xs ys : List Entry) (b : Bool) → is_arrival e ≡ b
+    → filter_map (arrival_from comp source) xs ≡ filter_map (arrival_from comp source) ys
+    → filter_map (arrival_from comp source) (e ∷ xs) ≡ filter_map (arrival_from comp source) (cond b (e ∷ ys) ys)
+came_step comp source e xs ys true is same = ap (cons_option (arrival_from comp source e)) same
+came_step comp source e xs ys false is same =
+    ap (λ o. cons_option o (filter_map (arrival_from comp source) xs)) (none_arrived comp source e is) ∙ same
+
+-- only arrivals come from a component
+pub came_in : (comp source : CompId) (log : List Entry) → arrived_from comp source log ≡ arrived_from comp source (arrivals log)
+unfolding arrived_from arrivals
+came_in comp source [] = refl
+came_in comp source (e ∷ log) = came_step comp source e log (filter is_arrival log) (is_arrival e) refl (came_in comp source log)
+
+-- an arrival from a component, of an envelope on a route from it
+posted_as : (comp source : CompId) (routes : List RouteId) (e : Envelope) (b : Bool) → (route_at routes e.place).to.comp ≡ comp
+    → eqb source.0 (route_at routes e.place).source.0 ≡ b
+    → arrival_from comp source (arrival_of routes e) ≡ cond b (Some (posted_of routes e)) None
+posted_as comp source routes e true here same =
+    let r = route_at routes e.place in
+    let from = eqb-true source.0 r.source.0 same in
+    let whole : record { source = source; to = record { comp = comp; port = r.to.port } } ≡ r = λ i. record {
+      source = record { 0 = from i };
+      to = record { comp = sym here i; port = r.to.port };
+    } in
+    let made : RouteId → Posted = λ q. record { route = q; number = e.number; stamped = e.stamped } in
+    ap (λ b. cond b (Some (made record { source = source; to = record { comp = comp; port = r.to.port } })) None) same ∙ ap (λ q. Some (made q)) whole
+posted_as comp source routes e false here same =
+    let r = route_at routes e.place in
+    let made : RouteId → Posted = λ q. record { route = q; number = e.number; stamped = e.stamped } in
+    ap (λ b. cond b (Some (made record { source = source; to = record { comp = comp; port = r.to.port } })) None) same
+
+map_cond : {A B : Type 0} (f : A → B) (b : Bool) (x : A) (l : List A) → cons_option (cond b (Some (f x)) None) (map f l) ≡ map f (cond b (x ∷ l) l)
+map_cond f true x l = refl
+map_cond f false x l = refl
+
+-- what comes from a component is what the envelopes of its routes hold, in their order
+pub from_places : (comp : CompId) (ports : ℕ) (routes : List RouteId) → AreRoutes comp ports routes → (source : CompId) (places : List ℕ)
+    → AreFrom source routes places → (es : List Envelope) → AreRouted (length routes) es
+    → arrived_from comp source (arrivals_of routes es) ≡ map (posted_of routes) (among places es)
+unfolding arrived_from
+from_places comp ports routes are source places from [] h = refl
+from_places comp ports routes are source places from (e ∷ es) h =
+    ap (λ o. cons_option o (filter_map (arrival_from comp source) (arrivals_of routes es)))
+    (posted_as comp source routes e (has places e.place) (are.here e.place absent_route h.0) (sym (from e.place h.0)))
+    ∙ ap (cons_option (cond (has places e.place) (Some (posted_of routes e)) None)) (from_places comp ports routes are source places from es h.1)
+    ∙ map_cond (posted_of routes) (has places e.place) e (among places es)
 
 pub are_on : (routes : List RouteId) (es : List Envelope) → AreRouted (length routes) es → All (IsArrivalOn routes) (arrivals_of routes es)
 are_on routes [] of_these k d low = absurd (omega arith)

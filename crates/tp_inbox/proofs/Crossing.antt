@@ -13,6 +13,7 @@ use Rattle.atomic_table.proofs.send_lease.SendLease.TheSendSync.{the_send as lea
 use Rattle.atomic_table.proofs.shared.Seat.TheSendSync.{the_send as place_pass_send}
 use Rattle.tp_inbox.proofs.floor.Counts.TheSendSync.{the_send as counts_send}
 use Rattle.tp_inbox.specs.contracts.stamped.Stamped as stamped
+use Rattle.tp_inbox.specs.contracts.posted.Posted as posted
 use Rattle.tp_inbox.specs.contracts.envelope.Envelope as envelope
 use Rattle.tp_inbox.specs.contracts.entry.Entry as entry
 use Rattle.tp_inbox.specs.contracts.floor.Floor as floor
@@ -50,6 +51,9 @@ stamped_field_send = search (sendable, crosses, message_field_send) depth 20
 pub stamped_field_sync : IsSync (stamped.the_field).row
 stamped_field_sync = search (sendable, crosses, message_field_sync) depth 20
 
+pub posted_send : IsSend posted.the_row
+posted_send = search (sendable, crosses, stamped_field_send) depth 20
+
 pub envelope_send : IsSend envelope.the_row
 envelope_send = search (sendable, crosses, stamped_field_send) depth 20
 
@@ -83,7 +87,7 @@ pub owner_send : IsSend owner.the_row
 owner_send = search (sendable, crosses, owner_inside_send) depth 40
 
 sender_inside_send : IsSend sender_inside.the_row
-sender_inside_send = search (sendable, crosses, stamped_send, envelope_send, hub_send, hub_sync, seat_send) depth 40
+sender_inside_send = search (sendable, crosses, posted_send, envelope_send, hub_send, hub_sync, seat_send) depth 40 fits 20000
 
 pub sender_send : IsSend sender.the_row
 sender_send = search (sendable, crosses, sender_inside_send) depth 40

@@ -1,28 +1,31 @@
 -- What follows for each route once the senders have joined.
-use Rattle.std.proofs.Common.{◌≡◌, ℕ, suc, ◌-◌, ◌<◌, Option, List, [], ◌∷◌, ◌++◌, length, map, take, sym, ap, ◌∙◌, subst, append_assoc, length-append, arith}
-use Rattle.std.specs.Prelude.{slice_index_or, All}
+use Rattle.std.proofs.Common.{◌≡◌, ℕ, suc, ◌+◌, ◌-◌, ◌≤◌, Bool, true, false, cond, Option, List, [], ◌∷◌, ◌++◌, length, map, take, sym, ap, ◌∙◌, subst, append_assoc, length-append, arith}
+use Rattle.std.specs.Prelude.{slice_index_or, ◌==◌, All}
+use Rattle.std.specs.List.{AllZip, list_any}
+use Rattle.std.proofs.lemmas.List.Elements.{All-nil, All-cons}
+use Rattle.std.proofs.lemmas.Slice.Zip.{all_zipped_more}
 use Rattle.std.specs.declared.vec.Vec.{Vec}
-use Rattle.std.proofs.lemmas.List.{get_or-map, map-append, length-map}
-use lib.Seq.{get_or-append_seam}
+use Rattle.std.proofs.lemmas.List.{map-append, length-map}
 use Rattle.crossbeam_queue.specs.Fifo.{Held}
-use Rattle.tp_inbox.specs.declared.stamped.Stamped.{Stamped}
+use Rattle.tp_inbox.specs.declared.posted.Posted.{Posted}
 use Rattle.tp_config.specs.declared.port_type.CompId.{CompId}
 use Rattle.tp_config.specs.declared.port_type.RouteId.{RouteId}
 use Rattle.tp_inbox.specs.declared.entry.Entry.{Entry}
 use Rattle.tp_inbox.specs.declared.envelope.Envelope.{Envelope}
 use Rattle.tp_inbox.specs.declared.hub.Hub.{Hub}
 use Rattle.tp_inbox.specs.declared.rule.View.{View}
-use Rattle.tp_inbox.specs.History.{arrivals, arrived_on, numbered}
-use Rattle.tp_inbox.specs.Envelopes.{of, AreWhole, AreRouted, one_of, before, EndsWith}
-use Rattle.tp_inbox.specs.Rule.{owner_pass, Knows, Sound}
-use Rattle.tp_inbox.specs.Routed.{AreRoutes, AreBegun, AreDelivered, IsArrivalOn, arrival_of, arrivals_of, route_at, absent_route}
-use Rattle.tp_inbox.specs.Ledgers.{Inbox}
-use Rattle.tp_inbox.specs.Ends.{inbox_of, seen_sent}
+use Rattle.tp_inbox.specs.History.{arrivals, arrived_on, arrived_from}
+use Rattle.tp_inbox.specs.Envelopes.{AreFronts, AreWhole, AreRouted, Begins, Ledger, among, one_of, before, EndsWith}
+use Rattle.tp_inbox.specs.Rule.{owner_pass, sender_pass, Knows, Sound}
+use Rattle.tp_inbox.specs.Routed.{AreBegun, AreDelivered, AreNumbered, IsArrivalOn, arrival_of, arrivals_of, posted_of, sources_behind, with_source}
+use Rattle.tp_inbox.specs.Ledgers.{Inbox, Sending, AreSenders}
+use Rattle.tp_inbox.specs.Ends.{AreFrom, inbox_of, seen_sent}
+use Rattle.tp_inbox.specs.Gathers.{IsPutOf}
 use Rattle.tp_inbox.proofs.Owners.{take_front, sound_joined, routed_rest}
-use Rattle.tp_inbox.proofs.Arrivals.{same_place, on_place, are_on, arrived_in, arrived_on-append}
+use Rattle.tp_inbox.proofs.Arrivals.{are_on, numbered_on, arrived_in, arrived_on-append, arrived_from-append, came_in, from_places}
 
 abbrev pub Sent : Type 0
-Sent = RouteId × List Stamped
+Sent = CompId × List Posted
 
 pub all_head : {A : Type 0} (P : A → Type 0) (x : A) (xs : List A) → All P (x ∷ xs) → P x
 all_head P x xs h = h 0 x (omega arith)
@@ -34,14 +37,6 @@ all_back : {A : Type 0} (P : A → Type 0) (xs ys : List A) → All P (xs ++ ys)
 all_back P [] ys h = h
 all_back P (x ∷ xs) ys h = all_back P xs ys (all_tail P x (xs ++ ys) h)
 
--- a route that stands behind these in the list has the next place
-pub next_place : (comp : CompId) (ports : ℕ) (routes : List RouteId) → AreRoutes comp ports routes → (xs : List RouteId) (r : RouteId) (ys : List RouteId) → xs
-    ++ r ∷ ys ≡ routes → (place : ℕ) → place < length routes → route_at routes place ≡ r → place ≡ length xs
-next_place comp ports routes are xs r ys is place low at =
-    let longer : length xs < length routes = omega (arith, ap length is, length-append xs (r ∷ ys)) in
-    let there : route_at routes (length xs) ≡ r = ap (λ l. route_at l (length xs)) (sym is) ∙ get_or-append_seam xs r ys absent_route in
-    same_place comp ports routes are place (length xs) low longer (at ∙ sym there)
-
 -- a list that ends with these: what stands before them, and that this makes the whole
 pub front_is : {A : Type 0} (all xs ys : List A) → all ≡ xs ++ ys → take (length all - length ys) all ≡ xs
 front_is all xs ys is = ap (λ l. take (length l - length ys) l) is ∙ take_front xs ys (length (xs ++ ys) - length ys) (omega (arith, length-append xs ys))
@@ -49,49 +44,78 @@ front_is all xs ys is = ap (λ l. take (length l - length ys) l) is ∙ take_fro
 pub front_and_back : {A : Type 0} (all xs ys : List A) → all ≡ xs ++ ys → all ≡ take (length all - length ys) all ++ ys
 front_and_back all xs ys is = is ∙ ap (λ l. l ++ ys) (sym (front_is all xs ys is))
 
--- a route and what was put there, by their place
-route_of : (routes : List RouteId) (sent : List Sent) → map (λ s. s.0) sent ≡ routes → (k : ℕ) (d : Sent) → k < length sent
-    → (slice_index_or sent k d).0 ≡ route_at routes k
-route_of routes sent is k d low = sym (get_or-map (λ (s : Sent). s.0) sent k d absent_route low) ∙ ap (λ l. route_at l k) is
-
-ledger_of : (known : List (List Stamped)) (sent : List Sent) → known ≡ map (λ s. s.1) sent → (k : ℕ) (d : Sent) → k < length sent
-    → (slice_index_or sent k d).1 ≡ slice_index_or known k []
-ledger_of known sent is k d low = sym (get_or-map (λ (s : Sent). s.1) sent k d [] low) ∙ ap (λ l. slice_index_or l k []) (sym is)
-
--- what the owner's pass knows, and the routes
+-- what the owner's pass knows, and of whom
 pub record Knowing (hub : Hub) (v : View) (sent : List Sent) : Type 0 where
   pub sound : Sound v
   pub made : v.made ≡ length hub.routes.items
-  pub known : v.known ≡ map (λ s. s.1) sent
-  pub routes : map (λ s. s.0) sent ≡ hub.routes.items
+  pub known : AllZip (IsPutOf hub.routes.items) v.known sent
 
-arrived_at : (hub : Hub) (v : View) (sent : List Sent) → Knowing hub v sent → (k : ℕ) (d : Sent) → k < length sent
-    → arrived_on (slice_index_or sent k d).0 (arrivals_of hub.routes.items v.taken) ≡ of k v.taken
-arrived_at hub v sent h k d low =
-    let few : k < length hub.routes.items = omega (arith, ap length h.routes, length-map sent (λ (s : Sent). s.0)) in
-    let routed = subst (λ (n : ℕ). AreRouted n v.taken) h.made h.sound.routed in
-    ap (λ r. arrived_on r (arrivals_of hub.routes.items v.taken)) (route_of hub.routes.items sent h.routes k d low)
-    ∙ on_place hub.comp hub.ports hub.routes.items hub.routed k few v.taken routed
+pub routed_at : (hub : Hub) (v : View) (sent : List Sent) → Knowing hub v sent → AreRouted (length hub.routes.items) v.taken
+routed_at hub v sent h = subst (λ (n : ℕ). AreRouted n v.taken) h.made h.sound.routed
 
-below_known : (v : View) (sent : List Sent) → v.known ≡ map (λ s. s.1) sent → (k : ℕ) → k < length sent → k < length v.known
-below_known v sent is k low = omega (arith, ap length is, length-map sent (λ (s : Sent). s.1))
+-- what came from a component is what of its sender's envelopes was taken out
+came_of : (hub : Hub) (taken : List Envelope) → AreRouted (length hub.routes.items) taken → (x : Ledger) (s : Sent) → IsPutOf hub.routes.items x s
+    → arrived_from hub.comp s.0 (arrivals_of hub.routes.items taken) ≡ map (posted_of hub.routes.items) (among x.0 taken)
+came_of hub taken routed x s h = from_places hub.comp hub.ports hub.routes.items hub.routed s.0 x.0 h.0 taken routed
 
-pub begun_at : (hub : Hub) (v : View) (sent : List Sent) (all : List Entry) → Knowing hub v sent → arrivals_of hub.routes.items v.taken ≡ all
-    → AreBegun all sent
-begun_at hub v sent all h is k d low =
-    let f = h.sound.fronts k (below_known v sent h.known k low) in (
-      f.0,
-      ap (λ l. arrived_on (slice_index_or sent k d).0 l ++ f.0) (sym is) ∙ ap (λ l. l ++ f.0) (arrived_at hub v sent h k d low) ∙ f.1
-          ∙ ap (numbered 0) (sym (ledger_of v.known sent h.known k d low)),
+begun_each : (hub : Hub) (taken : List Envelope) → AreRouted (length hub.routes.items) taken → (known : List Ledger) (sent : List Sent)
+    → AllZip (IsPutOf hub.routes.items) known sent → AreFronts taken known → AreBegun hub.comp (arrivals_of hub.routes.items taken) sent
+begun_each hub taken routed [] [] h fronts =
+    All-nil (λ (s : Sent). Begins (arrived_from hub.comp s.0 (arrivals_of hub.routes.items taken)) s.1)
+begun_each hub taken routed [] (s ∷ sent) h fronts = absurd h
+begun_each hub taken routed (x ∷ known) [] h fronts = absurd h
+begun_each hub taken routed (x ∷ known) (s ∷ sent) h fronts =
+    let posted = map (posted_of hub.routes.items) in
+    let first : Begins (among x.0 taken) x.1 = all_head (λ (y : Ledger). Begins (among y.0 taken) y.1) x known fronts in
+    All-cons (λ (s : Sent). Begins (arrived_from hub.comp s.0 (arrivals_of hub.routes.items taken)) s.1) s sent (
+      posted first.0,
+      ap (λ l. l ++ posted first.0) (came_of hub taken routed x s h.0) ∙ sym (map-append (posted_of hub.routes.items) (among x.0 taken) first.0)
+          ∙ ap posted first.1 ∙ sym h.0.1,
     )
+    (begun_each hub taken routed known sent h.1 (all_tail (λ (y : Ledger). Begins (among y.0 taken) y.1) x known fronts))
+
+delivered_each : (hub : Hub) (taken : List Envelope) → AreRouted (length hub.routes.items) taken → (known : List Ledger) (sent : List Sent)
+    → AllZip (IsPutOf hub.routes.items) known sent → AreWhole taken known → AreDelivered hub.comp (arrivals_of hub.routes.items taken) sent
+delivered_each hub taken routed [] [] h whole =
+    All-nil (λ (s : Sent). arrived_from hub.comp s.0 (arrivals_of hub.routes.items taken) ≡ s.1)
+delivered_each hub taken routed [] (s ∷ sent) h whole = absurd h
+delivered_each hub taken routed (x ∷ known) [] h whole = absurd h
+delivered_each hub taken routed (x ∷ known) (s ∷ sent) h whole =
+    All-cons (λ (s : Sent). arrived_from hub.comp s.0 (arrivals_of hub.routes.items taken) ≡ s.1) s sent
+    (came_of hub taken routed x s h.0
+    ∙ ap (map (posted_of hub.routes.items)) (all_head (λ (y : Ledger). among y.0 taken ≡ y.1) x known whole) ∙ sym h.0.1)
+    (delivered_each hub taken routed known sent h.1 (all_tail (λ (y : Ledger). among y.0 taken ≡ y.1) x known whole))
+
+pub begun_at : (hub : Hub) (v : View) (sent : List Sent) (all : List Entry) (comp : CompId) → Knowing hub v sent
+    → arrivals_of hub.routes.items v.taken ≡ all → hub.comp ≡ comp → AreBegun comp all sent
+begun_at hub v sent all comp h is here =
+    subst (λ (x : CompId × List Entry). AreBegun x.0 x.1 sent) (λ i. (here i, is i))
+    (begun_each hub v.taken (routed_at hub v sent h) v.known sent h.known h.sound.fronts)
+
+-- what was drained and the rest is what came, behind a history whose arrivals were drained
+came_all : (comp source : CompId) (all drained rest log : List Entry) → all ≡ drained ++ rest → arrivals log ≡ drained
+    → arrived_from comp source (log ++ rest) ≡ arrived_from comp source all
+came_all comp source all drained rest log is same =
+    arrived_from-append comp source log rest
+    ∙ ap (λ l. l ++ arrived_from comp source rest) (came_in comp source log ∙ ap (arrived_from comp source) same)
+    ∙ sym (arrived_from-append comp source drained rest) ∙ ap (arrived_from comp source) (sym is)
 
 pub delivered_at : (hub : Hub) (v : View) (sent : List Sent) (drained rest log : List Entry) → Knowing hub v sent → AreWhole v.taken v.known
-    → arrivals_of hub.routes.items v.taken ≡ drained ++ rest → arrivals log ≡ drained → AreDelivered (log ++ rest) sent
+    → arrivals_of hub.routes.items v.taken ≡ drained ++ rest → arrivals log ≡ drained → AreDelivered hub.comp (log ++ rest) sent
 delivered_at hub v sent drained rest log h whole is same k d low =
-    let r = (slice_index_or sent k d).0 in
-    arrived_on-append r log rest ∙ ap (λ l. l ++ arrived_on r rest) (arrived_in r log ∙ ap (arrived_on r) same) ∙ sym (arrived_on-append r drained rest)
-    ∙ ap (arrived_on r) (sym is) ∙ arrived_at hub v sent h k d low ∙ whole k (below_known v sent h.known k low)
-    ∙ ap (numbered 0) (sym (ledger_of v.known sent h.known k d low))
+    came_all hub.comp (slice_index_or sent k d).0 (arrivals_of hub.routes.items v.taken) drained rest log is same
+    ∙ delivered_each hub v.taken (routed_at hub v sent h) v.known sent h.known whole k d low
+
+-- and it is numbered on each route
+pub numbered_at : (hub : Hub) (v : View) (sent : List Sent) (drained rest log : List Entry) → Knowing hub v sent
+    → arrivals_of hub.routes.items v.taken ≡ drained ++ rest → arrivals log ≡ drained → AreNumbered hub.routes.items (log ++ rest)
+numbered_at hub v sent drained rest log h is same k d low =
+    let r = slice_index_or hub.routes.items k d in
+    let n = numbered_on hub.comp hub.ports hub.routes.items hub.routed v.taken (routed_at hub v sent h) h.sound.order k d low in (
+      n.0,
+      arrived_on-append r log rest ∙ ap (λ l. l ++ arrived_on r rest) (arrived_in r log ∙ ap (arrived_on r) same) ∙ sym (arrived_on-append r drained rest)
+          ∙ ap (arrived_on r) (sym is) ∙ n.1,
+    )
 
 pub rest_at : (hub : Hub) (v : View) (inbox : Inbox) (drained rest : List Entry) → Sound v → v.made ≡ length hub.routes.items → inbox_of hub ≡ inbox
     → arrivals_of hub.routes.items v.taken ≡ drained ++ rest → All (IsArrivalOn inbox.routes) rest
@@ -101,7 +125,7 @@ rest_at hub v inbox drained rest sound made same is =
     subst (λ (i : Inbox). All (IsArrivalOn i.routes) rest) same back
 
 -- the owner's pass once the senders have joined, and the queue was looked at
-pub joined : (v u w : View) (known : List (List Stamped)) (n : ℕ) → Sound v → u ≡ owner_pass v.made v.taken known → w ≡ u → Held n (Knows u)
+pub joined : (v u w : View) (known : List Ledger) (n : ℕ) → Sound v → u ≡ owner_pass v.made v.taken known → w ≡ u → Held n (Knows u)
     → Sound w × (w.made ≡ v.made) × (w.taken ≡ v.taken) × (w.known ≡ known)
 joined v u w known n s e same held = (
   sound_joined v u w known n s e same held,
@@ -124,7 +148,41 @@ hand_routed n m all hand same routed ends = routed_rest n m all (before all (one
 pub move_one : {A : Type 0} (all xs : List A) (x : A) (ys : List A) → all ≡ xs ++ x ∷ [] → all ++ ys ≡ xs ++ x ∷ ys
 move_one all xs x ys is = ap (λ l. l ++ ys) is ∙ append_assoc xs (x ∷ []) ys
 
-pub seen-push : {A : Type 0} (all xs : List (RouteId × Vec Stamped A)) (r : RouteId) (v : Vec Stamped A) (s : Sent) → all ≡ xs ++ (r, v) ∷ [] → r ≡ s.0
+pub seen-push : {A : Type 0} (all xs : List (CompId × Vec Posted A)) (c : CompId) (v : Vec Posted A) (s : Sent) → all ≡ xs ++ (c, v) ∷ [] → c ≡ s.0
     → v.items ≡ s.1 → seen_sent all ≡ seen_sent xs ++ s ∷ []
-seen-push all xs r v s is route ledger =
-    ap seen_sent is ∙ map-append (λ v. (v.0, v.1.items)) xs ((r, v) ∷ []) ∙ ap (λ x. seen_sent xs ++ x ∷ []) (λ i. (route i, ledger i))
+seen-push all xs c v s is source ledger =
+    ap seen_sent is ∙ map-append (λ v. (v.0, v.1.items)) xs ((c, v) ∷ []) ∙ ap (λ x. seen_sent xs ++ x ∷ []) (λ i. (source i, ledger i))
+
+-- one more is known
+pub known-push : (routes : List RouteId) (known grown : List Ledger) (sent more : List Sent) (w : View) (places : List ℕ) (put : List Envelope) (s : Sent)
+    → AllZip (IsPutOf routes) known sent → grown ≡ known ++ (w.places, w.put) ∷ [] → more ≡ sent ++ s ∷ [] → w ≡ sender_pass places put
+    → AreFrom s.0 routes places → s.1 ≡ map (posted_of routes) put → AllZip (IsPutOf routes) grown more
+known-push routes known grown sent more w places put s was is grows view from ledger =
+    let x : Ledger = (w.places, w.put) in
+    let at : x ≡ (places, put) = λ i. (ap (λ (u : View). u.places) view i, ap (λ (u : View). u.put) view i) in
+    subst (λ (y : List Ledger × List Sent). AllZip (IsPutOf routes) y.0 y.1) (λ i. (sym is i, sym grows i))
+    (all_zipped_more (IsPutOf routes) known sent x s was (subst (λ (y : Ledger). IsPutOf routes y s) (sym at) (from, ledger)))
+
+few_with : (b : Bool) (sources : List CompId) (c : CompId) → length (cond b sources (sources ++ c ∷ [])) ≤ length sources + 1
+few_with true sources c = omega arith
+few_with false sources c = omega (arith, length-append sources (c ∷ []))
+
+few_behind : (sources : List CompId) (routes : List RouteId) → length (sources_behind sources routes) ≤ length sources + length routes
+few_behind sources [] = omega arith
+few_behind sources (r ∷ rs) =
+    let more = few_behind (with_source sources r.source) rs in
+    let one = few_with (list_any (λ (s : CompId). s.0 == r.source.0) sources) sources r.source in
+    omega (arith, more, one)
+
+-- there are no more senders than routes
+pub few_senders : (inbox : Inbox) (senders : List Sending) → AreSenders inbox senders → length senders ≤ length inbox.routes
+few_senders inbox senders are =
+    let few = few_behind [] inbox.routes in
+    omega (arith, few, ap length are.1, length-map senders (λ (s : Sending). s.source))
+
+-- nothing is known as yet
+pub known_none : (A : Type 0) (routes : List RouteId) (known : List Ledger) (sent : List (CompId × Vec Posted A)) → known ≡ [] → sent ≡ []
+    → AllZip (IsPutOf routes) known (seen_sent sent)
+known_none A routes known sent none empty =
+    subst (λ (l : List Ledger). AllZip (IsPutOf routes) l (seen_sent sent)) (sym none)
+    (subst (λ (l : List (CompId × Vec Posted A)). AllZip (IsPutOf routes) [] (seen_sent l)) (sym empty) (tt {0}))

@@ -11,4 +11,7 @@ pub mod Gathering
 pub mod Rests
 pub mod Made
 pub mod Senders
+pub mod Putting
+pub mod Sources
+pub mod Ways
 pub mod Standing

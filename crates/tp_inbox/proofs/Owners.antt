@@ -2,11 +2,11 @@
 use Rattle.std.proofs.Common.{◌≡◌, ℕ, zero, suc, ◌-◌, ◌<◌, Option, Some, None, List, [], ◌∷◌, ◌++◌, length, take, drop, take-append-drop, MatchOption, IfSome, refl, sym, ap, ◌∙◌, subst, length-append, arith}
 use Rattle.crossbeam_queue.specs.Fifo.{Held}
 use Rattle.tp_inbox.specs.declared.envelope.Envelope.{Envelope}
-use Rattle.tp_inbox.specs.declared.stamped.Stamped.{Stamped}
 use Rattle.tp_inbox.specs.declared.rule.View.{View}
-use Rattle.tp_inbox.specs.Envelopes.{of, InOrder, AreRouted, AreFronts, AreWhole, one_of, before, EndsWith}
+use Rattle.std.specs.Prelude.{slice_index_or}
+use Rattle.tp_inbox.specs.Envelopes.{of, InOrder, AreRouted, AreFronts, AreWhole, Ledger, among, one_of, before, EndsWith}
 use Rattle.tp_inbox.specs.Rule.{owner_pass, Takes, Knows, Sound}
-use Rattle.tp_inbox.proofs.Routes.{of-append, append_nil, routed-append, routed-front, routed-back, in_order-front, next_number}
+use Rattle.tp_inbox.proofs.Routes.{among-append, append_nil, routed-append, routed-front, routed-back, in_order-front, next_number}
 
 pub take_front : {A : Type 0} (xs ys : List A) (n : ℕ) → n ≡ length xs → take n (xs ++ ys) ≡ xs
 take_front [] ys n e = ap (λ k. take k ys) e
@@ -34,10 +34,10 @@ sound_taken v e w s t =
     }
 
 pub whole_at_nothing : (v : View) → Knows v [] → AreWhole v.taken v.known
-whole_at_nothing v k p low = ap (of p) (sym (append_nil v.taken)) ∙ k p low
+whole_at_nothing v k = subst (λ l. AreWhole l v.known) (append_nil v.taken) k
 
 pub fronts_of_known : (v : View) (items : List Envelope) → Knows v items → AreFronts v.taken v.known
-fronts_of_known v items k p low = (of p items, sym (of-append p v.taken items) ∙ k p low)
+fronts_of_known v items h k d low = let ps = (slice_index_or v.known k d).0 in (among ps items, sym (among-append ps v.taken items) ∙ h k d low)
 
 pub in_order_before : (all kept : List Envelope) → InOrder all → InOrder (before all kept)
 in_order_before all kept h = let n = length all - length kept in in_order-front (take n all) (drop n all) (subst InOrder (sym (take-append-drop n all)) h)
@@ -55,7 +55,7 @@ at_some P None p = tt
 at_some P (Some x) p = p
 
 -- the owner's pass once the senders have joined, and the queue was looked at
-pub sound_joined : (v u w : View) (known : List (List Stamped)) (n : ℕ) → Sound v → u ≡ owner_pass v.made v.taken known → w ≡ u → Held n (Knows u) → Sound w
+pub sound_joined : (v u w : View) (known : List Ledger) (n : ℕ) → Sound v → u ≡ owner_pass v.made v.taken known → w ≡ u → Held n (Knows u) → Sound w
 sound_joined v u w known n s e same held =
     subst Sound (sym (same ∙ e)) record {
       owner = refl;
@@ -64,7 +64,7 @@ sound_joined v u w known n s e same held =
       fronts = subst (λ (x : View). AreFronts x.taken x.known) e (fronts_of_known u held.0 held.2);
     }
 
-pub gathered : (v u w : View) (known : List (List Stamped)) (routes : ℕ) (hand : Option Envelope) (rest : List Envelope) → v.made ≡ routes
+pub gathered : (v u w : View) (known : List Ledger) (routes : ℕ) (hand : Option Envelope) (rest : List Envelope) → v.made ≡ routes
     → EndsWith v.taken (one_of hand) → rest ≡ [] → u ≡ owner_pass v.made v.taken known → w ≡ u
     → (w.made ≡ routes) × (w.known ≡ known) × EndsWith w.taken (one_of hand ++ rest) × IfSome hand (λ _. rest ≡ [])
 gathered v u w known routes hand rest made ends none e same = (
@@ -75,9 +75,9 @@ gathered v u w known routes hand rest made ends none e same = (
   at_some (rest ≡ []) hand none,
 )
 
-pub fronts_split : (w : View) (known : List (List Stamped)) (kept : List Envelope) → Sound w → w.known ≡ known → EndsWith w.taken kept
+pub fronts_split : (w : View) (known : List Ledger) (kept : List Envelope) → Sound w → w.known ≡ known → EndsWith w.taken kept
     → AreFronts (before w.taken kept ++ kept) known
-fronts_split w known kept s k e = subst (λ (x : List Envelope × List (List Stamped)). AreFronts x.0 x.1) (λ i. (e i, k i)) s.fronts
+fronts_split w known kept s k e = subst (λ (x : List Envelope × List Ledger). AreFronts x.0 x.1) (λ i. (e i, k i)) s.fronts
 
 pub routed_rest : (n m : ℕ) (all xs ys : List Envelope) → n ≡ m → all ≡ xs ++ ys → AreRouted n all → AreRouted m ys
 routed_rest n m all xs ys e is h = routed-back m xs ys (subst (λ (x : ℕ × List Envelope). AreRouted x.0 x.1) (λ i. (e i, is i)) h)

@@ -10,7 +10,7 @@ use Rattle.tp_config.specs.declared.port_type.CompId.{CompId}
 use Rattle.tp_config.specs.declared.port_type.RouteId.{RouteId}
 use Rattle.tp_inbox.specs.declared.entry.Entry.{Entry}
 use Rattle.tp_inbox.specs.declared.entry.Entry.TheVariants as entry
-use Rattle.tp_inbox.specs.History.{is_arrival, sending_on, sent_on, trace}
+use Rattle.tp_inbox.specs.History.{is_arrival, sending_on, sent_on, sending_to, sent_to, trace}
 use Rattle.tp_inbox.specs.Routed.{AreRoutes, IsArrivalOn, rest_arrivals}
 
 abbrev pub Rest : Type 0
@@ -30,6 +30,17 @@ rest_within comp ports routes (x ∷ rest) are on =
 none_sent : (r : RouteId) (rest : List Rest) → filter_map (sending_on r) (rest_arrivals rest) ≡ []
 none_sent r [] = refl
 none_sent r (x ∷ rest) = none_sent r rest
+
+-- nor to any component
+none_sent_to : (comp : CompId) (rest : List Rest) → filter_map (sending_to comp) (rest_arrivals rest) ≡ []
+none_sent_to comp [] = refl
+none_sent_to comp (x ∷ rest) = none_sent_to comp rest
+
+pub rest_sends_to_none : (comp : CompId) (k : List Entry) (rest : List Rest) → sent_to comp (k ++ rest_arrivals rest) ≡ sent_to comp k
+unfolding sent_to
+rest_sends_to_none comp k rest =
+    filter_map-append (sending_to comp) k (rest_arrivals rest) ∙ ap (λ l. filter_map (sending_to comp) k ++ l) (none_sent_to comp rest)
+    ∙ append-nil (filter_map (sending_to comp) k)
 
 -- the component has sent no more than before it
 pub rest_sends_nothing : (r : RouteId) (k : List Entry) (rest : List Rest) → sent_on r (k ++ rest_arrivals rest) ≡ sent_on r k

@@ -3,10 +3,12 @@ use Rattle.std.proofs.Common.{◌≡◌, ◌≢◌, ◌⊎◌, inl, inr, ℕ, su
 use native.Mathlib.Decide.{ℕ_discrete}
 use Rattle.std.proofs.lemmas.Grind.{get_or-set_at}
 use Rattle.std.proofs.lemmas.List.{get_or-set_other, length-set}
+use Rattle.std.specs.Prelude.{◌||◌}
+use Rattle.std.proofs.lemmas.List.Elements.{filter-append}
 use Rattle.tp_inbox.specs.declared.envelope.Envelope.{Envelope}
 use Rattle.tp_inbox.specs.declared.stamped.Stamped.{Stamped}
 use Rattle.tp_inbox.specs.History.{numbered}
-use Rattle.tp_inbox.specs.Envelopes.{of, InOrder, AreRouted, AreCounts}
+use Rattle.tp_inbox.specs.Envelopes.{of, InOrder, AreRouted, AreCounts, has, among}
 
 either : {A : Type 0} → Dec A → A ⊎ (¬ A)
 either (yes e) = inl e
@@ -109,3 +111,102 @@ counts_next n counts xs e h low num = (
       ∙ ap length (sym (append_nil (of p xs)) ∙ ap (λ l. of p xs ++ l) (sym (of-else p e diff)) ∙ sym (of-append p xs (e ∷ []))))
       (same_or_not p e.place),
 )
+
+pub length-numbered : (n : ℕ) (ms : List Stamped) → length (numbered n ms) ≡ length ms
+length-numbered n [] = refl
+length-numbered n (m ∷ ms) = ap suc (length-numbered (n + 1) ms)
+
+-- one more envelope, which is the next of its route
+pub in_order-push : (es : List Envelope) (e : Envelope) → InOrder es → e.number ≡ length (of e.place es) → InOrder (es ++ e ∷ [])
+in_order-push es e h num p =
+    let k = h p in
+    ⊎_elim
+    (λ (same : p ≡ e.place).
+    let count : e.number ≡ 0 + length k.0 =
+    (let q : length (of e.place es) ≡ length k.0 = ap (λ r. length (of r es)) (sym same) ∙ ap length k.1 ∙ length-numbered 0 k.0 in omega arith) in (
+      k.0 ++ e.stamped ∷ [],
+      of-append p es (e ∷ []) ∙ ap (λ l. l ++ of p (e ∷ [])) k.1 ∙ ap (λ l. numbered 0 k.0 ++ l) (of-here p e same)
+          ∙ ap (λ j. numbered 0 k.0 ++ (j, e.stamped) ∷ []) count ∙ sym (numbered-snoc 0 k.0 e.stamped),
+    ))
+    (λ (other : p ≢ e.place).
+    (k.0, of-append p es (e ∷ []) ∙ ap (λ l. of p es ++ l) (of-else p e other) ∙ append_nil (of p es) ∙ k.1))
+    (same_or_not p e.place)
+
+pub false_or : (b : Bool) → (b ≡ true → ⊥) → b ≡ false
+false_or true n = absurd (n refl)
+false_or false n = refl
+
+or_either : (b c : Bool) → (b || c) ≡ true → (b ≡ true) ⊎ (c ≡ true)
+or_either true c h = inl refl
+or_either false c h = inr h
+
+or_false : (b c : Bool) → c ≡ false → (b || c) ≡ b
+or_false true c h = refl
+or_false false c h = h
+
+or_again : (a b c : Bool) → (a || (b || c)) ≡ ((a || b) || c)
+or_again true b c = refl
+or_again false b c = refl
+
+same_of : (p q : ℕ) → eqb p q ≡ true → p ≡ q
+same_of p q h = ⊎_elim (λ (same : p ≡ q). same) (λ (other : p ≢ q). absurd (true_not_false (sym h ∙ ne_eqb p q other))) (same_or_not p q)
+  where
+    true_not_false : true ≡ false → ⊥
+    true_not_false e = cc
+
+pub has-one : (n p : ℕ) → has (n ∷ []) p ≡ true → p ≡ n
+has-one n p h = ⊎_elim (λ (same : eqb p n ≡ true). same_of p n same) (λ (none : false ≡ true). absurd (cc)) (or_either (eqb p n) false h)
+
+pub has-append : (ps qs : List ℕ) (p : ℕ) → has (ps ++ qs) p ≡ (has ps p || has qs p)
+has-append [] qs p = refl
+has-append (r ∷ ps) qs p = ap (λ b. eqb p r || b) (has-append ps qs p) ∙ or_again (eqb p r) (has ps p) (has qs p)
+
+pub has-either : (ps qs : List ℕ) (p : ℕ) → has (ps ++ qs) p ≡ true → (has ps p ≡ true) ⊎ (has qs p ≡ true)
+has-either ps qs p h = or_either (has ps p) (has qs p) (sym (has-append ps qs p) ∙ h)
+
+of_kept : (b : Bool) (p : ℕ) (e : Envelope) (es : List Envelope) → eqb p e.place ≡ false → of p (cond b (e ∷ es) es) ≡ of p es
+of_kept true p e es h = ap (λ c. cond c ((e.number, e.stamped) ∷ of p es) (of p es)) h
+of_kept false p e es h = refl
+
+-- the envelopes of a route are among those of the routes that it is one of
+pub of-among : (ps : List ℕ) (p : ℕ) (es : List Envelope) → has ps p ≡ true → of p (among ps es) ≡ of p es
+of-among ps p [] h = refl
+of-among ps p (e ∷ es) h =
+    let rest = of-among ps p es h in
+    ⊎_elim
+    (λ (same : p ≡ e.place).
+    ap (λ b. of p (cond b (e ∷ among ps es) (among ps es))) (ap (has ps) (sym same) ∙ h)
+    ∙ ap (λ l. cond (eqb p e.place) ((e.number, e.stamped) ∷ l) l) rest)
+    (λ (other : p ≢ e.place).
+    let no_ = ne_eqb p e.place other in
+    of_kept (has ps e.place) p e (among ps es) no_ ∙ rest ∙ sym (ap (λ c. cond c ((e.number, e.stamped) ∷ of p es) (of p es)) no_))
+    (same_or_not p e.place)
+
+pub among-append : (ps : List ℕ) (xs ys : List Envelope) → among ps (xs ++ ys) ≡ among ps xs ++ among ps ys
+among-append ps xs ys = filter-append (λ (e : Envelope). has ps e.place) xs ys
+
+pub among-here : (ps : List ℕ) (es : List Envelope) (e : Envelope) → has ps e.place ≡ true → among ps (es ++ e ∷ []) ≡ among ps es ++ e ∷ []
+among-here ps es e h = among-append ps es (e ∷ []) ∙ ap (λ b. among ps es ++ cond b (e ∷ []) []) h
+
+pub among-else : (ps : List ℕ) (es : List Envelope) (e : Envelope) → has ps e.place ≡ false → among ps (es ++ e ∷ []) ≡ among ps es
+among-else ps es e h = among-append ps es (e ∷ []) ∙ ap (λ b. among ps es ++ cond b (e ∷ []) []) h ∙ append_nil (among ps es)
+
+-- on a route that there isn't yet nothing was put
+pub among-new : (n : ℕ) (es : List Envelope) → AreRouted n es → among (n ∷ []) es ≡ []
+among-new n [] h = refl
+among-new n (e ∷ es) h =
+    let low = h.0 in
+    ap (λ b. cond b (e ∷ among (n ∷ []) es) (among (n ∷ []) es)) (false_or (has (n ∷ []) e.place) (λ yes_. let same = has-one n e.place yes_ in omega arith))
+    ∙ among-new n es h.1
+
+none_there : (b : Bool) (e : Envelope) (l : List Envelope) → cond b (e ∷ l) l ≡ [] → (b ≡ false) × (l ≡ [])
+none_there true e l h = absurd (cc)
+none_there false e l h = (refl, h)
+
+-- with routes on which nothing was put
+pub among-more : (ps qs : List ℕ) (es : List Envelope) → among qs es ≡ [] → among (ps ++ qs) es ≡ among ps es
+among-more ps qs [] h = refl
+among-more ps qs (e ∷ es) h =
+    let k = none_there (has qs e.place) e (among qs es) h in
+    ap (λ l. cond (has (ps ++ qs) e.place) (e ∷ l) l) (among-more ps qs es k.1)
+    ∙ ap (λ b. cond b (e ∷ among ps es) (among ps es)) (has-append ps qs e.place ∙ or_false (has ps e.place) (has qs e.place) k.0)

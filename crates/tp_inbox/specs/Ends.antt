@@ -1,9 +1,10 @@
 -- What the fields of an inbox's ends have to do with its queue.
-use Rattle.std.specs.Prelude.{◌≡◌, ◌<◌, ◌≤◌, Option, Some, None, List, [], ◌∷◌, ◌++◌, length, map, vec_capacity}
+use Rattle.std.specs.Prelude.{◌≡◌, ◌≢◌, ◌<◌, ◌≤◌, ◌==◌, ℕ, Option, Some, None, List, [], ◌∷◌, ◌++◌, length, map, slice_index_or, vec_capacity, All, AllPairs}
 use Rattle.std.specs.Arc.{arc_value}
 use Rattle.crossbeam_queue.specs.SegTies.{IsSegPassOf}
 use Rattle.std.specs.declared.vec.Vec.{Vec}
-use Rattle.tp_inbox.specs.declared.stamped.Stamped.{Stamped}
+use Rattle.tp_inbox.specs.declared.posted.Posted.{Posted}
+use Rattle.tp_config.specs.declared.port_type.CompId.{CompId}
 use Rattle.tp_config.specs.declared.port_type.RouteId.{RouteId}
 use Rattle.tp_inbox.specs.declared.hub.Hub.{Hub}
 use Rattle.tp_inbox.specs.declared.entry.Entry.{Entry}
@@ -11,9 +12,9 @@ use Rattle.tp_inbox.specs.declared.envelope.Envelope.{Envelope}
 use Rattle.tp_inbox.specs.declared.rule.View.{View}
 use Rattle.tp_inbox.specs.declared.sender.Sender.TheInside as sender
 use Rattle.tp_inbox.specs.declared.owner.Owner.TheInside as owner
-use Rattle.tp_inbox.specs.Envelopes.{one_of, before, AreWhole, EndsWith, AreCounts}
+use Rattle.tp_inbox.specs.Envelopes.{of, has, one_of, before, AreRouted, AreWhole, EndsWith, AreCounts}
 use Rattle.tp_inbox.specs.Rule.{sender_pass, Sound}
-use Rattle.tp_inbox.specs.Routed.{arrivals_of}
+use Rattle.tp_inbox.specs.Routed.{arrivals_of, posted_of, route_at}
 use Rattle.tp_inbox.specs.Places.{AreFiled}
 use Rattle.tp_inbox.specs.Ledgers.{Inbox}
 
@@ -21,15 +22,30 @@ use Rattle.tp_inbox.specs.Ledgers.{Inbox}
 abbrev pub inbox_of : Hub → Inbox
 inbox_of h = record { comp = h.comp; ports = h.ports; routes = h.routes.items; queue = h.line }
 
--- what senders have put, beside their routes
-abbrev pub seen_sent : {A : Type 0} → List (RouteId × Vec Stamped A) → List (RouteId × List Stamped)
+-- what senders have put, beside the components that send by them
+abbrev pub seen_sent : {A : Type 0} → List (CompId × Vec Posted A) → List (CompId × List Posted)
 seen_sent sent = map (λ v. (v.0, v.1.items)) sent
 
--- a sender's pass is of its inbox's queue, and knows its place and what it has put
+-- of these routes, those at these places are those from this component
+abbrev pub AreFrom : CompId → List RouteId → List ℕ → Type 0
+AreFrom source routes places = (p : ℕ) → p < length routes → has places p ≡ (source.0 == (route_at routes p).source.0)
+
+-- so many of these envelopes are of the routes at these places
+abbrev pub AreTold : List ℕ → List ℕ → List Envelope → Type 0
+AreTold places counts es =
+    (length counts ≡ length places)
+    × ((k : ℕ) → k < length places → slice_index_or counts k 0 ≡ length (of (slice_index_or places k 0) es))
+
+-- a sender's pass is of its inbox's queue, and knows the places of its routes, of which no two are equal, and what it has
+-- put, which are the ledger's messages; the counts are those of its routes
 pub record IsSender (s : sender.Inside) : Type 0 where
   pub pass : IsSegPassOf (arc_value s.hub).line s.pass
-  pub view : s.pass.me.view.client ≡ sender_pass s.place s.sent.items
-  pub low : s.place < length (arc_value s.hub).routes.items
+  pub view : s.pass.me.view.client ≡ sender_pass s.places.items s.pass.me.view.client.put
+  pub low : All (λ p. p < length (arc_value s.hub).routes.items) s.places.items
+  pub apart : AllPairs (λ p q. p ≢ q) s.places.items
+  pub routed : AreRouted (length (arc_value s.hub).routes.items) s.pass.me.view.client.put
+  pub counts : AreTold s.places.items s.counts.items s.pass.me.view.client.put
+  pub ledger : s.sent.items ≡ map (posted_of (arc_value s.hub).routes.items) s.pass.me.view.client.put
 
 -- an owner's pass is of its inbox's queue; what it has taken out is what was drained, and then what is in hand; the
 -- counts are those of what was drained, and each route's place among them is found; and there is room for each sender

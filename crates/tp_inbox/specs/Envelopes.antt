@@ -1,5 +1,5 @@
 -- Envelopes, read route by route.
-use Rattle.std.specs.Prelude.{◌≡◌, ℕ, ◌<◌, ◌==◌, ◌-◌, cond, Option, Some, None, List, [], ◌∷◌, ◌++◌, length, take, slice_index_or}
+use Rattle.std.specs.Prelude.{◌≡◌, ℕ, ◌<◌, ◌==◌, ◌-◌, ◌||◌, Bool, false, cond, Option, Some, None, List, [], ◌∷◌, ◌++◌, length, take, filter, slice_index_or, All}
 use Rattle.tp_inbox.specs.declared.envelope.Envelope.{Envelope}
 use Rattle.tp_inbox.specs.declared.stamped.Stamped.{Stamped}
 use Rattle.tp_inbox.specs.History.{numbered}
@@ -22,13 +22,26 @@ AreRouted n (e ∷ es) = (e.place < n) × AreRouted n es
 abbrev pub Begins : {A : Type 0} → List A → List A → Type 0
 Begins {A} xs ys = (rest : List A) × (xs ++ rest ≡ ys)
 
--- of each of the first routes, what is among these envelopes begins what was put there
-abbrev pub AreFronts : List Envelope → List (List Stamped) → Type 0
-AreFronts es ledgers = (p : ℕ) → p < length ledgers → Begins (of p es) (numbered 0 (slice_index_or ledgers p []))
+-- whether this place is one of these
+abbrev pub has : List ℕ → ℕ → Bool
+has [] p = false
+has (q ∷ qs) p = (p == q) || has qs p
 
--- of each of the first routes, these envelopes are what was put there: numbered from 0, and with those messages
-abbrev pub AreWhole : List Envelope → List (List Stamped) → Type 0
-AreWhole es ledgers = (p : ℕ) → p < length ledgers → of p es ≡ numbered 0 (slice_index_or ledgers p [])
+-- the envelopes of the routes at these places, in order
+abbrev pub among : List ℕ → List Envelope → List Envelope
+among ps es = filter (λ (e : Envelope). has ps e.place) es
+
+-- the places of a sender's routes, and what it has put on them, in its order over all of them
+abbrev pub Ledger : Type 0
+Ledger = List ℕ × List Envelope
+
+-- of each sender, what of its routes is among these envelopes begins what it has put
+abbrev pub AreFronts : List Envelope → List Ledger → Type 0
+AreFronts es known = All (λ (x : Ledger). Begins (among x.0 es) x.1) known
+
+-- of each sender, what of its routes is among these envelopes is what it has put
+abbrev pub AreWhole : List Envelope → List Ledger → Type 0
+AreWhole es known = All (λ (x : Ledger). among x.0 es ≡ x.1) known
 
 abbrev pub one_of : Option Envelope → List Envelope
 one_of None = []

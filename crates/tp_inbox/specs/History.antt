@@ -5,8 +5,10 @@ use Rattle.std.specs.List.{filter_map}
 use Rattle.tp_queue.specs.declared.event.Event.{Event}
 use Rattle.tp_queue.specs.declared.event.Event.TheVariants as event
 use Rattle.tp_value.specs.declared.message.Message.{Message}
+use Rattle.tp_config.specs.declared.port_type.CompId.{CompId}
 use Rattle.tp_config.specs.declared.port_type.RouteId.{RouteId}
 use Rattle.tp_inbox.specs.declared.stamped.Stamped.{Stamped}
+use Rattle.tp_inbox.specs.declared.posted.Posted.{Posted}
 use Rattle.tp_inbox.specs.declared.entry.Entry.{Entry}
 use Rattle.tp_inbox.specs.declared.entry.Entry.TheVariants as entry
 
@@ -62,6 +64,41 @@ arrival_on r _ = None
 -- what came to the component on a route, in order, with the numbers
 unfoldable pub arrived_on : RouteId → List Entry → List (ℕ × Stamped)
 arrived_on r k = filter_map (arrival_on r) k
+
+-- what an arrival at this component from that one is: its route, its number there, and the stamped message
+abbrev pub arrival_from : CompId → CompId → Entry → Option Posted
+arrival_from comp source (entry.Arrive p env stamp) =
+    cond
+    (source.0 == env.sender)
+    (Some record {
+      route = record { source = source; to = record { comp = comp; port = p } };
+      number = env.number;
+      stamped = record { stamp = stamp; message = env.msg };
+    })
+    None
+arrival_from comp source _ = None
+
+-- what came to this component from that one, over all routes and in order
+unfoldable pub arrived_from : CompId → CompId → List Entry → List Posted
+arrived_from comp source k = filter_map (arrival_from comp source) k
+
+-- what a sending to this component is: its route, its number there, and the stamped message
+abbrev pub sending_to : CompId → Entry → Option Posted
+sending_to comp (entry.Sent q number m) =
+    cond (comp.0 == q.to.comp.0) (Some record { route = q; number = number; stamped = m }) None
+sending_to comp _ = None
+
+-- what the component sent to this one, over all routes and in order
+unfoldable pub sent_to : CompId → List Entry → List Posted
+sent_to comp k = filter_map (sending_to comp) k
+
+-- the number and the stamped message, where this was put on the route
+abbrev pub posting_on : RouteId → Posted → Option (ℕ × Stamped)
+posting_on r x = cond (same_route r x.route) (Some (x.number, x.stamped)) None
+
+-- what of this was put on the route, in order, with the numbers
+unfoldable pub posted_on : RouteId → List Posted → List (ℕ × Stamped)
+posted_on r xs = filter_map (posting_on r) xs
 
 -- the number that stands beside a route, 0 where none does
 abbrev pub count_of : RouteId → List (RouteId × ℕ) → ℕ

@@ -1,5 +1,6 @@
 -- The routes into a component, and the arrivals that envelopes of these routes make.
-use Rattle.std.specs.Prelude.{◌≡◌, ◌≢◌, ℕ, ◌<◌, List, map, slice_index_or, All, AllPairs, Contains}
+use Rattle.std.specs.Prelude.{◌≡◌, ◌≢◌, ℕ, ◌<◌, cond, ◌==◌, List, [], ◌∷◌, ◌++◌, map, filter, slice_index_or, All, AllPairs, Contains}
+use Rattle.std.specs.List.{list_any}
 use Rattle.tp_queue.specs.declared.event.Env.{Env}
 use Rattle.tp_value.specs.declared.message.Message.{Message}
 use Rattle.tp_config.specs.declared.port_type.CompId.{CompId}
@@ -8,7 +9,8 @@ use Rattle.tp_inbox.specs.declared.entry.Entry.{Entry}
 use Rattle.tp_inbox.specs.declared.entry.Entry.TheVariants as entry
 use Rattle.tp_inbox.specs.declared.envelope.Envelope.{Envelope}
 use Rattle.tp_inbox.specs.declared.stamped.Stamped.{Stamped}
-use Rattle.tp_inbox.specs.History.{numbered, arrived_on}
+use Rattle.tp_inbox.specs.declared.posted.Posted.{Posted}
+use Rattle.tp_inbox.specs.History.{numbered, arrived_on, arrived_from}
 use Rattle.tp_inbox.specs.Envelopes.{Begins}
 
 -- these are routes into a component with so many ports, and no two are equal
@@ -24,6 +26,27 @@ absent_route = record { source = record { 0 = 0 }; to = record { comp = record {
 -- the route at this place
 abbrev pub route_at : List RouteId → ℕ → RouteId
 route_at routes place = slice_index_or routes place absent_route
+
+-- the routes from this component, in order
+abbrev pub routes_by : CompId → List RouteId → List RouteId
+routes_by source routes = filter (λ (r : RouteId). source.0 == r.source.0) routes
+
+-- these components, and this one behind them if it is none of them
+abbrev pub with_source : List CompId → CompId → List CompId
+with_source sources c = cond (list_any (λ (s : CompId). s.0 == c.0) sources) sources (sources ++ c ∷ [])
+
+-- these components, and behind them the others from which these routes lead, each once, in the order of its first route
+abbrev pub sources_behind : List CompId → List RouteId → List CompId
+sources_behind sources [] = sources
+sources_behind sources (r ∷ rs) = sources_behind (with_source sources r.source) rs
+
+-- the components from which these routes lead, each once, in the order of its first route
+abbrev pub sources_of : List RouteId → List CompId
+sources_of routes = sources_behind [] routes
+
+-- what an envelope has, by its route
+abbrev pub posted_of : List RouteId → Envelope → Posted
+posted_of routes e = record { route = route_at routes e.place; number = e.number; stamped = e.stamped }
 
 -- what arrives where an envelope is moved
 abbrev pub env_of : List RouteId → Envelope → Env Message
@@ -55,10 +78,12 @@ pub record AreArrivals (routes : List RouteId) (es : List Entry) : Type 0 where
   pub routed : All (IsArrivalOn routes) es
   pub order : AreNumbered routes es
 
--- on each of these routes the arrivals begin what was put there: in its order, and numbered from 0
-abbrev pub AreBegun : List Entry → List (RouteId × List Stamped) → Type 0
-AreBegun es sent = All (λ (s : RouteId × List Stamped). Begins (arrived_on s.0 es) (numbered 0 s.1)) sent
+-- from each of these components, what came to this one begins what it has put there: with its routes and numbers, in its
+-- order over all routes
+abbrev pub AreBegun : CompId → List Entry → List (CompId × List Posted) → Type 0
+AreBegun comp es sent = All (λ (s : CompId × List Posted). Begins (arrived_from comp s.0 es) s.1) sent
 
--- on each of these routes the arrivals are what was put there: all of it, in its order, and numbered from 0
-abbrev pub AreDelivered : List Entry → List (RouteId × List Stamped) → Type 0
-AreDelivered es sent = All (λ (s : RouteId × List Stamped). arrived_on s.0 es ≡ numbered 0 s.1) sent
+-- from each of these components, what came to this one is what it has put there: all of it, with its routes and numbers,
+-- in its order over all routes
+abbrev pub AreDelivered : CompId → List Entry → List (CompId × List Posted) → Type 0
+AreDelivered comp es sent = All (λ (s : CompId × List Posted). arrived_from comp s.0 es ≡ s.1) sent

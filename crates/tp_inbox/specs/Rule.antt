@@ -1,53 +1,53 @@
 -- The rule of an inbox's queue, over the envelopes that it holds and the views of its passes.
-use Rattle.std.specs.Prelude.{◌≡◌, ℕ, ◌<◌, ◌≤◌, true, false, List, [], ◌∷◌, ◌++◌, length, slice_index_or}
+use Rattle.std.specs.Prelude.{◌≡◌, ℕ, ◌<◌, true, false, List, [], ◌∷◌, ◌++◌, All}
 use mathlib.Core.Option.{Option, some, none}
 use lib.ListN.{get_elem?}
 use Rattle.tp_inbox.specs.declared.envelope.Envelope.{Envelope}
-use Rattle.tp_inbox.specs.declared.stamped.Stamped.{Stamped}
 use Rattle.tp_inbox.specs.declared.rule.View.{View}
-use Rattle.tp_inbox.specs.History.{numbered}
-use Rattle.tp_inbox.specs.Envelopes.{of, InOrder, AreFronts, AreRouted}
+use Rattle.tp_inbox.specs.Envelopes.{InOrder, AreFronts, AreWhole, AreRouted, Ledger, has, among}
 
--- the pass of a sender: its route, and what it has put
-abbrev pub sender_pass : ℕ → List Stamped → View
-sender_pass place put =
-    record { sends = true; place = place; put = put; owns = false; made = 0; taken = []; known = [] }
+-- the pass of a sender: the places of its routes, and what it has put on them
+abbrev pub sender_pass : List ℕ → List Envelope → View
+sender_pass places put =
+    record { sends = true; places = places; put = put; owns = false; made = 0; taken = []; known = [] }
 
--- the pass of the owner: how many routes it has split off, what it has taken out, and the lists of those that have
--- joined
-abbrev pub owner_pass : ℕ → List Envelope → List (List Stamped) → View
+-- the pass of the owner: how many routes it has split off, what it has taken out, and the ledgers of those senders that
+-- have joined
+abbrev pub owner_pass : ℕ → List Envelope → List Ledger → View
 owner_pass made taken known =
-    record { sends = false; place = 0; put = []; owns = true; made = made; taken = taken; known = known }
+    record { sends = false; places = []; put = []; owns = true; made = made; taken = taken; known = known }
 
 -- a pass that has joined
 abbrev pub spent : View
-spent = record { sends = false; place = 0; put = []; owns = false; made = 0; taken = []; known = [] }
+spent = record { sends = false; places = []; put = []; owns = false; made = 0; taken = []; known = [] }
 
--- what a sender's pass has to do with the whole: it alone has its route, and knows what was put there
-abbrev pub FitsSender : ℕ → (ℕ → Option ℕ) → (ℕ → List Stamped) → ℕ → View → Type 0
-FitsSender made seat put pass v = v.sends ≡ true → (v.place < made) × (seat v.place ≡ some pass) × (v.put ≡ put v.place)
+-- what a sender's pass has to do with the whole: it alone has its routes, and of all envelopes so far those of its
+-- routes are what it has put, in its order
+abbrev pub FitsSender : ℕ → (ℕ → Option ℕ) → List Envelope → ℕ → View → Type 0
+FitsSender made seat all pass v =
+    v.sends ≡ true
+    → ((p : ℕ) → has v.places p ≡ true → (p < made) × (seat p ≡ some pass)) × (among v.places all ≡ v.put)
 
--- the owner's, of which there is one: it knows what was taken out, how many routes there are, and what the first of
--- them put, which have joined
-abbrev pub FitsOwner : ℕ → ℕ → (ℕ → Option ℕ) → (ℕ → List Stamped) → List Envelope → ℕ → View → Type 0
-FitsOwner owner made seat put taken pass v =
+-- the owner's, of which there is one: it knows what was taken out, how many routes there are, and what those put that
+-- have joined, whose routes nobody has any more
+abbrev pub FitsOwner : ℕ → ℕ → (ℕ → Option ℕ) → List Envelope → List Envelope → ℕ → View → Type 0
+FitsOwner owner made seat taken all pass v =
     v.owns ≡ true
-    → (pass ≡ owner) × (v.made ≡ made) × (v.taken ≡ taken) × (length v.known ≤ made)
-    × ((p : ℕ) → p < length v.known → (seat p ≡ none) × (slice_index_or v.known p [] ≡ put p))
+    → (pass ≡ owner) × (v.made ≡ made) × (v.taken ≡ taken)
+    × All (λ (x : Ledger). (p : ℕ) → has x.0 p ≡ true → (p < made) × (seat p ≡ none)) v.known × AreWhole all v.known
 
--- for each route its part of what was taken out and then of what is held is what was put there, in order and numbered
--- from 0, and there is no other route
+-- for each sender the envelopes of its routes, of what was taken out and then of what is held, are what it has put, in
+-- its order over all its routes; on each route they are numbered from 0, and there is no other route
 pub record Delivers (items : List Envelope) (views : List View) : Type 0 where
   pub owner : ℕ
   pub made : ℕ
   pub seat : ℕ → Option ℕ
-  pub put : ℕ → List Stamped
   pub taken : List Envelope
-  pub whole : (p : ℕ) → of p (taken ++ items) ≡ numbered 0 (put p)
   pub routed : AreRouted made (taken ++ items)
-  pub fresh : (p : ℕ) → made ≤ p → put p ≡ []
-  pub senders : (pass : ℕ) (v : View) → get_elem? views pass ≡ some v → FitsSender made seat put pass v
-  pub owners : (pass : ℕ) (v : View) → get_elem? views pass ≡ some v → FitsOwner owner made seat put taken pass v
+  pub order : InOrder (taken ++ items)
+  pub senders : (pass : ℕ) (v : View) → get_elem? views pass ≡ some v → FitsSender made seat (taken ++ items) pass v
+  pub owners : (pass : ℕ) (v : View) → get_elem? views pass ≡ some v
+      → FitsOwner owner made seat taken (taken ++ items) pass v
 
 -- an envelope that was taken out is the next of its route, and of a route that there is
 abbrev pub Takes : View → Envelope → View → Type 0
@@ -56,11 +56,11 @@ Takes v e w =
     × (e.place < v.made) × InOrder (v.taken ++ e ∷ []) × AreFronts (v.taken ++ e ∷ []) v.known
 
 abbrev pub Puts : View → Envelope → View → Type 0
-Puts v e w = w ≡ sender_pass v.place (v.put ++ e.stamped ∷ [])
+Puts v e w = w ≡ sender_pass v.places (v.put ++ e ∷ [])
 
--- of each route that has joined, what was taken out and what the queue holds is what was put
+-- of each sender that has joined, what was taken out and what the queue holds is what it has put
 abbrev pub Knows : View → List Envelope → Type 0
-Knows v items = (p : ℕ) → p < length v.known → of p (v.taken ++ items) ≡ numbered 0 (slice_index_or v.known p [])
+Knows v items = AreWhole (v.taken ++ items) v.known
 
 -- the owner's pass, with what follows from the rule
 pub record Sound (v : View) : Type 0 where

@@ -11,7 +11,8 @@ ghost use Rattle.tp_inbox.specs.History.{IsClocked, IsTimely, arrivals, clock_of
 ghost use Rattle.tp_inbox.specs.Desks.{IsNote, IsWithin, FindsAt, ReceivesAt, TriggersAt};
 ghost use Rattle.tp_inbox.specs.Desks.{adding, at_port, new_desk};
 ghost use Rattle.tp_inbox.specs.Lending.{ends_checked_at};
-ghost use Rattle.tp_inbox.specs.Ledgers.{putting};
+ghost use Rattle.tp_inbox.specs.Ledgers.{put_on_way, putting};
+ghost use Rattle.tp_inbox.specs.Routed.{route_at};
 
 use crate::calls;
 use crate::calls::Triggered;
@@ -333,26 +334,29 @@ impl Desk {
         Ok(())
     }
 
-    /// Sends a message: puts it with this sender, under the next stamp of the history, and notes it
-    /// there. The two are one: where it is put, it is noted.
+    /// Sends a message: puts it with this sender on this one of its routes, under the next stamp of
+    /// the history, and notes it there. The two are one: where it is put, it is noted.
     ///
-    /// 15 `Limit` only where the sender's route has taken all that it takes; else 50 `Memory` where
-    /// an allocation was refused, or where no stamp is left. Nothing is put or noted then.
+    /// 15 `Limit` only where the route has taken all that it takes; else 50 `Memory` where an
+    /// allocation was refused, or where no stamp is left. Nothing is put or noted then.
     pub fn send<R: Wait>(
         &mut self,
         rt: &R,
         sender: &mut Sender,
+        way: usize,
         message: &Message,
     ) -> Result<(), PutFault>
-        ensures desk { OnOk result (self.new ≡ adding self.old (entry.Sent sender.old.route
-            (length sender.old.ledger) (next_of self.old.log message.now))) }
+        requires { way < length sender.old.routes }
+        ensures desk { OnOk result (self.new
+            ≡ adding self.old (entry.Sent (route_at sender.old.routes way)
+            (length (put_on_way sender.old way)) (next_of self.old.log message.now))) }
         ensures sender { OnOk result (sender.new
-            ≡ putting sender.old (next_of self.old.log message.now)) }
+            ≡ putting sender.old way (next_of self.old.log message.now)) }
         ensures err { OnErr result ((self.new ≡ self.old) × (sender.new ≡ sender.old)) }
         ensures limit { IfErr result (λ fault.
-            fault ≡ PutFault.Limit → 100000 ≤ length sender.old.ledger) }
+            fault ≡ PutFault.Limit → 100000 ≤ length (put_on_way sender.old way)) }
     {
-        let route = sender.route();
+        let route = sender.route(way);
         let Some(stamp) = self.stamp() else {
             return Err(PutFault::Memory);
         };
@@ -362,7 +366,7 @@ impl Desk {
         if self.log.reserve(1).is_err() {
             return Err(PutFault::Memory);
         }
-        match sender.put(rt, copy) {
+        match sender.put(rt, way, copy) {
             Ok(number) => {
                 self.log.push_reserved(Entry::Sent(route, number, noted));
                 self.clock = stamp;

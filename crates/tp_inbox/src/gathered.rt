@@ -3,7 +3,7 @@ ghost use Rattle.std.specs.Prelude.{◌≡◌, ◌++◌, ◌≤◌, [], All, IfE
 ghost use Rattle.std.specs.Prelude.{length, map, vec_capacity};
 ghost use Rattle.tp_inbox.specs.History.{arrivals};
 ghost use Rattle.tp_inbox.specs.Envelopes.{one_of};
-ghost use Rattle.tp_inbox.specs.Routed.{AreBegun, AreDelivered, IsArrivalOn, AreRoutes};
+ghost use Rattle.tp_inbox.specs.Routed.{AreBegun, AreDelivered, AreNumbered, IsArrivalOn, AreRoutes};
 ghost use Rattle.tp_inbox.specs.Routed.{arrivals_of, rest_arrivals};
 ghost use Rattle.tp_inbox.specs.Envelopes.{AreRouted};
 ghost use Rattle.tp_inbox.specs.Ledgers.{AreSenders, IsDeskOf, put_by};
@@ -13,26 +13,26 @@ use crate::desk::Desk;
 use crate::envelope::Envelope;
 use crate::hub::Hub;
 use crate::owner::{Owner, take_out};
+use crate::posted::Posted;
 use crate::rule::{Pass, Route, Take};
 use crate::sender::Sender;
-use crate::stamped::Stamped;
 use std::alloc::Global;
 use std::marker::Model;
 use std::sync::{Arc, Wait};
-use tp_config::port_type::RouteId;
+use tp_config::port_type::CompId;
 use tp_queue::event::Env;
 use tp_refusal::memory::Memory;
 use tp_value::message::Message;
 
 /// An owner with its senders, all of them ended, seen by contracts as its inbox, the arrivals that
-/// the owner has drained, those that were taken out after that and are kept here, and what was put
-/// on each route.
+/// the owner has drained, those that were taken out after that and are kept here, and what each
+/// sender has put.
 #[derive(Drop)]
 pub struct Gathered {
     hub: Arc<Hub, Global>,
     pass: Pass,
     /// What each sender has put.
-    sent: Vec<(RouteId, Vec<Stamped>)>,
+    sent: Vec<(CompId, Vec<Posted>)>,
     /// What was taken out and not drained, with the ports where it arrives, and the stamps.
     rest: Vec<(u32, Env<Message>, u64)>,
 }
@@ -61,12 +61,12 @@ impl Model for Gathered {
     ghost invariant = { IsGathered };
 }
 
-/// What was put on each route, and what of it was still in the inbox.
+/// What each sender has put, and what of it was still in the inbox.
 #[derive(Drop)]
 pub struct Settled {
-    /// For each route into the component, in order, the messages that its sender has put, in order,
-    /// with their stamps.
-    pub sent: Vec<(RouteId, Vec<Stamped>)>,
+    /// For each component that has routes into this one, in the order of the first of these, what
+    /// its sender has put, in its order over all routes.
+    pub sent: Vec<(CompId, Vec<Posted>)>,
     /// What was still in the inbox, in order: the port where it arrives, what arrives, its stamp.
     pub rest: Vec<(u32, Env<Message>, u64)>,
 }
@@ -98,7 +98,7 @@ pub fn gather<R: Wait>(rt: &R, owner: Owner, senders: Vec<Sender>) -> Gathered
     ensures inbox { result.inbox ≡ owner.inbox }
     ensures drained { result.drained ≡ owner.drained }
     ensures sent { result.sent ≡ map put_by senders.items }
-    ensures begun { AreBegun (result.drained ++ result.kept) result.sent }
+    ensures begun { AreBegun owner.inbox.comp (result.drained ++ result.kept) result.sent }
 {
     let Owner {
         hub,
@@ -111,16 +111,17 @@ pub fn gather<R: Wait>(rt: &R, owner: Owner, senders: Vec<Sender>) -> Gathered
         places: _,
     } = owner;
     for sender in senders {
-        let route = sender.route();
         let Sender {
             hub: _,
             pass: other,
-            place: _,
+            source,
+            places: _,
+            counts: _,
             sent: ledger,
             alloc: _,
         } = sender;
         hub.line.absorb::<Route>(&mut pass, other);
-        sent.push_reserved((route, ledger));
+        sent.push_reserved((source, ledger));
     }
     hub.line.len_as::<Take, R>(rt, &mut pass);
     let rest = with_hand(&hub, rest, hand);
@@ -133,9 +134,10 @@ pub fn gather<R: Wait>(rt: &R, owner: Owner, senders: Vec<Sender>) -> Gathered
 }
 
 impl Gathered {
-    /// What was put on each route, and what of it was still in the inbox: the arrivals of a route
-    /// in the desk, followed by those in the rest, are what its sender has put, numbered from 0.
-    /// Nothing is compared for this; it follows from the rule of the queue.
+    /// What each sender has put, and what of it was still in the inbox: the arrivals from its
+    /// component in the desk, followed by those in the rest, are what it has put, in its order over
+    /// all routes; and on each route they are numbered from 0. Nothing is compared for this; it
+    /// follows from the rule of the queue.
     ///
     /// 50 `Memory` where an allocation was refused: this is handed back, and may be settled again.
     pub fn settle<R: Wait>(self, rt: &R, desk: &Desk) -> Result<Settled, (Memory, Gathered)>
@@ -143,7 +145,10 @@ impl Gathered {
         requires arrivals { arrivals desk.now.log ≡ self.drained }
         ensures sent { IfOk result (λ settled. seen_sent settled.sent.items ≡ self.sent) }
         ensures delivered { IfOk result (λ settled.
-            AreDelivered (desk.now.log ++ rest_arrivals settled.rest.items) self.sent) }
+            AreDelivered self.inbox.comp
+            (desk.now.log ++ rest_arrivals settled.rest.items) self.sent) }
+        ensures numbered { IfOk result (λ settled. AreNumbered self.inbox.routes
+            (desk.now.log ++ rest_arrivals settled.rest.items)) }
         ensures routed { IfOk result (λ settled.
             All (IsArrivalOn self.inbox.routes) (rest_arrivals settled.rest.items)) }
         ensures same { IfErr result (λ back.
@@ -151,7 +156,7 @@ impl Gathered {
             × (back.1.drained ≡ self.drained)
             × (back.1.sent ≡ self.sent)) }
         ensures begun { IfErr result (λ back.
-            AreBegun (back.1.drained ++ back.1.kept) back.1.sent) }
+            AreBegun self.inbox.comp (back.1.drained ++ back.1.kept) back.1.sent) }
     {
         // Contracts alone speak of the desk.
         let _ = desk;

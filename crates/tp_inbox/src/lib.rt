@@ -14,6 +14,7 @@ pub mod gathered;
 pub mod hub;
 pub mod making;
 pub mod owner;
+pub mod posted;
 mod rule;
 pub mod sender;
 #[cfg(test)]

@@ -1,12 +1,13 @@
 //! How an inbox is made.
-ghost use Rattle.std.specs.Prelude.{◌≡◌, ◌≢◌, [], AllPairs, IfOk, length, map};
+ghost use Rattle.std.specs.Prelude.{◌≡◌, ◌≢◌, ◌<◌, ◌+◌, [], ◌∷◌, All, AllPairs, IfNone, IfOk, IfSome, OnOk, length, map};
+ghost use Rattle.std.specs.List.{HoldsAt};
 ghost use Rattle.tp_config.specs.Setup.{IsComponent, ports_at};
 ghost use Rattle.tp_config.specs.declared.port_type.RouteId.{RouteId};
 ghost use Rattle.tp_config.specs.Routes.{routes_into};
-ghost use Rattle.tp_inbox.specs.Rule.{owner_pass};
-ghost use Rattle.tp_inbox.specs.Routed.{AreRoutes};
+ghost use Rattle.tp_inbox.specs.Rule.{owner_pass, sender_pass};
+ghost use Rattle.tp_inbox.specs.Routed.{AreRoutes, sources_of};
 ghost use Rattle.tp_inbox.specs.Places.{AreFiled};
-ghost use Rattle.tp_inbox.specs.Ledgers.{AreSenders, new_sender};
+ghost use Rattle.tp_inbox.specs.Ledgers.{AreMade, AreSenders, new_sender};
 ghost use Rattle.tp_inbox.specs.Ends.{inbox_of};
 ghost use Rattle.crossbeam_queue.specs.SegTies.{IsSegPassOf};
 ghost use Rattle.std.specs.Arc.{arc_value};
@@ -49,7 +50,51 @@ fn places_of(alloc: Global, routes: &[RouteId]) -> Result<IndexMap<RouteId, usiz
     Ok(places)
 }
 
-/// A sender for each route, in their order, with passes that are split off this one.
+/// The place of this component's sender, where there is one.
+fn sender_of(senders: &[Sender], source: CompId) -> Option<usize>
+    ensures some { IfSome result (λ k. (k < length senders.now)
+        × HoldsAt (λ s. s.source ≡ source) senders.now k) }
+    ensures none { IfNone result (All (λ s. s.source ≢ source) senders.now) }
+{
+    for index in 0..senders.len() {
+        if senders[index].source().0 == source.0 {
+            return Some(index);
+        }
+    }
+    None
+}
+
+/// Gives the next route, with its pass, to the sender of the route's component, or to a new one if
+/// there is none.
+///
+/// 50 `Memory` where an allocation was refused.
+fn add_route(
+    alloc: Global,
+    hub: &Arc<Hub, Global>,
+    senders: &mut Vec<Sender>,
+    pass: Pass,
+    place: usize,
+) -> Result<(), Memory>
+    requires queue { IsSegPassOf (arc_value hub.now).line pass }
+    requires view { pass.me.view.client ≡ sender_pass (place ∷ []) [] }
+    requires place { place < length (arc_value hub.now).routes.items }
+    requires senders { AreMade (inbox_of (arc_value hub.now)) place senders.old.items }
+    ensures { OnOk result (AreMade (inbox_of (arc_value hub.now)) (place + 1) senders.new.items) }
+{
+    let route = hub.routes[place];
+    match sender_of(senders.as_slice(), route.source) {
+        Some(index) => senders[index].extend(pass, place),
+        None => {
+            let hub = Arc::try_clone(hub)?;
+            let sender = Sender::begin(alloc, hub, pass, place)?;
+            senders.push(sender)?;
+            Ok(())
+        }
+    }
+}
+
+/// A sender for each component that has routes into this inbox, with all of these, in the order of
+/// the first of these, with passes that are split off this one.
 fn split(alloc: Global, hub: &Arc<Hub, Global>, pass: &mut Pass) -> Result<Vec<Sender>, Memory>
     requires queue { IsSegPassOf (arc_value hub.now).line pass.old }
     requires fresh { pass.old.me.view.client ≡ owner_pass 0 [] [] }
@@ -57,26 +102,21 @@ fn split(alloc: Global, hub: &Arc<Hub, Global>, pass: &mut Pass) -> Result<Vec<S
     ensures made { IfOk result (λ _. pass.new.me.view.client
         ≡ owner_pass (length (arc_value hub.now).routes.items) [] []) }
     ensures senders { IfOk result (λ senders. senders.items
-        ≡ map (new_sender (inbox_of (arc_value hub.now))) (arc_value hub.now).routes.items) }
+        ≡ map (new_sender (inbox_of (arc_value hub.now)))
+        (sources_of (arc_value hub.now).routes.items)) }
 {
     let count = hub.routes.len();
-    let mut senders = Vec::with_capacity(alloc, count)?;
+    let mut senders = Vec::new(alloc);
     for place in 0..count {
-        let mine = Arc::try_clone(hub)?;
         let theirs = hub.line.another::<Route>(pass);
-        senders.push_reserved(Sender {
-            hub: mine,
-            pass: theirs,
-            place,
-            sent: Vec::new(alloc),
-            alloc,
-        });
+        add_route(alloc, hub, &mut senders, theirs, place)?;
     }
     Ok(senders)
 }
 
-/// The inbox of a component of the configuration: its owner, a sender for each route into the
-/// component, in the order of [`Config::routes_into`], and what closes it. The floor is the one
+/// The inbox of a component of the configuration: its owner, a sender for each component that has
+/// routes into this one, in the order of the first of these in [`Config::routes_into`], and what
+/// closes it. The floor is the one
 /// that the behaviours of the run stand on.
 ///
 /// 50 `Memory` where an allocation was refused.
@@ -92,7 +132,8 @@ pub fn inbox(
         ≡ length (ports_at config.now.types config.now.components comp)) }
     ensures routes { IfOk result (λ r. r.0.inbox.routes ≡ routes_into config.now comp) }
     ensures drained { IfOk result (λ r. r.0.drained ≡ []) }
-    ensures senders { IfOk result (λ r. r.1.items ≡ map (new_sender r.0.inbox) r.0.inbox.routes) }
+    ensures senders { IfOk result (λ r. r.1.items
+        ≡ map (new_sender r.0.inbox) (sources_of r.0.inbox.routes)) }
     ensures joins { IfOk result (λ r. AreSenders r.0.inbox r.1.items) }
 {
     let routes = routes_of(config, comp)?;

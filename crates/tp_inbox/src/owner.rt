@@ -12,13 +12,14 @@ ghost use Rattle.tp_inbox.specs.Ledgers.{IsDeskOf, drained_on};
 use crate::desk::Desk;
 use crate::envelope::Envelope;
 use crate::hub::{Hub, Woken};
+use crate::posted::Posted;
 use crate::rule::{InboxQueue, Pass, Take};
 use crate::stamped::Stamped;
 use indexmap::IndexMap;
 use std::alloc::Global;
 use std::marker::Model;
 use std::sync::{Arc, Wait};
-use tp_config::port_type::RouteId;
+use tp_config::port_type::{CompId, RouteId};
 use tp_queue::event::Env;
 use tp_refusal::memory::Memory;
 use tp_value::message::Message;
@@ -38,7 +39,7 @@ pub struct Owner {
     /// The place of each route.
     pub(crate) places: IndexMap<RouteId, usize>,
     /// Room for what each sender has put.
-    pub(crate) sent: Vec<(RouteId, Vec<Stamped>)>,
+    pub(crate) sent: Vec<(CompId, Vec<Posted>)>,
     /// Room for what is still in the inbox at the end.
     pub(crate) rest: Vec<(u32, Env<Message>, u64)>,
 }

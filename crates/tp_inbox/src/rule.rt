@@ -1,10 +1,10 @@
 //! The rule of an inbox's queue, and its kinds of step.
 //!
-//! The rule speaks of whole envelopes: for each sender, of whom there may be any number, its part
-//! of what the owner has taken out, followed by what the queue holds, is what the sender has put,
-//! in its order, numbered from 0. It holds between any two steps of any threads.
+//! The rule speaks of whole envelopes: for each sender, of whom there may be any number and who may
+//! have any number of routes, its part of what the owner has taken out, followed by what the queue
+//! holds, is what the sender has put, in its order over all its routes; and on each route they are
+//! numbered from 0. It holds between any two steps of any threads.
 use crate::envelope::Envelope;
-use crate::stamped::Stamped;
 use crossbeam_queue::protocol::{Join, Lesson, Outcome, Protocol, Split};
 use crossbeam_queue::{RuledSegQueue, SegPass};
 use std::collections::LinkedList;
@@ -13,18 +13,18 @@ use std::collections::LinkedList;
 pub(crate) struct View {
     /// It is a sender's.
     pub sends: bool,
-    /// The place of the sender's route.
-    pub place: usize,
-    /// What the sender has put, in its order.
-    pub put: LinkedList<Stamped>,
+    /// The places of the sender's routes.
+    pub places: LinkedList<usize>,
+    /// What the sender has put, in its order over all its routes.
+    pub put: LinkedList<Envelope>,
     /// It is the owner's.
     pub owns: bool,
     /// How many routes the owner has split off.
     pub made: usize,
     /// What the owner has taken out, in order.
     pub taken: LinkedList<Envelope>,
-    /// What the senders that have joined had put, route by route.
-    pub known: LinkedList<LinkedList<Stamped>>,
+    /// Of each sender that has joined, the places of its routes and what it had put.
+    pub known: LinkedList<(LinkedList<usize>, LinkedList<Envelope>)>,
 }
 
 /// The rule itself.
@@ -39,23 +39,35 @@ impl Protocol<Envelope, View> for Delivery {
     ghost first = { owner_pass 0 [] [] };
 }
 
-/// A new route, and the pass of its sender; and the sender's pass when it comes back.
+/// A new route, and the pass of a sender that has it alone; and a sender's pass when it comes back.
 pub(crate) struct Route;
 
 impl Split<View> for Route {
-    ghost use Rattle.std.specs.Prelude.{[], ◌+◌};
+    ghost use Rattle.std.specs.Prelude.{[], ◌∷◌, ◌+◌};
     ghost use Rattle.tp_inbox.specs.Rule.{owner_pass, sender_pass};
 
     ghost left = { λ v. owner_pass (v.made + 1) v.taken v.known };
 
-    ghost right = { λ v. sender_pass v.made [] };
+    ghost right = { λ v. sender_pass (v.made ∷ []) [] };
 }
 
 impl Join<View> for Route {
     ghost use Rattle.std.specs.Prelude.{[], ◌∷◌, ◌++◌};
     ghost use Rattle.tp_inbox.specs.Rule.{owner_pass, spent};
 
-    ghost both = { λ v w. owner_pass v.made v.taken (v.known ++ w.put ∷ []) };
+    ghost both = { λ v w. owner_pass v.made v.taken (v.known ++ (w.places, w.put) ∷ []) };
+
+    ghost spent = { spent };
+}
+
+/// A sender that takes over the routes of another, which has put nothing.
+pub(crate) struct Way;
+
+impl Join<View> for Way {
+    ghost use Rattle.std.specs.Prelude.{◌++◌};
+    ghost use Rattle.tp_inbox.specs.Rule.{sender_pass, spent};
+
+    ghost both = { λ v w. sender_pass (v.places ++ w.places) v.put };
 
     ghost spent = { spent };
 }

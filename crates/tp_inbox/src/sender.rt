@@ -1,20 +1,27 @@
-//! A sender on one route into an inbox, with its ledger.
-ghost use Rattle.std.specs.Prelude.{◌≡◌, ◌<◌, ◌≤◌, ◌↔◌, length, IfErr, IfOk, OnOk};
-ghost use Rattle.tp_inbox.specs.Ledgers.{putting};
+//! A component's sender into one inbox, with its ledger.
+ghost use Rattle.std.specs.Prelude.{◌≡◌, ◌≢◌, ◌<◌, ◌≤◌, ◌↔◌, [], ◌∷◌, length, All, AllPairs, IfErr, IfOk, OnOk};
+ghost use Rattle.std.specs.Arc.{arc_value};
+ghost use Rattle.crossbeam_queue.specs.SegTies.{IsSegPassOf};
+ghost use Rattle.tp_inbox.specs.Rule.{sender_pass};
+ghost use Rattle.tp_inbox.specs.Ends.{inbox_of};
+ghost use Rattle.tp_inbox.specs.Ledgers.{end_of, extended, first_sender, put_on_way, putting};
+ghost use Rattle.tp_inbox.specs.Routed.{route_at};
 
 use crate::envelope::Envelope;
 use crate::hub::Hub;
-use crate::rule::{Pass, Put};
+use crate::posted::Posted;
+use crate::rule::{Pass, Put, Way};
 use crate::stamped::Stamped;
 use std::alloc::Global;
 use std::marker::Model;
 use std::sync::{Arc, Wait};
 use thiserror::Error;
-use tp_config::port_type::RouteId;
+use tp_config::port_type::{CompId, RouteId};
 use tp_queue::payload::Payload;
+use tp_refusal::memory::Memory;
 
 /// How many messages a route takes.
-pub const ROUTE_LIMIT: usize = 100_000;
+pub const ROUTE_LIMIT: u64 = 100_000;
 
 /// Why a message was not put.
 #[derive(Clone, Copy, Debug, PartialEq, Eq, Hash, Error)]
@@ -27,16 +34,22 @@ pub enum PutFault {
     Memory,
 }
 
-/// The sender on one route into an inbox, seen by contracts as its inbox, its route and its ledger:
-/// the list of the messages that it has put, in order, with their stamps.
+/// The sender of one component into one inbox, on all routes from the one to the other, seen by
+/// contracts as its inbox, the component, the routes and its ledger: the list of the messages that
+/// it has put, in order, with their routes, numbers and stamps.
 ///
 /// It may be moved into a thread of its own. There is no order between what different senders put.
 #[derive(Drop)]
 pub struct Sender {
     pub(crate) hub: Arc<Hub, Global>,
     pub(crate) pass: Pass,
-    pub(crate) place: usize,
-    pub(crate) sent: Vec<Stamped>,
+    /// The component that sends by it.
+    pub(crate) source: CompId,
+    /// The places of its routes among the routes into the inbox's component, in order.
+    pub(crate) places: Vec<usize>,
+    /// How many messages it has put on each of its routes.
+    pub(crate) counts: Vec<u64>,
+    pub(crate) sent: Vec<Posted>,
     pub(crate) alloc: Global,
 }
 
@@ -44,6 +57,7 @@ impl Model for Sender {
     ghost use Rattle.std.specs.Arc.{arc_value};
     ghost use Rattle.tp_value.specs.contracts.value.Value as value_contract;
     ghost use Rattle.std.specs.Coded.{codes};
+    ghost use Rattle.std.specs.Prelude.{map};
     ghost use Rattle.tp_inbox.specs.Ledgers.{Sending};
 
     ghost Value = { Sending };
@@ -55,7 +69,8 @@ impl Model for Sender {
 
     ghost view = { λ s. record {
       inbox = inbox_of (arc_value s.hub);
-      route = route_at (arc_value s.hub).routes.items s.place;
+      source = s.source;
+      routes = map (route_at (arc_value s.hub).routes.items) s.places.items;
       ledger = s.sent.items;
     } };
 
@@ -63,23 +78,81 @@ impl Model for Sender {
 }
 
 impl Sender {
-    /// Puts a stamped message into the inbox, and answers its number on its route, from 0. The
-    /// inbox holds it from then on, behind all that this sender has put before, until the owner
-    /// takes it out; the ledger keeps a copy.
+    /// A sender with this one route, that has put nothing. Its pass is one that has this route.
+    ///
+    /// 50 `Memory` where an allocation was refused.
+    pub(crate) fn begin(
+        alloc: Global,
+        hub: Arc<Hub, Global>,
+        pass: Pass,
+        place: usize,
+    ) -> Result<Sender, Memory>
+        requires queue { IsSegPassOf (arc_value hub).line pass }
+        requires view { pass.me.view.client ≡ sender_pass (place ∷ []) [] }
+        requires place { place < length (arc_value hub).routes.items }
+        ensures { IfOk result (λ s. s ≡ first_sender (inbox_of (arc_value hub))
+            (route_at (arc_value hub).routes.items place)) }
+    {
+        let source = hub.routes[place].source;
+        let mut places = Vec::with_capacity(alloc, 1)?;
+        let mut counts = Vec::with_capacity(alloc, 1)?;
+        places.push_reserved(place);
+        counts.push_reserved(0);
+        Ok(Sender {
+            hub,
+            pass,
+            source,
+            places,
+            counts,
+            sent: Vec::new(alloc),
+            alloc,
+        })
+    }
+
+    /// Takes over a route that it has not, from a pass that has put nothing on it. It has put
+    /// nothing itself.
+    ///
+    /// 50 `Memory` where an allocation was refused.
+    pub(crate) fn extend(&mut self, other: Pass, place: usize) -> Result<(), Memory>
+        requires queue { IsSegPassOf self.old.inbox.queue other }
+        requires view { other.me.view.client ≡ sender_pass (place ∷ []) [] }
+        requires place { place < length self.old.inbox.routes }
+        requires apart { All (λ r. r ≢ route_at self.old.inbox.routes place) self.old.routes }
+        requires fresh { self.old.ledger ≡ [] }
+        ensures { OnOk result (self.new
+            ≡ extended self.old (route_at self.old.inbox.routes place)) }
+    {
+        self.places.reserve(1)?;
+        self.counts.reserve(1)?;
+        self.hub.line.absorb::<Way>(&mut self.pass, other);
+        self.places.push_reserved(place);
+        self.counts.push_reserved(0);
+        Ok(())
+    }
+
+    /// Puts a stamped message into the inbox on one of its routes, and answers its number there,
+    /// from 0. The inbox holds it from then on, behind all that this sender has put before on any
+    /// of its routes, until the owner takes it out; the ledger keeps a copy.
     ///
     /// 15 `Limit` where the route has taken [`ROUTE_LIMIT`] messages; else 50 `Memory` where an
     /// allocation was refused. Either hands the message back, and the sender and the inbox are as
     /// before.
-    pub fn put<R: Wait>(&mut self, rt: &R, stamped: Stamped) -> Result<u64, (PutFault, Stamped)>
-        ensures same { (self.new.inbox ≡ self.old.inbox) × (self.new.route ≡ self.old.route) }
-        ensures number { IfOk result (λ number. number ≡ length self.old.ledger) }
-        ensures ok { OnOk result (self.new ≡ putting self.old stamped) }
-        ensures room { OnOk result (length self.old.ledger < 100000) }
+    pub fn put<R: Wait>(
+        &mut self,
+        rt: &R,
+        way: usize,
+        stamped: Stamped,
+    ) -> Result<u64, (PutFault, Stamped)>
+        requires { way < length self.old.routes }
+        ensures same { end_of self.new ≡ end_of self.old }
+        ensures number { IfOk result (λ number. number ≡ length (put_on_way self.old way)) }
+        ensures ok { OnOk result (self.new ≡ putting self.old way stamped) }
+        ensures room { OnOk result (length (put_on_way self.old way) < 100000) }
         ensures err { IfErr result (λ back. (back.1 ≡ stamped) × (self.new ≡ self.old)) }
         ensures limit { IfErr result (λ back.
-            back.0 ≡ PutFault.Limit ↔ 100000 ≤ length self.old.ledger) }
+            back.0 ≡ PutFault.Limit ↔ 100000 ≤ length (put_on_way self.old way)) }
     {
-        let number = self.sent.len();
+        let number = self.count(way);
         if number >= ROUTE_LIMIT {
             return Err((PutFault::Limit, stamped));
         }
@@ -89,33 +162,65 @@ impl Sender {
         if self.sent.reserve(1).is_err() {
             return Err((PutFault::Memory, stamped));
         }
+        let route = self.route(way);
         let envelope = Envelope {
-            place: self.place,
-            number: number as u64,
+            place: self.places[way],
+            number,
             stamped: copy,
         };
         let line = &self.hub.line;
         match line.push_as::<Put, R>(rt, &mut self.pass, envelope) {
             Ok(()) => {
-                self.sent.push_reserved(stamped);
+                self.counts[way] = number + 1;
+                self.sent.push_reserved(Posted {
+                    route,
+                    number,
+                    stamped,
+                });
                 self.hub.announce(rt);
-                Ok(number as u64)
+                Ok(number)
             }
             Err(_) => Err((PutFault::Memory, stamped)),
         }
     }
 
-    /// How many messages it has put. Takes no memory.
-    pub fn count(&self) -> u64
-        ensures { result ≡ length self.now.ledger }
+    /// How many routes it has: each leads to the inbox's component, and no two are equal. Takes no
+    /// memory.
+    pub fn ways(&self) -> usize
+        ensures count { result ≡ length self.now.routes }
+        ensures aimed { All (λ r. r.to.comp ≡ self.now.inbox.comp) self.now.routes }
+        ensures apart { AllPairs (λ r q. r ≢ q) self.now.routes }
     {
-        self.sent.len() as u64
+        self.places.len()
     }
 
-    /// Its route. Takes no memory.
-    pub fn route(&self) -> RouteId
-        ensures { result ≡ self.now.route }
+    /// How many messages it has put on this one of its routes. Takes no memory.
+    pub fn count(&self, way: usize) -> u64
+        requires { way < length self.now.routes }
+        ensures { result ≡ length (put_on_way self.now way) }
     {
-        self.hub.routes[self.place]
+        self.counts[way]
+    }
+
+    /// This one of its routes. Takes no memory.
+    pub fn route(&self, way: usize) -> RouteId
+        requires { way < length self.now.routes }
+        ensures { result ≡ route_at self.now.routes way }
+    {
+        self.hub.routes[self.places[way]]
+    }
+
+    /// The component whose inbox it puts into. Takes no memory.
+    pub fn receiver(&self) -> CompId
+        ensures { result ≡ self.now.inbox.comp }
+    {
+        self.hub.comp
+    }
+
+    /// The component that sends by it. Takes no memory.
+    pub fn source(&self) -> CompId
+        ensures { result ≡ self.now.source }
+    {
+        self.source
     }
 }

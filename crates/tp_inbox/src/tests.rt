@@ -9,6 +9,7 @@ use crate::gathered::{Settled, gather};
 use crate::hub::Woken;
 use crate::making::inbox;
 use crate::owner::{Closer, Owner};
+use crate::posted::Posted;
 use crate::sender::{PutFault, ROUTE_LIMIT, Sender};
 use crate::stamped::Stamped;
 use indexmap::IndexMap;
@@ -79,9 +80,9 @@ fn comp_type(alloc: Global) -> Result<CompType, Memory>
     Ok(CompType { ports })
 }
 
-/// Connects port p of two components.
-fn connect(config: &mut Config, one: CompId, other: CompId) -> Result<(), Memory> {
-    let (Some(p), Some(q)) = (config.port_of(one, "p"), config.port_of(other, "p")) else {
+/// Connects the ports with this name of two components.
+fn connect(config: &mut Config, one: CompId, other: CompId, name: &str) -> Result<(), Memory> {
+    let (Some(p), Some(q)) = (config.port_of(one, name), config.port_of(other, name)) else {
         return Err(Memory);
     };
     match config.connect(p, q) {
@@ -104,7 +105,7 @@ pub(crate) fn star(alloc: Global, names: &[&str]) -> Result<Config, Memory> {
             return Err(Memory);
         };
         if comp.0 > 0 {
-            connect(&mut config, CompId(0), comp)?;
+            connect(&mut config, CompId(0), comp, "p")?;
         }
     }
     Ok(config)
@@ -201,12 +202,23 @@ pub(crate) fn ends_of(
 }
 
 impl Ends {
-    /// Puts `integer:n` on the route at this place.
+    /// Puts `integer:n` with the sender at this place, on its first route.
     fn put<R: Wait>(&mut self, rt: &R, place: usize, n: i64) -> Result<u64, (PutFault, Stamped)> {
-        if place >= self.senders.len() {
+        self.put_on(rt, place, 0, n)
+    }
+
+    /// Puts `integer:n` with the sender at this place, on this one of its routes.
+    pub(crate) fn put_on<R: Wait>(
+        &mut self,
+        rt: &R,
+        place: usize,
+        way: usize,
+        n: i64,
+    ) -> Result<u64, (PutFault, Stamped)> {
+        if place >= self.senders.len() || way >= self.senders[place].ways() {
             return Err((PutFault::Memory, stamped(n)));
         }
-        self.senders[place].put(rt, stamped(n))
+        self.senders[place].put(rt, way, stamped(n))
     }
 
     pub(crate) fn drain<R: Wait>(&mut self, rt: &R) -> Result<u64, Memory> {
@@ -236,19 +248,19 @@ impl Ends {
         desk
     }
 
-    /// How many were put on the route at this place.
+    /// How many the sender at this place has put on its first route.
     fn count(&self, place: usize) -> u64 {
         match self.senders.get(place) {
-            Some(sender) => sender.count(),
-            None => 0,
+            Some(sender) if sender.ways() > 0 => sender.count(0),
+            _ => 0,
         }
     }
 
-    /// The route at this place.
+    /// The first route of the sender at this place.
     fn route(&self, place: usize) -> Option<RouteId> {
         match self.senders.get(place) {
-            Some(sender) => Some(sender.route()),
-            None => None,
+            Some(sender) if sender.ways() > 0 => Some(sender.route(0)),
+            _ => None,
         }
     }
 
@@ -271,10 +283,10 @@ impl Ends {
 }
 
 /// Whether the messages are `integer:n` with n from `first` on, and their stamps those numbers.
-pub(crate) fn count_up(messages: &[Stamped], first: i64) -> bool {
+pub(crate) fn count_up(messages: &[Posted], first: i64) -> bool {
     let mut wanted = first;
     for message in messages {
-        if !is_stamped(message, wanted) {
+        if !is_stamped(&message.stamped, wanted) {
             return false;
         }
         wanted = wanted.wrapping_add(1);
@@ -317,6 +329,47 @@ pub(crate) fn two(alloc: Global) -> Result<(Ends, Arc<Floor, Global>), Memory> {
     Ok((ends, floor))
 }
 
+/// Components mtc and a, connected by their ports p and by their ports q, and the ends of a's inbox.
+fn two_twice(alloc: Global) -> Result<(Ends, Arc<Floor, Global>), Memory> {
+    let mut config = star(alloc, ["mtc", "a"].as_slice())?;
+    connect(&mut config, CompId(0), CompId(1), "q")?;
+    let floor = Floor::new(alloc, 2)?;
+    let ends = ends_of(alloc, &config, CompId(1), &floor)?;
+    Ok((ends, floor))
+}
+
+/// Whether this is the arrival of `integer:n` at this port, with this number.
+fn is_arrival_of(entry: &Entry, port: u32, number: u64, n: i64) -> bool {
+    match entry {
+        Entry::Arrive(p, env, _) => {
+            *p == port && env.number == number && is_integer(&env.msg, n)
+        }
+        _ => false,
+    }
+}
+
+/// Whether this is `integer:n` on the route to this port, with this number.
+fn is_posted(posted: &Posted, port: u32, number: u64, n: i64) -> bool {
+    posted.route.to.port == port && posted.number == number && is_stamped(&posted.stamped, n)
+}
+
+/// Whether a sender put 4, 6 and 7 on its route to port p, and 5 between the first two on that to q.
+fn are_mixed(settled: &Settled) -> bool {
+    for (source, posted) in &settled.sent {
+        match posted.as_slice() {
+            [four, five, six, seven] => {
+                let first = is_posted(four, 0, 0, 4) && is_posted(five, 1, 0, 5);
+                let rest = is_posted(six, 0, 1, 6) && is_posted(seven, 0, 2, 7);
+                if source.0 != 0 || !first || !rest {
+                    return false;
+                }
+            }
+            _ => return false,
+        }
+    }
+    settled.sent.len() == 1
+}
+
 /// The same, made a second time where memory is refused.
 pub(crate) fn two_again(alloc: Global) -> Result<(Ends, Arc<Floor, Global>), Memory> {
     match two(alloc) {
@@ -327,8 +380,8 @@ pub(crate) fn two_again(alloc: Global) -> Result<(Ends, Arc<Floor, Global>), Mem
 
 /// Whether these are one route's 4, 5 and 6, of which the last was still in the inbox.
 fn is_row(settled: &Settled, desk: &Desk) -> bool {
-    for (route, messages) in &settled.sent {
-        if *route != way() || messages.len() != 3 || !count_up(messages.as_slice(), 4) {
+    for (source, messages) in &settled.sent {
+        if *source != way().source || messages.len() != 3 || !count_up(messages.as_slice(), 4) {
             return false;
         }
     }
@@ -352,6 +405,28 @@ fn one_route(rt: HostRuntime) -> Result<(), Fail> {
     assert_eq!(rt; ends.put(&rt, 0, 6).ok(), Some(2));
     let (settled, desk) = ends.settle(&rt)?;
     assert!(rt; is_row(&settled, &desk));
+    Ok(())
+}
+
+/// What a sender puts on two routes comes in its order over both, each numbered by itself.
+#[test]
+fn two_routes(rt: HostRuntime) -> Result<(), Fail> {
+    let (mut ends, _floor) = two_twice(rt.alloc())?;
+    assert_eq!(rt; ends.put_on(&rt, 0, 0, 4).ok(), Some(0));
+    assert_eq!(rt; ends.put_on(&rt, 0, 1, 5).ok(), Some(0));
+    assert_eq!(rt; ends.put_on(&rt, 0, 0, 6).ok(), Some(1));
+    assert!(rt; ends.put_on(&rt, 0, 2, 9).is_err());
+    assert_eq!(rt; ends.drain(&rt)?, 3);
+    assert_eq!(rt; ends.put_on(&rt, 0, 0, 7).ok(), Some(2));
+    let (settled, desk) = ends.settle(&rt)?;
+    match desk.log() {
+        [four, five, six] => {
+            assert!(rt; is_arrival_of(four, 0, 0, 4) && is_arrival_of(five, 1, 0, 5));
+            assert!(rt; is_arrival_of(six, 0, 1, 6));
+        }
+        _ => assert!(rt; false),
+    }
+    assert!(rt; are_mixed(&settled) && settled.rest.len() == 1);
     Ok(())
 }
 
@@ -394,7 +469,7 @@ fn alone_on_the_floor(rt: HostRuntime) -> Result<(), Fail> {
 #[test]
 fn a_route_has_a_limit(rt: HostRuntime) -> Result<(), Fail> {
     let (mut ends, _floor) = two(rt.alloc())?;
-    for n in 0..ROUTE_LIMIT as u64 {
+    for n in 0..ROUTE_LIMIT {
         assert_eq!(rt; ends.put(&rt, 0, n as i64).ok(), Some(n));
     }
     match ends.put(&rt, 0, 7) {

@@ -1,5 +1,6 @@
 //! Threads that put while the owner drains.
 ghost use Rattle.std.specs.Prelude.{◌≡◌, IfOk, map};
+ghost use Rattle.tp_inbox.specs.Ledgers.{end_of};
 
 use crate::floor::Floor;
 use crate::gathered::Settled;
@@ -23,19 +24,25 @@ struct Back(Snapshot<Sender>);
 
 impl Promise<Sender> for Back {
     ghost use Rattle.std.specs.Prelude.{◌≡◌};
+    ghost use Rattle.tp_inbox.specs.Ledgers.{end_of};
 
-    ghost kept_by = { λ p r. (r.inbox ≡ p.0.value.inbox) × (r.route ≡ p.0.value.route) };
+    ghost kept_by = { λ p r. end_of r ≡ end_of p.0.value };
 }
 
 /// A sender that is out in a thread.
 type Out = PromisedHandle<Sender, Back>;
 
-/// Puts the integers from 0 on, so many.
+/// Puts the integers from 0 on, so many, on one of its routes after the other, and then again.
 fn put_all<R: Wait>(rt: &R, mut sender: Sender) -> Sender
-    ensures { (result.inbox ≡ sender.inbox) × (result.route ≡ sender.route) }
+    ensures { end_of result ≡ end_of sender }
 {
+    let ways = sender.ways();
+    if ways == 0 {
+        return sender;
+    }
     for n in 0..EACH {
-        if sender.put(rt, stamped(n as i64)).is_err() {
+        let way = n as usize % ways;
+        if sender.put(rt, way, stamped(n as i64)).is_err() {
             return sender;
         }
     }
@@ -56,10 +63,8 @@ where
 fn start<R>(rt: R, alloc: Global, senders: Vec<Sender>) -> Result<Vec<Out>, AllocError>
 where
     R: Threads + Wait + Copy + Send + 'static,
-    ensures inboxes { IfOk result (λ hs.
-        map (λ h. h.promise.0.value.inbox) hs.items ≡ map (λ s. s.inbox) senders.items) }
-    ensures routes { IfOk result (λ hs.
-        map (λ h. h.promise.0.value.route) hs.items ≡ map (λ s. s.route) senders.items) }
+    ensures { IfOk result (λ hs.
+        map (λ h. end_of h.promise.0.value) hs.items ≡ map end_of senders.items) }
 {
     let mut children = Vec::new(alloc);
     for sender in senders {
@@ -70,10 +75,8 @@ where
 
 /// The senders come back.
 fn finish<R: Threads>(rt: &R, alloc: Global, children: Vec<Out>) -> Result<Vec<Sender>, AllocError>
-    ensures inboxes { IfOk result (λ ss.
-        map (λ s. s.inbox) ss.items ≡ map (λ h. h.promise.0.value.inbox) children.items) }
-    ensures routes { IfOk result (λ ss.
-        map (λ s. s.route) ss.items ≡ map (λ h. h.promise.0.value.route) children.items) }
+    ensures { IfOk result (λ ss.
+        map end_of ss.items ≡ map (λ h. end_of h.promise.0.value) children.items) }
 {
     let mut senders = Vec::new(alloc);
     for child in children {
@@ -146,8 +149,8 @@ where
     let floor = Floor::new(alloc, living)?;
     let ends = ends_of(alloc, &config, CompId(0), &floor)?;
     let (settled, desk) = exchange(rt, alloc, ends)?.settle(&rt)?;
-    for (route, _) in &settled.sent {
-        let sender = route.source.0;
+    for (source, _) in &settled.sent {
+        let sender = source.0;
         match arrivals_from(desk.log(), sender) {
             Some(came) if came.checked_add(rest_from(&settled, sender)) == Some(EACH) => {}
             _ => return Ok(false),

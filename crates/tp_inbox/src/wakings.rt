@@ -65,10 +65,15 @@ where
     Ok(thread::spawn(&rt, move || wait_once(&rt, &post, &back))?)
 }
 
+/// Puts `integer:1` on the sender's first route.
+fn put_one<R: Wait>(rt: &R, sender: &mut Sender) -> bool {
+    sender.ways() > 0 && sender.put(rt, 0, stamped(1)).is_ok()
+}
+
 /// Puts `integer:1`. Whether that was accepted.
 fn is_put<R: Wait>(rt: &R, sender: Option<&mut Sender>) -> bool {
     match sender {
-        Some(sender) => sender.put(rt, stamped(1)).is_ok(),
+        Some(sender) => put_one(rt, sender),
         None => false,
     }
 }
@@ -184,7 +189,7 @@ fn echo<R: Wait>(rt: &R, mut post: Post, mut sender: Sender, answered: &Closer) 
             Woken::Last => break,
             Woken::Arrived => {}
         }
-        if post.drain(rt).is_err() || sender.put(rt, stamped(1)).is_err() {
+        if post.drain(rt).is_err() || !put_one(rt, &mut sender) {
             break;
         }
     }
@@ -302,7 +307,7 @@ where
 /// Asks each of the others, and waits for the answer.
 fn ask_each<R: Wait>(rt: &R, post: &mut Post, others: &mut Vec<Answerer>) -> bool {
     for other in others {
-        if other.sender.put(rt, stamped(1)).is_err() || !is_answered(rt, post) {
+        if !put_one(rt, &mut other.sender) || !is_answered(rt, post) {
             return false;
         }
     }

@@ -6,7 +6,8 @@ use Rattle.tp_inbox.specs.History.{next_of}
 use Rattle.tp_inbox.specs.Desks.{Journal}
 use Rattle.tp_behaviour.specs.Looks.{moment}
 use Rattle.tp_behaviour.specs.Moments.{moments}
-use Rattle.tp_behaviour.specs.Stations.{role_of, end_of}
+use Rattle.tp_inbox.specs.Ledgers.{end_of}
+use Rattle.tp_behaviour.specs.Stations.{role_of}
 use Rattle.tp_behaviour.proofs.Sent.{has_sent, same_ends}
 use Rattle.tp_behaviour.proofs.sending.send_on.Goals as goal
 

@@ -1,5 +1,5 @@
 -- What a run came to is reported where all are at rest, and the report has a text.
-use Rattle.std.proofs.Common.{◌≡◌, true, subst, sym}
+use Rattle.std.proofs.Common.{subst, sym}
 use Rattle.std.specs.Prelude.{All}
 use Rattle.std.specs.List.{AllZip}
 use Rattle.tp_config.specs.Setup.{Setup, IsComponent}
@@ -9,8 +9,8 @@ use Rattle.tp_exec.specs.Reporting.{IsAtRest, IsReportedAs}
 use Rattle.tp_exec.proofs.Reported.{all_there, report_of, reportable, waits_within}
 use Rattle.tp_exec.proofs.reporting.make_report.Goals as goal
 
-pub are_at_rest-at_rest-requires : goal.are_at_rest-at_rest-requires
-are_at_rest-at_rest-requires c =
+pub are_at_rest-requires : goal.are_at_rest-requires
+are_at_rest-requires c =
     subst (All (λ (e : Ended). WaitsWithin e.desk.ports e.outcome)) (sym c.as_slice.ensures.value)
     (waits_within c.args.test_case.now c.args.ended.items c.requires)
 
@@ -24,9 +24,8 @@ returns-clause-report c =
     let made = c.args.test_case.now in
     let ended = c.args.ended.items in
     let xs = c.in-Ok.components.items in
-    let calm : c.are_at_rest-at_rest.result ≡ true = cc in
     report_of made ended c.requires xs (subst (λ (s : Setup). AllZip (IsReportedAs s) ended xs) c.config.ensures c.in-Ok.ensures)
-    (subst (All IsAtRest) c.as_slice.ensures.value (c.are_at_rest-at_rest.ensures.0 calm))
+    (subst (All IsAtRest) c.as_slice.ensures.value (c.are_at_rest.ensures.0 c.if-not-are_at_rest.false))
     c.conclude.result c.conclude.ensures.components c.conclude.ensures.result
 
 pub returns-clause-text : goal.returns-clause-text

@@ -1,8 +1,12 @@
--- What the threads left and what was settled is of a run, and in its report nothing happened before itself.
+-- What the threads left and what was settled is of a run; in its report nothing happened before itself, and that a
+-- behaviour waits for what is there is said only where one does.
 use Rattle.std.proofs.Common.{subst}
+use Rattle.std.proofs.lemmas.Result.{err_from_is_err_and}
 use Rattle.tp_config.specs.Setup.{Setup}
 use Rattle.tp_exec.specs.Settlings.{AreSettled}
 use Rattle.tp_exec.proofs.NoCircle.{ordered}
+use Rattle.tp_exec.proofs.Overtaking.{keeps_order}
+use Rattle.tp_exec.proofs.Refused.{by_threads, no_report}
 use Rattle.tp_exec.proofs.Runs.{of_a_run}
 use Rattle.tp_exec.proofs.run.run.Goals as goal
 
@@ -13,5 +17,22 @@ make_report-requires g c =
     of_a_run c.args.test_case.now played ended c.in_ok-played.ensures.stations c.in_ok-played.ensures.played
     (subst (λ (s : Setup). AreSettled s played ended) c.config-2.ensures c.in-Ok-settle_all.ensures)
 
+pub returns-clause-overtaking : goal.returns-clause-overtaking
+returns-clause-overtaking g c = keeps_order c.args.test_case.now c.make_report.result c.make_report.ensures.report
+
 pub returns-clause-order : goal.returns-clause-order
 returns-clause-order g c = ordered c.args.test_case.now c.make_report.result c.make_report.ensures.report
+
+pub returns-in_err-played-clause-fault : goal.returns-in_err-played-clause-fault
+returns-in_err-played-clause-fault g c =
+    let p = err_from_is_err_and c.from_residual.result c.from_residual.ensures.1 in
+    rw (p.1, p.2) (by_threads c.args.test_case.now c.in_err-played.field-0.0 c.in_err-played.ensures.fault)
+
+pub returns-clause-fault : goal.returns-clause-fault
+returns-clause-fault g c =
+    let made = c.args.test_case.now in
+    let played = c.in_ok-played.played.items in
+    let ended = c.in-Ok-settle_all.ended.items in
+    let run = of_a_run made played ended c.in_ok-played.ensures.stations c.in_ok-played.ensures.played
+    (subst (λ (s : Setup). AreSettled s played ended) c.config-2.ensures c.in-Ok-settle_all.ensures) in
+    no_report made ended run c.make_report.result c.make_report.ensures.refusal

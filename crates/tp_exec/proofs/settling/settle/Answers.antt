@@ -1,12 +1,23 @@
--- What had arrived came on the inbox's routes, and so did the rest, which goes to ports that there are.
-use Rattle.std.proofs.Common.{ℕ, ◌<◌, All, sym, subst}
+-- What had arrived and the rest are what the senders have put, on the inbox's routes and at ports that there are.
+use Rattle.std.proofs.Common.{ℕ, ◌<◌, ◌++◌, All, map, sym, subst}
 use Rattle.tp_queue.specs.declared.event.Env.{Env}
 use Rattle.tp_value.specs.declared.message.Message.{Message}
-use Rattle.tp_inbox.specs.Routed.{IsArrivalOn, rest_arrivals}
-use Rattle.tp_inbox.specs.Ledgers.{Inbox}
+use Rattle.tp_inbox.specs.Routed.{AreDelivered, AreNumbered, IsArrivalOn, rest_arrivals}
+use Rattle.tp_inbox.specs.Ledgers.{Inbox, put_by}
 use Rattle.tp_inbox.proofs.Rests.{rest_within}
 use Rattle.tp_exec.proofs.Coming.{all_routed}
 use Rattle.tp_exec.proofs.settling.settle.Goals as goal
+
+pub returns-in-Ok-clause-delivered : goal.returns-in-Ok-clause-delivered
+returns-in-Ok-clause-delivered g c =
+    let all = c.args.desk.now.log ++ rest_arrivals c.in-Ok.settled.rest.items in
+    subst (λ (i : Inbox). AreDelivered i.comp all (map put_by c.args.senders.items)) c.gather-gathered.ensures.inbox
+    (subst (AreDelivered c.gather-gathered.result.inbox.comp all) c.gather-gathered.ensures.sent c.in-Ok.ensures.delivered)
+
+pub returns-in-Ok-clause-numbered : goal.returns-in-Ok-clause-numbered
+returns-in-Ok-clause-numbered g c =
+    subst (λ (i : Inbox). AreNumbered i.routes (c.args.desk.now.log ++ rest_arrivals c.in-Ok.settled.rest.items)) c.gather-gathered.ensures.inbox
+    c.in-Ok.ensures.numbered
 
 pub returns-in-Ok-clause-routed : goal.returns-in-Ok-clause-routed
 returns-in-Ok-clause-routed g c =

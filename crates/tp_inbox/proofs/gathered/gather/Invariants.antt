@@ -1,12 +1,14 @@
--- The senders that have joined are those of the first routes, and the others are to come.
-use Rattle.std.proofs.Common.{◌≡◌, ◌≤◌, ◌++◌, length, map}
+-- What the senders that have joined had put is known, and the others are to come.
+use Rattle.std.proofs.Common.{◌≡◌, ◌≤◌, ◌+◌, ◌++◌, length, map}
 use Rattle.std.specs.Prelude.{vec_capacity, All}
+use Rattle.std.specs.List.{AllZip}
 use Rattle.std.specs.Vec.Iter.{into_iter_items}
 use Rattle.std.specs.Arc.{arc_value}
 use Rattle.crossbeam_queue.specs.SegTies.{IsSegPassOf}
 use Rattle.tp_inbox.specs.Rule.{owner_pass}
-use Rattle.tp_inbox.specs.Ledgers.{Sending, put_by}
+use Rattle.tp_inbox.specs.Ledgers.{IsSenderInto, put_by}
 use Rattle.tp_inbox.specs.Ends.{inbox_of, seen_sent}
+use Rattle.tp_inbox.specs.Gathers.{IsPutOf}
 use Rattle.tp_inbox.proofs.gathered.gather.Given as goal
 
 abbrev pub invariant-loop-sender : goal.invariant-loop-sender
@@ -15,9 +17,9 @@ invariant-loop-sender g l =
     let was = l.initial.pass.me.view.client in
     record {
       pass : IsSegPassOf (arc_value l.hub).line l.pass;
-      view : l.pass.me.view.client ≡ owner_pass was.made was.taken (map (λ v. v.1) (seen_sent l.sent.items));
-      inbox : All (λ (s : Sending). s.inbox ≡ inbox_of (arc_value l.hub)) rest;
-      routes : map (λ v. v.0) (seen_sent l.sent.items) ++ map (λ (s : Sending). s.route) rest ≡ (arc_value l.hub).routes.items;
+      view : l.pass.me.view.client ≡ owner_pass was.made was.taken l.pass.me.view.client.known;
+      known : AllZip (IsPutOf (arc_value l.hub).routes.items) l.pass.me.view.client.known (seen_sent l.sent.items);
+      inbox : All (IsSenderInto (inbox_of (arc_value l.hub))) rest;
       lists : seen_sent l.sent.items ++ map put_by rest ≡ map put_by l.fn.senders.items;
-      room : length (arc_value l.hub).routes.items ≤ vec_capacity l.sent;
+      room : length l.sent.items + length rest ≤ vec_capacity l.sent;
     }

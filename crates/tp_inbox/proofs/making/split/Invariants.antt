@@ -1,9 +1,9 @@
--- There is a new sender for each of the first routes, and the pass is that of an owner that split so many off.
-use Rattle.std.proofs.Common.{◌≡◌, ◌≤◌, [], length, map, take, vec_capacity}
+-- The senders are those of the first routes, and the pass is that of an owner that split so many off.
+use Rattle.std.proofs.Common.{◌≡◌, [], length}
 use Rattle.std.specs.Arc.{arc_value}
 use Rattle.crossbeam_queue.specs.SegTies.{IsSegPassOf}
 use Rattle.tp_inbox.specs.Rule.{owner_pass}
-use Rattle.tp_inbox.specs.Ledgers.{new_sender}
+use Rattle.tp_inbox.specs.Ledgers.{AreMade}
 use Rattle.tp_inbox.specs.Ends.{inbox_of}
 use Rattle.tp_inbox.proofs.making.split.Given as goal
 
@@ -13,8 +13,6 @@ invariant-loop-place l =
     record {
       pass : IsSegPassOf hub.line l.pass;
       view : l.pass.me.view.client ≡ owner_pass l.place [] [];
-      senders : l.senders.items ≡ map (new_sender (inbox_of hub)) (take l.place hub.routes.items);
+      senders : AreMade (inbox_of hub) l.place l.senders.items;
       count : l.count ≡ length hub.routes.items;
-      room : l.count ≤ vec_capacity l.senders;
-      number : length l.senders.items ≡ l.place;
     }

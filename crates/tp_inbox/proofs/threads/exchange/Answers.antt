@@ -10,4 +10,4 @@ invariant_of-result g c =
     let back = c.in_ok-senders.ensures in
     let senders = c.in_ok-senders.senders.items in
     subst (λ (i : Inbox). AreSenders i senders) (sym c.drain_some.ensures)
-    (same_senders _ senders _ (back.inboxes ∙ out.inboxes) (back.routes ∙ out.routes) c.ends.invariant)
+    (same_senders _ senders _ (back ∙ out) c.ends.invariant)

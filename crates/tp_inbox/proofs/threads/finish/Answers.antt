@@ -8,7 +8,4 @@ loop-child-preserved g c =
     let steps = c.in-Some.ensures.steps.0 in
     let pushed = c.in_ok-push.ensures.items in
     let kept = c.join.ensures in
-    record {
-      inboxes = moved _ _ _ _ _ _ _ _ _ pushed steps kept.0 was.inboxes;
-      routes = moved _ _ _ _ _ _ _ _ _ pushed steps kept.1 was.routes;
-    }
+    moved _ _ _ _ _ _ _ _ _ pushed steps kept was

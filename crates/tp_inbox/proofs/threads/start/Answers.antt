@@ -1,6 +1,6 @@
 -- The thread that is started has the next sender.
 use Rattle.std.proofs.Common.{ap}
-use Rattle.tp_inbox.specs.Ledgers.{Sending}
+use Rattle.tp_inbox.specs.Ledgers.{end_of}
 use Rattle.tp_inbox.proofs.Senders.{moved}
 use Rattle.tp_inbox.proofs.threads.start.Goals as goal
 
@@ -10,7 +10,4 @@ loop-sender-preserved g c =
     let steps = c.in-Some.ensures.steps.0 in
     let pushed = c.in_ok-push.ensures.items in
     let same = c.in_ok-send_off.ensures in
-    record {
-      inboxes = moved _ _ _ _ _ _ _ _ _ pushed steps (ap (λ (s : Sending). s.inbox) same) was.inboxes;
-      routes = moved _ _ _ _ _ _ _ _ _ pushed steps (ap (λ (s : Sending). s.route) same) was.routes;
-    }
+    moved _ _ _ _ _ _ _ _ _ pushed steps (ap end_of same) was

@@ -1,15 +1,23 @@
--- The tables say the truth of one sender more.
-use Rattle.std.proofs.Common.{◌≡◌, ◌∙◌, ◌++◌, ◌∷◌, [], ℕ, All, List, Some, ap, arith, length, subst, sym}
+-- The tables say the truth of one sender more, and of those that there are where it isn't added.
+use Rattle.std.proofs.Common.{◌≡◌, ◌∙◌, ◌++◌, ◌∷◌, [], ℕ, All, List, ap, arith, length, subst, sym}
 use Rattle.std.specs.Prelude.{◌≢◌}
-use Rattle.indexmap.specs.IndexMap.{Updates}
-use Rattle.tp_config.specs.declared.port_type.RouteId.{RouteId}
 use Rattle.tp_inbox.specs.Ledgers.{Sending}
-use Rattle.tp_inbox.specs.Places.{route_eq}
 use Rattle.tp_behaviour.specs.Outboxes.{AreSendersFiled, IsListed}
-use Rattle.tp_behaviour.proofs.Outboxes.{filed_more}
+use Rattle.tp_behaviour.proofs.Outboxes.{filed_more, filed_still}
 use Rattle.tp_behaviour.proofs.outbox.Outbox.add.Goals as goal
 
--- the sender stands behind the others, and is found there
+-- some of its routes may be filed, which are none of the others'
+pub invariant_of-self-in_err-file : goal.invariant_of-self-in_err-file
+invariant_of-self-in_err-file c =
+    let s = c.args.sender in
+    let ss = c.self.inside.senders.items in
+    let loops = c.self.inside.loops.items in
+    let apart = subst (All (λ (x : Sending). x.inbox.comp ≢ s.inbox.comp)) (sym c.self.view_is) c.requires in
+    let still = filed_still ss c.self.inside.places c.file.new.places loops s c.self.invariant apart c.file.ensures.aimed c.file.ensures.others in
+    subst (λ (l : List ℕ). AreSendersFiled c.reserve.new.self.items c.file.new.places l) (sym c.reserve-2.ensures.items)
+    (subst (λ (l : List Sending). AreSendersFiled l c.file.new.places loops) (sym c.reserve.ensures.items) still)
+
+-- the sender stands behind the others, and each of its routes is found
 pub invariant_of-self-2 : goal.invariant_of-self-2
 invariant_of-self-2 c =
     let s = c.args.sender in
@@ -17,12 +25,10 @@ invariant_of-self-2 c =
     let places = c.self.inside.places in
     let loops = c.self.inside.loops.items in
     let k = c.len-place.result in
-    let way : c.route-route.result ≡ s.route = c.route-route.ensures in
-    let apart = subst (All (λ (x : Sending). x.route ≢ s.route)) (sym c.self.view_is) c.requires in
+    let apart = subst (All (λ (x : Sending). x.inbox.comp ≢ s.inbox.comp)) (sym c.self.view_is) c.requires in
     let last : k ≡ length ss = omega (arith, c.len-place.ensures, c.self.inside.senders.ok.0) in
-    let updates = subst (λ (r : RouteId). Updates route_eq places c.insert.new.self r (Some k)) way c.in_ok-insert.ensures.updates in
-    let before = subst (λ (l : List ℕ). IsListed c.route-route.result k l c.list.new.loops.items) c.reserve-2.ensures.items c.list.ensures in
-    let listed = subst (λ (r : RouteId). IsListed r k loops c.list.new.loops.items) way before in
+    let listed = subst (λ (l : List ℕ). IsListed s k l c.list.new.loops.items) c.reserve-2.ensures.items c.list.ensures in
     let items : c.push_reserved.new.self.items ≡ ss ++ s ∷ [] = c.push_reserved.ensures.items ∙ ap (λ l. l ++ s ∷ []) c.reserve.ensures.items in
-    subst (λ l. AreSendersFiled l c.insert.new.self c.list.new.loops.items) (sym items)
-    (filed_more ss places c.insert.new.self loops c.list.new.loops.items k s c.self.invariant apart last updates listed)
+    subst (λ l. AreSendersFiled l c.file.new.places c.list.new.loops.items) (sym items)
+    (filed_more ss places c.file.new.places loops c.list.new.loops.items k s c.self.invariant apart c.file.ensures.aimed last c.in_ok-file.ensures.filed
+    c.file.ensures.others listed)

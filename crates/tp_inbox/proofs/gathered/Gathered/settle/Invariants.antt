@@ -1,10 +1,12 @@
 -- What was taken out is what was drained and then the rest, and all routes have joined.
-use Rattle.std.proofs.Common.{◌≡◌, ◌++◌, length, map}
+use Rattle.std.proofs.Common.{◌≡◌, ◌++◌, length}
+use Rattle.std.specs.List.{AllZip}
 use Rattle.std.specs.Arc.{arc_value}
 use Rattle.crossbeam_queue.specs.SegTies.{IsSegPassOf}
 use Rattle.tp_inbox.specs.Rule.{Sound}
 use Rattle.tp_inbox.specs.Routed.{arrivals_of, rest_arrivals}
 use Rattle.tp_inbox.specs.Ends.{seen_sent}
+use Rattle.tp_inbox.specs.Gathers.{IsPutOf}
 use Rattle.tp_inbox.proofs.gathered.Gathered.settle.Given as goal
 
 abbrev pub invariant-loop : goal.invariant-loop
@@ -15,6 +17,6 @@ invariant-loop g l =
       pass : IsSegPassOf (arc_value l.hub).line l.pass;
       sound : Sound client;
       made : client.made ≡ length routes;
-      known : client.known ≡ map (λ v. v.1) (seen_sent l.sent.items);
+      known : AllZip (IsPutOf routes) client.known (seen_sent l.sent.items);
       taken : arrivals_of routes client.taken ≡ l.fn.self.drained ++ rest_arrivals l.rest.items;
     }

@@ -1,7 +1,41 @@
--- To put is a step of the rule.
-use Rattle.std.proofs.Common.{rules}
+-- To put is a step of the rule, and the sender keeps what it has put.
+use Rattle.std.proofs.Common.{◌≡◌, true, rules, length, get_or, refl, sym, ap, ◌∙◌, subst}
+use Rattle.std.proofs.lemmas.List.{get_or_read_under}
+use Rattle.tp_inbox.specs.declared.envelope.Envelope.{Envelope}
+use Rattle.tp_inbox.specs.declared.posted.Posted.{Posted}
+use Rattle.tp_inbox.specs.Envelopes.{of, has}
+use Rattle.tp_inbox.specs.Routed.{route_at}
+use Rattle.tp_inbox.specs.Ledgers.{Sending}
 use Rattle.tp_inbox.proofs.Steps.{sends_as}
+use Rattle.tp_inbox.proofs.Putting.{on_way, has-at, grown}
 use Rattle.tp_inbox.proofs.sender.Sender.put.Goals as goal
 
 pub push_as-requires-clause-rule : goal.push_as-requires-clause-rule
-push_as-requires-clause-rule g c n = sends_as n _ _ c.self.inside.sent.items _ c.self.invariant.view (search rules)
+push_as-requires-clause-rule g c n =
+    let s = c.self.inside in
+    let put = s.pass.me.view.client.put in
+    let k = on_way s _ c.args.way c.self.invariant c.self.view_is c.requires in
+    let at : c.index.result.now ≡ get_or s.places.items c.args.way 0 = get_or_read_under s.places.items c.args.way _ _ 0 c.index.ensures k.0 refl in
+    sends_as n _ _ s.places.items put _ c.self.invariant.view (subst (λ q. has s.places.items q ≡ true) (sym at) (has-at s.places.items c.args.way 0 k.0))
+    (c.count-number.ensures ∙ ap length k.1 ∙ ap (λ q. length (of q put)) (sym at))
+
+pub invariant_of-self-in-Ok-push_as : goal.invariant_of-self-in-Ok-push_as
+invariant_of-self-in-Ok-push_as g c =
+    let s = c.self.inside in
+    let was = c.self.invariant in
+    let k = on_way s _ c.args.way was c.self.view_is c.requires in
+    let at : c.index.result.now ≡ get_or s.places.items c.args.way 0 = get_or_read_under s.places.items c.args.way _ _ 0 c.index.ensures k.0 refl in
+    let e : Envelope = record { place = c.index.result.now; number = c.count-number.result; stamped = c.in-Ok.copy } in
+    let x : Posted = record { route = c.route-route.result; number = c.count-number.result; stamped = c.args.stamped } in
+    let more = grown s _ c.push_as.new.pass.me.view.client c.args.way e x _ _ was c.self.view_is c.requires at c.count-number.ensures
+    c.in-Ok-push_as.ensures.rule.0 refl (search rules)
+    (c.route-route.ensures ∙ ap (λ (y : Sending). route_at y.routes c.args.way) c.self.view_is) refl (search rules) in
+    record {
+      pass = search rules;
+      view = more.view;
+      low = was.low;
+      apart = was.apart;
+      routed = more.routed;
+      counts = more.told;
+      ledger = more.ledger;
+    }

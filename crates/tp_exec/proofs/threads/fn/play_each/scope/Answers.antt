@@ -70,4 +70,5 @@ returns g c =
     record {
       badges = IfOk-weaker c.join_all-joined.result _ _ (λ back h. h ∙ all) c.join_all-joined.ensures.badges;
       returned = IfOk-weaker c.join_all-joined.result _ _ (λ back h. h c.captures.test_case.now was.seats) c.join_all-joined.ensures.returned;
+      fault = c.join_all-joined.ensures.fault;
     }
