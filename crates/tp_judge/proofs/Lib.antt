@@ -1,0 +1,10 @@
+pub mod Stepping
+pub mod Replays
+pub mod Leaving
+pub mod Collecting
+pub mod Unlawful
+pub mod Parcels
+pub mod Deliveries
+pub mod Named
+pub mod Pairs
+pub mod Befores

@@ -1,0 +1,61 @@
+-- One line more of a port, and what a broken rule means for its history.
+use Rattle.std.proofs.Common.{◌≡◌, ℕ, ◌+◌, ◌<◌, Some, List, [], ◌∷◌, ◌++◌, length, get_or, take, refl, ap, sym, ◌∙◌, subst, Bor}
+use Rattle.std.specs.Prelude.{slice_get}
+use Rattle.std.specs.Option.{option_to_list}
+use Rattle.tp_queue.specs.declared.event.Event.{Event}
+use Rattle.tp_queue.specs.declared.event.Event.TheVariants as event
+use Rattle.tp_queue.specs.History.{Lawful, MayFollow}
+use Rattle.tp_judge.specs.declared.line.MessageId.{MessageId}
+use Rattle.tp_judge.specs.declared.line.Act.{Act}
+use Rattle.tp_judge.specs.declared.line.Act.TheVariants as act
+use Rattle.tp_judge.specs.declared.line.Line.{Line}
+use Rattle.tp_judge.specs.declared.place.Rule.{Rule}
+use Rattle.tp_judge.specs.declared.place.Place.{Place}
+use Rattle.tp_judge.specs.Gathered.{seen}
+use Rattle.tp_judge.specs.Lines.{envelope, event_of}
+use Rattle.tp_judge.specs.Rules.{history_of, Breaks, IsBroken}
+use Rattle.tp_judge.proofs.Stepping.{at_seam, filter_map-more, seen_at, seen-take, split_line}
+
+pub replayed_more : (events : List (Bor Line)) (i : ℕ) (d : Bor Line) (old new : List (Event MessageId)) → i < length events
+    → old ≡ history_of (seen (take i events)) → new ≡ old ++ option_to_list (event_of (get_or events i d).now.act)
+    → new ≡ history_of (seen (take (i + 1) events))
+replayed_more events i d old new within was grown =
+    grown ∙ ap (λ h. h ++ option_to_list (event_of (get_or events i d).now.act)) was
+    ∙ sym (filter_map-more (λ line. event_of line.act) events i d within)
+
+pub broken_here : (events : List (Bor Line)) (i : ℕ) (d : Bor Line) (rule : Rule) (old : List (Event MessageId)) → i < length events
+    → old ≡ history_of (seen (take i events)) → Breaks rule old (get_or events i d).now.act
+    → IsBroken (seen events) (record { line = (get_or events i d).now.number; rule = rule })
+broken_here events i d rule old within was breaks = record {
+  before = i;
+  line = (get_or events i d).now;
+  stands = seen_at events i d within;
+  told = refl;
+  breaks = subst (λ (h : List (Event MessageId)). Breaks rule h (get_or events i d).now.act)
+      (was ∙ ap history_of (sym (seen-take i events))) breaks;
+}
+
+take_seam : (h rest : List (Event MessageId)) → take (length h) (h ++ rest) ≡ h
+take_seam [] rest = refl
+take_seam (x ∷ h) rest = ap (λ l. x ∷ l) (take_seam h rest)
+
+-- what a broken rule makes of the line's event
+may_not : (rule : Rule) (h : List (Event MessageId)) (a : Act) → Breaks rule h a
+    → (e : Event MessageId) × (event_of a ≡ Some e) × (MayFollow h e → ⊥)
+may_not rule h (act.Took m) broken = (event.Took (envelope m), refl, broken.0)
+may_not rule h (act.Found m) broken = (event.Found (envelope m), refl, broken.0)
+may_not rule h (act.Dropped m) broken = (event.Dropped (envelope m), refl, broken.0)
+may_not rule h _ broken = absurd broken
+
+-- no lawful history is told by lines of which one breaks a rule
+pub broken_unlawful : (events : List Line) (place : Place) → IsBroken events place → Lawful (history_of events) → ⊥
+unfolding Lawful
+broken_unlawful events place b lawful =
+    let h = history_of (take b.before events) in
+    let event = may_not place.rule h b.line.act b.breaks in
+    let rest = split_line (λ line. event_of line.act) events b.before b.line event.0 b.stands event.1 in
+    let here : slice_get (history_of events) (length h) ≡ Some event.0 =
+    ap (λ (l : List (Event MessageId)). slice_get l (length h)) rest.1 ∙ at_seam h rest.0 event.0 in
+    let follows = lawful (length h) event.0 here in
+    event.2 (subst (λ (l : List (Event MessageId)). MayFollow l event.0)
+    (ap (take (length h)) rest.1 ∙ take_seam h (event.0 ∷ rest.0)) follows)

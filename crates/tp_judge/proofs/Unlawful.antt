@@ -1,0 +1,31 @@
+-- A place at a port excludes that the port is lawful.
+use Rattle.std.proofs.Common.{◌⊎◌, inl, inr, List, length, ap, sym, ◌∙◌, take, arith}
+use Rattle.std.specs.Prelude.{slice_get}
+use Rattle.tp_queue.specs.declared.event.Event.{Event}
+use Rattle.tp_judge.specs.declared.line.MessageId.{MessageId}
+use Rattle.tp_judge.specs.declared.line.Line.{Line}
+use Rattle.tp_judge.specs.declared.place.Place.{Place}
+use Rattle.tp_judge.specs.Lines.{left_of}
+use Rattle.tp_judge.specs.Rules.{history_of, left_in}
+use Rattle.tp_judge.specs.Lawful.{IsLawfulPort, IsLeftMissing, IsLeftWrong, IsToldLeft, IsUnlawfulPort}
+use Rattle.tp_judge.proofs.Replays.{broken_unlawful}
+use Rattle.tp_judge.proofs.Stepping.{at_seam, split_line}
+
+unlawful_left : (h : List (Event MessageId)) (left closing : List Line) (place : Place)
+    → IsLeftWrong h left closing place ⊎ IsLeftMissing h left closing place → IsToldLeft h left closing → ⊥
+unlawful_left h left closing place (inl w) told =
+    let same = rw w.closed at told in
+    let front = left_in (take w.before left) in
+    let rest = split_line (λ line. left_of line.act) left w.before w.line w.env w.stands w.says in
+    w.wrong (ap (λ l. slice_get l (length front)) (sym same ∙ rest.1) ∙ at_seam front rest.0 w.env)
+unlawful_left h left closing place (inr m) told =
+    let same = rw m.closes at told in
+    let equal = ap length same in
+    let missing = m.missing in
+    omega arith
+
+pub unlawful_port : (events left closing : List Line) (place : Place) → IsUnlawfulPort events left closing place
+    → IsLawfulPort events left closing → ⊥
+unlawful_port events left closing place (inl broken) lawful = broken_unlawful events place broken lawful.lawful
+unlawful_port events left closing place (inr broken) lawful =
+    unlawful_left (history_of events) left closing place broken.how lawful.told_left

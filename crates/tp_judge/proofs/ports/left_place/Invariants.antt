@@ -1,0 +1,7 @@
+-- What is told so far is queued, at its places.
+use Rattle.tp_queue.specs.History.{queued}
+use Rattle.tp_judge.proofs.Leaving.{TellsFirst}
+use Rattle.tp_judge.proofs.ports.left_place.Given as goal
+
+abbrev pub invariant-loop-line : goal.invariant-loop-line
+invariant-loop-line l = TellsFirst (queued l.queue) l.left l.line-index l.told

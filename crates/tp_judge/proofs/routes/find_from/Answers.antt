@@ -1,0 +1,11 @@
+-- No parcel is behind the last line.
+use Rattle.std.proofs.Common.{arith}
+use Rattle.tp_judge.proofs.Parcels.{named_within}
+use Rattle.tp_judge.proofs.routes.find_from.Goals as goal
+
+pub returns : goal.returns
+returns c =
+    λ k low at.
+    let within = named_within c.args.came.now c.requires k c.args.parcel at in
+    let done = c.loop-place-test.false in
+    c.loop-place.invariant k low (omega arith) at

@@ -1,0 +1,37 @@
+-- What came is what was sent, or there is a place.
+use Rattle.std.proofs.Common.{length, ◌∙◌, arith}
+use Rattle.tp_judge.specs.Gathered.{seen}
+use Rattle.tp_judge.specs.Delivered.{parcels, numbering}
+use Rattle.tp_judge.proofs.Parcels.{length-parcels, length-seen, named_there, named_within}
+use Rattle.tp_judge.proofs.Deliveries.{lost_here, same_lists}
+use Rattle.tp_judge.proofs.routes.route_place.Goals as goal
+
+pub returns-in-Some : goal.returns-in-Some
+returns-in-Some c =
+    let at = c.in-Some.ensures.numbered in
+    numbering c.in-Some.place at.0 c.told_at.ensures.rule c.told_at.ensures.told at.1 at.2
+
+pub returns-then-came-sent : goal.returns-then-came-sent
+returns-then-came-sent c =
+    let sent = seen c.args.sent.now in
+    let came = seen c.args.came.now in
+    let size = length-seen c.args.sent.now in
+    let short = c.if-came-sent.true in
+    let there = named_there sent c.requires.sent (length c.args.came.now) (omega arith) in
+    lost_here sent came (length c.args.came.now) there.0 c.told_at-then-came-sent.result c.in_default.ensures.numbered
+    c.in_default-first_difference.ensures.differs c.told_at-then-came-sent.ensures.rule c.told_at-then-came-sent.ensures.told
+    there.1
+    (λ j high at. let within = named_within c.args.came.now c.requires.came j there.0 at in omega arith)
+
+pub returns : goal.returns
+returns c =
+    let sent = seen c.args.sent.now in
+    let came = seen c.args.came.now in
+    let short = c.if-came-sent.false in
+    let first = length-parcels sent c.requires.sent ∙ length-seen c.args.sent.now in
+    let second = length-parcels came c.requires.came ∙ length-seen c.args.came.now in
+    record {
+      same = same_lists (parcels sent) (parcels came)
+          (λ k below. c.in_default-first_difference.ensures.differs k (omega arith)) (omega arith);
+      numbered = c.in_default.ensures.numbered;
+    }

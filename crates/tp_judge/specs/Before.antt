@@ -1,0 +1,42 @@
+-- What happens before what in a trace. A line is known by its number in the text.
+use Rattle.std.specs.Prelude.{◌≡◌, ◌<◌, ℕ, Some, List, slice_get}
+use Rattle.tp_judge.specs.declared.line.Parcel.{Parcel}
+use Rattle.tp_judge.specs.declared.line.Line.{Line}
+use Rattle.tp_judge.specs.declared.line.By.TheVariants as by
+use Rattle.tp_judge.specs.declared.place.Rule.TheVariants as rule
+use Rattle.tp_judge.specs.declared.place.Place.{Place}
+use Rattle.tp_judge.specs.declared.trace.Trace.{Trace}
+use Rattle.tp_judge.specs.Lines.{lines_with}
+use Rattle.tp_judge.specs.Delivered.{IsJoined, ParcelAt}
+
+-- the lines of a section, and those of a route
+abbrev pub section_of : Trace → ℕ → List Line
+section_of trace component = lines_with by.Component component trace.lines.items
+
+abbrev pub sent_on : Trace → ℕ → List Line
+sent_on trace route = lines_with by.Sent route trace.lines.items
+
+abbrev pub came_on : Trace → ℕ → List Line
+came_on trace route = lines_with by.Came route trace.lines.items
+
+-- the one line happens before the other
+pub data HappensBefore (trace : Trace) : ℕ → ℕ → Type 0 where
+  -- it stands before it in its section
+  earlier : (component j k : ℕ) (a b : Line) → component < trace.components → j < k
+      → slice_get (section_of trace component) j ≡ Some a → slice_get (section_of trace component) k ≡ Some b
+      → HappensBefore trace a.number b.number
+  -- or it is a sending, of which the other is the arrival: on its route, with its number
+  sent : (route j k : ℕ) (a b : Line) (p q : Parcel) → IsJoined trace route
+      → slice_get (sent_on trace route) j ≡ Some a → slice_get (came_on trace route) k ≡ Some b
+      → ParcelAt (sent_on trace route) j p → ParcelAt (came_on trace route) k q → p.number ≡ q.number
+      → HappensBefore trace a.number b.number
+  -- or there is one between them
+  between : (x y z : ℕ) → HappensBefore trace x y → HappensBefore trace y z → HappensBefore trace x z
+
+-- **no circle**: no line happens before itself
+abbrev pub NoCircle : Trace → Type 0
+NoCircle trace = (n : ℕ) → HappensBefore trace n n → ⊥
+
+-- a line that happens before itself
+abbrev pub IsCirclePlace : Trace → Place → Type 0
+IsCirclePlace trace place = (place.rule ≡ rule.Circle) × HappensBefore trace place.line place.line

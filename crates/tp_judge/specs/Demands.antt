@@ -1,0 +1,35 @@
+-- What an order of the lines has to meet.
+use Rattle.std.specs.Prelude.{ℕ, zero, suc, Bool, true, false, Option, Some, None, List, [], ◌∷◌, ◌++◌, drop, length, slice_get}
+use Rattle.tp_order.specs.declared.demand.Demand.{Demand}
+use Rattle.tp_judge.specs.declared.line.Line.{Line}
+use Rattle.tp_judge.specs.declared.trace.Trace.{Trace}
+use Rattle.tp_judge.specs.Before.{section_of, sent_on, came_on}
+
+-- each of the first lines comes before the one at its place among the others
+abbrev pub pairs : List Line → List Line → List Demand
+pairs [] bs = []
+pairs (a ∷ as') [] = []
+pairs (a ∷ as') (b ∷ bs) = record { before = a.number; after = b.number } ∷ pairs as' bs
+
+-- what the numbers below n give, one after another
+abbrev pub from_each : (ℕ → List Demand) → ℕ → List Demand
+from_each f zero = []
+from_each f (suc n) = from_each f n ++ f n
+
+-- each line of a section comes before the next
+abbrev pub section_demands : Trace → ℕ → List Demand
+section_demands trace component = pairs (section_of trace component) (drop 1 (section_of trace component))
+
+abbrev pub where_joined : Option Bool → List Demand → List Demand
+where_joined (Some true) demands = demands
+where_joined (Some false) demands = []
+where_joined None demands = []
+
+-- each sending comes before its arrival
+abbrev pub route_demands : Trace → ℕ → List Demand
+route_demands trace route =
+    where_joined (slice_get trace.joined.items route) (pairs (sent_on trace route) (came_on trace route))
+
+abbrev pub demands_of : Trace → List Demand
+demands_of trace = from_each (section_demands trace) trace.components
+    ++ from_each (route_demands trace) (length trace.joined.items)

@@ -1,0 +1,82 @@
+-- What makes the ports of a trace lawful, and where they aren't.
+use Rattle.std.specs.Prelude.{◌≡◌, ◌≢◌, ◌<◌, ◌^◌, ◌⊎◌, ℕ, Some, List, All, take, length, slice_get, slice_index, OnSome}
+use Rattle.tp_queue.specs.declared.event.Env.{Env}
+use Rattle.tp_queue.specs.declared.event.Event.{Event}
+use Rattle.tp_queue.specs.History.{Lawful, queued}
+use Rattle.tp_judge.specs.declared.line.MessageId.{MessageId}
+use Rattle.tp_judge.specs.declared.line.Line.{Line}
+use Rattle.tp_judge.specs.declared.line.By.TheVariants as by
+use Rattle.tp_judge.specs.declared.place.Rule.TheVariants as rule
+use Rattle.tp_judge.specs.declared.place.Place.{Place}
+use Rattle.tp_judge.specs.declared.trace.Trace.{Trace}
+use Rattle.tp_judge.specs.Lines.{HasKeyBelow, left_of, lines_with}
+use Rattle.tp_judge.specs.Rules.{history_of, left_in, IsBroken}
+
+-- where the section is closed, what is told as left is what is queued
+abbrev pub IsToldLeft : List (Event MessageId) → List Line → List Line → Type 0
+IsToldLeft h left closing = OnSome (slice_get closing 0) (left_in left ≡ queued h)
+
+-- **a port**: what happened there is a lawful history, and what is told as left is what that says
+pub record IsLawfulPort (events left closing : List Line) : Type 0 where
+  pub lawful : Lawful (history_of events)
+  pub told_left : IsToldLeft (history_of events) left closing
+
+-- a line tells as left what isn't queued at its place
+pub record IsLeftWrong (h : List (Event MessageId)) (left closing : List Line) (place : Place) : Type 0 where
+  pub closer : Line
+  pub closed : slice_get closing 0 ≡ Some closer
+  pub before : ℕ
+  pub line : Line
+  pub stands : slice_get left before ≡ Some line
+  pub told : place.line ≡ line.number
+  pub env : Env MessageId
+  pub says : left_of line.act ≡ Some env
+  pub wrong : slice_get (queued h) (length (left_in (take before left))) ≢ Some env
+
+-- fewer messages are told as left than are queued, at the line that closes the section
+pub record IsLeftMissing (h : List (Event MessageId)) (left closing : List Line) (place : Place) : Type 0 where
+  pub line : Line
+  pub closes : slice_get closing 0 ≡ Some line
+  pub told : place.line ≡ line.number
+  pub missing : length (left_in left) < length (queued h)
+
+-- what is left is told wrongly
+pub record IsLeftBroken (h : List (Event MessageId)) (left closing : List Line) (place : Place) : Type 0 where
+  pub rule_is : place.rule ≡ rule.Left
+  pub how : IsLeftWrong h left closing place ⊎ IsLeftMissing h left closing place
+
+-- where the port isn't lawful
+abbrev pub IsUnlawfulPort : List Line → List Line → List Line → Place → Type 0
+IsUnlawfulPort events left closing place =
+    IsBroken events place ⊎ IsLeftBroken (history_of events) left closing place
+
+-- each line's numbers are among those of the trace
+pub record AreWithin (trace : Trace) : Type 0 where
+  pub owners : All (λ owner. owner < trace.components) trace.owners.items
+  pub events : All (HasKeyBelow by.Port (length trace.owners.items)) trace.lines.items
+  pub left : All (HasKeyBelow by.Left (length trace.owners.items)) trace.lines.items
+  pub closing : All (HasKeyBelow by.Closing trace.components) trace.lines.items
+  pub sent : All (HasKeyBelow by.Sent (length trace.joined.items)) trace.lines.items
+  pub came : All (HasKeyBelow by.Came (length trace.joined.items)) trace.lines.items
+  pub sections : All (HasKeyBelow by.Component trace.components) trace.lines.items
+  pub numbers : All (λ line. line.number < trace.numbers) trace.lines.items
+  pub few : trace.numbers < 2 ^ 32
+
+-- the lines of a port, what they tell as left, and what closes the section that they are in
+abbrev pub IsLawfulAt : Trace → ℕ → Type 0
+IsLawfulAt trace port = IsLawfulPort (lines_with by.Port port trace.lines.items)
+    (lines_with by.Left port trace.lines.items)
+    (lines_with by.Closing (slice_index trace.owners.items port) trace.lines.items)
+
+abbrev pub IsUnlawfulAt : Trace → ℕ → Place → Type 0
+IsUnlawfulAt trace port place = IsUnlawfulPort (lines_with by.Port port trace.lines.items)
+    (lines_with by.Left port trace.lines.items)
+    (lines_with by.Closing (slice_index trace.owners.items port) trace.lines.items) place
+
+-- **all ports are lawful**
+abbrev pub LawfulPorts : Trace → Type 0
+LawfulPorts trace = (port : ℕ) → port < length trace.owners.items → IsLawfulAt trace port
+
+-- a place at which some port isn't
+abbrev pub IsPortPlace : Trace → Place → Type 0
+IsPortPlace trace place = (port : ℕ) × (port < length trace.owners.items) × IsUnlawfulAt trace port place

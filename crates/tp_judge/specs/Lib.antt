@@ -1,0 +1,12 @@
+pub mod Lines
+pub mod Gathered
+pub mod Replayed
+pub mod Rules
+pub mod Lawful
+pub mod PortRows
+pub mod Delivered
+pub mod Routed
+pub mod RouteRows
+pub mod Before
+pub mod Demands
+pub mod Judged

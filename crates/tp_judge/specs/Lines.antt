@@ -1,0 +1,101 @@
+-- What the lines of a trace say, and how they are gathered.
+use Rattle.std.specs.Prelude.{◌==◌, ◌<◌, ℕ, Bool, false, Option, Some, None, List, IfSome, filter}
+use Rattle.tp_queue.specs.declared.event.Env.{Env}
+use Rattle.tp_queue.specs.declared.event.Event.{Event}
+use Rattle.tp_queue.specs.declared.event.Event.TheVariants as event
+use Rattle.tp_judge.specs.declared.line.MessageId.{MessageId}
+use Rattle.tp_judge.specs.declared.line.Parcel.{Parcel}
+use Rattle.tp_judge.specs.declared.line.Mention.{Mention}
+use Rattle.tp_judge.specs.declared.line.Act.{Act}
+use Rattle.tp_judge.specs.declared.line.Act.TheVariants as act
+use Rattle.tp_judge.specs.declared.line.Line.{Line}
+use Rattle.tp_judge.specs.declared.line.By.{By}
+use Rattle.tp_judge.specs.declared.line.By.TheVariants as by
+
+-- the route of a sending
+abbrev pub sent_route : Act → Option ℕ
+sent_route (act.Sent m) = Some m.route
+sent_route _ = None
+
+-- the route of an arrival
+abbrev pub came_route : Act → Option ℕ
+came_route (act.Came m) = Some m.route
+came_route _ = None
+
+-- the port at which something happened
+abbrev pub event_port : Act → Option ℕ
+event_port (act.Came m) = Some m.port
+event_port (act.Took m) = Some m.port
+event_port (act.Found m) = Some m.port
+event_port (act.Dropped m) = Some m.port
+event_port (act.Cleared port) = Some port
+event_port (act.Started port) = Some port
+event_port (act.Stopped port) = Some port
+event_port (act.Halted port) = Some port
+event_port _ = None
+
+-- the port in whose queue something was left
+abbrev pub left_port : Act → Option ℕ
+left_port (act.Left m) = Some m.port
+left_port _ = None
+
+-- the component, where the line tells what was left, or that it ended
+abbrev pub closed_by : ℕ → Act → Option ℕ
+closed_by component (act.Left m) = Some component
+closed_by component act.End = Some component
+closed_by component _ = None
+
+-- the number by which a line is gathered
+abbrev pub key_of : By → Line → Option ℕ
+key_of by.Sent line = sent_route line.act
+key_of by.Came line = came_route line.act
+key_of by.Port line = event_port line.act
+key_of by.Left line = left_port line.act
+key_of by.Closing line = closed_by line.component line.act
+key_of by.Component line = Some line.component
+
+abbrev pub is_number : ℕ → Option ℕ → Bool
+is_number key None = false
+is_number key (Some n) = n == key
+
+-- the lines with this number, in their order
+abbrev pub lines_with : By → ℕ → List Line → List Line
+lines_with by key lines = filter (λ line. is_number key (key_of by line)) lines
+
+-- the line's number by that is below the count, if it has one
+abbrev pub HasKeyBelow : By → ℕ → Line → Type 0
+HasKeyBelow by count line = IfSome (key_of by line) (λ key. key < count)
+
+-- a message as a port's queue has it: its sender there is known by the route
+abbrev pub envelope : Mention → Env MessageId
+envelope m = record { sender = m.route; number = m.parcel.number; msg = m.parcel.message }
+
+-- what happened at a port
+abbrev pub event_of : Act → Option (Event MessageId)
+event_of (act.Came m) = Some (event.Arrive (envelope m))
+event_of (act.Took m) = Some (event.Took (envelope m))
+event_of (act.Found m) = Some (event.Found (envelope m))
+event_of (act.Dropped m) = Some (event.Dropped (envelope m))
+event_of (act.Cleared port) = Some event.Cleared
+event_of (act.Started port) = Some event.Started
+event_of (act.Stopped port) = Some event.Stopped
+event_of (act.Halted port) = Some event.Halted
+event_of _ = None
+
+-- what was left in a queue
+abbrev pub left_of : Act → Option (Env MessageId)
+left_of (act.Left m) = Some (envelope m)
+left_of _ = None
+
+-- what was sent, or came
+abbrev pub parcel_of : Act → Option Parcel
+parcel_of (act.Sent m) = Some m.parcel
+parcel_of (act.Came m) = Some m.parcel
+parcel_of _ = None
+
+-- what was taken out, or found
+abbrev pub looked_at : Act → Option (Env MessageId)
+looked_at (act.Took m) = Some (envelope m)
+looked_at (act.Found m) = Some (envelope m)
+looked_at (act.Dropped m) = Some (envelope m)
+looked_at _ = None

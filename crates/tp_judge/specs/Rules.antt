@@ -1,0 +1,60 @@
+-- What a port's own lines say, when they are lawful, and where they aren't.
+use Rattle.std.specs.Prelude.{◌≡◌, ◌≢◌, ◌-◌, ◌≤◌, ◌++◌, ℕ, Option, Some, None, List, take, slice_get, MatchOption, ⊤}
+use Rattle.std.specs.List.{filter_map}
+use Rattle.std.specs.Option.{option_to_list}
+use Rattle.tp_queue.specs.declared.event.Env.{Env}
+use Rattle.tp_queue.specs.declared.event.Event.{Event}
+use Rattle.tp_queue.specs.declared.event.Status.TheVariants as status
+use Rattle.tp_queue.specs.History.{queued, status_of, top, limit, gone}
+use Rattle.tp_judge.specs.declared.line.MessageId.{MessageId}
+use Rattle.tp_judge.specs.declared.line.Act.{Act}
+use Rattle.tp_judge.specs.declared.line.Act.TheVariants as act
+use Rattle.tp_judge.specs.declared.line.Line.{Line}
+use Rattle.tp_judge.specs.declared.place.Rule.{Rule}
+use Rattle.tp_judge.specs.declared.place.Rule.TheVariants as rule
+use Rattle.tp_judge.specs.declared.place.Place.{Place}
+use Rattle.tp_judge.specs.Lines.{event_of, left_of, looked_at}
+
+-- the history that these lines tell
+abbrev pub history_of : List Line → List (Event MessageId)
+history_of lines = filter_map (λ line. event_of line.act) lines
+
+-- what these lines tell as left
+abbrev pub left_in : List Line → List (Env MessageId)
+left_in lines = filter_map (λ line. left_of line.act) lines
+
+-- it is queued, and not ahead of the mark
+abbrev pub IsBehind : List (Event MessageId) → Env MessageId → Type 0
+IsBehind h e = (k : ℕ) × (limit h - gone h ≤ k) × (slice_get (queued h) k ≡ Some e)
+
+-- why what isn't the top can't be taken, found or discarded
+abbrev pub IsReason : Rule → List (Event MessageId) → Env MessageId → Type 0
+IsReason rule.Stopped h e = status_of h ≡ status.Stopped
+IsReason rule.Behind h e = (status_of h ≡ status.Halted) × IsBehind h e
+IsReason rule.NotTop h e = ⊤
+IsReason _ h e = ⊥
+
+-- the line takes, finds or discards what isn't the top, for this reason
+abbrev pub Breaks : Rule → List (Event MessageId) → Act → Type 0
+Breaks broken h a = MatchOption (looked_at a) ⊥ (λ e. (top h ≢ Some e) × IsReason broken h e)
+
+-- the line is neither an arrival nor does it take, find or discard
+abbrev pub IsOperation : Act → Type 0
+IsOperation (act.Came m) = ⊥
+IsOperation (act.Took m) = ⊥
+IsOperation (act.Found m) = ⊥
+IsOperation (act.Dropped m) = ⊥
+IsOperation _ = ⊤
+
+-- one line more: it happens, or it breaks a rule
+abbrev pub Replays : List (Event MessageId) → Act → List (Event MessageId) → Option Rule → Type 0
+Replays h a after None = after ≡ h ++ option_to_list (event_of a)
+Replays h a after (Some broken) = Breaks broken h a
+
+-- one of the port's lines breaks the rule, behind those that stand before it
+pub record IsBroken (events : List Line) (place : Place) : Type 0 where
+  pub before : ℕ
+  pub line : Line
+  pub stands : slice_get events before ≡ Some line
+  pub told : place.line ≡ line.number
+  pub breaks : Breaks place.rule (history_of (take before events)) line.act

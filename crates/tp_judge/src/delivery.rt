@@ -1,0 +1,61 @@
+//! The rule on delivery: all routes.
+ghost use Rattle.std.specs.Prelude.{◌≡◌, ◌↔◌, ◌<◌, [], All, IfOk, MatchOption, length};
+ghost use Rattle.tp_judge.specs.Delivered.{Delivered, IsDeliveredAt, IsRoutePlace, IsUnlawfulOn};
+ghost use Rattle.tp_judge.specs.Lawful.{AreWithin};
+ghost use Rattle.tp_judge.specs.RouteRows.{AreRouteRows};
+
+use crate::gathering::gather;
+use crate::line::{By, Line};
+use crate::place::Place;
+use crate::routes::route_place;
+use crate::trace::Trace;
+use std::alloc::Global;
+use tp_refusal::memory::Memory;
+
+/// The lines of a trace, gathered by routes.
+#[derive(Drop)]
+pub(crate) struct RouteRows<'t> {
+    pub(crate) sent: Vec<Vec<&'t Line>>,
+    pub(crate) came: Vec<Vec<&'t Line>>,
+}
+
+pub(crate) fn gather_routes<'t>(alloc: Global, trace: &'t Trace) -> Result<RouteRows<'t>, Memory>
+    requires { AreWithin trace.now }
+    ensures { IfOk result (AreRouteRows trace.now) }
+{
+    let routes = trace.joined.len();
+    let sent = gather(alloc, &trace.lines, By::Sent, routes)?;
+    let came = gather(alloc, &trace.lines, By::Came, routes)?;
+    Ok(RouteRows { sent, came })
+}
+
+/// A line at which this route isn't lawful, if there is one.
+fn place_on(trace: &Trace, rows: &RouteRows<'_>, route: usize) -> Option<Place>
+    requires rows { AreRouteRows trace.now rows.now }
+    requires route { route < length trace.now.joined.items }
+    ensures { MatchOption result (IsDeliveredAt trace.now route) (IsUnlawfulOn trace.now route) }
+{
+    if !trace.joined[route] {
+        return None;
+    }
+    let place = route_place(&rows.sent[route], &rows.came[route]);
+    place
+}
+
+/// For each route that isn't lawful a line at which it isn't.
+pub fn route_places(alloc: Global, trace: &Trace) -> Result<Vec<Place>, Memory>
+    requires { AreWithin trace.now }
+    ensures lawful { IfOk result (λ places. (places.items ≡ []) ↔ Delivered trace.now) }
+    ensures told { IfOk result (λ places. All (IsRoutePlace trace.now) places.items) }
+{
+    let rows = gather_routes(alloc, trace)?;
+    let mut places = Vec::new(alloc);
+    for route in 0..trace.joined.len() {
+        let found = place_on(trace, &rows, route);
+        match found {
+            None => {}
+            Some(place) => places.push(place)?,
+        }
+    }
+    Ok(places)
+}

@@ -1,0 +1,84 @@
+//! The demands on an order of the lines: what happens before what.
+ghost use Rattle.std.specs.Prelude.{◌≡◌, ◌++◌, ◌<◌, IfOk, OnOk, drop, length};
+ghost use Rattle.tp_judge.specs.Demands.{demands_of, from_each, pairs, route_demands, section_demands};
+ghost use Rattle.tp_judge.specs.Gathered.{AreGathered, seen};
+ghost use Rattle.tp_judge.specs.Lawful.{AreWithin};
+ghost use Rattle.tp_judge.specs.RouteRows.{AreRouteRows};
+
+use crate::delivery::{RouteRows, gather_routes};
+use crate::gathering::gather;
+use crate::line::{By, Line};
+use crate::trace::Trace;
+use std::alloc::Global;
+use tp_order::demand::Demand;
+use tp_refusal::memory::Memory;
+
+/// Each of the first lines comes before the one at its place among the others.
+fn add_pairs(demands: &mut Vec<Demand>, before: &[&Line], after: &[&Line]) -> Result<(), Memory>
+    ensures { OnOk result (demands.new.items
+        ≡ demands.old.items ++ pairs (seen before.now) (seen after.now)) }
+{
+    let count = before.len().min(after.len());
+    for place in 0..count {
+        demands.push(Demand {
+            before: before[place].number as usize,
+            after: after[place].number as usize,
+        })?;
+    }
+    Ok(())
+}
+
+/// Each line of a section comes before the next.
+fn add_section(demands: &mut Vec<Demand>, row: &[&Line]) -> Result<(), Memory>
+    ensures { OnOk result (demands.new.items
+        ≡ demands.old.items ++ pairs (seen row.now) (drop 1 (seen row.now))) }
+{
+    match row.split_first() {
+        None => Ok(()),
+        Some((_, rest)) => add_pairs(demands, row, rest),
+    }
+}
+
+/// Each sending of a route both ends of which have a section comes before its arrival.
+fn add_route(
+    demands: &mut Vec<Demand>,
+    trace: &Trace,
+    rows: &RouteRows<'_>,
+    route: usize,
+) -> Result<(), Memory>
+    requires rows { AreRouteRows trace.now rows.now }
+    requires route { route < length trace.now.joined.items }
+    ensures { OnOk result (demands.new.items ≡ demands.old.items ++ route_demands trace.now route) }
+{
+    if !trace.joined[route] {
+        return Ok(());
+    }
+    add_pairs(demands, &rows.sent[route], &rows.came[route])
+}
+
+/// Each line comes before the next of its section.
+fn sections_in_order(alloc: Global, trace: &Trace) -> Result<Vec<Demand>, Memory>
+    requires { AreWithin trace.now }
+    ensures { IfOk result (λ demands. demands.items
+        ≡ from_each (section_demands trace.now) trace.now.components) }
+{
+    let rows = gather(alloc, &trace.lines, By::Component, trace.components)?;
+    let mut demands = Vec::new(alloc);
+    for component in 0..trace.components {
+        add_section(&mut demands, &rows[component])?;
+    }
+    Ok(demands)
+}
+
+/// All demands of a trace.
+pub(crate) fn make_demands(alloc: Global, trace: &Trace) -> Result<Vec<Demand>, Memory>
+    requires { AreWithin trace.now }
+    ensures { IfOk result (λ demands. demands.items ≡ demands_of trace.now) }
+{
+    let rows = gather_routes(alloc, trace)?;
+    let mut demands = sections_in_order(alloc, trace)?;
+    for route in 0..trace.joined.len() {
+        add_route(&mut demands, trace, &rows, route)?;
+    }
+    Ok(demands)
+}

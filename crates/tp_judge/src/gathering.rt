@@ -1,0 +1,40 @@
+//! The lines of a trace, gathered by a number of theirs.
+ghost use Rattle.std.specs.Prelude.{◌≡◌, [], All, IfOk, length};
+ghost use Rattle.tp_judge.specs.Gathered.{AreGathered};
+ghost use Rattle.tp_judge.specs.Lines.{HasKeyBelow};
+
+use crate::line::{By, Line};
+use std::alloc::Global;
+use tp_refusal::memory::Memory;
+
+/// So many empty rows.
+fn empty_rows<'t>(alloc: Global, count: usize) -> Result<Vec<Vec<&'t Line>>, Memory>
+    ensures size { IfOk result (λ rows. length rows.items ≡ count) }
+    ensures empty { IfOk result (λ rows. All (λ row. row.items ≡ []) rows.items) }
+{
+    let mut rows = Vec::with_capacity(alloc, count)?;
+    for _ in 0..count {
+        rows.push(Vec::new(alloc))?;
+    }
+    Ok(rows)
+}
+
+/// For each number below the count the lines that have it, in their order, in time linear in the
+/// count and the number of lines.
+pub(crate) fn gather<'t>(
+    alloc: Global,
+    lines: &'t [Line],
+    by: By,
+    count: usize,
+) -> Result<Vec<Vec<&'t Line>>, Memory>
+    requires { All (HasKeyBelow by count) lines.now }
+    ensures { IfOk result (λ rows. AreGathered by count lines.now rows.items) }
+{
+    let mut rows = empty_rows(alloc, count)?;
+    for line in lines {
+        if let Some(key) = line.key(by) {
+            rows[key as usize].push(line)?;
+        }
+    }
+    Ok(rows)
+}

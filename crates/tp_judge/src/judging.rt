@@ -1,0 +1,60 @@
+//! All three rules.
+ghost use Rattle.std.specs.Prelude.{◌≡◌, ◌↔◌, ◌++◌, [], All, IfOk, IsTrue, OnOk};
+ghost use Rattle.tp_judge.specs.Judged.{IsLawful, IsOrderly, IsOrderPlace, IsPlace};
+ghost use Rattle.tp_judge.specs.Lawful.{AreWithin};
+
+use crate::circles::circle_place;
+use crate::delivery::route_places;
+use crate::place::Place;
+use crate::ports::port_places;
+use crate::trace::Trace;
+use std::alloc::Global;
+use tp_refusal::memory::Memory;
+
+/// Whether there are none.
+fn are_none(places: &[Place]) -> bool
+    ensures { IsTrue result ↔ (places.now ≡ []) }
+{
+    matches!(places, [])
+}
+
+/// Adds places behind the others.
+fn append(places: &mut Vec<Place>, more: &[Place]) -> Result<(), Memory>
+    ensures { OnOk result (places.new.items ≡ places.old.items ++ more.now) }
+{
+    places.extend_from_slice(more)?;
+    Ok(())
+}
+
+/// The places of routes, and where there are none that of a circle.
+fn order_places(alloc: Global, trace: &Trace) -> Result<Vec<Place>, Memory>
+    requires { AreWithin trace.now }
+    ensures lawful { IfOk result (λ places. (places.items ≡ []) ↔ IsOrderly trace.now) }
+    ensures told { IfOk result (λ places. All (IsOrderPlace trace.now) places.items) }
+{
+    let mut places = route_places(alloc, trace)?;
+    if !are_none(&places) {
+        return Ok(places);
+    }
+    let found = circle_place(alloc, trace)?;
+    match found {
+        None => Ok(places),
+        Some(place) => {
+            places.push(place)?;
+            Ok(places)
+        }
+    }
+}
+
+/// The places where a trace isn't lawful: one at most for each port and each route, and one for
+/// circles, which are looked for where all routes are lawful.
+pub fn judge(alloc: Global, trace: &Trace) -> Result<Vec<Place>, Memory>
+    requires { AreWithin trace.now }
+    ensures lawful { IfOk result (λ places. (places.items ≡ []) ↔ IsLawful trace.now) }
+    ensures told { IfOk result (λ places. All (IsPlace trace.now) places.items) }
+{
+    let mut places = port_places(alloc, trace)?;
+    let order = order_places(alloc, trace)?;
+    append(&mut places, &order)?;
+    Ok(places)
+}

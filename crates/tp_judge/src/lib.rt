@@ -1,0 +1,14 @@
+//! Whether a trace obeys the rules of ports and of delivery, and nothing in it happened before itself.
+#![tactic(auto)]
+
+pub mod circles;
+pub mod delivery;
+pub mod demands;
+pub mod gathering;
+pub mod judging;
+pub mod line;
+pub mod place;
+pub mod ports;
+pub mod replaying;
+pub mod routes;
+pub mod trace;

@@ -1,0 +1,138 @@
+//! The rule on ports.
+ghost use Rattle.std.specs.Prelude.{◌≡◌, ◌↔◌, ◌<◌, [], All, IfOk, IsTrue, MatchOption, Some, length, slice_get};
+ghost use Rattle.tp_queue.specs.History.{queued};
+ghost use Rattle.tp_judge.specs.Gathered.{seen};
+ghost use Rattle.tp_judge.specs.Lawful.{AreWithin, IsLawfulAt, IsLawfulPort, IsLeftBroken};
+ghost use Rattle.tp_judge.specs.Lawful.{IsPortPlace, IsToldLeft, IsUnlawfulAt, IsUnlawfulPort};
+ghost use Rattle.tp_judge.specs.Lawful.{LawfulPorts};
+ghost use Rattle.tp_judge.specs.PortRows.{ArePortRows};
+ghost use Rattle.tp_judge.specs.Lines.{envelope};
+
+use crate::gathering::gather;
+use crate::line::{Act, By, Line, Mention, MessageId};
+use crate::place::{Place, Rule};
+use crate::replaying::{Replayed, is_env, replay};
+use crate::trace::Trace;
+use std::alloc::Global;
+use tp_queue::queue::PortQueue;
+use tp_refusal::memory::Memory;
+
+/// Whether this is queued at this place.
+fn is_queued(queue: &PortQueue<MessageId>, place: u64, mention: Mention) -> bool
+    ensures { IsTrue result ↔ (slice_get (queued queue.now) place ≡ Some (envelope mention)) }
+{
+    match queue.queued_at(place) {
+        None => false,
+        Some(env) => is_env(env, mention),
+    }
+}
+
+/// A line where what is told as left isn't what is queued, if there is one.
+fn left_place(queue: &PortQueue<MessageId>, left: &[&Line], closing: &[&Line]) -> Option<Place>
+    ensures { MatchOption result
+        (IsToldLeft queue.now (seen left.now) (seen closing.now))
+        (IsLeftBroken queue.now (seen left.now) (seen closing.now)) }
+{
+    let closer = closing.first()?;
+    let count = queue.queued_len();
+    let mut told = 0u64;
+    for line in left {
+        if let Act::Left(mention) = line.act {
+            if !is_queued(queue, told, mention) {
+                return Some(Place {
+                    line: line.number,
+                    rule: Rule::Left,
+                });
+            }
+            told += 1;
+        }
+    }
+    if told < count {
+        return Some(Place {
+            line: closer.number,
+            rule: Rule::Left,
+        });
+    }
+    None
+}
+
+/// A line at which the port isn't lawful, if there is one.
+fn port_place(
+    alloc: Global,
+    events: &[&Line],
+    left: &[&Line],
+    closing: &[&Line],
+) -> Result<Option<Place>, Memory>
+    ensures { IfOk result (λ place. MatchOption place
+        (IsLawfulPort (seen events.now) (seen left.now) (seen closing.now))
+        (IsUnlawfulPort (seen events.now) (seen left.now) (seen closing.now))) }
+{
+    match replay(alloc, events)? {
+        Replayed::Unlawful(place) => Ok(Some(place)),
+        Replayed::Lawful(queue) => Ok(left_place(&queue, left, closing)),
+    }
+}
+
+/// The lines of a trace, gathered by ports and by what closes sections.
+#[derive(Drop)]
+struct PortRows<'t> {
+    events: Vec<Vec<&'t Line>>,
+    left: Vec<Vec<&'t Line>>,
+    closing: Vec<Vec<&'t Line>>,
+}
+
+fn gather_ports<'t>(alloc: Global, trace: &'t Trace) -> Result<PortRows<'t>, Memory>
+    requires { AreWithin trace.now }
+    ensures { IfOk result (ArePortRows trace.now) }
+{
+    let ports = trace.owners.len();
+    let events = gather(alloc, &trace.lines, By::Port, ports)?;
+    let left = gather(alloc, &trace.lines, By::Left, ports)?;
+    let closing = gather(alloc, &trace.lines, By::Closing, trace.components)?;
+    Ok(PortRows {
+        events,
+        left,
+        closing,
+    })
+}
+
+/// A line at which this port isn't lawful, if there is one.
+fn place_at(
+    alloc: Global,
+    trace: &Trace,
+    rows: &PortRows<'_>,
+    port: usize,
+) -> Result<Option<Place>, Memory>
+    requires within { AreWithin trace.now }
+    requires rows { ArePortRows trace.now rows.now }
+    requires port { port < length trace.now.owners.items }
+    ensures { IfOk result (λ place.
+        MatchOption place (IsLawfulAt trace.now port) (IsUnlawfulAt trace.now port)) }
+{
+    let owner = trace.owners[port] as usize;
+    let place = port_place(
+        alloc,
+        &rows.events[port],
+        &rows.left[port],
+        &rows.closing[owner],
+    )?;
+    Ok(place)
+}
+
+/// For each port that isn't lawful a line at which it isn't.
+pub fn port_places(alloc: Global, trace: &Trace) -> Result<Vec<Place>, Memory>
+    requires { AreWithin trace.now }
+    ensures lawful { IfOk result (λ places. (places.items ≡ []) ↔ LawfulPorts trace.now) }
+    ensures told { IfOk result (λ places. All (IsPortPlace trace.now) places.items) }
+{
+    let rows = gather_ports(alloc, trace)?;
+    let mut places = Vec::new(alloc);
+    for port in 0..trace.owners.len() {
+        let found = place_at(alloc, trace, &rows, port)?;
+        match found {
+            None => {}
+            Some(place) => places.push(place)?,
+        }
+    }
+    Ok(places)
+}

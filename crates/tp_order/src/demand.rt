@@ -1,0 +1,19 @@
+//! A demand that one number comes before another.
+ghost use Rattle.std.specs.Prelude.{◌↔◌, All, IsTrue};
+ghost use Rattle.tp_order.specs.Order.{IsBelow};
+
+/// Of two numbers, which has to come before which.
+#[derive(Clone, Copy, Debug, PartialEq, Eq)]
+pub struct Demand {
+    /// The one that has to come first.
+    pub before: usize,
+    /// The one that has to come behind it.
+    pub after: usize,
+}
+
+/// Whether the demands name only numbers below the count.
+pub fn are_below(count: usize, demands: &[Demand]) -> bool
+    ensures { IsTrue result ↔ All (IsBelow count) demands.now }
+{
+    demands.iter().all(|d| d.before < count && d.after < count)
+}

@@ -1,0 +1,6 @@
+pub mod Lines
+pub mod Cuts
+pub mod Messages
+pub mod Telling
+pub mod Places
+pub mod Standing

@@ -1,0 +1,4 @@
+pub mod Line
+pub mod Tree
+pub mod Read
+pub mod Faults

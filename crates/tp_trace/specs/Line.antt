@@ -1,0 +1,159 @@
+-- The lines of a trace: what each one tells, and how it is spelled.
+use Rattle.std.specs.Prelude.{◌≡◌, ℕ, ◌<◌, ◌^◌, ◌==◌, ◌&&◌, ◌⊎◌, Bool, true, not, Option, Some, None, List, [], ◌∷◌, ◌++◌, length, codes, cond}
+use Rattle.std.specs.List.{onto_first, list_all, AllZip}
+use Rattle.std.specs.Char.{is_ascii_graphic}
+use Rattle.std.specs.Fmt.{decimal}
+use Rattle.tp_queue.specs.declared.operation.PortOperation.{PortOperation}
+use Rattle.tp_queue.specs.declared.operation.PortOperation.TheVariants as operation
+use Rattle.tp_trace.specs.declared.line.Fate.{Fate}
+use Rattle.tp_trace.specs.declared.line.Fate.TheVariants as fate
+use Rattle.tp_trace.specs.declared.line.Note.{Note}
+use Rattle.tp_trace.specs.declared.line.Note.TheVariants as note
+use Rattle.tp_trace.specs.declared.line.Verb.{Verb}
+use Rattle.tp_trace.specs.declared.line.Verb.TheVariants as verb
+
+-- a message: the component at its other end, the port that it is for, its number on its route, and what it says
+pub record Letter : Type 0 where
+  pub component : List ℕ
+  pub port : List ℕ
+  pub number : ℕ
+  pub text : List ℕ
+
+-- what a line tells
+pub data Told : Type 0 where
+  begins : List ℕ → Told
+  passed : Fate → Letter → Told
+  operated : PortOperation → List ℕ → Told
+  otherwise : Told
+  noted : Note → List ℕ → Told
+  ended : List ℕ → Told
+  resulted : List ℕ → Told
+
+-- the lines of a text: each ends at a byte 10, which the last may lack
+abbrev pub lines_of : List ℕ → List (List ℕ)
+lines_of [] = []
+lines_of (b ∷ bs) = cond (b == 10) ([] ∷ lines_of bs) (onto_first b (lines_of bs))
+
+-- none of the bytes is this one
+abbrev pub lacks : ℕ → List ℕ → Bool
+lacks c bytes = list_all (λ b. not (b == c)) bytes
+
+-- a byte of a port's name: no `.`
+abbrev pub is_port_byte : ℕ → Bool
+is_port_byte b = is_ascii_graphic b && not (b == 46)
+
+-- a component's name: bytes 33 to 126, one or more
+pub record IsWord (word : List ℕ) : Type 0 where
+  pub some : 0 < length word
+  pub graphic : list_all is_ascii_graphic word ≡ true
+
+-- a port's name: the same without a `.`
+pub record IsPort (word : List ℕ) : Type 0 where
+  pub some : 0 < length word
+  pub undotted : list_all is_port_byte word ≡ true
+
+-- a verdict (24.1)
+abbrev pub IsVerdict : List ℕ → Type 0
+IsVerdict word =
+    (word ≡ codes "none") ⊎ ((word ≡ codes "pass") ⊎ ((word ≡ codes "inconc")
+    ⊎ ((word ≡ codes "fail") ⊎ (word ≡ codes "error"))))
+
+-- a number in decimal, below 2^63
+abbrev pub IsNumber : List ℕ → Type 0
+IsNumber word = (n : ℕ) × (n < 2 ^ 63) × (word ≡ decimal n)
+
+-- its names are names, its number is below 2^63, and it has a byte at least
+pub record IsLetter (letter : Letter) : Type 0 where
+  pub component : IsWord letter.component
+  pub port : IsPort letter.port
+  pub number : letter.number < 2 ^ 63
+  pub text : 0 < length letter.text
+
+abbrev pub IsNote : Note → List ℕ → Type 0
+IsNote note.Set word = IsVerdict word
+IsNote note.Failed word = IsNumber word
+IsNote note.Verdict word = IsVerdict word
+
+-- what is told can be told: each name, number and verdict is one
+abbrev pub IsTold : Told → Type 0
+IsTold (begins name) = IsWord name
+IsTold (passed fate letter) = IsLetter letter
+IsTold (operated operation port) = IsPort port
+IsTold otherwise = Unit {0}
+IsTold (noted note word) = IsNote note word
+IsTold (ended words) = 0 < length words
+IsTold (resulted word) = IsVerdict word
+
+abbrev pub fate_text : Fate → List ℕ
+fate_text fate.Sent = codes "sent"
+fate_text fate.Came = codes "came"
+fate_text fate.Took = codes "took"
+fate_text fate.Found = codes "found"
+fate_text fate.Dropped = codes "dropped"
+fate_text fate.Left = codes "left"
+
+abbrev pub operation_text : PortOperation → List ℕ
+operation_text operation.Start = codes "started"
+operation_text operation.Stop = codes "stopped"
+operation_text operation.Halt = codes "halted"
+operation_text operation.Clear = codes "cleared"
+
+abbrev pub note_text : Note → List ℕ
+note_text note.Set = codes "set"
+note_text note.Failed = codes "failed"
+note_text note.Verdict = codes "verdict"
+
+-- the first word of a line
+abbrev pub verb_text : Verb → List ℕ
+verb_text verb.Component = codes "component"
+verb_text (verb.Message fate) = fate_text fate
+verb_text (verb.Operation operation) = operation_text operation
+verb_text verb.Else = codes "else"
+verb_text (verb.Note note) = note_text note
+verb_text verb.End = codes "end"
+verb_text verb.Result = codes "result"
+
+abbrev pub verb_of : Told → Verb
+verb_of (begins name) = verb.Component
+verb_of (passed fate letter) = verb.Message fate
+verb_of (operated operation port) = verb.Operation operation
+verb_of otherwise = verb.Else
+verb_of (noted note word) = verb.Note note
+verb_of (ended words) = verb.End
+verb_of (resulted word) = verb.Result
+
+-- a message's number and what it says, with a space between them
+abbrev pub contents : Letter → List ℕ
+contents letter = decimal letter.number ++ (32 ∷ letter.text)
+
+-- behind `sent` the receiving component and its port, with a `.` between them; behind any other word the port and the
+-- sending component, with a space between them
+abbrev pub letter_text : Fate → Letter → List ℕ
+letter_text fate.Sent letter = (letter.component ++ (46 ∷ letter.port)) ++ (32 ∷ contents letter)
+letter_text _ letter = letter.port ++ (32 ∷ (letter.component ++ (32 ∷ contents letter)))
+
+-- what stands behind the first word of a line
+abbrev pub operands : Told → Option (List ℕ)
+operands (begins name) = Some name
+operands (passed fate letter) = Some (letter_text fate letter)
+operands (operated operation port) = Some port
+operands otherwise = None
+operands (noted note word) = Some word
+operands (ended words) = Some words
+operands (resulted word) = Some word
+
+-- a space, and what stands behind it, if anything does
+abbrev pub behind : Option (List ℕ) → List ℕ
+behind None = []
+behind (Some rest) = 32 ∷ rest
+
+abbrev pub spelling : Told → List ℕ
+spelling told = verb_text (verb_of told) ++ behind (operands told)
+
+-- the line tells this
+abbrev pub Spells : List ℕ → Told → Type 0
+Spells line told = (line ≡ spelling told) × IsTold told
+
+-- the lines of the text tell these, in order
+abbrev pub Says : List ℕ → List Told → Type 0
+Says text tolds = AllZip Spells (lines_of text) tolds

@@ -1,0 +1,10 @@
+//! Traces: what each line tells, and which texts are traces.
+#![tactic(auto)]
+
+mod cut;
+pub mod form;
+pub mod line;
+mod names;
+pub mod read;
+pub mod reading;
+pub mod tree;

@@ -1,0 +1,83 @@
+//! The lines of a trace, and what each of them tells.
+
+use tp_queue::operation::PortOperation;
+
+/// What a line says of a message.
+#[derive(Clone, Copy, Debug, PartialEq, Eq)]
+pub enum Fate {
+    /// `sent`: the component sent it.
+    Sent,
+    /// `came`: it came into the queue of its port.
+    Came,
+    /// `took`: a `receive`, or a `trigger` that matched, took it.
+    Took,
+    /// `found`: a `check` found it.
+    Found,
+    /// `dropped`: a `trigger` that didn't match discarded it.
+    Dropped,
+    /// `left`: it was still queued when the component ended.
+    Left,
+}
+
+/// The first word of a line of a report on which no rule of ports bears.
+#[derive(Clone, Copy, Debug, PartialEq, Eq)]
+pub enum Note {
+    /// `set VERDICT`
+    Set,
+    /// `failed CODE`
+    Failed,
+    /// `verdict VERDICT`
+    Verdict,
+}
+
+/// A message, as a line tells of it. Its parts lie in the text.
+#[derive(Clone, Copy, Debug)]
+pub struct Message<'t> {
+    /// The component at the other end: that it was sent to in a line `sent`, and that sent it in
+    /// any other.
+    pub component: &'t [u8],
+    /// The port that it is for: of the receiving component in every line.
+    pub port: &'t [u8],
+    /// Its number on its route, below 2^63.
+    pub number: u64,
+    /// The message itself: one byte or more.
+    pub text: &'t [u8],
+}
+
+/// What a line tells. Its words lie in the text.
+#[derive(Clone, Copy, Debug)]
+pub enum Line<'t> {
+    /// `component NAME`: the section of this component begins.
+    Component(&'t [u8]),
+    /// A message was sent, came, was taken, found or discarded, or was left.
+    Message(Fate, Message<'t>),
+    /// `cleared PORT`, `started PORT`, `stopped PORT`, `halted PORT`: the port operation.
+    Operation(PortOperation, &'t [u8]),
+    /// `else`: a look at the ports that found nothing.
+    Else,
+    /// `set VERDICT`, `failed CODE`, `verdict VERDICT`.
+    Note(Note, &'t [u8]),
+    /// `end ..`: how the component ended, in whatever words.
+    End(&'t [u8]),
+    /// `result VERDICT`, the last line of all: it belongs to no section.
+    Result(&'t [u8]),
+}
+
+/// The first word of a line.
+#[derive(Clone, Copy, Debug, PartialEq, Eq)]
+pub enum Verb {
+    /// `component`
+    Component,
+    /// `sent`, `came`, `took`, `found`, `dropped`, `left`
+    Message(Fate),
+    /// `cleared`, `started`, `stopped`, `halted`
+    Operation(PortOperation),
+    /// `else`
+    Else,
+    /// `set`, `failed`, `verdict`
+    Note(Note),
+    /// `end`
+    End,
+    /// `result`
+    Result,
+}

@@ -1,0 +1,344 @@
+//! What a line tells.
+ghost use Rattle.std.specs.Prelude.{◌≡◌, ◌∷◌, ◌++◌, ◌<◌, ◌^◌, ◌↔◌, ℕ, codes, IfSome, IsSome, IsTrue, MatchBool, MatchOption, None, Some, length};
+ghost use Rattle.std.specs.Char.{is_ascii_graphic};
+ghost use Rattle.std.specs.List.{list_all};
+ghost use Rattle.std.specs.Str.{IsAscii};
+ghost use Rattle.std.specs.Fmt.{decimal};
+ghost use Rattle.std.specs.Option.{option_copied};
+ghost use Rattle.tp_trace.specs.declared.line.Fate.TheVariants as fate;
+ghost use Rattle.tp_trace.specs.Line.{IsLetter, IsNote, IsNumber, IsPort, IsTold, IsVerdict, IsWord, Spells, Told, fate_text, is_port_byte, letter_text, note_text, operands, operation_text, verb_of, verb_text};
+ghost use Rattle.tp_trace.specs.Read.{IsContents, IsRead, contents_text};
+ghost use Rattle.tp_trace.specs.Tree.{letter_of, told_of};
+
+use crate::cut::{around_last_dot, first_word};
+use crate::line::{Fate, Line, Message, Note, Verb};
+use itoa::Buffer;
+use std::str;
+use tp_queue::operation::PortOperation;
+
+/// The greatest number of a message.
+const GREATEST_NUMBER: u64 = 9_223_372_036_854_775_807;
+
+/// What a word says of a message.
+fn fate_of(word: &[u8]) -> Option<Fate>
+    ensures { MatchOption result
+        ((fate : _) → word.now ≡ fate_text fate → ⊥)
+        (λ fate. word.now ≡ fate_text fate) }
+{
+    if word == b"sent".as_slice() {
+        Some(Fate::Sent)
+    } else if word == b"came".as_slice() {
+        Some(Fate::Came)
+    } else if word == b"took".as_slice() {
+        Some(Fate::Took)
+    } else if word == b"found".as_slice() {
+        Some(Fate::Found)
+    } else if word == b"dropped".as_slice() {
+        Some(Fate::Dropped)
+    } else if word == b"left".as_slice() {
+        Some(Fate::Left)
+    } else {
+        None
+    }
+}
+
+/// The port operation that a word is.
+fn operation_of(word: &[u8]) -> Option<PortOperation>
+    ensures { MatchOption result
+        ((operation : _) → word.now ≡ operation_text operation → ⊥)
+        (λ operation. word.now ≡ operation_text operation) }
+{
+    if word == b"started".as_slice() {
+        Some(PortOperation::Start)
+    } else if word == b"stopped".as_slice() {
+        Some(PortOperation::Stop)
+    } else if word == b"halted".as_slice() {
+        Some(PortOperation::Halt)
+    } else if word == b"cleared".as_slice() {
+        Some(PortOperation::Clear)
+    } else {
+        None
+    }
+}
+
+/// The note that a word begins.
+fn note_of(word: &[u8]) -> Option<Note>
+    ensures { MatchOption result
+        ((note : _) → word.now ≡ note_text note → ⊥)
+        (λ note. word.now ≡ note_text note) }
+{
+    if word == b"set".as_slice() {
+        Some(Note::Set)
+    } else if word == b"failed".as_slice() {
+        Some(Note::Failed)
+    } else if word == b"verdict".as_slice() {
+        Some(Note::Verdict)
+    } else {
+        None
+    }
+}
+
+/// The verb that a word is.
+fn verb_of(word: &[u8]) -> Option<Verb>
+    ensures { MatchOption result
+        ((verb : _) → word.now ≡ verb_text verb → ⊥)
+        (λ verb. word.now ≡ verb_text verb) }
+{
+    if let Some(fate) = fate_of(word) {
+        return Some(Verb::Message(fate));
+    }
+    if let Some(operation) = operation_of(word) {
+        return Some(Verb::Operation(operation));
+    }
+    if let Some(note) = note_of(word) {
+        return Some(Verb::Note(note));
+    }
+    if word == b"component".as_slice() {
+        Some(Verb::Component)
+    } else if word == b"else".as_slice() {
+        Some(Verb::Else)
+    } else if word == b"end".as_slice() {
+        Some(Verb::End)
+    } else if word == b"result".as_slice() {
+        Some(Verb::Result)
+    } else {
+        None
+    }
+}
+
+/// Whether all bytes are among 33 to 126.
+fn is_graphic(bytes: &[u8]) -> bool
+    ensures { result ≡ list_all is_ascii_graphic bytes.now }
+{
+    bytes.iter().all(|byte| byte.is_ascii_graphic())
+}
+
+/// Whether all bytes are among 33 to 126, and none is a `.`.
+fn is_undotted(bytes: &[u8]) -> bool
+    ensures { result ≡ list_all is_port_byte bytes.now }
+{
+    bytes
+        .iter()
+        .all(|byte| byte.is_ascii_graphic() && *byte != b'.')
+}
+
+/// Whether the bytes are the name of a component.
+fn is_word(word: &[u8]) -> bool
+    ensures { IsTrue result ↔ IsWord word.now }
+{
+    !word.is_empty() && is_graphic(word)
+}
+
+/// Whether the bytes are the name of a port.
+fn is_port(word: &[u8]) -> bool
+    ensures { IsTrue result ↔ IsPort word.now }
+{
+    !word.is_empty() && is_undotted(word)
+}
+
+/// Whether the bytes are a verdict.
+fn is_verdict(word: &[u8]) -> bool
+    ensures { MatchBool result (IsVerdict word.now) (¬ IsVerdict word.now) }
+{
+    word == b"none".as_slice()
+        || word == b"pass".as_slice()
+        || word == b"inconc".as_slice()
+        || word == b"fail".as_slice()
+        || word == b"error".as_slice()
+}
+
+/// The text that bytes are. ASCII is text.
+fn text_of(bytes: &[u8]) -> Option<&str>
+    ensures same { IfSome result (λ text. text.now ≡ bytes.now) }
+    ensures ascii { IsAscii bytes.now → IsSome result }
+{
+    match str::from_utf8(bytes) {
+        Ok(text) => Some(text),
+        Err(_) => None,
+    }
+}
+
+/// The number that a word can be read as, in whatever form.
+fn parse_number(word: &[u8]) -> Option<u64>
+    ensures { (n : ℕ) → n < 2 ^ 63 → word.now ≡ decimal n → result ≡ Some n }
+{
+    let text = text_of(word)?;
+    text.parse::<u64>().ok()
+}
+
+/// The number that a word is: in decimal, below 2^63, without a leading zero or a `+`.
+fn number_of(word: &[u8]) -> Option<u64>
+    ensures { MatchOption result
+        ((n : ℕ) → n < 2 ^ 63 → word.now ≡ decimal n → ⊥)
+        (λ n. (n < 2 ^ 63) × (word.now ≡ decimal n)) }
+{
+    let number = parse_number(word)?;
+    if number > GREATEST_NUMBER {
+        return None;
+    }
+    let mut buffer = Buffer::new();
+    if buffer.format(number).as_bytes() == word {
+        Some(number)
+    } else {
+        None
+    }
+}
+
+/// Whether the bytes are what stands behind this note.
+fn is_note(note: Note, word: &[u8]) -> bool
+    ensures { MatchBool result (IsNote note word.now) (¬ IsNote note word.now) }
+{
+    match note {
+        Note::Set | Note::Verdict => is_verdict(word),
+        Note::Failed => number_of(word).is_some(),
+    }
+}
+
+/// The number of a message, and what it says.
+fn contents_of(rest: Option<&[u8]>) -> Option<(u64, &[u8])>
+    ensures { MatchOption result
+        ((n : ℕ) (text : _) → IsContents n text
+        → option_copied rest.entry ≡ Some (contents_text n text) → ⊥)
+        (λ c. IsContents c.0 c.1.now
+        × (option_copied rest.entry ≡ Some (contents_text c.0 c.1.now))) }
+{
+    let (word, text) = first_word(rest?);
+    let number = number_of(word)?;
+    let text = text?;
+    if text.is_empty() {
+        return None;
+    }
+    Some((number, text))
+}
+
+/// The message behind `sent`.
+fn sent_of(rest: &[u8]) -> Option<Message<'_>>
+    ensures { MatchOption result
+        ((letter : _) → IsLetter letter → rest.now ≡ letter_text fate.Sent letter → ⊥)
+        (λ m. IsLetter (letter_of m) × (rest.now ≡ letter_text fate.Sent (letter_of m))) }
+{
+    let (place, more) = first_word(rest);
+    let (component, port) = around_last_dot(place)?;
+    if !is_word(component) || !is_port(port) {
+        return None;
+    }
+    let (number, text) = contents_of(more)?;
+    Some(Message {
+        component,
+        port,
+        number,
+        text,
+    })
+}
+
+/// The message behind a word that tells what became of it at its port.
+fn passed_of(rest: &[u8]) -> Option<Message<'_>>
+    ensures { MatchOption result
+        ((letter : _) → IsLetter letter → rest.now ≡ letter_text fate.Came letter → ⊥)
+        (λ m. IsLetter (letter_of m) × (rest.now ≡ letter_text fate.Came (letter_of m))) }
+{
+    let (port, more) = first_word(rest);
+    let (component, last) = first_word(more?);
+    if !is_port(port) || !is_word(component) {
+        return None;
+    }
+    let (number, text) = contents_of(last)?;
+    Some(Message {
+        component,
+        port,
+        number,
+        text,
+    })
+}
+
+/// The message behind a word that says this of it.
+fn message_of(fate: Fate, rest: &[u8]) -> Option<Message<'_>>
+    ensures { MatchOption result
+        ((letter : _) → IsLetter letter → rest.now ≡ letter_text fate letter → ⊥)
+        (λ m. IsLetter (letter_of m) × (rest.now ≡ letter_text fate (letter_of m))) }
+{
+    match fate {
+        Fate::Sent => sent_of(rest),
+        Fate::Came | Fate::Took | Fate::Found | Fate::Dropped | Fate::Left => passed_of(rest),
+    }
+}
+
+/// The line of this verb with this behind it.
+fn line_behind(verb: Verb, rest: &[u8]) -> Option<Line<'_>>
+    ensures { IsRead verb (Some rest.now) result }
+{
+    match verb {
+        Verb::Message(fate) => {
+            let message = message_of(fate, rest)?;
+            Some(Line::Message(fate, message))
+        }
+        Verb::Component => {
+            if is_word(rest) {
+                Some(Line::Component(rest))
+            } else {
+                None
+            }
+        }
+        Verb::Operation(operation) => {
+            if is_port(rest) {
+                Some(Line::Operation(operation, rest))
+            } else {
+                None
+            }
+        }
+        Verb::Note(note) => {
+            if is_note(note, rest) {
+                Some(Line::Note(note, rest))
+            } else {
+                None
+            }
+        }
+        Verb::End => {
+            if rest.is_empty() {
+                None
+            } else {
+                Some(Line::End(rest))
+            }
+        }
+        Verb::Result => {
+            if is_verdict(rest) {
+                Some(Line::Result(rest))
+            } else {
+                None
+            }
+        }
+        Verb::Else => None,
+    }
+}
+
+/// The line of this verb alone.
+fn line_alone(verb: Verb) -> Option<Line<'static>>
+    ensures { IsRead verb None result }
+{
+    match verb {
+        Verb::Else => Some(Line::Else),
+        _ => None,
+    }
+}
+
+/// The line of this verb, with what stands behind it, where something does.
+fn line_with(verb: Verb, rest: Option<&[u8]>) -> Option<Line<'_>>
+    ensures { IsRead verb (option_copied rest.entry) result }
+{
+    match rest {
+        Some(rest) => line_behind(verb, rest),
+        None => line_alone(verb),
+    }
+}
+
+/// What a line tells, its end left out, and `None` where it tells nothing: one space between words
+/// and none elsewhere. Takes no memory.
+pub fn line_of(bytes: &[u8]) -> Option<Line<'_>>
+    ensures { MatchOption result
+        ((told : Told) → Spells bytes.now told → ⊥)
+        (λ line. Spells bytes.now (told_of line)) }
+{
+    let (word, rest) = first_word(bytes);
+    let verb = verb_of(word)?;
+    line_with(verb, rest)
+}

@@ -1,0 +1,144 @@
+//! A text, read as a trace.
+ghost use Rattle.std.specs.Prelude.{◌≡◌, ◌+◌, ◌<◌, ◌≤◌, ◌==◌, ◌↔◌, IsErrOf, IfErr, IfOk, MatchOption, length, count_by};
+ghost use Rattle.tp_trace.specs.Line.{Told, Spells};
+ghost use Rattle.tp_trace.specs.Tree.{BadLinesStayBad, IsTraceOf, SaysOneAtMost, StandsAt, told_of};
+ghost use Rattle.tp_trace.specs.Faults.{IsFaultOf, Notes, TakesPlace};
+
+use crate::cut::first_line;
+use crate::form::{Place, may_stand, place_behind};
+use crate::line::Line;
+use crate::names::Names;
+use crate::read::line_of;
+use crate::tree::Trace;
+use std::alloc::{AllocError, AllocFailed, Global};
+use thiserror::Error;
+use tp_refusal::memory::Memory;
+
+/// The most bytes that the text of a trace may have: 256 MiB.
+pub const TRACE_LIMIT: usize = 268_435_456;
+
+/// Why a text was not read as a trace.
+#[derive(Clone, Copy, Debug, PartialEq, Eq, Error)]
+pub enum TraceFault {
+    /// 1 BadLine: the line of this number, from 1, is the first of another form than a trace has.
+    #[error("line {0} is no line of a trace")]
+    BadLine(u64),
+    /// 15 Limit: the text has more than 268,435,456 bytes.
+    #[error("the text has more than {TRACE_LIMIT} bytes")]
+    Limit,
+    /// 50 Memory: an allocation was refused.
+    #[error("out of memory")]
+    Memory,
+}
+
+impl From<Memory> for TraceFault {
+    ghost use Rattle.std.specs.Prelude.{◌≡◌};
+    ghost use Rattle.tp_trace.specs.declared.reading.TraceFault.TheVariants as trace_fault;
+
+    ghost from_gives = { λ _ fault. fault ≡ trace_fault.Memory };
+
+    fn from(_refused: Memory) -> TraceFault {
+        TraceFault::Memory
+    }
+}
+
+impl From<AllocError> for TraceFault {
+    ghost use Rattle.std.specs.Prelude.{◌≡◌};
+    ghost use Rattle.tp_trace.specs.declared.reading.TraceFault.TheVariants as trace_fault;
+
+    ghost from_gives = { λ _ fault. fault ≡ trace_fault.Memory };
+
+    fn from(_refused: AllocError) -> TraceFault {
+        TraceFault::Memory
+    }
+}
+
+impl<T: Drop> From<AllocFailed<T>> for TraceFault {
+    ghost use Rattle.std.specs.Prelude.{◌≡◌};
+    ghost use Rattle.tp_trace.specs.declared.reading.TraceFault.TheVariants as trace_fault;
+
+    ghost from_gives = { λ _ fault. fault ≡ trace_fault.Memory };
+
+    fn from(_refused: AllocFailed<T>) -> TraceFault {
+        TraceFault::Memory
+    }
+}
+
+/// For how many lines to make room: one more than there are bytes 10.
+fn room_for(text: &[u8]) -> usize
+    requires { length text.now ≤ 268435456 }
+    ensures { result ≡ count_by (λ byte. byte == 10) text.now + 1 }
+{
+    text.iter().filter(|byte| **byte == b'\n').count() + 1
+}
+
+/// Whether the section of a component, where the line begins one, is the first of its name, which
+/// is then noted.
+fn is_new<'t>(names: &mut Names<'t>, line: &Line<'t>) -> Result<bool, Memory>
+    ensures { IfOk result (λ new. Notes names.old names.new (told_of line.now) new) }
+{
+    match line {
+        Line::Component(name) => names.add(name),
+        _ => Ok(true),
+    }
+}
+
+/// The place behind a line, where it tells something that may stand in this place behind lines that
+/// have begun the sections of these names. The name of a section that it begins is noted.
+fn step<'t>(names: &mut Names<'t>, place: Place, bytes: &'t [u8]) -> Result<Option<Place>, Memory>
+    ensures { IfOk result (λ after. MatchOption after
+        ((told : Told) → Spells bytes.now told → StandsAt place names.old told → ⊥)
+        (TakesPlace bytes.now place names.old names.new)) }
+{
+    let Some(line) = line_of(bytes) else {
+        return Ok(None);
+    };
+    if !may_stand(place, &line) {
+        return Ok(None);
+    }
+    if !is_new(names, &line)? {
+        return Ok(None);
+    }
+    Ok(Some(place_behind(&line)))
+}
+
+/// Reads a text as a trace.
+///
+/// Refused are 15 `Limit` a text of more than 268,435,456 bytes, 1 `BadLine` its first line that
+/// doesn't tell anything or that may not stand behind those before it, and 50 `Memory` where an
+/// allocation was refused.
+pub fn read_trace<'t>(alloc: Global, text: &'t [u8]) -> Result<Trace<'t>, TraceFault>
+    ensures trace { IfOk result (IsTraceOf text.now) }
+    ensures fault { IfErr result (IsFaultOf text.now) }
+    ensures limit { IsErrOf result TraceFault.Limit ↔ (268435456 < length text.now) }
+{
+    if text.len() > TRACE_LIMIT {
+        return Err(TraceFault::Limit);
+    }
+    let mut lines = Vec::with_capacity(alloc, room_for(text))?;
+    let mut names = Names::new(alloc);
+    let mut place = Place::Front;
+    let mut rest = text;
+    while !rest.is_empty() {
+        let (bytes, next) = first_line(rest);
+        let number = lines.len() as u64 + 1;
+        match step(&mut names, place, bytes)? {
+            Some(after) => place = after,
+            None => return Err(TraceFault::BadLine(number)),
+        }
+        lines.push(bytes)?;
+        rest = next;
+    }
+    Ok(Trace::of(lines, names))
+}
+
+/// A text tells one list of lines at most, so that it is one trace: a law, and no work.
+pub fn says_one_at_most()
+    ensures { SaysOneAtMost }
+{}
+
+/// What [`read_trace`] refuses as a bad line is bad whatever stands behind it, so that no trace is
+/// refused: a law, and no work.
+pub fn bad_lines_stay_bad()
+    ensures { BadLinesStayBad }
+{}
