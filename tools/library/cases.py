@@ -18,6 +18,7 @@ class Case:
 
     script: str
     runs: list[Run] = field(default_factory=list)
+    explored: str = ""  # what tools/explore says first of it, if it is asked
 
     def name(self) -> str:
         return os.path.basename(self.script).removesuffix(ENDING)

@@ -97,7 +97,8 @@ class Construct(Enum):
     COMPONENT_MEMBER = (
         "a variable, timer or constant of a component type",
         "6.2.10.1",
-        "`var integer v;` at the head of each body that uses it; a component type has ports alone",
+        "for a variable `var integer v;` at the head of each body that uses it, for a timer nothing, since there"
+        " is no time in a run; a component type has ports alone",
     )
     EXTENDS = ("a component type that extends another one", "6.2.10.2", "all ports in the one type")
     ADDRESS = ("an `address`", "6.2.12", "nothing: a mapped port leads to one port of the system")
@@ -315,8 +316,8 @@ class Construct(Enum):
     DEFAULT = (
         "a default",
         "20.5",
-        "an `alt` in place of each `receive`, with that `receive` and the altstep's branches:"
-        " `alt { [] p.receive(integer:1) { .. } [] p.receive { setverdict(fail); } }`",
+        "an `alt` in place of each `receive`, with that `receive` and the altstep's branches, and nothing for"
+        " `deactivate`: `alt { [] p.receive(integer:1) { .. } [] p.receive { setverdict(fail); } }`",
     )
     # 21: components
     LATE_SETUP = (

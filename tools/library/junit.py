@@ -79,6 +79,9 @@ def _case(case: Case, class_name: str, name: str) -> xml.Element:
     made = xml.Element("testcase", name=name, classname=class_name)
     made.set("time", f"{case.seconds():.3f}")
     kind, worst = _kind(case), case.worst()
+    if case.explored:
+        properties = xml.SubElement(made, "properties")
+        xml.SubElement(properties, "property", name="explored", value=readable(case.explored))
     if kind:
         reason = readable(case.reason() or "this result isn't wanted")
         told = xml.SubElement(made, kind, message=f"{worst.result}: {reason}", type=worst.result)

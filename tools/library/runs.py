@@ -44,8 +44,9 @@ def program_of(named: str) -> str:
 
 def built(program: str, root: str) -> str:
     """The program, built before the first clock starts: a repository's ./tpr is given up for the program
-    that its ./build builds, since without one it would compile all sources for each script."""
-    if _is_same(program, f"{root}/tpr"):
+    that its ./build builds, since without one it would compile all sources for each script. What was
+    released has the program itself there, and no ./build."""
+    if os.path.exists(f"{root}/build") and _is_same(program, f"{root}/tpr"):
         if subprocess.run([f"{root}/build"], stdin=subprocess.DEVNULL, check=False).returncode != 0:
             raise Stop(NOT_BUILT, f"{root}/build has not built the program")
         program = f"{root}/crates/tpr/out/tpr"

@@ -173,7 +173,7 @@ class BodyRules:
         for branch in statement.branches:
             self._receive(branch.start, branch.receive)
             size += self._block(branch.block)
-        return size + self._block(statement.otherwise or [])
+        return size + (self._block(statement.otherwise.block) if statement.otherwise else 0)
 
     def _loop(self, statement: Loop) -> int:
         name = self.names.word(statement.name)
@@ -182,11 +182,7 @@ class BodyRules:
         self.loop_places[name] = statement.name
         size = self._block(statement.block)
         self.loops.pop()
-        return max(0, self._number(statement.bound) - self._number(statement.first)) * size
-
-    def _number(self, place: int) -> int:
-        word = self.names.word(place)
-        return -int(self.names.word(place + 1)) if word == "-" else int(word)
+        return max(0, self.names.number(statement.bound) - self.names.number(statement.first)) * size
 
     # Messages
 

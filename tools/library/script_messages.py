@@ -76,10 +76,7 @@ class MessageRules:
         return word + self.names.word(value.start + 1) if word == "-" else word
 
     def _number(self, place: Optional[int]) -> Optional[int]:
-        if place is None:
-            return None
-        word = self.names.word(place)
-        return -int(self.names.word(place + 1)) if word == "-" else int(word)
+        return None if place is None else self.names.number(place)
 
     def _check_name(self, type_name: str, value: Value) -> None:
         name = self.names.word(value.start)

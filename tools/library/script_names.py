@@ -47,6 +47,11 @@ class Names:
     def word(self, place: int) -> str:
         return self.tokens[place]
 
+    def number(self, place: int) -> int:
+        """The number whose sign, or first digit, stands there."""
+        word = self.tokens[place]
+        return -int(self.tokens[place + 1]) if word == "-" else int(word)
+
     def check(self) -> None:
         self._check_given_once()
         for definition in self.module.definitions:

@@ -5,7 +5,7 @@ from typing import Optional
 
 from .script_cursor import A_NAME, A_STATEMENT, PORT_CONTROL, quoted
 from .script_tokens import is_name
-from .script_tree import Alt, Branch, Control, Declared, Loop, Receive, Send, SetVerdict, Statement
+from .script_tree import Alt, Branch, Control, Declared, Loop, Otherwise, Receive, Send, SetVerdict, Statement
 from .script_values import ValueReader
 
 VERDICTS = ("none", "pass", "inconc", "fail", "error")
@@ -178,16 +178,17 @@ class StatementReader(ValueReader):
         self.end(is_closed)
         return Branch(start, receive, block)
 
-    def otherwise(self, left: int) -> Optional[list[Statement]]:
+    def otherwise(self, left: int) -> Optional[Otherwise]:
         if not self.is_at("["):
             return None
-        self.begin, self.part = self.place, "a branch"
+        start = self.place
+        self.begin, self.part = start, "a branch"
         self.open("[", left)
         self.expect("else")
         self.expect("]")
         block = self.block(left)
         self.end(True)
-        return block
+        return Otherwise(start, block)
 
     def loop(self, left: int) -> Loop:
         start = self.expect("for")

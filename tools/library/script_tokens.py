@@ -107,8 +107,16 @@ class Text:
     def shown_line(self, number: int) -> str:
         """The line as it can be shown: what can't be read in it is replaced."""
         lines = self.data.split(b"\n", number)
-        shown = _readable(lines[number - 1]) if 0 < number <= len(lines) else ""
-        return "".join(letter if letter == "\t" or letter.isprintable() else "\ufffd" for letter in shown)
+        return _shown(lines[number - 1]) if 0 < number <= len(lines) else ""
+
+    def shown_lines(self) -> list[str]:
+        """All lines, so that they can be shown."""
+        lines = self.data.split(b"\n")
+        return [_shown(line) for line in (lines if lines[-1] else lines[:-1])]
+
+
+def _shown(line: bytes) -> str:
+    return "".join(letter if letter == "\t" or letter.isprintable() else "\ufffd" for letter in _readable(line))
 
 
 def _readable(data: bytes) -> str:

@@ -194,10 +194,18 @@ class Branch:
 
 
 @dataclass
+class Otherwise:
+    """`[else]` and its block"""
+
+    start: int
+    block: list["Statement"]
+
+
+@dataclass
 class Alt:
     start: int
     branches: list[Branch]
-    otherwise: Optional[list["Statement"]]
+    otherwise: Optional[Otherwise]
 
 
 @dataclass

@@ -17,6 +17,18 @@ _MOST_TOLD = 20  # of the messages that one entry discards
 _DOES = {"took": "takes", "found": "finds", "dropped": "drops"}
 
 
+class Marks:
+    """What stands behind what a chart shows: nothing, or, where a script is given, its lines."""
+
+    def at(self, place: Place) -> str:
+        """Behind an entry."""
+        return ""
+
+    def at_end(self, component: int) -> str:
+        """Behind the end of a behaviour."""
+        return ""
+
+
 class Arrow(NamedTuple):
     """An arrow of a message, from the row of its sending to the row where it ends."""
 
@@ -26,10 +38,11 @@ class Arrow(NamedTuple):
     receiver: int
     start: int
     stop: int
+    mark: str = ""
 
     def outside(self) -> str:
         """What stands beside the receiver's life line, on the side away from the sender."""
-        return f"{self.word} {self.message.route.port}"
+        return f"{self.word} {self.message.route.port}{self.mark}"
 
     def is_long(self) -> bool:
         """Whether it is drawn as its two ends."""
@@ -99,15 +112,18 @@ class Sequence:
         return self.deliveries.entry(place).line.number
 
 
-def sequence_of(report: Report, title: str) -> Sequence:
+def sequence_of(report: Report, title: str, marks: Optional[Marks] = None) -> Sequence:
     """The chart of a report; NotAReport where its components don't agree, or no order is one."""
-    deliveries = deliveries_of(report)
-    steps = _Steps(deliveries, _split(deliveries, rows_of(deliveries)))
+    deliveries, marks = deliveries_of(report), marks or Marks()
+    rows = rows_of(deliveries)
+    for message in deliveries.messages:
+        message.text += marks.at(message.sent)
+    steps = _Steps(deliveries, _split(deliveries, rows), marks)
     return Sequence(
         " ".join(readable(title).split()),
         tuple(report.names()),
         tuple(steps.all()),
-        tuple(_foot(component) for component in report.components),
+        tuple(_foot(component, marks.at_end(place)) for place, component in enumerate(report.components)),
         tuple(steps.last_rows),
         report.result,
         _summary(deliveries),
@@ -131,8 +147,9 @@ def _split(deliveries: Deliveries, rows: list[Row]) -> list[Row]:
 class _Steps:
     """Makes the steps, one for each row."""
 
-    def __init__(self, deliveries: Deliveries, rows: list[Row]):
+    def __init__(self, deliveries: Deliveries, rows: list[Row], marks: Marks):
         self.deliveries = deliveries
+        self.marks = marks
         self.rows = rows
         self.names = deliveries.report.names()
         self.columns = {name: place for place, name in enumerate(self.names)}
@@ -193,24 +210,25 @@ class _Steps:
 
     def arrow(self, message: Message, word: str, stop: Place) -> Arrow:
         sender, receiver = (self.columns[name] for name in message.route[:2])
-        return Arrow(message, word, sender, receiver, self.row_of[message.sent], self.row_of[stop])
+        mark = self.marks.at(stop) if stop != message.sent else ""
+        return Arrow(message, word, sender, receiver, self.row_of[message.sent], self.row_of[stop], mark)
 
     def got(self, message: Message, entry: Received) -> str:
         route = message.route
         return f"{route.receiver} {_DOES[entry.word]} {message.text} of {route.sender} at port {route.port}"
 
     def badge(self, place: Place) -> Badge:
-        entry = self.deliveries.entry(place)
+        entry, mark = self.deliveries.entry(place), self.marks.at(place)
         if isinstance(entry, VerdictSet):
-            return Badge(place.component, f"set {entry.verdict}", entry.verdict)
+            return Badge(place.component, f"set {entry.verdict}{mark}", entry.verdict)
         if isinstance(entry, Failed):
-            return Badge(place.component, f"failed {told_code(entry.code)}", "error")
+            return Badge(place.component, f"failed {told_code(entry.code)}{mark}", "error")
         if isinstance(entry, Otherwise):
-            return Badge(place.component, "else", None)
+            return Badge(place.component, f"else{mark}", None)
         assert isinstance(entry, Operation)
         discards = len(self.deliveries.discarded.get(place, ()))
         told = f", discards {discards}" if discards else ""
-        return Badge(place.component, f"{entry.word} {entry.port}{told}", None)
+        return Badge(place.component, f"{entry.word} {entry.port}{told}{mark}", None)
 
     def numbers(self, row: Row) -> tuple[int, ...]:
         places = [row.first] if row.second is None else [row.first, row.second]
@@ -225,11 +243,11 @@ class _Steps:
         return "\n".join(told)
 
 
-def _foot(component: Component) -> Foot:
+def _foot(component: Component, mark: str = "") -> Foot:
     end = component.end.word
     if component.end.code is not None:
         end = f"error {told_code(component.end.code)}"
-    return Foot(f"end {end}", component.verdict, tuple(left.line.text for left in component.left))
+    return Foot(f"end {end}{mark}", component.verdict, tuple(left.line.text for left in component.left))
 
 
 def _summary(deliveries: Deliveries) -> str:

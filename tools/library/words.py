@@ -3,6 +3,7 @@ from __future__ import annotations
 
 import functools
 import re
+from typing import Iterable
 
 # From the best to the worst (ES 201 873-1, 24.1).
 VERDICTS = ("none", "pass", "inconc", "fail", "error")
@@ -72,3 +73,21 @@ def told_code(code: int) -> str:
 def counted(number: int, what: str) -> str:
     """`1 message`, `2 messages`."""
     return f"{number} {what}" if number == 1 else f"{number} {what}s"
+
+
+def and_(things: Iterable) -> str:
+    """`a`, `a and b`, `a, b and c`."""
+    *first, last = map(str, things)
+    return f"{', '.join(first)} and {last}" if first else last
+
+
+def lines_told(lines: Iterable[int]) -> str:
+    """`line 7`, `lines 7, 9 and 12-15`."""
+    spans: list[list[int]] = []
+    for line in sorted(set(lines)):
+        if spans and spans[-1][-1] == line - 1:
+            spans[-1][1:] = [line]
+        else:
+            spans.append([line])
+    told = and_("-".join(map(str, span)) for span in spans)
+    return f"line {told}" if len(spans) == len(spans[0]) == 1 else f"lines {told}"

@@ -1,0 +1,54 @@
+"""Which lines lie on a circle of "this one before that one"."""
+
+
+def first_on_a_circle(behind: dict[int, list[int]]) -> int | None:
+    """The first line from which, by what must come behind it, one comes back to it.
+
+    What is left over where all lines are taken off that have none before them, and then those that have none behind
+    them, again and again, are the lines on circles and those between two circles.
+    """
+    left = without_firsts(without_firsts(set(behind), behind), turned(behind))
+    return next((line for line in sorted(left) if comes_back(line, behind, left)), None)
+
+
+def turned(behind: dict[int, list[int]]) -> dict[int, list[int]]:
+    """The same the other way round."""
+    before: dict[int, list[int]] = {line: [] for line in behind}
+    for line, others in behind.items():
+        for other in others:
+            before[other].append(line)
+    return before
+
+
+def without_firsts(lines: set[int], behind: dict[int, list[int]]) -> set[int]:
+    """Those of the lines that are left where the ones without another before them are taken off, again and again."""
+    left = set(lines)
+    waits = {line: 0 for line in left}
+    for line in left:
+        for other in behind[line]:
+            if other in left:
+                waits[other] += 1
+    free = [line for line in left if waits[line] == 0]
+    while free:
+        line = free.pop()
+        left.discard(line)
+        for other in behind[line]:
+            if other in left:
+                waits[other] -= 1
+                if waits[other] == 0:
+                    free.append(other)
+    return left
+
+
+def comes_back(line: int, behind: dict[int, list[int]], among: set[int]) -> bool:
+    """Whether a way leads from the line back to it."""
+    seen: set[int] = set()
+    ahead = [line]
+    while ahead:
+        for other in behind[ahead.pop()]:
+            if other == line:
+                return True
+            if other in among and other not in seen:
+                seen.add(other)
+                ahead.append(other)
+    return False

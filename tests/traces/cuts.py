@@ -1,0 +1,42 @@
+"""Cuts logs of Titan's off behind each of their bytes: what is read of it never says more than the whole log.
+
+    cuts.py LOG..
+
+Each must be refused; or be told to be cut off or to end early, and its lines begin those of the whole log. It prints
+what is wrong.
+"""
+import os
+import sys
+
+sys.path.append(os.path.join(os.path.dirname(os.path.realpath(__file__)), "..", "..", "tools"))
+
+from library.titan_log import NotALog, read_log  # noqa: E402
+from library.titan_trace import section_of  # noqa: E402
+
+
+def wrong(text: str, length: int, whole: list) -> str | None:
+    try:
+        log = read_log(text[:length])
+    except NotALog:
+        return None
+    log.check_end()
+    section = section_of(log)
+    if length < len(text) and not section.troubles:
+        return "nothing is told"
+    return None if section.lines == whole[: len(section.lines)] else "its lines aren't those of the whole log"
+
+
+def main() -> int:
+    for path in sys.argv[1:]:
+        with open(path, encoding="utf-8", newline="") as file:
+            text = file.read()
+        whole = section_of(read_log(text)).lines
+        for length in range(len(text) + 1):
+            if (reason := wrong(text, length, whole)) is not None:
+                print(f"{path}, cut off behind {length} characters: {reason}")
+                return 1
+    return 0
+
+
+if __name__ == "__main__":
+    sys.exit(main())

@@ -1,0 +1,199 @@
+"""The three rules on a trace (docs/TRACES.md): ports, delivery, no circle. Each finds its places: a RULE
+and a line. They are written from the definitions, one list or one comparison for each, and not for speed.
+"""
+from collections.abc import Iterator
+from dataclasses import dataclass, field
+from typing import NamedTuple
+
+from circles import first_on_a_circle
+from form import TAKING, Line, Section, Trace
+
+# In this order where several stand at one line.
+RULES = (
+    "Stopped",
+    "Behind",
+    "NotTop",
+    "Left",
+    "Numbering",
+    "Lost",
+    "Doubled",
+    "Invented",
+    "Changed",
+    "Reordered",
+    "Circle",
+)
+
+
+class Place(NamedTuple):
+    """Where a trace isn't lawful: the number of a line, and the rule."""
+
+    line: int
+    rule: str
+
+    def order(self) -> tuple[int, int]:
+        return self.line, RULES.index(self.rule)
+
+
+def places_of(trace: Trace) -> list[Place]:
+    """The first place of each port, the first of each route, and the first line on a circle, by their lines."""
+    found = [place for section in trace.sections.values() for place in places_of_ports(section)]
+    for route in routes_of(trace):
+        found += sorted(places_of_route(route), key=Place.order)[:1]
+    if (line := first_on_a_circle(happens_before(trace))) is not None:
+        found.append(Place(line, "Circle"))
+    return sorted(found, key=Place.order)
+
+
+# Ports (ES 201 873-1, 22.2, 22.5)
+
+
+@dataclass
+class Port:
+    """A port as its lines so far leave it: `ahead` is how many of a halted one's messages are ahead of the mark."""
+
+    status: str = "started"
+    queue: list[tuple[bytes, int, bytes]] = field(default_factory=list)
+    ahead: int = 0
+
+    def do(self, line: Line) -> None:
+        """What the line does to it."""
+        if line.word == b"came":
+            self.queue.append(line.envelope())
+        elif line.word in (b"took", b"dropped"):
+            del self.queue[0]
+            self.ahead = max(self.ahead - 1, 0)
+        elif line.word in (b"cleared", b"started"):
+            self.queue, self.ahead = [], 0
+        if line.word == b"halted" and self.status == "started":
+            self.status, self.ahead = "halted", len(self.queue)
+        elif line.word in (b"started", b"stopped"):
+            self.status = line.word.decode()
+
+    def refuses(self, line: Line) -> str | None:
+        """The rule that a line breaks which takes, finds or drops a message."""
+        if self.status == "stopped":
+            return "Stopped"
+        place = self.queue.index(line.envelope()) if line.envelope() in self.queue else None
+        if place is not None and self.status == "halted" and place >= self.ahead:
+            return "Behind"
+        return None if place == 0 else "NotTop"
+
+
+def places_of_ports(section: Section) -> Iterator[Place]:
+    """The first place of each port of the section."""
+    names = {line.port for line in section.lines if line.word != b"sent" and line.port}
+    for name in sorted(names):
+        lines = [line for line in section.lines if line.word != b"sent" and line.port == name]
+        if (place := place_of_port(section, lines)) is not None:
+            yield place
+
+
+def place_of_port(section: Section, lines: list[Line]) -> Place | None:
+    """The first place of a port, of which these are the lines."""
+    port = Port()
+    for line in lines:
+        if line.word in TAKING and (rule := port.refuses(line)) is not None:
+            return Place(line.place, rule)
+        if line.word != b"left":
+            port.do(line)
+    return None if section.is_open() else place_of_left(section, port, [it for it in lines if it.word == b"left"])
+
+
+def place_of_left(section: Section, port: Port, left: list[Line]) -> Place | None:
+    """The first line `left` that isn't what is queued; where one is missing, the section's `end`, and where it has
+    none, its last line."""
+    for place, line in enumerate(left):
+        if port.queue[place : place + 1] != [line.envelope()]:
+            return Place(line.place, "Left")
+    if len(left) == len(port.queue):
+        return None
+    ends = [line for line in section.lines if line.word == b"end"]
+    return Place((ends or section.lines[-1:])[0].place, "Left")
+
+
+# Delivery
+
+
+@dataclass
+class Route:
+    """A sender and a port of a receiver, both of which have a section: what was sent, and what came."""
+
+    sent: list[Line] = field(default_factory=list)
+    came: list[Line] = field(default_factory=list)
+
+    def first_sendings(self) -> dict[int, int]:
+        """Of each number that was sent, the place of its first sending."""
+        places: dict[int, int] = {}
+        for place, line in enumerate(self.sent):
+            places.setdefault(line.number, place)
+        return places
+
+
+def routes_of(trace: Trace) -> list[Route]:
+    """The routes both ends of which have a section."""
+    routes: dict[tuple[bytes, bytes, bytes], Route] = {}
+    for section in trace.sections.values():
+        for line in section.lines:
+            if line.partner in trace.sections and line.word == b"sent":
+                routes.setdefault((section.name, line.partner, line.port), Route()).sent.append(line)
+            elif line.partner in trace.sections and line.word == b"came":
+                routes.setdefault((line.partner, section.name, line.port), Route()).came.append(line)
+    return list(routes.values())
+
+
+def places_of_route(route: Route) -> Iterator[Place]:
+    """All places of the route."""
+    yield from places_of_sendings(route)
+    yield from places_of_arrivals(route)
+
+
+def places_of_sendings(route: Route) -> Iterator[Place]:
+    """A number that isn't the next; or no arrival has it, and either nothing came of what was sent behind it, or its
+    place in the order of the arrivals is that of a message that was sent later."""
+    came = {line.number for line in route.came}
+    last_that_came = max((place for place, line in enumerate(route.sent) if line.number in came), default=-1)
+    behind = {(line.number, line.message): place for place, line in enumerate(route.sent)}
+    for place, line in enumerate(route.sent):
+        taker = route.came[place] if place < len(route.came) else None
+        is_overtaken = taker is not None and behind.get((taker.number, taker.message), -1) > place
+        if line.number != place:
+            yield Place(line.place, "Numbering")
+        elif line.number not in came and (last_that_came < place or is_overtaken):
+            yield Place(line.place, "Lost")
+
+
+def places_of_arrivals(route: Route) -> Iterator[Place]:
+    """The first rule that each arrival breaks: its number had come before; was never sent; was sent with another
+    message; was sent before that of an earlier arrival."""
+    sent, messages = route.first_sendings(), {(line.number, line.message) for line in route.sent}
+    before: set[int] = set()
+    latest = -1
+    for line in route.came:
+        if line.number in before:
+            yield Place(line.place, "Doubled")
+        elif line.number not in sent:
+            yield Place(line.place, "Invented")
+        elif (line.number, line.message) not in messages:
+            yield Place(line.place, "Changed")
+        elif sent[line.number] < latest:
+            yield Place(line.place, "Reordered")
+        before.add(line.number)
+        latest = max(latest, sent.get(line.number, -1))
+
+
+# No circle
+
+
+def happens_before(trace: Trace) -> dict[int, list[int]]:
+    """Of each line of a section, by its number: the next line of the section, and where it is a sending, what came
+    of it."""
+    behind = {line.place: [] for section in trace.sections.values() for line in section.lines}
+    for section in trace.sections.values():
+        for line, after in zip(section.lines, section.lines[1:]):
+            behind[line.place].append(after.place)
+    for route in routes_of(trace):
+        sent = route.first_sendings()
+        for came in route.came:
+            if came.number in sent:
+                behind[route.sent[sent[came.number]].place].append(came.place)
+    return behind

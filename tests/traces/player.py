@@ -1,0 +1,50 @@
+"""Plays a script in an order made by chance, on the model of runs (tests/orders/model.py), and prints the trace:
+the report, with a line `came` wherever a message came into a queue.
+
+    player.py SCRIPT [SEED]
+
+In the model a message is in its queue at once when it is sent, so each of these traces is one run.
+"""
+import os
+import random
+import sys
+
+sys.path.append(os.path.join(os.path.dirname(os.path.realpath(__file__)), "..", "orders"))
+
+from bodies import TestCase  # noqa: E402
+from model import Act, Run  # noqa: E402
+from reading import read_script  # noqa: E402
+from tree import Send  # noqa: E402
+
+
+class Traced(Run):
+    """A run that notes what comes, too."""
+
+    def send(self, who: int, send: Send) -> Act:
+        act = super().send(who, send)
+        word, _, rest = self.components[who].lines[-1].partition(" ")
+        if word == "sent":
+            where, number, message = rest.split(" ", 2)
+            receiver, _, port = where.rpartition(".")
+            at = self.case.names.index(receiver)
+            self.components[at].lines.append(f"came {port} {self.case.names[who]} {number} {message}")
+        return act
+
+
+def play(script: str, seed: int) -> str:
+    """The trace of one run of the script."""
+    chance, run = random.Random(seed), Traced(TestCase(read_script(script)))
+    waiting: set[int] = set()
+    while True:
+        living = [who for who in range(len(run.components)) if run.statement(who) is not None and who not in waiting]
+        if not living:
+            return run.report()
+        who = chance.choice(living)
+        if run.act(who) is Act.WAITS:
+            waiting.add(who)
+        else:
+            waiting = set()
+
+
+if __name__ == "__main__":
+    sys.stdout.write(play(sys.argv[1], int(sys.argv[2]) if len(sys.argv) > 2 else 1))

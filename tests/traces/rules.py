@@ -1,0 +1,216 @@
+"""Tests the judge of traces in referee.py, and what it stands on.
+
+    rules.py planted|forms|titan TABLE [-- COMMAND..]
+    rules.py document FILE [-- COMMAND..]
+    rules.py lines FILE           each text has the form of a trace, or its first line of another form is the one that
+                                  was found by hand
+                                  each row of the table, each example of the document, has the answer that was worked
+                                  out by hand: by the judge in referee.py, or by the command with a file behind it
+    rules.py played SCRIPT..      traces of these scripts, played in orders made by chance, are lawful and one run
+    rules.py tried NUMBER         of so many small traces, those are one run of which some order of their lines is a
+                                  run; of so many small graphs, the first line on a circle is found; and of so many
+                                  ports and routes, the places are found where docs/MODEL.md has them
+
+Each prints lines `passed ..`, or lines that begin with `FAILED: `.
+"""
+import os
+import random
+import re
+import sys
+import tempfile
+from collections.abc import Callable, Iterator
+
+from chance import small_graph, small_history, small_route, small_trace
+from circles import first_on_a_circle
+from compare import Judge
+from form import Line, OfAnotherForm, Section, read_trace
+from histories import first_unlawful, queued
+from lawful import place_of_port, places_of, places_of_route
+from one_run import first_delayed, is_one_run_by_trying
+from planting import plant
+from player import play
+from referee import answer_of
+
+SEEDS = 3
+
+_EXAMPLE = re.compile(r"^```\n(.*?)^```\n\n((?:`[^`]+`(?:, )?)+)", re.DOTALL | re.MULTILINE)
+
+
+def rows(path: str) -> Iterator[tuple[str, str]]:
+    """The rows of a table, `WHAT => ANSWER; ANSWER`: what stands before the answers, and these as they are printed.
+    A line that begins with `#` is a comment."""
+    with open(path, encoding="ascii") as file:
+        for line in file:
+            what, arrow, answers = line.removesuffix("\n").rpartition(" => ")
+            if arrow and not line.startswith("#"):
+                yield what, "".join(f"{answer}\n" for answer in answers.split("; "))
+
+
+def planted(path: str, what: str) -> bytes:
+    """The trace of a row `TRACE: EDIT LINE / EDIT LINE ..` of the table in this file."""
+    name, _, edits = what.partition(": ")
+    with open(os.path.join(os.path.dirname(path), "lawful", f"{name}.trace"), "rb") as file:
+        text = file.read()
+    for edit in edits.split(" / "):
+        if found := re.fullmatch("put ([0-9]+) (.+)", edit):
+            lines = text.splitlines(True)
+            lines[int(found[1]) - 1] = found[2].encode("ascii") + b"\n"
+            text = b"".join(lines)
+        else:
+            text = plant(text, *edit.rsplit(" ", 1))
+    return text
+
+
+def form(_: str, what: str) -> bytes:
+    """The text of a row of forms.table."""
+    return what.encode("ascii").decode("unicode_escape").encode("latin-1")
+
+
+def titan(path: str, what: str) -> bytes:
+    """The trace beside the logs of a folder that a row names."""
+    with open(os.path.join(os.path.dirname(path), what, "trace"), "rb") as file:
+        return file.read()
+
+
+def rows_of_document(path: str) -> Iterator[tuple[str, str]]:
+    """The examples of a document: a trace in fences, and behind it a line of answers in backquotes."""
+    with open(path, encoding="utf-8") as file:
+        for trace, answers in _EXAMPLE.findall(file.read()):
+            yield trace, "".join(f"{answer}\n" for answer in re.findall("`([^`]+)`", answers))
+
+
+def document(_: str, what: str) -> bytes:
+    return what.encode("ascii")
+
+
+TEXTS: dict[str, Callable[[str, str], bytes]] = {
+    "planted": planted,
+    "forms": form,
+    "titan": titan,
+    "document": document,
+}
+
+
+def answered(kind: str, path: str, answer: Callable[[bytes], tuple[str, int]]) -> Iterator[str]:
+    """A line for each row of the table, or example of the document."""
+    for what, wanted in rows_of_document(path) if kind == "document" else rows(path):
+        text = TEXTS[kind](path, what)
+        found = answer(text)
+        if found == (wanted, 0 if wanted.startswith("lawful") else 2):
+            yield f"passed {what!r}"
+        else:
+            yield f"FAILED: {what}: with status {found[1]} it is said\n{found[0]}and wanted\n{wanted}of\n{text!r}"
+
+
+def first_bad(text: bytes) -> str:
+    """The number of the first line of another form, `read` where there is none."""
+    try:
+        read_trace(text)
+    except OfAnotherForm as bad:
+        return str(bad.line)
+    return "read"
+
+
+def lines(path: str) -> Iterator[str]:
+    """A line for each text of the file: before it stands `read`, or the number of its first line of another form."""
+    with open(path, encoding="ascii") as file:
+        for row in file:
+            wanted, _, text = row.removesuffix("\n").partition(" ")
+            if not wanted or row.startswith("#"):
+                continue
+            found = first_bad(form(path, text))
+            yield f"passed {text!r}" if found == wanted else f"FAILED: {text}: {found}, and {wanted} is wanted"
+
+
+def played(script: str) -> str:
+    for seed in range(SEEDS):
+        text = play(script, seed)
+        if (answer := answer_of(text.encode("latin-1"))) != ("lawful\none run\n", 0):
+            return f"FAILED: {script}, seed {seed}: {answer[0]}of\n{text}"
+    return f"passed {SEEDS} {script}"
+
+
+def tried(number: int) -> str:
+    chance, one, delayed = random.Random(number), 0, 0
+    for _ in range(number):
+        text = small_trace(chance)
+        trace = read_trace(text)
+        if places_of(trace):
+            return f"FAILED: this should be lawful\n{text.decode('latin-1')}"
+        line, is_one = first_delayed(trace), is_one_run_by_trying(trace)
+        if (line is None) is not is_one:
+            return f"FAILED: the demands say delayed line {line}, all orders {is_one}\n{text.decode('latin-1')}"
+        one, delayed = one + is_one, delayed + (not is_one)
+    return f"passed {one} one run, {delayed} delayed"
+
+
+def graphs(number: int) -> str:
+    """The first line on a circle, beside what follows from each line in as many steps as there are lines."""
+    chance, with_circle = random.Random(number), 0
+    for _ in range(number):
+        behind = small_graph(chance)
+        follows = {line: set(others) for line, others in behind.items()}
+        for _ in behind:
+            follows = {line: others.union(*(follows[it] for it in others)) for line, others in follows.items()}
+        wanted = min((line for line, others in follows.items() if line in others), default=None)
+        if (found := first_on_a_circle(behind)) != wanted:
+            return f"FAILED: the first on a circle of {behind} is {wanted}, and not {found}"
+        with_circle += wanted is not None
+    return f"passed {with_circle} graphs with a circle"
+
+
+def ports(number: int) -> str:
+    """The first unlawful line of a port and what is queued in the end, beside what the histories say."""
+    chance, unlawful = random.Random(number), 0
+    for _ in range(number):
+        history = small_history(chance)
+        wanted = first_unlawful(history)
+        found = place_of_port(Section(b"a", 1, [Line(0, b"end")]), history)
+        if wanted is not None and (found is None or found.line != history[wanted].place or found.rule == "Left"):
+            return f"FAILED: line {history[wanted].place} is unlawful, and not {found}, of {history}"
+        if wanted is None and (found is None) is not (queued(history) == []):
+            return f"FAILED: {queued(history)} is queued in the end, and {found} is told, of {history}"
+        unlawful += wanted is not None
+    return f"passed {unlawful} unlawful ports"
+
+
+def routes(number: int) -> str:
+    """A route has a place exactly where what came isn't what was sent, or its numbers aren't 0, 1, 2 and so on."""
+    chance, lawful = random.Random(number), 0
+    for _ in range(number):
+        route = small_route(chance)
+        sent, came = ([(line.number, line.message) for line in lines] for lines in (route.sent, route.came))
+        is_lawful = sent == came and [one for one, _ in sent] == list(range(len(sent)))
+        if is_lawful is not (list(places_of_route(route)) == []):
+            return f"FAILED: lawful {is_lawful}, and {list(places_of_route(route))} is told, of {route}"
+        lawful += is_lawful
+    return f"passed {lawful} lawful routes"
+
+
+def judge_of(words: list[str], room: str) -> Callable[[bytes], tuple[str, int]]:
+    """The judge of which the command stands behind `--`, else that of referee.py."""
+    if "--" not in words:
+        return answer_of
+    return Judge(words[words.index("--") + 1 :], os.path.join(room, "trace")).answer
+
+
+def main() -> int:
+    what, *words = sys.argv[1:]
+    if what in TEXTS:
+        with tempfile.TemporaryDirectory() as room:
+            for line in answered(what, words[0], judge_of(words, room)):
+                print(line, flush=True)
+    elif what == "lines":
+        for line in lines(words[0]):
+            print(line, flush=True)
+    elif what == "played":
+        for script in words:
+            print(played(script), flush=True)
+    else:
+        for test in (tried, graphs, ports, routes):
+            print(test(int(words[0])), flush=True)
+    return 0
+
+
+if __name__ == "__main__":
+    sys.exit(main())
