@@ -3,7 +3,8 @@
 # NAME.changes and NAME.TOPIC.changes have a block for each script: the answer, `accepted` or
 # `CODE NAME LINE`, and then lines `N TEXT`: TEXT stands in the place of line N, and `\n` in it for the
 # end of a line. Lines that begin with `#` are titles, and say the rule. `root`, `room`, `tpr`,
-# `observe`, `judge`, `count`, `at_least` and `set_up` are those of ./test.
+# `observe`, `judge`, `count`, `at_least` and `set_up` are those of ./test, `is_another_entry` that of
+# tests/listed_parts.sh.
 
 # How many scripts each file has at least, by what stands before `.changes`.
 declare -A least_changes=(
@@ -25,6 +26,7 @@ answered() { # NAME ANSWER
         echo "refused ${2% *} line ${2##* }" >"$room/wanted"
         wanted=2
     fi
+    is_another_entry "$1" "$room/script"
     observe "$tpr" check "$room/script" </dev/null
     judge "$1" "$wanted" '' "$room/wanted"
     count $?

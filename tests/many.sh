@@ -1,6 +1,6 @@
-# Scripts with many of a kind, more than small tables hold, with a fault in the last of them; and
-# faults beside a limit that is passed. `room` is that of ./test, `module_with` and `repeated` are those
-# of tests/limits.sh, `answered` that of tests/changes.sh.
+# Scripts with many of a kind, more than small tables hold, with a fault in the last of them; faults beside a
+# limit that is passed; and a long report. `room`, `tpr`, `observe`, `judge` and `count` are those of ./test,
+# `module_with` and `repeated` are those of tests/limits.sh, `answered` that of tests/changes.sh.
 
 # The text so many times, with a comma between; each `@` in it is the number, from 0.
 listed() { # TEXT TIMES
@@ -242,6 +242,27 @@ limit_of_text_first() {
     answered "a name that is too long, in a text that is too long" '15 Limit 0'
 }
 
+# A report of 7,000 messages to each of 61 components, all sent and all left: nothing gives up where there is much.
+long_report() {
+    module_with 'function f() runs on C { }' 'testcase t() runs on C {' "$(on_lines 'var C c@ := C.create;' 61)" \
+        "$(on_lines 'connect(self:p, c@:p);' 61)" "$(on_lines 'c@.start(f());' 61)" \
+        'for (var integer i := 0; i < 7000; i := i + 1) { p.send(integer:7) to all component; }' \
+        'all component.done;' '}' '}'
+    awk 'BEGIN {
+        print "component mtc"
+        for (i = 0; i < 7000; i += 1) for (k = 0; k < 61; k += 1) print "sent c" k ".p " i " integer:7"
+        print "end done\nverdict none"
+        for (k = 0; k < 61; k += 1) {
+            print "component c" k "\nend done\nverdict none"
+            for (i = 0; i < 7000; i += 1) print "left p mtc " i " integer:7"
+        }
+        print "result none"
+    }' >"$room/long_report"
+    observe "$tpr" run "$room/script" </dev/null
+    judge "a report of 427,000 messages" 0 '' "$room/long_report"
+    count $?
+}
+
 many_of_a_kind() {
     at_least 13 many_fields
     at_least 9 many_definitions
@@ -254,4 +275,5 @@ many_of_a_kind() {
     at_least 8 limit_of_components_last
     at_least 8 limit_of_ports_first
     at_least 3 limit_of_text_first
+    at_least 1 long_report
 }

@@ -1,6 +1,6 @@
 # Every order of the steps of small scripts (tests/orders/*.ttcn): what tpr_ordered reports of each must be what
 # the model of runs says (tests/orders/model.py). `root`, `room`, `ordered`, `count`, `at_least`, `set_up`
-# and `built_by_gate` are those of ./test.
+# and `built_by_gate` are those of ./test, `is_another_entry` that of tests/listed_parts.sh.
 
 # How many scripts there are at least, how many of them with a behaviour that waits in the end, and how many
 # orders of them all.
@@ -45,6 +45,8 @@ sum_of() { # PLACE FILE
 }
 
 orders_of_each() {
+    local script
+    for script in tests/orders/*.ttcn; do is_another_entry "$script" "$script"; done
     python3 -B tests/orders/compare.py "$ordered" tests/orders/*.ttcn >"$room/orders"
     count_told "$room/orders"
     ordered_reports=$(sum_of 2 "$room/orders")
@@ -73,5 +75,5 @@ judge_of_each() {
 }
 
 the_judge() {
-    at_least 134 judge_of_each
+    at_least 158 judge_of_each
 }

@@ -1,6 +1,6 @@
 # Reports that are cut, and texts that are no reports: the tools refuse each, with its line. `tool_must`,
 # `says_alone` and `rules_hold` are those of tests/tools.sh; `root`, `room`, `observe` and `set_up` those of
-# ./test.
+# ./test, `is_another_entry` that of tests/listed_parts.sh.
 
 # The reports that are cut behind each line, and changed.
 declare -A report_named=(
@@ -72,6 +72,7 @@ refused_reports() {
         file=$root/${report_named[$report]}
         sed -e "$change" -- "$file" >"$room/changed"
         set_up "'$change' changes $file" eval '! cmp -s -- "$file" "$room/changed"' || continue
+        is_another_entry "$entry" "$room/changed"
         observe "$root/tools/chart" "$room/changed"
         if ((line == 0)); then
             tool_must "$report with the change $change" 0 rules_hold chart "$room/changed" "$room/printed"
@@ -136,6 +137,7 @@ refusals_of_texts() {
         line=${entry%% *}
         entry=${entry#* }
         printf %s "${entry//|/$'\n'}" >"$room/text"
+        is_another_entry "the text $entry" "$room/text"
         observe "$root/tools/chart" "$room/text"
         if ((line == 0)); then
             tool_must "the text ${entry:0:60}" 0 rules_hold chart "$room/text" "$room/printed"

@@ -269,13 +269,22 @@ report_of_two_senders() { # NAME
     printf '%s\n' "result $result"
 }
 
+# That they differ, and in the result.
+tells_two_results() {
+    [[ $(head -n 1 -- "$room/printed") == different ]] && grep -qx 'the result' "$room/printed"
+}
+
 comparisons_of_examples() {
     local script base
     for script in "$root"/examples/*.expected.2; do
         base=${script%.2}
         observe "$root/tools/compare" "$base.1" "$script"
-        tool_must "compare: the first two reports of $base" 0 \
-            grep -qx "${equal_but_for_the_order%$'\n'}" "$room/printed"
+        if cmp -s <(tail -n 1 -- "$base.1") <(tail -n 1 -- "$script"); then
+            tool_must "compare: the first two reports of $base" 0 \
+                grep -qx "${equal_but_for_the_order%$'\n'}" "$room/printed"
+        else
+            tool_must "compare: the first two reports of $base, of two results" 5 tells_two_results
+        fi
     done
     base=$root/examples/login_is_answered.expected
     observe "$root/tools/compare" "$base" "$room/missing"

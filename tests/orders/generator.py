@@ -22,6 +22,9 @@ TEMPLATES = (
 )
 OPERATIONS = ("start", "start", "halt", "halt", "halt", "clear", "stop")
 IDLE = "for (var integer last := 0; last < 0; last := last + 1) { }"
+# How often a script has many components, and how many it creates then: with `mtc` they are 62 at most. Most of
+# these wait for what comes at one port at a time, and see nothing of when it came, or no order could be found.
+OFTEN_MANY, LEAST_MANY, MOST_MANY, PATIENT = 0.1, 4, 61, 0.95
 
 
 @dataclass(frozen=True)
@@ -38,12 +41,13 @@ class Place:
 @dataclass
 class Maker:
     """A script in the making. `waiting` is how often a receiving operation has no `[else]`, `turns` the most
-    turns of a loop."""
+    turns of a loop. The `patient` operate on no port, and their receiving operations wait, each at one port."""
 
     chance: random.Random
     waiting: float
     turns: int
     names: list[str]
+    patient: set[str] = field(default_factory=set)
     arguments: dict[str, str] = field(default_factory=dict)
     routes: dict[tuple[str, str], list[str]] = field(default_factory=dict)
     pairs: list[str] = field(default_factory=list)
@@ -87,6 +91,8 @@ class Maker:
         kinds = {self.send: 40, self.choice: 35, self.loop: 8 if place.loops < 2 else 0}
         if place.who != "system":
             kinds |= {self.control: 15, self.verdict: 4}
+        if place.who in self.patient:
+            kinds |= {self.send: 60, self.control: 0, self.choice: 20}
         (kind,) = self.chance.choices(list(kinds), list(kinds.values()))
         return kind(place)
 
@@ -137,12 +143,13 @@ class Maker:
 
     def choice(self, place: Place) -> list[str]:
         """An `alt`, or a receiving operation that stands alone."""
-        waits = self.often(self.waiting)
+        patient = place.who in self.patient
+        waits = patient or self.often(self.waiting)
         if waits and self.often(0.6):
             return [self.guard(place) + ";"]
-        lines = ["alt {"]
+        lines, port = ["alt {"], self.chance.choice("pq") if patient else ""
         for _ in range(self.chance.randint(1, 3)):
-            lines += [f"[] {self.guard(place)} {{", *self.block(place), "}"]
+            lines += [f"[] {self.guard(place, port)} {{", *self.block(place), "}"]
         if not waits:
             lines += ["[else] {", *self.block(place), "}"]
         return [*lines, "}"]
@@ -152,7 +159,8 @@ class Maker:
             return []
         return self.statement(replace(place, blocks=place.blocks + 1))
 
-    def guard(self, place: Place) -> str:
+    def guard(self, place: Place, port: str = "") -> str:
+        """A receiving operation, at this port if one is named."""
         template = ""
         if self.often(0.6):
             template = self.chance.choice(NUMBERS if self.often(0.7) else TEMPLATES)
@@ -165,7 +173,7 @@ class Maker:
             redirect = " ->" + (value or " sender w") + (" sender w" if value and self.often(0.7) else "")
         received = (f"({template})" if template else "") + source + redirect
         (how,) = self.chance.choices(("receive", "trigger", "check"), (6, 3, 2))
-        port = self.chance.choice("pq")
+        port = port or self.chance.choice("pq")
         return f"{port}.check(receive{received})" if how == "check" else f"{port}.{how}{received}"
 
 
@@ -178,11 +186,20 @@ def indented(lines: list[str]) -> str:
     return text
 
 
+def some_names(chance: random.Random) -> list[str]:
+    """The components that are created: few, and now and then many."""
+    if chance.random() < OFTEN_MANY:
+        return [f"c{number}" for number in range(1, 1 + chance.randint(LEAST_MANY, MOST_MANY))]
+    return list("abc"[: chance.randint(1, 3)])
+
+
 def some_script(chance: random.Random) -> str:
     """A script, of which the same chances make the same."""
-    made = list("abc"[: chance.randint(1, 3)])
+    made = some_names(chance)
     system = ["system"] if chance.random() < 0.2 else []
     maker = Maker(chance, chance.choice((0, 0.1, 0.4)), chance.choice((2, 3, 8)), ["mtc", *made, *system])
+    if len(made) >= LEAST_MANY:
+        maker.patient = {name for name in maker.names if chance.random() < PATIENT}
     maker.arguments = {name: chance.choice(["mtc", "self", *made]) for name in made if chance.random() < 0.5}
     maker.connect()
     functions = "".join(function_of(maker, name) for name in [*made, *system])

@@ -7,6 +7,7 @@ between two acts another component may act. A send on one route is an act, so is
 an `alt`, and so is an operation on all ports.
 """
 import copy
+from collections.abc import Iterable
 from dataclasses import dataclass, field
 from enum import Enum
 
@@ -103,9 +104,20 @@ class Run:
             self.settle(place)
 
     def copy(self) -> "Run":
+        return self.copy_of(range(len(self.components)))
+
+    def copy_of(self, places: Iterable[int]) -> "Run":
+        """A copy of which no more than the components at these places may be changed: it shares the others."""
         other = copy.copy(self)
-        other.components = [it.copy() for it in self.components]
+        other.components = self.components[:]
+        for place in places:
+            other.components[place] = self.components[place].copy()
         return other
+
+    def reached(self, who: int) -> set[int]:
+        """The components that the next step of this one may change: itself, and those to which it sends."""
+        statement = self.statement(who)
+        return {who, *(end[0] for end in self.routes(who, statement))} if isinstance(statement, Send) else {who}
 
     def statement(self, who: int) -> object:
         """The component's next statement, or None where it has ended."""

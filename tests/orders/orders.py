@@ -39,14 +39,16 @@ class Ordered:
 
 def followers(run: Run) -> list[tuple[str, Run]]:
     """The runs in which one component more has carried out a step of which a gate hears."""
-    following = []
-    for who, name in enumerate(run.case.names):
-        if run.statement(who) is None:
-            continue
-        after = run.copy()
-        if after.step(who) and after.statement(who) is not None:
-            following.append((name, after))
-    return following
+    found = ((name, follower(run, who)) for who, name in enumerate(run.case.names))
+    return [(name, after) for name, after in found if after is not None]
+
+
+def follower(run: Run, who: int) -> Run | None:
+    """The run in which this component has carried out a step of which a gate hears, None where it can't."""
+    if run.statement(who) is None:
+        return None
+    after = run.copy_of(run.reached(who))
+    return after if after.step(who) and after.statement(who) is not None else None
 
 
 def orders_of(run: Run, names: tuple[str, ...] = ()) -> Iterator[Ordered]:
@@ -61,9 +63,12 @@ def orders_of(run: Run, names: tuple[str, ...] = ()) -> Iterator[Ordered]:
 def some_order_of(run: Run, chance: random.Random) -> Ordered:
     """An order by chance."""
     names: list[str] = []
-    while following := followers(run):
-        name, run = chance.choice(following)
-        names.append(name)
+    open_places = list(range(len(run.components)))
+    while open_places:
+        who = open_places.pop(chance.randrange(len(open_places)))
+        if (after := follower(run, who)) is not None:
+            names.append(run.case.names[who])
+            run, open_places = after, list(range(len(run.components)))
     return ended(run, tuple(names))
 
 

@@ -1,0 +1,10 @@
+# Some of the faults that ./test faults plants: parts by chance must fail on theirs (tests/faults.py). `tpr`, `ordered`
+# and `room` are those of ./test, `count_told` that of tests/orders.sh.
+
+planted_at_once=3
+
+planted_faults() {
+    python3 -B tests/faults.py "$tpr" "$ordered" --some "$planted_at_once" "${FAULTS_SEED:-$RANDOM}" "$room/parts" \
+        >"$room/faults"
+    count_told "$room/faults"
+}
