@@ -1,4 +1,4 @@
-# What ./build builds, and that ./tpr then runs it and tries nothing: in a tree of four crates, with an `rt`
+# What ./build builds, and that ./tpr then runs it and tries nothing: in a tree of five crates, with an `rt`
 # that only says what it was asked for. tests/trying.sh goes on with the same tree. `observe`, `judge`,
 # `count`, `at_least` and `set_up` are those of ./test, `must` is that of tests/command_line.sh.
 
@@ -24,7 +24,7 @@ if [ -e "$TREE/refused in $crate" ]; then exit 2; fi
 if [ -e "$TREE/meet" ]; then meet; fi
 mkdir -p out/rlib && touch out/rlib/stamp
 if [ -e "$TREE/edits" ]; then rm "$TREE/edits" && sleep 0.1 && touch "$TREE/low/src/lib.rt"; fi
-if [ "$1" = run ]; then printf '#!/bin/sh\nprintf "%%s;" "$@"\nexit 7\n' >out/tpr && chmod +x out/tpr; fi
+if [ "$1" = run ]; then printf '#!/bin/sh\nprintf "%%s;" "$@"\nexit 7\n' >"out/$crate" && chmod +x "out/$crate"; fi
 if [ -e "$TREE/fails in $crate" ]; then exit 2; fi
 RT
     chmod +x "$1"
@@ -45,13 +45,14 @@ make_commands() {
     write_rt commands/without_python/rt
 }
 
-# A tree in which `tpr` stands on `low` and `side`, and `beside` doesn't matter to it.
+# A tree in which `tpr` and `tpr_ordered` stand on `low` and `side`, and `beside` doesn't matter to them.
 make_tree() {
     local crate
     mkdir -p "a tree" rooms || return
     cp -- "$root/tpr" "$root/try" "$root/build" "a tree/" || return
-    printf 'low: thiserror\nside: thiserror\nbeside: low\ntpr may_wait=5: low side\n' >"a tree/crates.txt"
-    for crate in low side beside tpr; do
+    printf 'low: thiserror\nside: thiserror\nbeside: low\ntpr may_wait=5: low side\ntpr_ordered: low side\n' \
+        >"a tree/crates.txt"
+    for crate in low side beside tpr tpr_ordered; do
         mkdir -p "a tree/crates/$crate/"{src,specs,proofs} || return
         touch "a tree/crates/$crate/"{src/lib.rt,src/more.rt,specs/Lib.antt,proofs/Lib.antt} || return
     done
@@ -99,7 +100,7 @@ builds_and_fails() {
     local last="crate 3 of 3, tpr; 0 minutes so far"
     local asked_low="rt was asked in low: lib --jobs 2" asked_last="rt was asked in tpr: run --jobs 2 -- queue"
     local ended="tpr: the build failed; all that it said is in $PWD/a tree/out/build.log"
-    local crates="a tree/crates"
+    local crates="a tree/crates" usage=$'usage: ./build [tpr_ordered] [--jobs N] | ./build is_built\n'
     builds_at_first
     builds_what_is_newer
     fails_and_builds_again
@@ -121,9 +122,29 @@ builds_at_first() {
     call rt "a tree/build" is_built
     must "all is built" 0 '' ''
     call rt "a tree/build" it
-    must "another word for the build" 4 '' $'usage: ./build [--jobs N | is_built]\n'
+    must "another word for the build" 4 '' "$usage"
     call rt "a tree/build" --jobs 0
-    must "on no processor" 4 '' $'usage: ./build [--jobs N | is_built]\n'
+    must "on no processor" 4 '' "$usage"
+    call rt "a tree/build" tpr_ordered is_built
+    must "only tpr can be asked for" 4 '' "$usage"
+    builds_the_other_program
+}
+
+# The program that tools/explore runs.
+builds_the_other_program() {
+    local other="building tpr_ordered, and what it stands on where that isn't built yet"
+    local last="crate 3 of 3, tpr_ordered; 0 minutes so far"
+    call rt "a tree/build" tpr_ordered --jobs 2
+    must "the program for tools/explore" 0 '' "$(printf 'tpr: %s\n' "$other" "$log" "$last")"$'\n'
+    observe cat "a tree/out/build.log"
+    must "what rt was asked for it" 0 \
+        "rt was asked in tpr_ordered: run --jobs 2 -- $PWD/a tree/examples/login_is_answered.ttcn /dev/null"$'\n' ''
+    call rt "a tree/build" tpr_ordered --jobs 2
+    must "it is built" 0 '' ''
+    touch "$crates/tpr_ordered/src/lib.rt"
+    builds "a newer source of the other program"
+    call rt "a tree/build" tpr_ordered --jobs 2
+    must "and it is built again" 0 '' "$(printf 'tpr: %s\n' "$again" "$log" "$last")"$'\n'
 }
 
 builds_what_is_newer() {
@@ -169,8 +190,8 @@ fails_and_builds_again() {
 
 building() {
     mkdir "$room/building" && cd -- "$room/building" || exit 1
-    if set_up "there is a tree of three crates" make_tree; then
-        at_least 36 builds_and_fails
+    if set_up "there is a tree of five crates" make_tree; then
+        at_least 43 builds_and_fails
         trying
     fi
     cd -- "$root" || exit 1

@@ -56,7 +56,7 @@ impl Model for Outbox {
 /// component, as the sender has put there. Takes no memory.
 fn has_come(owner: &Owner, sender: &Sender) -> bool
     requires { sender.now.inbox.comp ≡ owner.now.inbox.comp }
-    ensures { IsTrue result → IsLevel owner.now.drained sender.now }
+    ensures { IsTrue result ↔ IsLevel owner.now.drained sender.now }
 {
     for way in 0..sender.ways() {
         if owner.drained(sender.route(way)) != sender.count(way) {
@@ -142,8 +142,8 @@ impl Outbox {
     /// memory.
     pub fn is_level(&self, owner: &Owner) -> bool
         requires home { All (IsHome owner.now.inbox) self.now }
-        ensures level { IsTrue result → (s : Sending) → Contains self.now s → LeadsBack s
-            → IsLevel owner.now.drained s }
+        ensures level { IsTrue result ↔ ((s : Sending) → Contains self.now s → LeadsBack s
+            → IsLevel owner.now.drained s) }
     {
         for place in &self.loops {
             let sender = &self.senders[*place];

@@ -7,7 +7,7 @@ use Rattle.tp_behaviour.proofs.looking.look_in.Goals as goal
 pub returns-then-is_level-clause-own : goal.returns-then-is_level-clause-own
 returns-then-is_level-clause-own g c =
     has_own (role_of c.args.post.now) c.draw.new.station c.in_ok-draw.ensures.manned c.in_ok-draw.ensures.routed.routed
-    (c.is_level.ensures.level c.if-is_level.true)
+    (c.is_level.ensures.level.0 c.if-is_level.true)
 
 -- the senders that lead back lead to its own inbox
 pub is_level-requires : goal.is_level-requires
