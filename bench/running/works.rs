@@ -1,4 +1,4 @@
-//! The works of `bench/running`, each the twin of the script of its name.
+//! The works of `bench/running`, each the twin of the script of its name, for both plain programs.
 
 use crate::{Component, Message, Order, Test, Verdict, Waits};
 
@@ -60,7 +60,7 @@ fn another(test: &mut Test, count: i64) {
 fn orders(test: &mut Test, count: i64) {
     let mtc = test.add("mtc", &["p"], move |component| {
         for id in 0..count {
-            let item = "soup of the day".to_string();
+            let item = "soup of the day".into();
             component.send(P, Message::Order(Order { id, item }));
         }
         Ok(())

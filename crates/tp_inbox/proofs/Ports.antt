@@ -1,25 +1,26 @@
--- The ports' queues keep to the history through each entry.
+-- The ports' queues stand for what the log says of them, through each entry.
 use Rattle.std.proofs.Common.{◌≡◌, ◌≢◌, ◌⊎◌, inl, inr, ℕ, zero, suc, ◌<◌, max, true, cond, eqb, eq-eqb, ne_eqb, Option, Some, None, List, [], ◌∷◌, ◌++◌, length, set, get_or, replicate, refl, sym, ap, ◌∙◌, subst, ⊎_elim, arith}
 use Rattle.std.specs.Prelude.{slice_index_or, All}
 use Rattle.std.specs.List.{filter_map, cons_option}
 use Rattle.std.proofs.lemmas.List.Elements.{All-nil, All-push, filter_map-append}
 use Rattle.std.proofs.lemmas.Bool.{eqb-true}
-use Rattle.std.proofs.lemmas.Option.{cond_some}
+use Rattle.std.proofs.lemmas.Option.{cond_some, same_Some}
 use native.Mathlib.Decide.{ℕ_discrete}
 use Rattle.std.proofs.lemmas.Grind.{get_or-set_at}
-use Rattle.std.proofs.lemmas.List.{get_or-set_other, length-set, get_or_read}
+use Rattle.std.proofs.lemmas.List.{get_or-set_other, length-set, get_or_read, set-get_or}
 use Rattle.tp_queue.specs.declared.event.Event.{Event}
 use Rattle.tp_queue.specs.declared.event.Event.TheVariants as event
 use Rattle.tp_queue.specs.declared.event.Env.{Env}
-use Rattle.tp_queue.specs.History.{Lawful, top}
-use Rattle.tp_queue.specs.Answers.{Checks}
-use Rattle.tp_queue.proofs.Moves.{top_found}
+use Rattle.tp_queue.specs.History.{Lawful}
+use Rattle.tp_queue.specs.Answers.{Checks, Finds}
+use Rattle.tp_queue.specs.Calls.{TakesOut}
+use Rattle.tp_queue.specs.Queues.{AtHistory, QueueState, StandsFor, state_of}
 use Rattle.tp_value.specs.declared.message.Message.{Message}
 use Rattle.tp_inbox.specs.declared.entry.Entry.{Entry}
 use Rattle.tp_inbox.specs.declared.entry.Entry.TheVariants as entry
 use Rattle.tp_inbox.specs.History.{IsTimely, stamp_of, event_at, history_of}
 use Rattle.tp_inbox.proofs.Clocks.{clock_of-push, clocked-push, clocked_at_start}
-use Rattle.tp_inbox.specs.Desks.{IsKept, IsNote, IsWithin, Journal, FindsAt, adding, at_port, checked_at}
+use Rattle.tp_inbox.specs.Desks.{IsKept, IsNote, IsWithin, Journal, ReceivesAt, adding, at_port}
 
 either : {A : Type 0} → Dec A → A ⊎ (¬ A)
 either (yes e) = inl e
@@ -94,29 +95,45 @@ pub history-more : (port : ℕ) (log : List Entry) (e : Entry) (event : Event Me
 history-more port log e event some = history-push port log e ∙ ap (λ o. history_of port log ++ cons_option o []) some
 
 -- an entry that names no port keeps all of it
-pub kept_by_note : (queues : List (List (Event Message))) (clock later : ℕ) (log after : List Entry) (e : Entry)
+pub kept_by_note : (queues : List (QueueState Message)) (clock later : ℕ) (log after : List Entry) (e : Entry)
     → IsKept queues clock log → IsNote e → IsTimely log e → later ≡ max clock (stamp_of e) → after ≡ log ++ e ∷ [] → IsKept queues later after
 kept_by_note queues clock later log after e k note timely now grown =
     let same : (port : ℕ) → history_of port (log ++ e ∷ []) ≡ history_of port log = λ port. history-same port log e (names_none port e note) in
     subst (IsKept queues later) (sym grown)
     record {
-      histories = λ port low. k.histories port low ∙ sym (same port);
-      lawful = λ port low. subst Lawful (sym (same port)) (k.lawful port low);
+      stands = λ port low. subst (λ (h : List (Event Message)). StandsFor (slice_index_or queues port (state_of [])) h) (sym (same port)) (k.stands port low);
       within = All-push (IsWithin (length queues)) log e k.within (within_note (length queues) e note);
       time = now ∙ ap (λ c. max c (stamp_of e)) k.time ∙ sym (clock_of-push log e);
       clocked = clocked-push log e k.clocked timely;
     }
 
+-- the queue of a port stands for what the log says of the port
+pub stands_at : (queues : List (QueueState Message)) (clock : ℕ) (log : List Entry) (port : ℕ) (old : QueueState Message)
+    → IsKept queues clock log → port < length queues → old ≡ get_or queues port old → StandsFor old (history_of port log)
+stands_at queues clock log port old k low at =
+    subst (λ (q : QueueState Message). StandsFor q (history_of port log)) (sym (get_or_read queues port old low at (state_of [])))
+    (k.stands port low)
+
+-- the same, where contracts see the desk
+pub stands_in : (queues : List (QueueState Message)) (clock : ℕ) (log : List Entry) (port : ℕ) (old : QueueState Message) (d was : Journal)
+    → IsKept queues clock log → port < length queues → old ≡ get_or queues port old → was ≡ d → was.log ≡ log → StandsFor old (at_port d port)
+stands_in queues clock log port old d was k low at v l =
+    subst (λ (x : Journal). StandsFor old (at_port x port)) v
+    (subst (λ (h : List Entry). StandsFor old (history_of port h)) (sym l) (stands_at queues clock log port old k low at))
+
 -- an entry that names this port, where the port's queue has its event more
-pub kept_at_time : (queues : List (List (Event Message))) (clock later : ℕ) (log after : List Entry) (port : ℕ) (e : Entry) (event : Event Message)
-    (old new : List (Event Message))
-    → IsKept queues clock log → port < length queues → old ≡ get_or queues port old → new ≡ old ++ event ∷ []
-    → ((p : ℕ) → event_at p e ≡ cond (eqb p port) (Some event) None) → IsTimely log e → later ≡ max clock (stamp_of e) → after ≡ log ++ e ∷ [] → Lawful new
+pub kept_at_time : (queues : List (QueueState Message)) (clock later : ℕ) (log after : List Entry) (port : ℕ) (e : Entry) (event : Event Message)
+    (old new : QueueState Message)
+    → IsKept queues clock log → port < length queues → old ≡ get_or queues port old
+    → AtHistory old (λ h. StandsFor new (h ++ event ∷ []))
+    → ((p : ℕ) → event_at p e ≡ cond (eqb p port) (Some event) None) → IsTimely log e → later ≡ max clock (stamp_of e) → after ≡ log ++ e ∷ []
     → IsKept (set queues port new) later after
-kept_at_time queues clock later log after port e event old new k low at more names timely now grown lawful =
-    let here : (p : ℕ) → p ≡ port → new ≡ history_of p (log ++ e ∷ []) = λ p same.
-    more ∙ ap (λ h. h ++ event ∷ []) (get_or_read queues port old low at [] ∙ k.histories port low ∙ ap (λ q. history_of q log) (sym same))
-    ∙ sym (history-more p log e event (names p ∙ ap (λ b. cond b (Some event) None) (eq-eqb p port same))) in
+kept_at_time queues clock later log after port e event old new k low at more names timely now grown =
+    let next : StandsFor new (history_of port log ++ event ∷ []) = more (history_of port log) (stands_at queues clock log port old k low at) in
+    let here : (p : ℕ) → p ≡ port → StandsFor new (history_of p (log ++ e ∷ [])) = λ p same.
+    subst (λ (h : List (Event Message)). StandsFor new h)
+    (ap (λ q. history_of q log ++ event ∷ []) (sym same)
+    ∙ sym (history-more p log e event (names p ∙ ap (λ b. cond b (Some event) None) (eq-eqb p port same)))) next in
     let there : (p : ℕ) → p ≢ port → history_of p (log ++ e ∷ []) ≡ history_of p log = λ p other.
     history-same p log e (names p ∙ ap (λ b. cond b (Some event) None) (ne_eqb p port other)) in
     let within : IsWithin (length queues) e =
@@ -124,15 +141,15 @@ kept_at_time queues clock later log after port e event old new k low at more nam
     let short : (p : ℕ) → p < length (set queues port new) → p < length queues = λ p below. omega (arith, length-set queues port new) in
     subst (IsKept (set queues port new) later) (sym grown)
     record {
-      histories = λ p below.
+      stands = λ p below.
           ⊎_elim
-          (λ (same : p ≡ port). get_or-set_at queues port p new [] same low ∙ here p same)
-          (λ (other : p ≢ port). get_or-set_other queues port p new [] other ∙ k.histories p (short p below) ∙ sym (there p other))
-          (same_or_not p port);
-      lawful = λ p below.
-          ⊎_elim
-          (λ (same : p ≡ port). subst Lawful (here p same) lawful)
-          (λ (other : p ≢ port). subst Lawful (sym (there p other)) (k.lawful p (short p below)))
+          (λ (same : p ≡ port).
+          subst (λ (q : QueueState Message). StandsFor q (history_of p (log ++ e ∷ [])))
+          (sym (get_or-set_at queues port p new (state_of []) same low)) (here p same))
+          (λ (other : p ≢ port).
+          subst (λ (q : QueueState Message). StandsFor q (history_of p (log ++ e ∷ [])))
+          (sym (get_or-set_other queues port p new (state_of []) other))
+          (subst (λ (h : List (Event Message)). StandsFor (slice_index_or queues p (state_of [])) h) (sym (there p other)) (k.stands p (short p below))))
           (same_or_not p port);
       within = subst (λ n. All (IsWithin n) (log ++ e ∷ [])) (sym (length-set queues port new)) (All-push (IsWithin (length queues)) log e k.within within);
       time = now ∙ ap (λ c. max c (stamp_of e)) k.time ∙ sym (clock_of-push log e);
@@ -140,60 +157,65 @@ kept_at_time queues clock later log after port e event old new k low at more nam
     }
 
 -- and that has no stamp
-pub kept_at : (queues : List (List (Event Message))) (clock : ℕ) (log after : List Entry) (port : ℕ) (e : Entry) (event : Event Message)
-    (old new : List (Event Message))
-    → IsKept queues clock log → port < length queues → old ≡ get_or queues port old → new ≡ old ++ event ∷ []
-    → ((p : ℕ) → event_at p e ≡ cond (eqb p port) (Some event) None) → IsTimely log e → stamp_of e ≡ 0 → after ≡ log ++ e ∷ [] → Lawful new
+pub kept_at : (queues : List (QueueState Message)) (clock : ℕ) (log after : List Entry) (port : ℕ) (e : Entry) (event : Event Message)
+    (old new : QueueState Message)
+    → IsKept queues clock log → port < length queues → old ≡ get_or queues port old
+    → AtHistory old (λ h. StandsFor new (h ++ event ∷ []))
+    → ((p : ℕ) → event_at p e ≡ cond (eqb p port) (Some event) None) → IsTimely log e → stamp_of e ≡ 0 → after ≡ log ++ e ∷ []
     → IsKept (set queues port new) clock after
-kept_at queues clock log after port e event old new k low at more names timely none grown lawful =
-    kept_at_time queues clock clock log after port e event old new k low at more names timely (omega (arith, none)) grown lawful
+kept_at queues clock log after port e event old new k low at more names timely none grown =
+    kept_at_time queues clock clock log after port e event old new k low at more names timely (omega (arith, none)) grown
+
+-- a message that was found stays in the port's queue
+pub kept_by_find : (queues : List (QueueState Message)) (clock : ℕ) (log after : List Entry) (port branch : ℕ) (e : Env Message) (old : QueueState Message)
+    → IsKept queues clock log → port < length queues → old ≡ get_or queues port old
+    → AtHistory old (λ h. StandsFor old (h ++ event.Found e ∷ [])) → after ≡ log ++ entry.Found port e branch ∷ [] → IsKept queues clock after
+kept_by_find queues clock log after port branch e old k low at more grown =
+    subst (λ (qs : List (QueueState Message)). IsKept qs clock after) (ap (set queues port) at ∙ set-get_or queues port old)
+    (kept_at queues clock log after port (entry.Found port e branch) (event.Found e) old old k low at more (λ p. refl) tt refl grown)
 
 -- the log after an entry, which the code has as another value that is equal
 pub grown_by : (now was before : List Entry) (e f : Entry) → now ≡ was ++ f ∷ [] → was ≡ before → f ≡ e → now ≡ before ++ e ∷ []
 grown_by now was before e f n w s = n ∙ ap (λ l. l ++ f ∷ []) w ∙ ap (λ x. before ++ x ∷ []) s
 
+at_replicate : (n p : ℕ) (q : QueueState Message) → slice_index_or (replicate n q) p q ≡ q
+at_replicate zero p q = refl
+at_replicate (suc n) zero q = refl
+at_replicate (suc n) (suc p) q = at_replicate n p q
+
 lawful_at_start : (M : Type 0) → Lawful {M = M} []
 unfolding Lawful
 lawful_at_start M k e there = absurd (cc)
 
-at_replicate : (n p : ℕ) → slice_index_or (replicate n []) p [] ≡ history_of p []
-unfolding history_of
-at_replicate zero p = refl
-at_replicate (suc n) zero = refl
-at_replicate (suc n) (suc p) = at_replicate n p
-
-pub kept_at_start : (queues : List (List (Event Message))) (log : List Entry) (n : ℕ) → queues ≡ replicate n [] → log ≡ [] → IsKept queues 0 log
+pub kept_at_start : (queues : List (QueueState Message)) (log : List Entry) (n : ℕ) → queues ≡ replicate n (state_of []) → log ≡ [] → IsKept queues 0 log
 unfolding history_of
 kept_at_start queues log n q l =
-    subst (λ (x : List (List (Event Message)) × List Entry). IsKept x.0 0 x.1) (λ i. (sym q i, sym l i))
+    subst (λ (x : List (QueueState Message) × List Entry). IsKept x.0 0 x.1) (λ i. (sym q i, sym l i))
     record {
-      histories = λ p low. at_replicate n p;
-      lawful = λ p low. lawful_at_start _;
-      within = All-nil (IsWithin (length (replicate n [])));
+      stands = λ p low. record { lawful = lawful_at_start Message; state = at_replicate n p (state_of []) };
+      within = All-nil (IsWithin (length (replicate n (state_of {M = Message} []))));
       time = refl;
       clocked = clocked_at_start;
     }
 
--- the top of a port stays where it was found
-pub top_stays : (port branch : ℕ) (d : Journal) (e : Env Message) → top (at_port (adding d (entry.Found port e branch)) port) ≡ top (at_port d port)
-top_stays port branch d e =
-    ap top (history-more port d.log (entry.Found port e branch) (event.Found e) (ap (λ b. cond b (Some (event.Found e)) None) (eq-eqb port port refl)))
-    ∙ top_found (history_of port d.log) e
+-- what was copied of the top is what is taken out
+pub same_top : (t : Option (Env Message)) (e f : Env Message) → Some e ≡ t → t ≡ Some f → e ≡ f
+same_top t e f is there = same_Some e f (is ∙ there)
 
-pub check_done : (admits : Message → Type 0) (from : Option ℕ) (port branch : ℕ) (d after : Journal) (r : Option (Env Message))
-    → FindsAt admits from port branch d true after → r ≡ top (at_port after port)
-    → (after ≡ checked_at port branch d r) × Checks admits from (at_port d port) r
-check_done admits from port branch d after r n is =
-    let same : r ≡ Some n.0 = is ∙ ap (λ (x : Journal). top (at_port x port)) n.2 ∙ top_stays port branch d n.0 ∙ n.1.0 in
-    rw same (n.2, n.1)
+-- what is taken out is what was found, and it is received
+pub taken_is : (admits : Message → Type 0) (from : Option ℕ) (h : List (Event Message)) (after : QueueState Message) (e : Env Message) (r : Option (Env Message))
+    → Finds admits from h e → TakesOut h r after → (r ≡ Some e) × StandsFor after (h ++ event.Took e ∷ [])
+taken_is admits from h after e None finds out = absurd (let none : None ≡ Some e = sym out.0 ∙ finds.0 in cc)
+taken_is admits from h after e (Some f) finds out =
+    let same : f ≡ e = same_Some f e (sym out.0 ∙ finds.0) in
+    (ap (λ x. Some x) same, subst (λ (x : Env Message). StandsFor after (h ++ event.Took x ∷ [])) same (out.1 true))
+
+pub receives_at : (admits : Message → Type 0) (from : Option ℕ) (port branch : ℕ) (d after : Journal) (e : Env Message) (r : Option (Env Message))
+    → Finds admits from (at_port d port) e → r ≡ Some e → after ≡ adding d (entry.Took port e branch) → ReceivesAt admits from port branch d r after
+receives_at admits from port branch d after e r finds is grown = rw is (finds, grown)
 
 -- the desk with one more entry, from its fields
 pub adding_is : (d was : Journal) (ports : ℕ) (log : List Entry) (e : Entry) → was ≡ d → ports ≡ was.ports → log ≡ was.log ++ e ∷ []
     → record { comp = was.comp; ports = ports; log = log } ≡ adding d e
 adding_is d was ports log e same p l =
     (λ i. record { comp = was.comp; ports = p i; log = l i }) ∙ ap (λ (x : Journal). adding x e) same
-
--- the queue of a port has the port's history
-pub history_is : (queues : List (List (Event Message))) (clock : ℕ) (log : List Entry) (port : ℕ) (old : List (Event Message)) → IsKept queues clock log
-    → port < length queues → old ≡ get_or queues port old → old ≡ history_of port log
-history_is queues clock log port old k low at = get_or_read queues port old low at [] ∙ k.histories port low

@@ -1,11 +1,12 @@
 -- What contracts see of a desk, and what its calls answer and do.
-use Rattle.std.specs.Prelude.{◌≡◌, ℕ, ◌<◌, Bool, true, false, Option, Some, None, List, [], ◌∷◌, ◌++◌, length, slice_index_or, All}
+use Rattle.std.specs.Prelude.{◌≡◌, ℕ, ◌<◌, Option, Some, None, List, [], ◌∷◌, ◌++◌, length, slice_index_or, All}
 use Rattle.tp_queue.specs.declared.event.Env.{Env}
 use Rattle.tp_queue.specs.declared.event.Event.{Event}
 use Rattle.tp_queue.specs.declared.event.TriggerAnswer.{TriggerAnswer}
 use Rattle.tp_queue.specs.declared.event.TriggerAnswer.TheVariants as trigger_answer
-use Rattle.tp_queue.specs.History.{Lawful, top}
+use Rattle.tp_queue.specs.History.{top}
 use Rattle.tp_queue.specs.Answers.{Finds, FindsNone, Satisfies}
+use Rattle.tp_queue.specs.Queues.{QueueState, StandsFor, state_of}
 use Rattle.tp_value.specs.declared.message.Message.{Message}
 use Rattle.tp_config.specs.declared.port_type.CompId.{CompId}
 use Rattle.tp_inbox.specs.declared.entry.Entry.{Entry}
@@ -73,17 +74,11 @@ abbrev pub checked_at : ℕ → ℕ → Journal → Option (Env Message) → Jou
 checked_at port branch d (Some e) = adding d (entry.Found port e branch)
 checked_at port branch d None = d
 
--- what `check` notes in the desk: that it found the top, or nothing
-abbrev pub FindsAt : (Message → Type 0) → Option ℕ → ℕ → ℕ → Journal → Bool → Journal → Type 0
-FindsAt admits from port branch d true after =
-    (e : Env Message) × Finds admits from (at_port d port) e × (after ≡ adding d (entry.Found port e branch))
-FindsAt admits from port branch d false after = FindsNone admits from (at_port d port) × (after ≡ d)
-
--- each port's queue has the history that the desk's log says, and each of these obeys the rules of a port; the log
--- names no other port; the clock is that of the log, in which each sending's stamp is above all stamps before it
-pub record IsKept (queues : List (List (Event Message))) (clock : ℕ) (log : List Entry) : Type 0 where
-  pub histories : (port : ℕ) → port < length queues → slice_index_or queues port [] ≡ history_of port log
-  pub lawful : (port : ℕ) → port < length queues → Lawful (history_of port log)
+-- each port's queue stands for the history that the desk's log says of it; the log names no other port; the clock is
+-- that of the log, in which each sending's stamp is above all stamps before it
+pub record IsKept (queues : List (QueueState Message)) (clock : ℕ) (log : List Entry) : Type 0 where
+  pub stands : (port : ℕ) → port < length queues
+      → StandsFor (slice_index_or queues port (state_of [])) (history_of port log)
   pub within : All (IsWithin (length queues)) log
   pub time : clock ≡ clock_of log
   pub clocked : IsClocked log

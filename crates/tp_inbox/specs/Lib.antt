@@ -1,6 +1,5 @@
 pub mod History
 pub mod Desks
-pub mod Calls
 pub mod Lending
 pub mod Envelopes
 pub mod Rule

@@ -5,17 +5,16 @@ ghost use Rattle.std.specs.Option.{option_copied};
 ghost use Rattle.std.specs.Borrow.{sem};
 ghost use Rattle.tp_queue.specs.History.{Lawful, queued, status_of};
 ghost use Rattle.tp_queue.specs.Answers.{Checks, halted_count};
+ghost use Rattle.tp_queue.specs.Queues.{StandsFor};
 ghost use Rattle.tp_config.specs.Setup.{IsComponent, ports_at};
 ghost use Rattle.tp_inbox.specs.declared.entry.Entry.TheVariants as entry;
 ghost use Rattle.tp_inbox.specs.History.{IsClocked, IsTimely, arrivals, clock_of, next_of};
-ghost use Rattle.tp_inbox.specs.Desks.{IsNote, IsWithin, FindsAt, ReceivesAt, TriggersAt};
+ghost use Rattle.tp_inbox.specs.Desks.{IsNote, IsWithin, ReceivesAt, TriggersAt};
 ghost use Rattle.tp_inbox.specs.Desks.{adding, at_port, new_desk};
 ghost use Rattle.tp_inbox.specs.Lending.{ends_checked_at};
 ghost use Rattle.tp_inbox.specs.Ledgers.{put_on_way, putting};
 ghost use Rattle.tp_inbox.specs.Routed.{route_at};
 
-use crate::calls;
-use crate::calls::Triggered;
 use crate::entry::Entry;
 use crate::sender::{PutFault, Sender};
 use crate::stamped::Stamped;
@@ -26,20 +25,21 @@ use tp_config::config::Config;
 use tp_config::port_type::CompId;
 use tp_queue::event::{Env, TriggerAnswer};
 use tp_queue::payload::{Payload, Wanted};
-use tp_queue::queue::PortQueue;
+use tp_queue::queue::Queue;
 use tp_refusal::memory::Memory;
 use tp_value::message::Message;
 
 /// The ports of one component and its history, seen by contracts as the component, the number of
 /// its ports and the history.
 ///
-/// Each port is given by its place in declared order, from 0, and its queue has the history that
-/// the component's history says. A call works on the port's queue, and looks at no history.
+/// Each port is given by its place in declared order, from 0, and its queue stands for the history
+/// that the component's history says of it. That is the only history: no port keeps one of its own.
+/// A call works on the port's queue, and looks at no history.
 #[derive(Drop)]
 pub struct Desk {
     comp: CompId,
     /// The ports in declared order.
-    ports: Vec<PortQueue<Message>>,
+    ports: Vec<Queue<Message>>,
     /// The history.
     log: Vec<Entry>,
     /// The greatest stamp in the history.
@@ -106,7 +106,7 @@ impl Desk {
     {
         let mut ports = Vec::with_capacity(alloc, count)?;
         for _ in 0..count {
-            ports.push_reserved(PortQueue::new(alloc));
+            ports.push_reserved(Queue::new(alloc));
         }
         Ok(Desk {
             comp,
@@ -117,7 +117,7 @@ impl Desk {
         })
     }
 
-    /// A message comes to this port, with the stamp of its sending: [`PortQueue::arrive`] there,
+    /// A message comes to this port, with the stamp of its sending: [`Queue::arrive`] there,
     /// and an `Arrive` in the history.
     ///
     /// 50 `Memory` where an allocation was refused: the envelope is handed back, and the desk is as
@@ -135,20 +135,16 @@ impl Desk {
         if self.log.reserve(1).is_err() {
             return Err((Memory, env));
         }
-        let Ok(twin) = env.copy(self.alloc) else {
+        let Ok(noted) = env.copy(self.alloc) else {
             return Err((Memory, env));
         };
-        match self.ports[port as usize].arrive(env) {
-            Ok(()) => {
-                self.log.push_reserved(Entry::Arrive(port, twin, stamp));
-                self.clock = self.clock.max(stamp);
-                Ok(())
-            }
-            Err(back) => Err(back),
-        }
+        self.ports[port as usize].arrive(env)?;
+        self.log.push_reserved(Entry::Arrive(port, noted, stamp));
+        self.clock = self.clock.max(stamp);
+        Ok(())
     }
 
-    /// [`PortQueue::receive`] at this port, in this branch; what it took is in the history.
+    /// [`Queue::receive`] at this port, in this branch; what it took is in the history.
     ///
     /// 50 `Memory` where an allocation was refused: the desk is as before.
     pub fn receive<W: Wanted<Message>>(
@@ -165,16 +161,16 @@ impl Desk {
     {
         self.log.reserve(1)?;
         let queue = &mut self.ports[port as usize];
-        match calls::receive(self.alloc, queue, wanted, from)? {
-            Some((env, twin)) => {
-                self.log.push_reserved(Entry::Took(port, twin, branch));
-                Ok(Some(env))
-            }
-            None => Ok(None),
-        }
+        let noted = match queue.check(wanted, from) {
+            None => return Ok(None),
+            Some(env) => env.copy(self.alloc)?,
+        };
+        let taken = queue.take_top();
+        self.log.push_reserved(Entry::Took(port, noted, branch));
+        Ok(taken)
     }
 
-    /// [`PortQueue::trigger`] at this port, in this branch; what it took or discarded is in the
+    /// [`Queue::trigger`] at this port, in this branch; what it took or discarded is in the
     /// history.
     ///
     /// 50 `Memory` where an allocation was refused: the desk is as before.
@@ -192,20 +188,25 @@ impl Desk {
     {
         self.log.reserve(1)?;
         let queue = &mut self.ports[port as usize];
-        match calls::trigger(self.alloc, queue, wanted, from)? {
-            Triggered::Took(env, twin) => {
-                self.log.push_reserved(Entry::Took(port, twin, branch));
+        let noted = match queue.top() {
+            None => return Ok(TriggerAnswer::Nothing),
+            Some(env) => env.copy(self.alloc)?,
+        };
+        match queue.trigger(wanted, from) {
+            TriggerAnswer::Took(env) => {
+                self.log.push_reserved(Entry::Took(port, noted, branch));
                 Ok(TriggerAnswer::Took(env))
             }
-            Triggered::Dropped(env, twin) => {
-                self.log.push_reserved(Entry::Dropped(port, twin, branch));
+            TriggerAnswer::Dropped(env) => {
+                self.log.push_reserved(Entry::Dropped(port, noted, branch));
                 Ok(TriggerAnswer::Dropped(env))
             }
-            Triggered::Nothing => Ok(TriggerAnswer::Nothing),
+            // There is a top: it was copied just now.
+            TriggerAnswer::Nothing => unreachable!(),
         }
     }
 
-    /// [`PortQueue::check`] at this port, in this branch; that it was found is in the history. The
+    /// [`Queue::check`] at this port, in this branch; that it was found is in the history. The
     /// answer refers into the port's queue.
     ///
     /// 50 `Memory` where an allocation was refused: the desk is as before.
@@ -221,38 +222,16 @@ impl Desk {
         ensures found { IfOk result (λ answer.
             Checks (W.admits wanted.now) from (at_port self.old port) (option_copied answer)) }
     {
-        if self.find(port, wanted, from, branch)? {
-            Ok(self.queue(port).top())
-        } else {
-            Ok(None)
-        }
-    }
-
-    /// Notes what `check` finds at this port, and answers whether it found something.
-    fn find<W: Wanted<Message>>(
-        &mut self,
-        port: u32,
-        wanted: &W,
-        from: Option<u32>,
-        branch: usize,
-    ) -> Result<bool, Memory>
-        requires { port < self.old.ports }
-        ensures ok { IfOk result (λ found.
-            FindsAt (W.admits wanted.now) from port branch self.old found self.new) }
-        ensures err { OnErr result (self.new ≡ self.old) }
-    {
         self.log.reserve(1)?;
-        let queue = &mut self.ports[port as usize];
-        match calls::check(self.alloc, queue, wanted, from)? {
-            Some(twin) => {
-                self.log.push_reserved(Entry::Found(port, twin, branch));
-                Ok(true)
-            }
-            None => Ok(false),
-        }
+        let Some(env) = self.ports[port as usize].check(wanted, from) else {
+            return Ok(None);
+        };
+        let noted = env.copy(self.alloc)?;
+        self.log.push_reserved(Entry::Found(port, noted, branch));
+        Ok(Some(env))
     }
 
-    /// [`PortQueue::clear`] at this port, and a `Cleared` in the history.
+    /// [`Queue::clear`] at this port, and a `Cleared` in the history.
     ///
     /// 50 `Memory` where an allocation was refused: the desk is as before.
     pub fn clear(&mut self, port: u32) -> Result<u64, Memory>
@@ -263,12 +242,12 @@ impl Desk {
         ensures err { OnErr result (self.new ≡ self.old) }
     {
         self.log.reserve(1)?;
-        let discarded = self.ports[port as usize].clear()?;
+        let discarded = self.ports[port as usize].clear();
         self.log.push_reserved(Entry::Cleared(port));
         Ok(discarded)
     }
 
-    /// [`PortQueue::start`] at this port, and a `Started` in the history.
+    /// [`Queue::start`] at this port, and a `Started` in the history.
     ///
     /// 50 `Memory` where an allocation was refused: the desk is as before.
     pub fn start(&mut self, port: u32) -> Result<u64, Memory>
@@ -279,12 +258,12 @@ impl Desk {
         ensures err { OnErr result (self.new ≡ self.old) }
     {
         self.log.reserve(1)?;
-        let discarded = self.ports[port as usize].start()?;
+        let discarded = self.ports[port as usize].start();
         self.log.push_reserved(Entry::Started(port));
         Ok(discarded)
     }
 
-    /// [`PortQueue::stop`] at this port, and a `Stopped` in the history.
+    /// [`Queue::stop`] at this port, and a `Stopped` in the history.
     ///
     /// 50 `Memory` where an allocation was refused: the desk is as before.
     pub fn stop(&mut self, port: u32) -> Result<(), Memory>
@@ -293,12 +272,12 @@ impl Desk {
         ensures err { OnErr result (self.new ≡ self.old) }
     {
         self.log.reserve(1)?;
-        self.ports[port as usize].stop()?;
+        self.ports[port as usize].stop();
         self.log.push_reserved(Entry::Stopped(port));
         Ok(())
     }
 
-    /// [`PortQueue::halt`] at this port, and a `Halted` in the history, whether it has an effect or
+    /// [`Queue::halt`] at this port, and a `Halted` in the history, whether it has an effect or
     /// not.
     ///
     /// 50 `Memory` where an allocation was refused: the desk is as before.
@@ -310,7 +289,7 @@ impl Desk {
         ensures err { OnErr result (self.new ≡ self.old) }
     {
         self.log.reserve(1)?;
-        let ahead = self.ports[port as usize].halt()?;
+        let ahead = self.ports[port as usize].halt();
         self.log.push_reserved(Entry::Halted(port));
         Ok(ahead)
     }
@@ -416,9 +395,9 @@ impl Desk {
     }
 
     /// The queue of this port. Takes no memory.
-    pub fn queue(&self, port: u32) -> &PortQueue<Message>
+    pub fn queue(&self, port: u32) -> &Queue<Message>
         requires { port < self.now.ports }
-        ensures { result.now ≡ at_port self.now port }
+        ensures { StandsFor result.now (at_port self.now port) }
     {
         &self.ports[port as usize]
     }

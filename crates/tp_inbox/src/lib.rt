@@ -2,7 +2,6 @@
 #![tactic(auto)]
 
 mod bell;
-mod calls;
 pub mod desk;
 #[cfg(test)]
 mod desk_calls;

@@ -14,7 +14,7 @@ use crate::place::{Place, Rule};
 use crate::replaying::{Replayed, is_env, replay};
 use crate::trace::Trace;
 use std::alloc::Global;
-use tp_queue::queue::PortQueue;
+use tp_queue::port_queue::PortQueue;
 use tp_refusal::memory::Memory;
 
 /// Whether this is queued at this place.

@@ -14,7 +14,7 @@ use crate::place::{Place, Rule};
 use std::alloc::Global;
 use tp_queue::event::{Env, Status};
 use tp_queue::payload::Wanted;
-use tp_queue::queue::PortQueue;
+use tp_queue::port_queue::PortQueue;
 use tp_refusal::memory::Memory;
 
 /// Every message is wanted, or none.

@@ -1,5 +1,5 @@
 -- One more line, carried out: what the calls of the queue and of the senders make of a replay.
-use Rattle.std.proofs.Common.{◌≡◌, ℕ, ◌+◌, ◌≤◌, Option, Some, None, List, [], ◌∷◌, ◌++◌, length, map, refl, ap, sym, ◌∙◌, arith, append-nil}
+use Rattle.std.proofs.Common.{◌≡◌, ℕ, ◌+◌, ◌≤◌, Option, Some, None, List, [], ◌∷◌, ◌++◌, length, map, refl, ap, sym, ◌∙◌, subst, arith, append-nil}
 use Rattle.std.specs.Prelude.{ℤ, codes, string_bytes, Bool, true, false}
 use Rattle.std.specs.List.{filter_map}
 use Rattle.std.specs.Option.{option_map, option_to_list}
@@ -11,33 +11,35 @@ use Rattle.tp_queue.specs.declared.event.Event.TheVariants as event
 use Rattle.tp_port.specs.declared.engine.Engine.{Engine}
 use Rattle.tp_queue.specs.History.{accepted, arrival, top}
 use Rattle.tp_port.specs.Line.{Line, Wish, arrive, receive, check, trigger}
-use Rattle.tp_port.specs.Replay.{Progress, seen_in, seen_if, seen, sighted, answer, events_of, found, meets, triggered, sender_number, envelope_or_no, triggered_text, envelope}
-use Rattle.tp_port.specs.Carried.{CarriesLine, HasCounted, progress_of}
+use Rattle.tp_port.specs.Replay.{Progress, seen_in, seen_if, seen, sighted, answer, events_of, found, meets, triggered, from_of, sender_number, envelope_or_no, triggered_text, envelope}
+use Rattle.tp_queue.specs.Queues.{AtHistory, StandsFor}
+use Rattle.tp_port.specs.Carried.{CarriesLine, HasReached, HasCounted}
 use Rattle.tp_queue.proofs.Words.{accepted_more}
-
-abbrev staged : List (List ℕ) → List (Event ℤ) → Progress
-staged senders history = record { senders = senders; history = history }
-
--- the same progress, by its parts
-same_progress : (senders names : List (List ℕ)) (history events : List (Event ℤ)) → senders ≡ names → history ≡ events
-    → staged senders history ≡ staged names events
-same_progress senders names history events e f = ap (λ s. staged s history) e ∙ ap (λ h. staged names h) f
 
 accepted_quiet : (h es : List (Event ℤ)) → accepted es ≡ [] → accepted (h ++ es) ≡ accepted h
 unfolding accepted
 accepted_quiet h es q = filter_map-append arrival h es ∙ ap (λ l. filter_map arrival h ++ l) q ∙ append-nil (filter_map arrival h)
 
+-- the senders that a line shows, seen by an engine that had come so far
+seen_by : (old new : Engine) (line : Line) (s : Progress) → HasReached old s → new.senders ≡ seen_in old.senders line → new.senders ≡ seen_in s.senders line
+seen_by old new line s come seen = seen ∙ ap (λ n. seen_in n line) come.senders
+
 -- a line with which nothing arrives
-pub carries_quiet : (old new : Engine) (line : Line) (limit : ℕ) (events : List (Event ℤ)) → accepted events ≡ []
-    → events ≡ events_of (sighted (progress_of old) line) line → new.queue ≡ old.queue ++ events
+pub carries_quiet : (old new : Engine) (line : Line)
+    → ((s : Progress) → accepted (events_of s line) ≡ [])
     → new.senders ≡ seen_in old.senders line → length new.senders ≤ length old.senders + 1 → new.arrivals ≡ old.arrivals
-    → string_bytes new.answers ≡ string_bytes old.answers ++ answer (sighted (progress_of old) line) line
-    → HasCounted old limit → CarriesLine old new line
-carries_quiet old new line limit events quiet are queue senders few same answers within =
+    → ((s : Progress) → HasReached old s → StandsFor new.queue (s.history ++ events_of (sighted s line) line))
+    → ((s : Progress) → HasReached old s → string_bytes new.answers ≡ string_bytes old.answers ++ answer (sighted s line) line)
+    → CarriesLine old new line
+carries_quiet old new line quiet senders few same queue answers =
     record {
-      progress = same_progress _ _ _ _ senders (queue ∙ ap (λ es. old.queue ++ es) are);
+      progress = λ s come.
+          record {
+            senders = seen_by old new line s come senders;
+            queue = queue s come;
+            counted = same ∙ come.counted ∙ ap length (sym (accepted_quiet s.history (events_of (sighted s line) line) (quiet (sighted s line))));
+          };
       answers = answers;
-      counted = same ∙ within.counted ∙ ap length (sym (ap accepted queue ∙ accepted_quiet old.queue events quiet));
       arrivals = omega arith;
       senders = few;
     }
@@ -65,85 +67,103 @@ quiet_triggered value from None = quiet_took None
 quiet_triggered value from (Some e) = quiet_either (meets value from e) e
 
 -- the number of the wanted sender is its number among the senders that are seen then
-wanted_is : (old new : Engine) (wish : Wish) (from : Option ℕ) → new.senders ≡ seen_if old.senders wish.from
+wanted_is : (old new : Engine) (s : Progress) (wish : Wish) (from : Option ℕ) → HasReached old s → new.senders ≡ seen_if old.senders wish.from
     → from ≡ option_map (sender_number new.senders) wish.from
-    → from ≡ option_map (sender_number (seen_if old.senders wish.from)) wish.from
-wanted_is old new wish from seen number = number ∙ ap (λ s. option_map (sender_number s) wish.from) seen
+    → from ≡ option_map (sender_number (seen_if s.senders wish.from)) wish.from
+wanted_is old new s wish from come seen number =
+    number ∙ ap (λ n. option_map (sender_number n) wish.from) (seen ∙ ap (λ n. seen_if n wish.from) come.senders)
 
-pub carries_receive : (old new : Engine) (wish : Wish) (limit : ℕ) (from : Option ℕ)
+pub carries_receive : (old new : Engine) (wish : Wish) (from : Option ℕ)
     → new.senders ≡ seen_if old.senders wish.from → from ≡ option_map (sender_number new.senders) wish.from
-    → new.queue ≡ old.queue ++ map event.Took (option_to_list (found wish.value from old.queue))
-    → string_bytes new.answers ≡ string_bytes old.answers ++ envelope_or_no new.senders (codes "took ") (found wish.value from old.queue)
-    → length new.senders ≤ length old.senders + 1 → new.arrivals ≡ old.arrivals → HasCounted old limit
+    → AtHistory old.queue (λ h. StandsFor new.queue (h ++ map event.Took (option_to_list (found wish.value from h))))
+    → AtHistory old.queue (λ h. string_bytes new.answers ≡ string_bytes old.answers ++ envelope_or_no new.senders (codes "took ") (found wish.value from h))
+    → length new.senders ≤ length old.senders + 1 → new.arrivals ≡ old.arrivals
     → CarriesLine old new (receive wish)
-carries_receive old new wish limit from seen number queue text few same within =
-    let is = wanted_is old new wish from seen number in
-    carries_quiet old new (receive wish) limit (map event.Took (option_to_list (found wish.value from old.queue)))
-    (quiet_took (found wish.value from old.queue))
-    (ap (λ f. map event.Took (option_to_list (found wish.value f old.queue))) is) queue seen few same
-    (text
-    ∙ ap (λ s. string_bytes old.answers ++ envelope_or_no s (codes "took ") (found wish.value from old.queue)) seen
-    ∙ ap (λ f. string_bytes old.answers ++ envelope_or_no (seen_if old.senders wish.from) (codes "took ") (found wish.value f old.queue)) is)
-    within
+carries_receive old new wish from seen number queue text few same =
+    carries_quiet old new (receive wish) (λ s. quiet_took (found wish.value (from_of s wish) s.history)) seen few same
+    (λ s come.
+    subst (λ (f : Option ℕ). StandsFor new.queue (s.history ++ map event.Took (option_to_list (found wish.value f s.history))))
+    (wanted_is old new s wish from come seen number) (queue s.history come.queue))
+    (λ s come.
+    text s.history come.queue
+    ∙ ap (λ n. string_bytes old.answers ++ envelope_or_no n (codes "took ") (found wish.value from s.history))
+    (seen_by old new (receive wish) s come seen)
+    ∙ ap (λ f. string_bytes old.answers ++ envelope_or_no (seen_if s.senders wish.from) (codes "took ") (found wish.value f s.history))
+    (wanted_is old new s wish from come seen number))
 
-pub carries_check : (old new : Engine) (wish : Wish) (limit : ℕ) (from : Option ℕ)
+pub carries_check : (old new : Engine) (wish : Wish) (from : Option ℕ)
     → new.senders ≡ seen_if old.senders wish.from → from ≡ option_map (sender_number new.senders) wish.from
-    → new.queue ≡ old.queue ++ map event.Found (option_to_list (found wish.value from old.queue))
-    → string_bytes new.answers ≡ string_bytes old.answers ++ envelope_or_no new.senders (codes "found ") (found wish.value from old.queue)
-    → length new.senders ≤ length old.senders + 1 → new.arrivals ≡ old.arrivals → HasCounted old limit
+    → AtHistory old.queue (λ h. StandsFor new.queue (h ++ map event.Found (option_to_list (found wish.value from h))))
+    → AtHistory old.queue (λ h. string_bytes new.answers ≡ string_bytes old.answers ++ envelope_or_no new.senders (codes "found ") (found wish.value from h))
+    → length new.senders ≤ length old.senders + 1 → new.arrivals ≡ old.arrivals
     → CarriesLine old new (check wish)
-carries_check old new wish limit from seen number queue text few same within =
-    let is = wanted_is old new wish from seen number in
-    carries_quiet old new (check wish) limit (map event.Found (option_to_list (found wish.value from old.queue)))
-    (quiet_found (found wish.value from old.queue))
-    (ap (λ f. map event.Found (option_to_list (found wish.value f old.queue))) is) queue seen few same
-    (text
-    ∙ ap (λ s. string_bytes old.answers ++ envelope_or_no s (codes "found ") (found wish.value from old.queue)) seen
-    ∙ ap (λ f. string_bytes old.answers ++ envelope_or_no (seen_if old.senders wish.from) (codes "found ") (found wish.value f old.queue)) is)
-    within
+carries_check old new wish from seen number queue text few same =
+    carries_quiet old new (check wish) (λ s. quiet_found (found wish.value (from_of s wish) s.history)) seen few same
+    (λ s come.
+    subst (λ (f : Option ℕ). StandsFor new.queue (s.history ++ map event.Found (option_to_list (found wish.value f s.history))))
+    (wanted_is old new s wish from come seen number) (queue s.history come.queue))
+    (λ s come.
+    text s.history come.queue
+    ∙ ap (λ n. string_bytes old.answers ++ envelope_or_no n (codes "found ") (found wish.value from s.history))
+    (seen_by old new (check wish) s come seen)
+    ∙ ap (λ f. string_bytes old.answers ++ envelope_or_no (seen_if s.senders wish.from) (codes "found ") (found wish.value f s.history))
+    (wanted_is old new s wish from come seen number))
 
-pub carries_trigger : (old new : Engine) (wish : Wish) (limit : ℕ) (from : Option ℕ)
+pub carries_trigger : (old new : Engine) (wish : Wish) (from : Option ℕ)
     → new.senders ≡ seen_if old.senders wish.from → from ≡ option_map (sender_number new.senders) wish.from
-    → new.queue ≡ old.queue ++ map (λ e. triggered (meets wish.value from e) e) (option_to_list (top old.queue))
-    → string_bytes new.answers ≡ string_bytes old.answers ++ triggered_text new.senders wish.value from (top old.queue)
-    → length new.senders ≤ length old.senders + 1 → new.arrivals ≡ old.arrivals → HasCounted old limit
+    → AtHistory old.queue (λ h. StandsFor new.queue (h ++ map (λ e. triggered (meets wish.value from e) e) (option_to_list (top h))))
+    → AtHistory old.queue (λ h. string_bytes new.answers ≡ string_bytes old.answers ++ triggered_text new.senders wish.value from (top h))
+    → length new.senders ≤ length old.senders + 1 → new.arrivals ≡ old.arrivals
     → CarriesLine old new (trigger wish)
-carries_trigger old new wish limit from seen number queue text few same within =
-    let is = wanted_is old new wish from seen number in
-    carries_quiet old new (trigger wish) limit
-    (map (λ e. triggered (meets wish.value from e) e) (option_to_list (top old.queue)))
-    (quiet_triggered wish.value from (top old.queue))
-    (ap (λ f. map (λ e. triggered (meets wish.value f e) e) (option_to_list (top old.queue))) is) queue seen few same
-    (text
-    ∙ ap (λ s. string_bytes old.answers ++ triggered_text s wish.value from (top old.queue)) seen
-    ∙ ap (λ f. string_bytes old.answers ++ triggered_text (seen_if old.senders wish.from) wish.value f (top old.queue)) is)
-    within
+carries_trigger old new wish from seen number queue text few same =
+    carries_quiet old new (trigger wish) (λ s. quiet_triggered wish.value (from_of s wish) (top s.history)) seen few same
+    (λ s come.
+    subst (λ (f : Option ℕ). StandsFor new.queue (s.history ++ map (λ e. triggered (meets wish.value f e) e) (option_to_list (top s.history))))
+    (wanted_is old new s wish from come seen number) (queue s.history come.queue))
+    (λ s come.
+    text s.history come.queue
+    ∙ ap (λ n. string_bytes old.answers ++ triggered_text n wish.value from (top s.history))
+    (seen_by old new (trigger wish) s come seen)
+    ∙ ap (λ f. string_bytes old.answers ++ triggered_text (seen_if s.senders wish.from) wish.value f (top s.history))
+    (wanted_is old new s wish from come seen number))
+
+-- the envelope of an arrival, by what the engine had come to
+envelope_is : (old new : Engine) (s : Progress) (name : List ℕ) (value : ℤ) (sender : ℕ) → HasReached old s
+    → new.senders ≡ seen old.senders name → sender ≡ sender_number new.senders name
+    → record { sender = sender; number = old.arrivals; msg = value } ≡ envelope (sighted s (arrive name value)) name value
+envelope_is old new s name value sender come sighting number =
+    let sent : sender ≡ sender_number (seen s.senders name) name =
+    number ∙ ap (λ n. sender_number n name) (sighting ∙ ap (λ n. seen n name) come.senders) in
+    ap (λ n. record { sender = n; number = old.arrivals; msg = value }) sent
+    ∙ ap (λ n. record { sender = sender_number (seen s.senders name) name; number = n; msg = value }) come.counted
 
 -- an arrival
-pub carries_arrive : (old new : Engine) (name : List ℕ) (value : ℤ) (limit sender : ℕ)
+pub carries_arrive : (old new : Engine) (name : List ℕ) (value : ℤ) (sender : ℕ)
     → new.senders ≡ seen old.senders name → sender ≡ sender_number new.senders name
-    → new.queue ≡ old.queue ++ event.Arrive (record { sender = sender; number = old.arrivals; msg = value }) ∷ []
+    → AtHistory old.queue (λ h. StandsFor new.queue (h ++ event.Arrive (record { sender = sender; number = old.arrivals; msg = value }) ∷ []))
     → string_bytes new.answers ≡ string_bytes old.answers ++ codes "queued\n"
-    → length new.senders ≤ length old.senders + 1 → new.arrivals ≡ old.arrivals + 1 → HasCounted old limit
+    → length new.senders ≤ length old.senders + 1 → new.arrivals ≡ old.arrivals + 1
     → CarriesLine old new (arrive name value)
-carries_arrive old new name value limit sender sighting number queue text few more within =
-    let sent : sender ≡ sender_number (seen old.senders name) name = number ∙ ap (λ s. sender_number s name) sighting in
+carries_arrive old new name value sender sighting number queue text few more =
     let line : Line = arrive name value in
-    let env : Env ℤ = record { sender = sender; number = old.arrivals; msg = value } in
-    let is : env ≡ envelope (sighted (progress_of old) line) name value =
-    ap (λ n. record { sender = n; number = old.arrivals; msg = value }) sent
-    ∙ ap (λ n. record { sender = sender_number (seen old.senders name) name; number = n; msg = value }) within.counted in
     record {
-      progress = same_progress _ _ _ _ sighting (queue ∙ ap (λ e. old.queue ++ event.Arrive e ∷ []) is);
-      answers = text;
-      counted =
-          omega (
-            arith,
-            more,
-            within.counted,
-            ap length (ap accepted queue ∙ accepted_more old.queue (event.Arrive env) env refl),
-            length-append (accepted old.queue) (env ∷ []),
-          );
+      progress = λ s come.
+          let env : Env ℤ = envelope (sighted s line) name value in
+          record {
+            senders = seen_by old new line s come sighting;
+            queue =
+                subst (λ (e : Env ℤ). StandsFor new.queue (s.history ++ event.Arrive e ∷ []))
+                (envelope_is old new s name value sender come sighting number) (queue s.history come.queue);
+            counted =
+                omega (
+                  arith,
+                  more,
+                  come.counted,
+                  ap length (accepted_more s.history (event.Arrive env) env refl),
+                  length-append (accepted s.history) (env ∷ []),
+                );
+          };
+      answers = λ s come. text;
       arrivals = omega arith;
       senders = few;
     }

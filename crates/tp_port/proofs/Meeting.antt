@@ -1,5 +1,5 @@
 -- What the calls of a queue of integers answer, by the tests of a queue file.
-use Rattle.std.proofs.Common.{◌≡◌, ℕ, Bool, true, false, cond, Option, Some, None, List, [], ◌∷◌, ◌++◌, map, refl, ap, sym, ◌∙◌, append-nil, eq-eqb}
+use Rattle.std.proofs.Common.{◌≡◌, ℕ, Bool, true, false, cond, Option, Some, None, List, [], ◌∷◌, ◌++◌, map, refl, ap, sym, ◌∙◌, subst, append-nil, eq-eqb}
 use Rattle.std.specs.Prelude.{ℤ, ◌&&◌, IfSome, option_and_then, if◌then◌else◌}
 use Rattle.std.specs.Option.{option_to_list}
 use Rattle.std.specs.Cmp.{signed_Decides}
@@ -12,7 +12,9 @@ use Rattle.tp_port.specs.declared.pattern.Pattern.{Pattern}
 use Rattle.tp_port.specs.declared.pattern.Pattern.TheVariants as pattern
 use Rattle.tp_queue.specs.History.{top}
 use Rattle.tp_port.specs.Admits.{Admits}
-use Rattle.tp_queue.specs.Answers.{Satisfies, Finds, Receives, Triggers, Checks, checked}
+use Rattle.tp_queue.specs.Answers.{Satisfies, Finds, Checks, checked}
+use Rattle.tp_queue.specs.Calls.{ReceivesFor, TriggersFor}
+use Rattle.tp_queue.specs.Queues.{QueueState, StandsFor}
 use Rattle.tp_port.specs.Replay.{is_wanted, is_from, meets, found}
 
 both : (a b : Bool) → a ≡ true → b ≡ true → (a && b) ≡ true
@@ -65,31 +67,32 @@ pub checks_found : (value : Pattern) (from : Option ℕ) (h : List (Event ℤ)) 
 checks_found value from h None c = found_none_at value from (top h) c
 checks_found value from h (Some e) c = found_some value from h e c
 
--- and the history after it
-pub checked_is : (h after : List (Event ℤ)) (r : Option (Env ℤ)) → after ≡ checked h r → after ≡ h ++ map event.Found (option_to_list r)
-checked_is h after None e = e ∙ sym (append-nil h)
-checked_is h after (Some x) e = e
+-- and the history that the queue stands for
+pub checked_is : (h : List (Event ℤ)) (q : QueueState ℤ) (r : Option (Env ℤ)) → StandsFor q (checked h r)
+    → StandsFor q (h ++ map event.Found (option_to_list r))
+checked_is h q None s = subst (λ (l : List (Event ℤ)). StandsFor q l) (sym (append-nil h)) s
+checked_is h q (Some x) s = s
 
 -- what a `receive` answers is what the tests find
-pub receives_found : (value : Pattern) (from : Option ℕ) (h after : List (Event ℤ)) (r : Option (Env ℤ))
-    → Receives (Admits value) from h r after → r ≡ found value from h
+pub receives_found : (value : Pattern) (from : Option ℕ) (h : List (Event ℤ)) (after : QueueState ℤ) (r : Option (Env ℤ))
+    → ReceivesFor (Admits value) from h r after → r ≡ found value from h
 receives_found value from h after None c = found_none_at value from (top h) c.0
 receives_found value from h after (Some e) c = found_some value from h e c.0
 
--- and the history after it
-pub received_is : (value : Pattern) (from : Option ℕ) (h after : List (Event ℤ)) (r : Option (Env ℤ))
-    → Receives (Admits value) from h r after → after ≡ h ++ map event.Took (option_to_list r)
-received_is value from h after None c = c.1 ∙ sym (append-nil h)
+-- and the history that the queue stands for after it
+pub received_is : (value : Pattern) (from : Option ℕ) (h : List (Event ℤ)) (after : QueueState ℤ) (r : Option (Env ℤ))
+    → ReceivesFor (Admits value) from h r after → StandsFor after (h ++ map event.Took (option_to_list r))
+received_is value from h after None c = subst (λ (l : List (Event ℤ)). StandsFor after l) (sym (append-nil h)) c.1
 received_is value from h after (Some e) c = c.1
 
 -- what a `trigger` makes of the top
-pub triggered_took : (value : Pattern) (from : Option ℕ) (h after : List (Event ℤ)) (e : Env ℤ)
-    → Triggers (Admits value) from h (answer.Took e) after
-    → (top h ≡ Some e) × (meets value from e ≡ true) × (after ≡ h ++ event.Took e ∷ [])
+pub triggered_took : (value : Pattern) (from : Option ℕ) (h : List (Event ℤ)) (after : QueueState ℤ) (e : Env ℤ)
+    → TriggersFor (Admits value) from h (answer.Took e) after
+    → (top h ≡ Some e) × (meets value from e ≡ true) × StandsFor after (h ++ event.Took e ∷ [])
 triggered_took value from h after e t = (t.0.0, meets_true value from e t.0.1, t.1)
 
-pub triggered_dropped : (value : Pattern) (from : Option ℕ) (h after : List (Event ℤ)) (e : Env ℤ)
-    → Triggers (Admits value) from h (answer.Dropped e) after
-    → (top h ≡ Some e) × (meets value from e ≡ false) × (after ≡ h ++ event.Dropped e ∷ [])
+pub triggered_dropped : (value : Pattern) (from : Option ℕ) (h : List (Event ℤ)) (after : QueueState ℤ) (e : Env ℤ)
+    → TriggersFor (Admits value) from h (answer.Dropped e) after
+    → (top h ≡ Some e) × (meets value from e ≡ false) × StandsFor after (h ++ event.Dropped e ∷ [])
 triggered_dropped value from h after e t =
     (t.0, not_true (meets value from e) (λ m. t.1 (meets_only value from e m)), t.2)

@@ -2,22 +2,26 @@
 use Rattle.std.specs.Prelude.{◌≡◌, ℕ, ◌+◌, ◌≤◌, ◌++◌, length, string_bytes}
 use Rattle.tp_port.specs.declared.engine.Engine.{Engine}
 use Rattle.tp_queue.specs.History.{accepted}
+use Rattle.tp_queue.specs.Queues.{StandsFor}
 use Rattle.tp_port.specs.Line.{Line}
 use Rattle.tp_port.specs.Replay.{Progress, after, answer, sighted}
 
-abbrev pub progress_of : Engine → Progress
-progress_of r = record { senders = r.senders; history = r.queue }
+-- the engine has come so far: it has seen these senders, its queue stands for the port's history, and its arrivals are
+-- counted
+pub record HasReached (r : Engine) (s : Progress) : Type 0 where
+  pub senders : r.senders ≡ s.senders
+  pub queue : StandsFor r.queue s.history
+  pub counted : r.arrivals ≡ length (accepted s.history)
 
--- the arrivals are counted, and there were at most so many arrivals and senders
+-- there were at most so many arrivals and senders
 pub record HasCounted (r : Engine) (most : ℕ) : Type 0 where
-  pub counted : r.arrivals ≡ length (accepted r.queue)
   pub arrivals : r.arrivals ≤ most
   pub senders : length r.senders ≤ most
 
--- a line was carried out, and answered
+-- wherever the engine had come to, from there a line was carried out, and answered
 pub record CarriesLine (old new : Engine) (line : Line) : Type 0 where
-  pub progress : progress_of new ≡ after (progress_of old) line
-  pub answers : string_bytes new.answers ≡ string_bytes old.answers ++ answer (sighted (progress_of old) line) line
-  pub counted : new.arrivals ≡ length (accepted new.queue)
+  pub progress : (s : Progress) → HasReached old s → HasReached new (after s line)
+  pub answers : (s : Progress) → HasReached old s
+      → string_bytes new.answers ≡ string_bytes old.answers ++ answer (sighted s line) line
   pub arrivals : new.arrivals ≤ old.arrivals + 1
   pub senders : length new.senders ≤ length old.senders + 1

@@ -130,9 +130,14 @@ sighted s line = record { senders = seen_in s.senders line; history = s.history 
 abbrev pub after : Progress → Line → Progress
 after s line = record { senders = seen_in s.senders line; history = s.history ++ events_of (sighted s line) line }
 
+-- how many are left, and each of them
+abbrev pub text_of_left : List (List ℕ) → List (Env ℤ) → List ℕ
+text_of_left senders envelopes =
+    counted_text (codes "left ") (length envelopes) ++ flat_map (envelope_text senders) envelopes
+
 -- what is queued in the end
 abbrev pub left_text : List (List ℕ) → List (Event ℤ) → List ℕ
-left_text senders h = counted_text (codes "left ") (length (queued h)) ++ flat_map (envelope_text senders) (queued h)
+left_text senders h = text_of_left senders (queued h)
 
 -- the answers to the lines from there on, and then what is left
 abbrev pub text_from : Progress → List Line → List ℕ

@@ -2,14 +2,13 @@
 ghost use Rattle.std.specs.Prelude.{◌≡◌, ◌++◌, OnOk, string_bytes};
 ghost use Rattle.std.specs.List.{flat_map};
 ghost use Rattle.std.specs.Option.{option_copied, option_to_list};
-ghost use Rattle.tp_queue.specs.History.{queued};
-ghost use Rattle.tp_port.specs.Replay.{counted_text, envelope_or_no, envelope_text, left_text};
+ghost use Rattle.tp_port.specs.Replay.{counted_text, envelope_or_no, envelope_text, text_of_left};
 ghost use Rattle.std.specs.Prelude.{slice_get};
 
 use crate::senders::Senders;
 use itoa::Buffer;
 use tp_queue::event::Env;
-use tp_queue::queue::PortQueue;
+use tp_queue::queue::Queue;
 use tp_refusal::memory::Memory;
 
 /// Adds a word, a number and the end of the line.
@@ -61,12 +60,12 @@ pub fn write_envelope_or_no(
 fn write_queued(
     out: &mut String,
     senders: &Senders<'_>,
-    queue: &PortQueue<i64>,
+    queue: &Queue<i64>,
     place: u64,
 ) -> Result<(), Memory>
     ensures { OnOk result (string_bytes out.new ≡ string_bytes out.old ++ flat_map
         (envelope_text senders.now)
-        (option_to_list (slice_get (queued queue.now) place))) }
+        (option_to_list (slice_get queue.now.entries place))) }
 {
     match queue.queued_at(place) {
         None => Ok(()),
@@ -75,13 +74,9 @@ fn write_queued(
 }
 
 /// Adds what is left in the queue.
-pub fn write_left(
-    out: &mut String,
-    senders: &Senders<'_>,
-    queue: &PortQueue<i64>,
-) -> Result<(), Memory>
+pub fn write_left(out: &mut String, senders: &Senders<'_>, queue: &Queue<i64>) -> Result<(), Memory>
     ensures { OnOk result (string_bytes out.new ≡ string_bytes out.old
-        ++ left_text senders.now queue.now) }
+        ++ text_of_left senders.now queue.now.entries) }
 {
     let count = queue.queued_len();
     write_count(out, "left ", count)?;

@@ -3,10 +3,11 @@ ghost use Rattle.std.specs.Prelude.{◌≡◌, ◌++◌, [], codes, map, IfOk, O
 ghost use Rattle.std.specs.Option.{option_to_list};
 ghost use Rattle.tp_queue.specs.declared.event.Event.TheVariants as event;
 ghost use Rattle.tp_queue.specs.History.{top};
+ghost use Rattle.tp_queue.specs.Queues.{AtHistory, StandsFor};
 ghost use Rattle.tp_port.specs.Line.{arrive, check, clear, halt, receive, start, stop, trigger};
 ghost use Rattle.tp_port.specs.Command.{line_of, wish_of};
-ghost use Rattle.tp_port.specs.Carried.{CarriesLine, HasCounted, progress_of};
-ghost use Rattle.tp_port.specs.Replay.{envelope_or_no, first_progress, found, left_text, meets, triggered, triggered_text};
+ghost use Rattle.tp_port.specs.Carried.{CarriesLine, HasReached, HasCounted};
+ghost use Rattle.tp_port.specs.Replay.{Progress, envelope_or_no, first_progress, found, left_text, meets, triggered, triggered_text};
 
 use crate::answers::{write_count, write_envelope_or_no, write_left};
 use crate::command::{Command, Criteria};
@@ -14,16 +15,17 @@ use crate::pattern::Pattern;
 use crate::senders::Senders;
 use std::alloc::Global;
 use tp_queue::event::{Env, TriggerAnswer};
-use tp_queue::queue::PortQueue;
+use tp_queue::queue::Queue;
 use tp_refusal::limit::TEXT_LIMIT;
 use tp_refusal::memory::Memory;
 
-/// A queue file that is carried out, line by line.
+/// A queue file that is carried out, line by line. What has happened at the port is kept by nobody:
+/// contracts speak of whichever history the queue stands for.
 #[derive(Drop)]
 pub struct Engine<'t> {
     /// The senders that were seen.
     senders: Senders<'t>,
-    queue: PortQueue<i64>,
+    queue: Queue<i64>,
     /// How many messages arrived.
     arrivals: u64,
     /// The answers so far.
@@ -32,54 +34,57 @@ pub struct Engine<'t> {
 
 /// Answers a `receive`.
 fn answer_receive(
-    queue: &mut PortQueue<i64>,
+    queue: &mut Queue<i64>,
     senders: &Senders<'_>,
     value: Pattern,
     from: Option<u32>,
     out: &mut String,
 ) -> Result<(), Memory>
-    ensures history { OnOk result (queue.new ≡ queue.old
-        ++ map event.Took (option_to_list (found value from queue.old))) }
-    ensures text { OnOk result (string_bytes out.new ≡ string_bytes out.old
-        ++ envelope_or_no senders.now (codes "took ") (found value from queue.old)) }
+    ensures history { OnOk result (AtHistory queue.old (λ h.
+        StandsFor queue.new (h ++ map event.Took (option_to_list (found value from h))))) }
+    ensures text { OnOk result (AtHistory queue.old (λ h.
+        string_bytes out.new ≡ string_bytes out.old
+        ++ envelope_or_no senders.now (codes "took ") (found value from h))) }
 {
-    let env = queue.receive(&value, from)?;
+    let env = queue.receive(&value, from);
     write_envelope_or_no(out, senders, "took ", env.as_ref())?;
     Ok(())
 }
 
 /// Answers a `check`.
 fn answer_check(
-    queue: &mut PortQueue<i64>,
+    queue: &Queue<i64>,
     senders: &Senders<'_>,
     value: Pattern,
     from: Option<u32>,
     out: &mut String,
 ) -> Result<(), Memory>
-    ensures history { OnOk result (queue.new ≡ queue.old
-        ++ map event.Found (option_to_list (found value from queue.old))) }
-    ensures text { OnOk result (string_bytes out.new ≡ string_bytes out.old
-        ++ envelope_or_no senders.now (codes "found ") (found value from queue.old)) }
+    ensures history { OnOk result (AtHistory queue.now (λ h.
+        StandsFor queue.now (h ++ map event.Found (option_to_list (found value from h))))) }
+    ensures text { OnOk result (AtHistory queue.now (λ h.
+        string_bytes out.new ≡ string_bytes out.old
+        ++ envelope_or_no senders.now (codes "found ") (found value from h))) }
 {
-    let env = queue.check(&value, from)?;
+    let env = queue.check(&value, from);
     write_envelope_or_no(out, senders, "found ", env)?;
     Ok(())
 }
 
 /// Answers a `trigger`.
 fn answer_trigger(
-    queue: &mut PortQueue<i64>,
+    queue: &mut Queue<i64>,
     senders: &Senders<'_>,
     value: Pattern,
     from: Option<u32>,
     out: &mut String,
 ) -> Result<(), Memory>
-    ensures history { OnOk result (queue.new ≡ queue.old
-        ++ map (λ e. triggered (meets value from e) e) (option_to_list (top queue.old))) }
-    ensures text { OnOk result (string_bytes out.new ≡ string_bytes out.old
-        ++ triggered_text senders.now value from (top queue.old)) }
+    ensures history { OnOk result (AtHistory queue.old (λ h. StandsFor queue.new
+        (h ++ map (λ e. triggered (meets value from e) e) (option_to_list (top h))))) }
+    ensures text { OnOk result (AtHistory queue.old (λ h.
+        string_bytes out.new ≡ string_bytes out.old
+        ++ triggered_text senders.now value from (top h))) }
 {
-    match queue.trigger(&value, from)? {
+    match queue.trigger(&value, from) {
         TriggerAnswer::Took(env) => write_envelope_or_no(out, senders, "took ", Some(&env)),
         TriggerAnswer::Dropped(env) => write_envelope_or_no(out, senders, "dropped ", Some(&env)),
         TriggerAnswer::Nothing => write_envelope_or_no(out, senders, "", None),
@@ -89,13 +94,13 @@ fn answer_trigger(
 impl<'t> Engine<'t> {
     /// Before the first line.
     pub fn new(alloc: Global) -> Engine<'t>
-        ensures progress { progress_of result ≡ first_progress }
+        ensures progress { HasReached result first_progress }
         ensures answers { string_bytes result.answers ≡ [] }
         ensures within { HasCounted result 0 }
     {
         Engine {
             senders: Senders::new(alloc),
-            queue: PortQueue::new(alloc),
+            queue: Queue::new(alloc),
             arrivals: 0,
             answers: String::new(alloc),
         }
@@ -143,13 +148,7 @@ impl<'t> Engine<'t> {
     {
         let from = self.senders.wanted(criteria.from)?;
         let value = criteria.value;
-        answer_check(
-            &mut self.queue,
-            &self.senders,
-            value,
-            from,
-            &mut self.answers,
-        )?;
+        answer_check(&self.queue, &self.senders, value, from, &mut self.answers)?;
         Ok(())
     }
 
@@ -173,7 +172,7 @@ impl<'t> Engine<'t> {
         requires { HasCounted self.old TEXT_LIMIT }
         ensures { OnOk result (CarriesLine self.old self.new clear) }
     {
-        let count = self.queue.clear()?;
+        let count = self.queue.clear();
         write_count(&mut self.answers, "cleared ", count)?;
         Ok(())
     }
@@ -182,7 +181,7 @@ impl<'t> Engine<'t> {
         requires { HasCounted self.old TEXT_LIMIT }
         ensures { OnOk result (CarriesLine self.old self.new start) }
     {
-        let count = self.queue.start()?;
+        let count = self.queue.start();
         write_count(&mut self.answers, "cleared ", count)?;
         Ok(())
     }
@@ -191,7 +190,7 @@ impl<'t> Engine<'t> {
         requires { HasCounted self.old TEXT_LIMIT }
         ensures { OnOk result (CarriesLine self.old self.new stop) }
     {
-        self.queue.stop()?;
+        self.queue.stop();
         self.answers.push_str("stopped\n")?;
         Ok(())
     }
@@ -200,14 +199,14 @@ impl<'t> Engine<'t> {
         requires { HasCounted self.old TEXT_LIMIT }
         ensures { OnOk result (CarriesLine self.old self.new halt) }
     {
-        match self.queue.halt()? {
+        match self.queue.halt() {
             Some(count) => write_count(&mut self.answers, "halted ", count)?,
             None => self.answers.push_str("unchanged\n")?,
         }
         Ok(())
     }
 
-    /// CarriesLine the command out, and adds its answer.
+    /// Carries the command out, and adds its answer.
     pub fn perform(&mut self, command: Command<'t>) -> Result<(), Memory>
         requires { HasCounted self.old TEXT_LIMIT }
         ensures { OnOk result (CarriesLine self.old self.new (line_of command.entry)) }
@@ -226,8 +225,8 @@ impl<'t> Engine<'t> {
 
     /// The answers, what is left in the queue behind them.
     pub fn finish(self) -> Result<String, Memory>
-        ensures { IfOk result (λ out. string_bytes out ≡ string_bytes self.entry.answers
-            ++ left_text self.entry.senders self.entry.queue) }
+        ensures { IfOk result (λ out. (s : Progress) → HasReached self.entry s
+            → string_bytes out ≡ string_bytes self.entry.answers ++ left_text s.senders s.history) }
     {
         let Engine {
             senders,

@@ -1,7 +1,6 @@
 -- The fields keep to the history through each event.
-use Rattle.std.proofs.Common.{◌≡◌, ℕ, zero, suc, ◌+◌, ◌-◌, ◌<◌, ◌≤◌, Bool, true, false, ◌⊎◌, inl, inr, Option, Some, None, List, [], ◌∷◌, ◌++◌, length, get_or, take, drop, refl, ap, sym, ◌∙◌, subst, arith}
-use Rattle.std.specs.Prelude.{slice_get, IsTrue, ◌↔◌, MatchOption}
-use Rattle.std.proofs.Common.{rules}
+use Rattle.std.proofs.Common.{◌≡◌, ℕ, zero, suc, ◌+◌, ◌-◌, ◌<◌, ◌≤◌, Bool, true, false, ◌⊎◌, inl, inr, Some, None, List, [], ◌∷◌, ◌++◌, length, take, drop, refl, ap, sym, ◌∙◌, subst, arith}
+use Rattle.std.specs.Prelude.{slice_get}
 use Rattle.std.proofs.lemmas.Bool.{lt-ltb}
 use Rattle.std.proofs.lemmas.Bool.Decides.{nat_tests}
 use Rattle.std.proofs.lemmas.List.{take-append-le, drop-append-le, length-drop}
@@ -13,8 +12,9 @@ use Rattle.tp_queue.specs.declared.event.Event.TheVariants as event
 use Rattle.tp_queue.specs.declared.event.Status.{Status}
 use Rattle.tp_queue.specs.declared.event.Status.TheVariants as status
 use Rattle.tp_queue.specs.History.{arrival, is_removal, is_emptying, is_clear, is_start, is_stop, is_halt, accepted, gone, queued, status_of, limit, limit_at, top, MayFollow, Lawful, since_start}
-use Rattle.tp_queue.specs.Kept.{KeepsQueue}
-use Rattle.tp_queue.specs.Answers.{removal, TakesOut, halted_count, Satisfies, Checks, Notes, checked}
+use Rattle.tp_queue.specs.Answers.{removal, halted_count}
+use Rattle.tp_queue.specs.Queues.{deliverable}
+use Rattle.tp_queue.proofs.Kept.{KeepsQueue}
 use Rattle.tp_queue.proofs.Cuts.{length-push}
 use Rattle.tp_queue.proofs.Words.{accepted_more, accepted_same, gone_all, gone_more, gone_same, status_of_start, status_of_stop, status_of_same, halted, status_of_halt, mark_put, mark_cleared, mark_same}
 
@@ -209,12 +209,6 @@ halt_again_keeps h entries now ahead same k =
       mark_in_range = k.mark_in_range;
     }
 
--- how many entries can be received
-abbrev pub deliverable : Status → ℕ → ℕ → ℕ
-deliverable status.Started queued_len ahead = queued_len
-deliverable status.Halted queued_len ahead = ahead
-deliverable status.Stopped queued_len ahead = 0
-
 limit_at_is : {M : Type 0} (h : List (Event M)) (entries : List (Env M)) (now : Status) (ahead : ℕ)
     → KeepsQueue h entries now ahead → limit_at now h ≡ gone h + deliverable now (length entries) ahead
 limit_at_is h entries status.Started ahead k = omega (arith, k.in_range, ap length k.entries_are ∙ length-queued h)
@@ -320,17 +314,6 @@ out_keeps received h v after e entries left now ahead less there same history qu
     let shown : KeepsQueue h (e ∷ drop 1 entries) now ahead = Keeps-at h h entries (e ∷ drop 1 entries) now ahead refl (sym first.1) k in
     Keeps-at _ _ _ _ _ _ history queue (take_out_any received h e (drop 1 entries) now ahead less (ap top same ∙ there) fewer shown)
 
-pub taken_is : {M : Type 0} (received : Bool) (h v after : List (Event M)) (e : Env M) (entries : List (Env M))
-    (now : Status) (ahead : ℕ) (taken : Option (Env M))
-    → top v ≡ Some e → h ≡ v → after ≡ h ++ removal received e ∷ []
-    → (0 < length entries → taken ≡ Some (get_or entries 0 e)) → KeepsQueue h entries now ahead
-    → TakesOut received v taken after
-taken_is received h v after e entries now ahead taken there same history pops k =
-    let first : (0 < deliverable now (length entries) ahead) × (entries ≡ e ∷ drop 1 entries) = top_is_first h v entries now ahead e k same there in
-    let some : 0 < length entries = omega (arith, ap length first.1) in
-    let is : taken ≡ Some e = pops some ∙ ap (λ l. Some (get_or l 0 e)) first.1 in
-    rw (is) (there, history ∙ ap (λ l. l ++ removal received e ∷ []) same)
-
 pub halt_at_start_keeps : {M : Type 0} (h after : List (Event M)) (entries : List (Env M)) (now : Status) (ahead n : ℕ)
     → now ≡ status.Started → n ≡ length entries → after ≡ h ++ event.Halted ∷ [] → KeepsQueue h entries now ahead
     → KeepsQueue after entries status.Halted n
@@ -354,11 +337,6 @@ pub count_later : {M : Type 0} (h v : List (Event M)) (entries : List (Env M)) (
 count_later h v entries now ahead (inl e) same k = ap (λ s. halted_count s v) (sym e ∙ k.status_is ∙ ap status_of same)
 count_later h v entries now ahead (inr e) same k = ap (λ s. halted_count s v) (sym e ∙ k.status_is ∙ ap status_of same)
 
-pub found_keeps-at : {M : Type 0} (h v after : List (Event M)) (e : Env M) (entries : List (Env M)) (now : Status) (ahead : ℕ)
-    → top v ≡ Some e → h ≡ v → after ≡ h ++ event.Found e ∷ [] → KeepsQueue h entries now ahead → KeepsQueue after entries now ahead
-found_keeps-at h v after e entries now ahead there same history k =
-    rw (history) (found_keeps h e entries now ahead (ap top same ∙ there) k)
-
 limit_found : {M : Type 0} (h : List (Event M)) (e : Env M) (now : Status) → status_of h ≡ now → limit_at now (h ++ event.Found e ∷ []) ≡ limit_at now h
 limit_found h e status.Started s = ap length (accepted_same h (event.Found e) refl)
 limit_found h e status.Halted s = mark_same h (event.Found e) s refl refl
@@ -373,17 +351,3 @@ top_found h e =
       gone_same h (event.Found e) refl refl,
       accepted_same h (event.Found e) refl,
     ) refl
-
-check_at : {M : Type 0} (admits : M → Type 0) (from : Option ℕ) (h after : List (Event M)) (fits : Bool) (r o : Option (Env M))
-    → top h ≡ o → MatchOption o (fits ≡ false) (λ e. IsTrue fits ↔ Satisfies admits from e) → fits ≡ true
-    → MatchOption o (after ≡ h) (λ e. after ≡ h ++ event.Found e ∷ []) → r ≡ top after
-    → (after ≡ checked h r) × Checks admits from h r
-check_at admits from h after fits r None there m f n is = absurd (cc)
-check_at admits from h after fits r (Some e) there m f n is =
-    let same : r ≡ Some e = is ∙ ap top n ∙ top_found h e ∙ there in
-    let good : Satisfies admits from e = search (rules, m, f) in rw same (n, (there, good))
-
-pub check_done : {M : Type 0} (admits : M → Type 0) (from : Option ℕ) (h after : List (Event M)) (fits : Bool) (r : Option (Env M))
-    → MatchOption (top h) (fits ≡ false) (λ e. IsTrue fits ↔ Satisfies admits from e) → fits ≡ true → Notes h after
-    → r ≡ top after → (after ≡ checked h r) × Checks admits from h r
-check_done admits from h after fits r m f n is = check_at admits from h after fits r (top h) refl m f n is

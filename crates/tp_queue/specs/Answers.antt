@@ -1,5 +1,5 @@
 -- What the calls of a queue answer.
-use Rattle.std.specs.Prelude.{◌≡◌, ℕ, Option, Some, None, List, [], ◌∷◌, ◌++◌, length, IfSome, MatchOption, Bool, true, false}
+use Rattle.std.specs.Prelude.{◌≡◌, ℕ, Option, Some, None, List, [], ◌∷◌, ◌++◌, length, IfSome, Bool, true, false}
 use Rattle.tp_queue.specs.declared.event.Env.{Env}
 use Rattle.tp_queue.specs.declared.event.Event.{Event}
 use Rattle.tp_queue.specs.declared.event.Event.TheVariants as event
@@ -37,11 +37,6 @@ abbrev pub removal : {M : Type 0} → Bool → Env M → Event M
 removal true e = event.Took e
 removal false e = event.Dropped e
 
--- the top is taken out, if there is one
-abbrev pub TakesOut : {M : Type 0} → Bool → List (Event M) → Option (Env M) → List (Event M) → Type 0
-TakesOut received h (Some e) after = (top h ≡ Some e) × (after ≡ h ++ removal received e ∷ [])
-TakesOut received h None after = (top h ≡ None) × (after ≡ h)
-
 -- what `trigger` answers, and the history after it
 abbrev pub Triggers : {M : Type 0} → (M → Type 0) → Option ℕ → List (Event M)
     → TriggerAnswer M → List (Event M) → Type 0
@@ -49,10 +44,6 @@ Triggers admits from h (trigger_answer.Took e) after = Finds admits from h e × 
 Triggers admits from h (trigger_answer.Dropped e) after =
     (top h ≡ Some e) × ¬ Satisfies admits from e × (after ≡ h ++ event.Dropped e ∷ [])
 Triggers admits from h trigger_answer.Nothing after = (top h ≡ None) × (after ≡ h)
-
--- the top, if there is one, was noted as found
-abbrev pub Notes : {M : Type 0} → List (Event M) → List (Event M) → Type 0
-Notes {M} h after = MatchOption (top h) (after ≡ h) (λ e. after ≡ h ++ event.Found e ∷ [])
 
 -- what `check` answers
 abbrev pub Checks : {M : Type 0} → (M → Type 0) → Option ℕ → List (Event M) → Option (Env M) → Type 0

@@ -1,4 +1,5 @@
 pub mod History
 pub mod Answers
-pub mod Kept
+pub mod Queues
+pub mod Calls
 pub mod Lending

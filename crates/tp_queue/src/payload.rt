@@ -32,7 +32,9 @@ impl<M: Payload> Env<M> {
             msg: self.msg.copy(alloc)?,
         })
     }
+}
 
+impl<M> Env<M> {
     /// Whether a receiving operation for `wanted` and `from` succeeds with this envelope: the
     /// message is wanted, and it is from the named sender, where one is named (22.2.2). Takes no
     /// memory.

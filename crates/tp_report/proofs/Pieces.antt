@@ -10,7 +10,7 @@ use Rattle.tp_value.specs.declared.types.Types.{Types}
 use Rattle.tp_value.specs.declared.message.Message.{Message}
 use Rattle.tp_value.specs.ValueText.{value_text}
 use Rattle.tp_value.proofs.Written.{appends_both, nothing_written}
-use Rattle.tp_queue.specs.declared.event.Event.{Event}
+use Rattle.tp_queue.specs.declared.event.Env.{Env}
 use Rattle.tp_queue.specs.History.{queued}
 use Rattle.tp_config.specs.declared.port_type.CompId.{CompId}
 use Rattle.tp_play.specs.TestCases.{Made}
@@ -75,14 +75,14 @@ pub one_more_at : {X : Type 0} (text : X → List ℕ) (xs : List X) (i : ℕ) (
 one_more_at text xs i x e = one_more text xs i x (there xs i x e) (sym (get_or_from_slice_get xs i x x e))
 
 -- what is left at one port more
-pub left_more : (made : Made) (d : Journal) (n : ℕ) (c : CompId) (h : List (Event Message)) → c ≡ d.comp → h ≡ at_port d n
+pub left_more : (made : Made) (d : Journal) (n : ℕ) (c : CompId) (es : List (Env Message)) → c ≡ d.comp → es ≡ queued (at_port d n)
     → (start here now : Option (List ℕ)) → Appends start here (left_below made d n)
-    → Appends here now (flat_map (envelope_line made (codes "left") (component_port c n)) (queued h))
+    → Appends here now (flat_map (envelope_line made (codes "left") (component_port c n)) es)
     → Appends start now (left_below made d (n + 1))
 unfolding left_at
-left_more made d n c h own is start here now p q =
-    let at : flat_map (envelope_line made (codes "left") (component_port c n)) (queued h) ≡ left_at made d n =
-    ap (λ k. flat_map (envelope_line made (codes "left") (component_port c n)) (queued k)) is
+left_more made d n c es own is start here now p q =
+    let at : flat_map (envelope_line made (codes "left") (component_port c n)) es ≡ left_at made d n =
+    ap (flat_map (envelope_line made (codes "left") (component_port c n))) is
     ∙ ap (λ e. flat_map (envelope_line made (codes "left") (component_port e n)) (queued (at_port d n))) own in
     subst (λ k. Appends start now (left_below made d k)) (sym (add-one n))
     (appends_both start here now (left_below made d n) (left_at made d n) p (subst (Appends here now) at q))

@@ -2,7 +2,6 @@
 ghost use Rattle.std.specs.Prelude.{All, OnOk, codes};
 ghost use Rattle.std.specs.List.{flat_map};
 ghost use Rattle.std.specs.Io.KnownBytes.{Appends};
-ghost use Rattle.tp_queue.specs.History.{queued};
 ghost use Rattle.tp_config.specs.Setup.{IsComponent, IsPort};
 ghost use Rattle.tp_report.specs.Lines.{envelope_line, left_below, sender_of};
 ghost use Rattle.tp_report.specs.Reports.{IsDeskIn};
@@ -12,7 +11,7 @@ use std::io::Write;
 use tp_config::port_type::PortRef;
 use tp_inbox::desk::Desk;
 use tp_play::test_case::TestCase;
-use tp_queue::queue::PortQueue;
+use tp_queue::queue::Queue;
 use tp_value::message::Message;
 use tp_value::writing::WriteFault;
 
@@ -20,14 +19,14 @@ use tp_value::writing::WriteFault;
 fn write_queued<W: Write>(
     test_case: &TestCase,
     port: PortRef,
-    queue: &PortQueue<Message>,
+    queue: &Queue<Message>,
     out: &mut W,
 ) -> Result<(), WriteFault>
     requires port { IsPort test_case.now.config port }
     requires senders { All (λ e. IsComponent test_case.now.config (sender_of e))
-        (queued queue.now) }
+        queue.now.entries }
     ensures { OnOk result (Appends (W.contents out.old) (W.contents out.new)
-        (flat_map (envelope_line test_case.now (codes "left") port) (queued queue.now))) }
+        (flat_map (envelope_line test_case.now (codes "left") port) queue.now.entries)) }
 {
     for place in 0..queue.queued_len() {
         if let Some(env) = queue.queued_at(place) {

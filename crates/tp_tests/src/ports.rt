@@ -8,7 +8,7 @@ use std::process::Abort;
 use tp_port::pattern::Pattern;
 use tp_port::replay::{QueueFault, replay, replay_text};
 use tp_queue::event::{Env, Event};
-use tp_queue::queue::PortQueue;
+use tp_queue::port_queue::PortQueue;
 use tp_refusal::limit::TEXT_LIMIT;
 use tp_text::text::{ReadFault, read_text};
 

@@ -1,7 +1,8 @@
--- The answers so far, and then those to the rest, are the answers to the whole text.
+-- The engine has come so far that the answers so far, and then those to the rest, are the answers to the whole text.
 use Rattle.std.proofs.Common.{◌-◌, ◌≤◌, length}
 use Rattle.std.specs.Prelude.{string_bytes}
-use Rattle.tp_port.specs.Carried.{HasCounted, progress_of}
+use Rattle.tp_port.specs.Carried.{HasReached, HasCounted}
+use Rattle.tp_port.specs.Replay.{Progress}
 use Rattle.tp_port.proofs.Judging.{Goes}
 use Rattle.tp_port.proofs.replay.answers_to.Given as goal
 
@@ -10,7 +11,7 @@ invariant-loop-rest l =
     record {
       fits : length l.rest ≤ length l.text;
       within : HasCounted l.engine (length l.text - length l.rest);
-      goes : Goes l.text l.rest (progress_of l.engine) (string_bytes l.engine.answers);
+      goes : (s : Progress) × HasReached l.engine s × Goes l.text l.rest s (string_bytes l.engine.answers);
     }
 
 abbrev pub decreases-loop-rest : goal.decreases-loop-rest

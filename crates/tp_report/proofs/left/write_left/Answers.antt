@@ -1,7 +1,8 @@
 -- Each port is one of the component, the senders of what is left there are components, and its lines come next.
-use Rattle.std.proofs.Common.{◌<◌, length, subst, sym, arith}
+use Rattle.std.proofs.Common.{◌<◌, ap, length, subst, sym, arith}
 use Rattle.std.specs.Prelude.{All}
-use Rattle.tp_queue.specs.History.{queued}
+use Rattle.tp_queue.specs.Queues.{QueueState}
+use Rattle.tp_value.specs.declared.message.Message.{Message}
 use Rattle.tp_config.specs.Setup.{IsComponent, IsPort, ports_at}
 use Rattle.tp_config.specs.Allowed.{IsSetup}
 use Rattle.tp_config.proofs.RouteLaws.{few_at}
@@ -25,10 +26,10 @@ write_queued-requires-clause-port g c =
 pub write_queued-requires-clause-senders : goal.write_queued-requires-clause-senders
 write_queued-requires-clause-senders g c =
     let s = c.args.test_case.now.config in
-    subst (λ h. All (λ e. IsComponent s (sender_of e)) (queued h)) (sym c.queue.ensures)
+    subst (All (λ e. IsComponent s (sender_of e))) (sym (ap (λ (q : QueueState Message). q.entries) c.queue.ensures.state))
     (senders s c.args.desk.now.comp c.loop-place.place c.args.desk.now.log c.requires.own.known)
 
 pub loop-place-preserved : goal.loop-place-preserved
 loop-place-preserved g c =
-    left_more c.args.test_case.now c.args.desk.now c.loop-place.place c.comp-comp.result c.queue.result.now c.comp-comp.ensures c.queue.ensures _ _ _
-    c.loop-place.invariant c.in_ok-write_queued.ensures
+    left_more c.args.test_case.now c.args.desk.now c.loop-place.place c.comp-comp.result c.queue.result.now.entries c.comp-comp.ensures
+    (ap (λ (q : QueueState Message). q.entries) c.queue.ensures.state) _ _ _ c.loop-place.invariant c.in_ok-write_queued.ensures

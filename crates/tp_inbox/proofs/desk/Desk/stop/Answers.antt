@@ -1,4 +1,4 @@
--- The port's queue keeps to the history with the stop behind it.
+-- The port's queue stands for the port's history with the stop behind it.
 use Rattle.std.proofs.Common.{ap, refl, arith}
 use Rattle.tp_queue.specs.declared.event.Event.TheVariants as event
 use Rattle.tp_inbox.specs.declared.entry.Entry.TheVariants as entry
@@ -10,6 +10,5 @@ pub invariant_of-self-2 : goal.invariant_of-self-2
 invariant_of-self-2 c =
     kept_at _ _ _ _ c.args.port (entry.Stopped c.args.port) event.Stopped _ _ c.self.invariant
     (omega (arith, c.requires, ap (λ (d : Journal). d.ports) c.self.view_is))
-    c.index_mut.ensures.value c.in_ok-stop.ensures.ok (λ p. refl) tt refl
+    c.index_mut.ensures.value c.stop.ensures (λ p. refl) tt refl
     (grown_by _ _ _ _ _ c.push_reserved.ensures.items c.reserve.ensures.items refl)
-    c.stop.ensures.lawful

@@ -1,4 +1,4 @@
--- New queues keep to the history in which nothing has happened.
+-- New queues stand for the history in which nothing has happened.
 use Rattle.std.proofs.Common.{ap, ◌∙◌}
 use Rattle.tp_inbox.specs.History.{arrivals}
 use Rattle.tp_inbox.proofs.Arrivals.{arrivals_none}

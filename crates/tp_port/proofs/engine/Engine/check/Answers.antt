@@ -6,5 +6,5 @@ use Rattle.tp_port.proofs.engine.Engine.check.Goals as goal
 
 pub returns : goal.returns
 returns c =
-    carries_check _ _ (wish_of c.args.criteria) _ _ c.in_ok-from.ensures.seen c.in_ok-from.ensures.number
-    c.in_ok-answer_check.ensures.history c.in_ok-answer_check.ensures.text c.in_ok-from.ensures.few refl c.requires
+    carries_check _ _ (wish_of c.args.criteria) _ c.in_ok-from.ensures.seen c.in_ok-from.ensures.number
+    c.in_ok-answer_check.ensures.history c.in_ok-answer_check.ensures.text c.in_ok-from.ensures.few refl
