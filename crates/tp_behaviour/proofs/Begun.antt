@@ -43,8 +43,8 @@ followed : (r : Actor) (body : Body) (o : Outcome) (ts : List Moment) (ws : List
     → Ends r o [] (unset body) body.statements ts ws → HasEnded r body o n
 followed r body outcome.Done ts ws n trace ends =
     λ whole same. Follows.done ws (subst (λ us. IsPath r [] (unset body) body.statements us ws) (sym (same ∙ trace)) ends)
-followed r body (outcome.Error code) ts ws n trace ends =
-    λ whole same. Follows.error code (subst (Stops r whole (ending.Error code) [] (unset body) body.statements) (sym (same ∙ trace)) (ends whole))
+followed r body (outcome.Error fault) ts ws n trace ends =
+    λ whole same. Follows.error fault (subst (Stops r whole (ending.Error fault) [] (unset body) body.statements) (sym (same ∙ trace)) (ends whole))
 followed r body (outcome.Waiting guards) ts ws n trace ends =
     λ whole same none. Follows.waiting (subst (Stops r whole ending.Waiting [] (unset body) body.statements) (sym (same ∙ trace)) (ends whole none))
 

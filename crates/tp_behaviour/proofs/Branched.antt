@@ -47,11 +47,11 @@ module _ (r : Actor) (turns : List ℤ) (vs us ws : List (Option Held)) (xs : Li
       subst (λ us'. IsStep r turns vs (b.Alt xs otherwise) us' ws) (behind h.chosen.0 ts more h.chosen.1 h.chosen.2)
       (IsStep.branch turns vs xs otherwise true h.chosen.0 h.chosen.1 i h.env x more ws h.chosen.3 (h.chosen.4 true) at
       (subst (λ us'. IsPath r turns us' x.block more ws) set block))
-  of_branch (outcome.Error code) i x ts more h at block = λ whole.
+  of_branch (outcome.Error fault) i x ts more h at block = λ whole.
       let set = set_by i x ts h at in
-      subst (StopsWithin r whole (ending.Error code) turns vs (b.Alt xs otherwise)) (behind h.chosen.0 ts more h.chosen.1 h.chosen.2)
-      (StopsWithin.within_branch (ending.Error code) turns vs xs otherwise true h.chosen.0 h.chosen.1 i h.env x more h.chosen.3 (h.chosen.4 true) at
-      (subst (λ us'. Stops r whole (ending.Error code) turns us' x.block more) set (block whole)))
+      subst (StopsWithin r whole (ending.Error fault) turns vs (b.Alt xs otherwise)) (behind h.chosen.0 ts more h.chosen.1 h.chosen.2)
+      (StopsWithin.within_branch (ending.Error fault) turns vs xs otherwise true h.chosen.0 h.chosen.1 i h.env x more h.chosen.3 (h.chosen.4 true) at
+      (subst (λ us'. Stops r whole (ending.Error fault) turns us' x.block more) set (block whole)))
   of_branch (outcome.Waiting waiting) i x ts more h at block = λ whole none.
       let set = set_by i x ts h at in
       subst (StopsWithin r whole ending.Waiting turns vs (b.Alt xs otherwise)) (behind h.chosen.0 ts more h.chosen.1 h.chosen.2)
@@ -65,10 +65,10 @@ module _ (r : Actor) (turns : List ℤ) (vs us ws : List (Option Held)) (xs : Li
   of_else outcome.Done ts more h block =
       subst (λ us'. IsStep r turns vs (b.Alt xs (Some items)) us' ws) (behind h.chosen.0 ts more h.chosen.1 h.chosen.2)
       (IsStep.otherwise turns vs xs items h.chosen.0 h.chosen.1 more ws h.chosen.3 h.chosen.4 (subst (λ us'. IsPath r turns us' items more ws) h.kept block))
-  of_else (outcome.Error code) ts more h block = λ whole.
-      subst (StopsWithin r whole (ending.Error code) turns vs (b.Alt xs (Some items))) (behind h.chosen.0 ts more h.chosen.1 h.chosen.2)
-      (StopsWithin.within_else (ending.Error code) turns vs xs items h.chosen.0 h.chosen.1 more h.chosen.3 h.chosen.4
-      (subst (λ us'. Stops r whole (ending.Error code) turns us' items more) h.kept (block whole)))
+  of_else (outcome.Error fault) ts more h block = λ whole.
+      subst (StopsWithin r whole (ending.Error fault) turns vs (b.Alt xs (Some items))) (behind h.chosen.0 ts more h.chosen.1 h.chosen.2)
+      (StopsWithin.within_else (ending.Error fault) turns vs xs items h.chosen.0 h.chosen.1 more h.chosen.3 h.chosen.4
+      (subst (λ us'. Stops r whole (ending.Error fault) turns us' items more) h.kept (block whole)))
   of_else (outcome.Waiting waiting) ts more h block = λ whole none.
       subst (StopsWithin r whole ending.Waiting turns vs (b.Alt xs (Some items))) (behind h.chosen.0 ts more h.chosen.1 h.chosen.2)
       (StopsWithin.within_else ending.Waiting turns vs xs items h.chosen.0 h.chosen.1 more h.chosen.3 h.chosen.4
@@ -146,7 +146,7 @@ module _ (r : Actor) (turns : List ℤ) (vs ws : List (Option Held)) (first boun
   of_turns : (o : Outcome) (ts : List Moment) → EndsTurns r o turns vs first block (turns_between first bound) ts ws
       → EndsStep r o turns vs (b.For first bound block) ts ws
   of_turns outcome.Done ts h = IsStep.counted turns vs first bound block ts ws h
-  of_turns (outcome.Error code) ts h = λ whole. of_turn whole (ending.Error code) ts (h whole)
+  of_turns (outcome.Error fault) ts h = λ whole. of_turn whole (ending.Error fault) ts (h whole)
   of_turns (outcome.Waiting waiting) ts h = λ whole none. of_turn whole ending.Waiting ts (h whole none)
 
 pub step_for : (p : Post) (x : Statement) (first bound low high : ℤ) (items list : List Statement) (o : Outcome) (here : Station) (before : State)

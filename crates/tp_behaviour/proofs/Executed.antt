@@ -72,7 +72,7 @@ module _ (r : Actor) (turns : List ℤ) (vs ws us : List (Option Held)) (block :
   ends_at : (o : Outcome) → (o ≡ outcome.Done → ⊥) → (ts more : List Moment) → IsPath r turns vs (take i block) ts ws
       → EndsStep r o turns ws x more us → Ends r o turns vs block (ts ++ more) us
   ends_at outcome.Done other ts more path one = absurd (other refl)
-  ends_at (outcome.Error code) other ts more path one = λ whole. stops_at whole (ending.Error code) ts more path (one whole)
+  ends_at (outcome.Error fault) other ts more path one = λ whole. stops_at whole (ending.Error fault) ts more path (one whole)
   ends_at (outcome.Waiting guards) other ts more path one = λ whole none. stops_at whole ending.Waiting ts more path (one whole none)
 
 -- the next one ends otherwise: the block does

@@ -5,11 +5,11 @@ use Rattle.std.specs.Map.{lookup}
 use Rattle.std.proofs.lemmas.Option.{get_or_from_slice_get}
 use Rattle.indexmap.specs.IndexMap.{IndexMap, IsUnchanged, Updates, get}
 use Rattle.tp_config.specs.declared.port_type.RouteId.{RouteId}
-use Rattle.tp_inbox.specs.Places.{route_eq}
+use Rattle.tp_inbox.specs.Places.{KeepsOtherRoutes, route_eq}
 use Rattle.tp_inbox.specs.Routed.{absent_route, route_at}
 use Rattle.tp_inbox.proofs.Routes.{same_or_not}
 use Rattle.tp_behaviour.specs.declared.outbox.RoutePlace.{RoutePlace}
-use Rattle.tp_behaviour.specs.Outboxes.{AreFiledAt, KeepsOtherRoutes}
+use Rattle.tp_behaviour.specs.Outboxes.{AreFiledAt}
 use Rattle.tp_behaviour.proofs.Outboxes.{other_route}
 
 -- one route more is filed

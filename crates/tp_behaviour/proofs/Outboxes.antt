@@ -13,11 +13,11 @@ use Rattle.tp_inbox.specs.declared.entry.Entry.TheVariants as entry
 use Rattle.tp_inbox.specs.Desks.{Journal, adding}
 use Rattle.tp_inbox.specs.History.{same_route, posted_on}
 use Rattle.tp_inbox.specs.Ledgers.{Inbox, Sending, end_of, posting, put_on_way, putting}
-use Rattle.tp_inbox.specs.Places.{route_eq}
+use Rattle.tp_inbox.specs.Places.{KeepsOtherRoutes, route_eq}
 use Rattle.tp_inbox.specs.Routed.{route_at}
 use Rattle.tp_inbox.proofs.Putting.{route_same}
 use Rattle.tp_behaviour.specs.declared.outbox.RoutePlace.{RoutePlace}
-use Rattle.tp_behaviour.specs.Outboxes.{AreFiledAt, AreSendersFiled, HasPut, IsAimed, IsRouteFull, IsListed, KeepsOtherRoutes, LeadsBack, put_on, routes_of}
+use Rattle.tp_behaviour.specs.Outboxes.{AreFiledAt, AreSendersFiled, HasPut, IsAimed, IsRouteFull, IsListed, LeadsBack, put_on, routes_of}
 
 -- what is in a list stands at its place
 pub stands : {X : Type 0} (xs : List X) (x : X) → (c : Contains xs x) → slice_get xs c.0 ≡ Some x

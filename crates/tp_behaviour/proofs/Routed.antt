@@ -10,6 +10,7 @@ use Rattle.tp_value.specs.declared.message.Message.{Message}
 use Rattle.tp_config.specs.declared.port_type.CompId.{CompId}
 use Rattle.tp_config.specs.declared.port_type.RouteId.{RouteId}
 use Rattle.tp_config.specs.declared.routes.RouteFault.{RouteFault}
+use Rattle.tp_config.specs.declared.routes.RouteFault.TheVariants as route_fault
 use Rattle.tp_config.specs.Routes.{IsRoute, RouteCause, routes_from}
 use Rattle.tp_play.specs.declared.body.Receiver.{Receiver}
 use Rattle.tp_play.specs.declared.body.Receiver.TheVariants as to
@@ -17,12 +18,13 @@ use Rattle.tp_play.specs.declared.body.SendOperation.{SendOperation}
 use Rattle.tp_play.specs.declared.body.Sent.{Sent}
 use Rattle.tp_inbox.specs.declared.entry.Entry.{Entry}
 use Rattle.tp_inbox.specs.declared.entry.Entry.TheVariants as entry
+use Rattle.tp_inbox.specs.declared.send_fault.SendFault.TheVariants as send_fault
 use Rattle.tp_inbox.specs.History.{history_of, next_of, sent_on}
 use Rattle.tp_inbox.specs.Desks.{Journal}
 use Rattle.tp_inbox.specs.Ledgers.{Inbox, Sending as Sender, end_of}
 use Rattle.tp_inbox.proofs.Ports.{history-same}
 use Rattle.tp_behaviour.specs.declared.station.Station.{Station}
-use Rattle.tp_behaviour.specs.Ends.{IsFailure, route_number}
+use Rattle.tp_behaviour.specs.Ends.{IsFailure}
 use Rattle.tp_behaviour.specs.Held.{IsNamed, IsSentAs, NamesUnset, Actor, SendsUnset, Values}
 use Rattle.tp_behaviour.specs.Looks.{moment}
 use Rattle.tp_behaviour.specs.Moments.{Moment, moments}
@@ -55,10 +57,10 @@ sends_one r vs x m named q d n started sent to route more = (
 )
 
 -- and one that has no way
-pub cause_route : (r : Actor) (vs : Values) (x : SendOperation) (m : Message) (named : Option CompId) (f : RouteFault) (code : ℕ) (k : List Entry)
+pub cause_route : (r : Actor) (vs : Values) (x : SendOperation) (m : Message) (named : Option CompId) (f : RouteFault) (k : List Entry)
     → IsStarted k x.port → IsSentAs vs x.sent m
-    → IsNamed r vs x.to named → RouteCause r.config (own_port r x.port) named f → code ≡ route_number f → IsFailure r vs x k code
-cause_route r vs x m named f code k started sent to cause is = subst (IsFailure r vs x k) (sym is) (IsFailure.no_single_route named f started set to cause)
+    → IsNamed r vs x.to named → RouteCause r.config (own_port r x.port) named f → IsFailure r vs x k (send_fault.Unrouted f)
+cause_route r vs x m named f k started sent to cause = IsFailure.no_single_route named f started set to cause
   where
     set : SendsUnset vs x.sent ⊎ NamesUnset vs x.to → ⊥
     set (inl h) = is_set vs x.sent m sent h
@@ -82,7 +84,7 @@ some_items xs n is e none = let zero : n ≡ 0 = sym is ∙ ap length none in tr
 -- one to all that has no way at all
 pub cause_none : (r : Actor) (vs : Values) (x : SendOperation) (m : Message) (routes : List RouteId) (k : List Entry) → IsStarted k x.port
     → IsSentAs vs x.sent m → x.to ≡ to.All
-    → routes ≡ routes_from r.config (own_port r x.port) → routes ≡ [] → IsFailure r vs x k 41
+    → routes ≡ routes_from r.config (own_port r x.port) → routes ≡ [] → IsFailure r vs x k (send_fault.Unrouted route_fault.NoRoute)
 cause_none r vs x m routes k started sent all are none = IsFailure.no_route_at_all started set all (sym are ∙ none)
   where
     set : SendsUnset vs x.sent ⊎ NamesUnset vs x.to → ⊥

@@ -1,11 +1,12 @@
 -- How what a statement comes to is put together.
-use Rattle.std.proofs.Common.{◌≡◌, ◌∙◌, ℕ, List, [], ◌∷◌, ◌++◌, ap}
+use Rattle.std.proofs.Common.{◌≡◌, ◌∙◌, List, [], ◌∷◌, ◌++◌, ap}
 use Rattle.std.proofs.lemmas.List.{append_assoc}
 use Rattle.tp_play.specs.declared.body.SendOperation.{SendOperation}
 use Rattle.tp_play.specs.declared.body.Statement.TheVariants as b
 use Rattle.tp_inbox.specs.declared.entry.Entry.{Entry}
 use Rattle.tp_inbox.specs.declared.entry.Entry.TheVariants as entry
 use Rattle.tp_inbox.specs.declared.ending.End.TheVariants as ending
+use Rattle.tp_inbox.specs.declared.send_fault.SendFault.{SendFault}
 use Rattle.tp_behaviour.specs.Ends.{StopsWithin}
 use Rattle.tp_behaviour.specs.Held.{Actor, Values}
 use Rattle.tp_behaviour.specs.Moments.{Moment, moments}
@@ -14,15 +15,15 @@ use Rattle.tp_behaviour.specs.Sends.{Sends}
 use Rattle.std.specs.Prelude.{Some}
 
 -- a send that fails ends the behaviour
-pub failed : (r : Actor) (vs : Values) (x : SendOperation) (code : ℕ) (k n : List Entry) → Sends r vs x (Some code) k n
-    → Grew (λ ts. (whole : List Entry) → StopsWithin r whole (ending.Error code) vs.turns vs.variables (b.Send x) ts) k n
-failed r vs x code k n grew =
+pub failed : (r : Actor) (vs : Values) (x : SendOperation) (fault : SendFault) (k n : List Entry) → Sends r vs x (Some fault) k n
+    → Grew (λ ts. (whole : List Entry) → StopsWithin r whole (ending.Error fault) vs.turns vs.variables (b.Send x) ts) k n
+failed r vs x fault k n grew =
     let t = grew.2.0 in
-    let u : Moment = record { before = t.before; entry = entry.Failed code } in
+    let u : Moment = record { before = t.before; entry = entry.Failed fault } in
     let same : t ≡ u = λ i. record { before = t.before; entry = grew.2.2.1 i } in (
       u ∷ [],
       grew.1 ∙ ap (λ ts. moments k ++ ts) (grew.2.1 ∙ ap (λ v. v ∷ []) same),
-      λ whole. StopsWithin.fails vs.turns vs.variables x t.before code
+      λ whole. StopsWithin.fails vs.turns vs.variables x t.before fault
           grew.2.2.0,
     )
 

@@ -18,40 +18,26 @@ use Rattle.tp_inbox.specs.declared.entry.Entry.TheVariants as entry
 use Rattle.tp_behaviour.specs.declared.held.Held.{Held}
 use Rattle.tp_inbox.specs.declared.ending.End.{End}
 use Rattle.tp_inbox.specs.declared.ending.End.TheVariants as ending
+use Rattle.tp_inbox.specs.declared.send_fault.SendFault.{SendFault}
+use Rattle.tp_inbox.specs.declared.send_fault.SendFault.TheVariants as send_fault
 use Rattle.tp_behaviour.specs.Moments.{Moment, moments}
 use Rattle.tp_behaviour.specs.Choices.{IsChoice, IsDrop, NoneOpen}
 use Rattle.tp_value.specs.declared.message.Message.{Message}
 use Rattle.tp_behaviour.specs.Held.{Actor, Values, SendsUnset, NamesUnset, IsNamed, guard_of, redirected, unset}
 use Rattle.tp_behaviour.specs.Paths.{IsPath, AreTurns, IsStarted, guards_of, own_port}
 
--- the numbers of the refusals by which a send ends a behaviour
-abbrev pub not_sending : ℕ
-not_sending = 40
-
-abbrev pub no_route : ℕ
-no_route = 41
-
-abbrev pub needs_to : ℕ
-needs_to = 42
-
-abbrev pub unset_variable : ℕ
-unset_variable = 43
-
--- why there is no route to send on, by its number
-abbrev pub route_number : RouteFault → ℕ
-route_number route_fault.NoRoute = no_route
-route_number route_fault.NeedsTo = needs_to
-
--- a send ends the behaviour by this number, the first whose cause holds: the port isn't started; a variable that it
+-- a send ends the behaviour by this fault, the first whose cause holds: the port isn't started; a variable that it
 -- speaks of isn't set; and there is no route, or none to the component named, or there are several and none is named
-pub data IsFailure (r : Actor) (vs : Values) (x : SendOperation) (k : List Entry) : ℕ → Type 0 where
-  not_started : ¬ IsStarted k x.port → IsFailure r vs x k not_sending
-  not_set : IsStarted k x.port → SendsUnset vs x.sent ⊎ NamesUnset vs x.to → IsFailure r vs x k unset_variable
+pub data IsFailure (r : Actor) (vs : Values) (x : SendOperation) (k : List Entry) : SendFault → Type 0 where
+  not_started : ¬ IsStarted k x.port → IsFailure r vs x k send_fault.NotSending
+  not_set : IsStarted k x.port → SendsUnset vs x.sent ⊎ NamesUnset vs x.to
+      → IsFailure r vs x k send_fault.UnsetVariable
   no_single_route : (named : Option CompId) (f : RouteFault) → IsStarted k x.port
       → ¬ (SendsUnset vs x.sent ⊎ NamesUnset vs x.to)
-      → IsNamed r vs x.to named → RouteCause r.config (own_port r x.port) named f → IsFailure r vs x k (route_number f)
+      → IsNamed r vs x.to named → RouteCause r.config (own_port r x.port) named f
+      → IsFailure r vs x k (send_fault.Unrouted f)
   no_route_at_all : IsStarted k x.port → ¬ (SendsUnset vs x.sent ⊎ NamesUnset vs x.to) → x.to ≡ receiver.All
-      → routes_from r.config (own_port r x.port) ≡ [] → IsFailure r vs x k no_route
+      → routes_from r.config (own_port r x.port) ≡ [] → IsFailure r vs x k (send_fault.Unrouted route_fault.NoRoute)
 
 mutual
   -- the moments lead to a statement within this one, or to itself, and the behaviour stops there with this end, the
@@ -59,10 +45,10 @@ mutual
   pub data StopsWithin (r : Actor) (whole : List Entry) : End → List ℤ → List (Option Held) → Statement → List Moment
       → Type 0 where
     -- at a send that fails
-    fails : (turns : List ℤ) (vs : List (Option Held)) (x : SendOperation) (k : List Entry) (code : ℕ)
-        → IsFailure r (record { turns = turns; variables = vs }) x k code
-        → StopsWithin r whole (ending.Error code) turns vs (statement.Send x)
-        (record { before = k; entry = entry.Failed code } ∷ [])
+    fails : (turns : List ℤ) (vs : List (Option Held)) (x : SendOperation) (k : List Entry) (fault : SendFault)
+        → IsFailure r (record { turns = turns; variables = vs }) x k fault
+        → StopsWithin r whole (ending.Error fault) turns vs (statement.Send x)
+        (record { before = k; entry = entry.Failed fault } ∷ [])
     -- at a receiving operation that isn't open in the whole history
     waits : (turns : List ℤ) (vs : List (Option Held)) (x : Receiving) (drops : List Moment)
         → All (IsDrop (guard_of r (record { turns = turns; variables = vs }) x ∷ [])) drops
@@ -107,6 +93,6 @@ mutual
 pub data Follows (r : Actor) (body : Body) (k : List Entry) : End → Type 0 where
   done : (vs : List (Option Held)) → IsPath r [] (unset body) body.statements (moments k) vs
       → Follows r body k ending.Done
-  error : (code : ℕ) → Stops r k (ending.Error code) [] (unset body) body.statements (moments k)
-      → Follows r body k (ending.Error code)
+  error : (fault : SendFault) → Stops r k (ending.Error fault) [] (unset body) body.statements (moments k)
+      → Follows r body k (ending.Error fault)
   waiting : Stops r k ending.Waiting [] (unset body) body.statements (moments k) → Follows r body k ending.Waiting

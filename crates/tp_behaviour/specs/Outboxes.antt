@@ -1,5 +1,5 @@
 -- The senders of a component.
-use Rattle.std.specs.Prelude.{◌≡◌, ◌≢◌, ◌≤◌, ◌<◌, ◌==◌, ℕ, cond, Some, List, [], ◌∷◌, ◌++◌, All, Contains, length, map, slice_get}
+use Rattle.std.specs.Prelude.{◌≡◌, ◌≤◌, ◌<◌, ◌==◌, ℕ, cond, Some, List, [], ◌∷◌, ◌++◌, All, Contains, length, map, slice_get}
 use Rattle.std.specs.List.{flat_map}
 use Rattle.indexmap.specs.IndexMap.{IndexMap, get}
 use Rattle.tp_config.specs.declared.port_type.CompId.{CompId}
@@ -60,11 +60,6 @@ abbrev pub AreFiledAt : {S : Type 0} → ℕ → List RouteId → ℕ → IndexM
 AreFiledAt n routes place places =
     (w : ℕ) (r : RouteId) → w < n → slice_get routes w ≡ Some r
     → get route_eq places r ≡ Some record { sender = place; way = w }
-
--- what is found of routes that none of these is stays the same
-abbrev pub KeepsOtherRoutes : {S : Type 0} → List RouteId → IndexMap RouteId RoutePlace S → IndexMap RouteId RoutePlace S → Type 0
-KeepsOtherRoutes routes before after =
-    (r : RouteId) → All (λ (q : RouteId). q ≢ r) routes → get route_eq after r ≡ get route_eq before r
 
 -- each route of each sender is found at its place; the routes of a sender lead to its inbox's component, and no two
 -- senders to the same; those that lead back are listed, and no others

@@ -26,7 +26,7 @@ use Rattle.tp_behaviour.specs.Stations.{AreHeld, role_of}
 abbrev pub Ends : Actor → Outcome → List ℤ → List (Option Held) → List Statement → List Moment → List (Option Held)
     → Type 0
 Ends r outcome.Done turns vs xs ts ws = IsPath r turns vs xs ts ws
-Ends r (outcome.Error code) turns vs xs ts ws = (whole : List Entry) → Stops r whole (end.Error code) turns vs xs ts
+Ends r (outcome.Error fault) turns vs xs ts ws = (whole : List Entry) → Stops r whole (end.Error fault) turns vs xs ts
 Ends r (outcome.Waiting guards) turns vs xs ts ws = (whole : List Entry) → NoneOpen whole guards.items
     → Stops r whole end.Waiting turns vs xs ts
 
@@ -34,8 +34,8 @@ Ends r (outcome.Waiting guards) turns vs xs ts ws = (whole : List Entry) → Non
 abbrev pub EndsStep : Actor → Outcome → List ℤ → List (Option Held) → Statement → List Moment → List (Option Held)
     → Type 0
 EndsStep r outcome.Done turns vs x ts ws = IsStep r turns vs x ts ws
-EndsStep r (outcome.Error code) turns vs x ts ws =
-    (whole : List Entry) → StopsWithin r whole (end.Error code) turns vs x ts
+EndsStep r (outcome.Error fault) turns vs x ts ws =
+    (whole : List Entry) → StopsWithin r whole (end.Error fault) turns vs x ts
 EndsStep r (outcome.Waiting guards) turns vs x ts ws = (whole : List Entry) → NoneOpen whole guards.items
     → StopsWithin r whole end.Waiting turns vs x ts
 
@@ -51,10 +51,10 @@ StopsTurn r turns vs first block count stops ts =
 abbrev pub EndsTurns : Actor → Outcome → List ℤ → List (Option Held) → ℤ → List Statement → ℕ → List Moment
     → List (Option Held) → Type 0
 EndsTurns r outcome.Done turns vs first block count ts ws = AreTurns r turns vs first block count ts ws
-EndsTurns r (outcome.Error code) turns vs first block count ts ws =
+EndsTurns r (outcome.Error fault) turns vs first block count ts ws =
     (whole : List Entry)
     → StopsTurn r turns vs first block count
-    (λ inner us more. Stops r whole (end.Error code) inner us block more) ts
+    (λ inner us more. Stops r whole (end.Error fault) inner us block more) ts
 EndsTurns r (outcome.Waiting guards) turns vs first block count ts ws =
     (whole : List Entry) → NoneOpen whole guards.items
     → StopsTurn r turns vs first block count (λ inner us more. Stops r whole end.Waiting inner us block more) ts
@@ -63,8 +63,8 @@ EndsTurns r (outcome.Waiting guards) turns vs first block count ts ws =
 -- to that end, at a wait where none of these is open in it
 abbrev pub HasEnded : Actor → Body → Outcome → List Entry → Type 0
 HasEnded r body outcome.Done k = (whole : List Entry) → moments whole ≡ moments k → Follows r body whole end.Done
-HasEnded r body (outcome.Error code) k = (whole : List Entry) → moments whole ≡ moments k
-    → Follows r body whole (end.Error code)
+HasEnded r body (outcome.Error fault) k = (whole : List Entry) → moments whole ≡ moments k
+    → Follows r body whole (end.Error fault)
 HasEnded r body (outcome.Waiting guards) k = (whole : List Entry) → moments whole ≡ moments k
     → NoneOpen whole guards.items → Follows r body whole end.Waiting
 

@@ -11,6 +11,7 @@ use Rattle.tp_play.specs.declared.body.Statement.TheVariants as statement
 use Rattle.tp_play.specs.Fills.{needed}
 use Rattle.tp_inbox.specs.declared.entry.Entry.{Entry}
 use Rattle.tp_inbox.specs.declared.entry.Entry.TheVariants as entry
+use Rattle.tp_inbox.specs.declared.send_fault.SendFault.{SendFault}
 use Rattle.tp_inbox.specs.History.{next_of, sent_on}
 use Rattle.tp_behaviour.specs.Ends.{IsFailure}
 use Rattle.tp_behaviour.specs.declared.held.Held.{Held}
@@ -34,16 +35,16 @@ CanName variables references (receiver.Reference k) = k < references
 CanName variables references (receiver.Variable k) = HoldsNoMessage variables k
 CanName variables references receiver.All = ⊥
 
--- a send comes to this: it is carried out, or the behaviour ends by the refusal of this number
-abbrev pub Sends : Actor → Values → SendOperation → Option ℕ → List Entry → List Entry → Type 0
+-- a send comes to this: it is carried out, or the behaviour ends by this fault
+abbrev pub Sends : Actor → Values → SendOperation → Option SendFault → List Entry → List Entry → Type 0
 Sends r vs x None before after =
     Grew (λ ts. IsStep r vs.turns vs.variables (statement.Send x) ts vs.variables) before after
-Sends r vs x (Some code) before after =
-    Grew (One (λ t. IsFailure r vs x t.before code × (t.entry ≡ entry.Failed code))) before after
+Sends r vs x (Some fault) before after =
+    Grew (One (λ t. IsFailure r vs x t.before fault × (t.entry ≡ entry.Failed fault))) before after
 
 -- the same at a station, by what the behaviour keeps in mind
-abbrev pub SendsAt : Post → State → SendOperation → Station → Station → Option ℕ → Type 0
-SendsAt p s x here there code = Sends (role_of p) (values_of s) x code here.desk.log there.desk.log
+abbrev pub SendsAt : Post → State → SendOperation → Station → Station → Option SendFault → Type 0
+SendsAt p s x here there fault = Sends (role_of p) (values_of s) x fault here.desk.log there.desk.log
 
 -- the entry of a message that goes out on this route now: it has the next number there, and the next stamp
 abbrev pub next_sent : RouteId → Message → List Entry → Entry

@@ -4,7 +4,8 @@ ghost use Rattle.tp_inbox.specs.declared.entry.Entry.TheVariants as entry;
 ghost use Rattle.tp_inbox.specs.History.{next_of};
 ghost use Rattle.tp_inbox.specs.Desks.{adding};
 ghost use Rattle.tp_inbox.specs.Ledgers.{Sending};
-ghost use Rattle.tp_behaviour.specs.Outboxes.{AreFiledAt, HasPut, IsAimed, IsRouteFull, IsHome, IsLevel, IsListed, KeepsOtherRoutes, LeadsBack, routes_of};
+ghost use Rattle.tp_inbox.specs.Places.{KeepsOtherRoutes};
+ghost use Rattle.tp_behaviour.specs.Outboxes.{AreFiledAt, HasPut, IsAimed, IsRouteFull, IsHome, IsLevel, IsListed, LeadsBack, routes_of};
 
 use indexmap::IndexMap;
 use std::alloc::Global;
@@ -17,7 +18,8 @@ use tp_inbox::sender::{PutFault, Sender};
 use tp_refusal::memory::Memory;
 use tp_value::message::Message;
 
-/// Where a route begins: with which of a component's senders, and which of the sender's routes it is.
+/// Where a route begins: with which of a component's senders, and which of the sender's routes it
+/// is.
 #[derive(Clone, Copy, Drop)]
 pub(crate) struct RoutePlace {
     /// The place of the sender.

@@ -1,13 +1,14 @@
 //! How carrying out statements ends.
 use crate::choice::Guard;
+use tp_inbox::send_fault::SendFault;
 
 /// How carrying out statements ends.
 #[derive(Drop)]
 pub enum Outcome {
     /// They were carried out.
     Done,
-    /// A send ended the behaviour, by the refusal of this number.
-    Error(u8),
+    /// A send couldn't be carried out, by this fault, which ended the behaviour.
+    Error(SendFault),
     /// It waits at a receiving operation or an `alt` with these branches, of which none can be
     /// chosen any more by what has come.
     Waiting(Vec<Guard>),

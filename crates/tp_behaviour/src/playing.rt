@@ -39,7 +39,7 @@ pub(crate) fn play_send<R: Wait, G: Gate>(
 {
     match send(scene, &mut *station, state, sending)? {
         None => Ok(Outcome::Done),
-        Some(code) => Ok(Outcome::Error(code)),
+        Some(fault) => Ok(Outcome::Error(fault)),
     }
 }
 

@@ -3,7 +3,7 @@ ghost use Rattle.std.specs.Prelude.{◌≡◌, ◌++◌, ◌∷◌, [], ℕ, All
 ghost use Rattle.std.specs.List.{AllZip};
 ghost use Rattle.tp_play.specs.declared.body.Receiver.TheVariants as receiver;
 ghost use Rattle.tp_play.specs.Playable.{CanSend};
-ghost use Rattle.tp_behaviour.specs.Ends.{IsFailure, route_number};
+ghost use Rattle.tp_behaviour.specs.Ends.{IsFailure};
 ghost use Rattle.tp_behaviour.specs.Held.{IsNamed, IsSentAs};
 ghost use Rattle.tp_behaviour.specs.Outboxes.{routes_of};
 ghost use Rattle.tp_behaviour.specs.Outcomes.{HoldsAsDeclared, depth_of, stage_at};
@@ -22,11 +22,12 @@ use std::sync::Wait;
 use tp_config::port_type::{CompId, PortRef, RouteId};
 use tp_config::routes::RouteFault;
 use tp_inbox::entry::Entry;
+use tp_inbox::send_fault::SendFault;
 use tp_play::body::{Receiver, SendOperation};
 use tp_refusal::memory::Memory;
 use tp_value::message::Message;
 
-/// Ends the behaviour at a send, by the refusal of this number, which is answered.
+/// Ends the behaviour at a send, by this fault, which is answered.
 ///
 /// 50 `Memory` only where an allocation was refused.
 fn fail(
@@ -34,18 +35,18 @@ fn fail(
     station: &mut Station,
     state: &State,
     sending: &SendOperation,
-    code: u8,
-) -> Result<Option<u8>, Memory>
+    fault: SendFault,
+) -> Result<Option<SendFault>, Memory>
     requires manned { IsManned (role_of post.now) station.old }
     requires cause { IsFailure (role_of post.now) (values_of state.now) sending.now
-        station.old.desk.log code }
+        station.old.desk.log fault }
     ensures manned { OnOk result (IsManned (role_of post.now) station.new) }
     ensures same { OnOk result (IsSame station.old station.new) }
     ensures sends { IfOk result (SendsAt post.now state.now sending.now station.old station.new) }
 {
     let (_state, _sending) = (state, sending);
-    note(post, &mut *station, Entry::Failed(code))?;
-    Ok(Some(code))
+    note(post, &mut *station, Entry::Failed(fault))?;
+    Ok(Some(fault))
 }
 
 /// Sends a message on a route: its number is the next on the route, and its stamp the next in the
@@ -75,18 +76,8 @@ fn send_on<R: Wait, G: Gate>(
     Ok(())
 }
 
-/// The number of the refusal by which there is no route.
-fn route_code(fault: RouteFault) -> u8
-    ensures { result ≡ route_number fault }
-{
-    match fault {
-        RouteFault::NoRoute => 41,
-        RouteFault::NeedsTo => 42,
-    }
-}
-
 /// Sends a message on the route that its port has, or the one to the component named; where there
-/// is no such route, the behaviour ends by the refusal of the number that is answered.
+/// is no such route, the behaviour ends by the fault that is answered.
 ///
 /// 50 `Memory` as [`send_on`].
 fn send_to<R: Wait, G: Gate>(
@@ -96,7 +87,7 @@ fn send_to<R: Wait, G: Gate>(
     sending: &SendOperation,
     message: &Message,
     named: Option<CompId>,
-) -> Result<Option<u8>, Memory>
+) -> Result<Option<SendFault>, Memory>
     requires manned { IsManned (role_of scene.now.post.now) station.old }
     requires started { IsStarted station.old.desk.log sending.now.port }
     requires sent { IsSentAs (values_of state.now) sending.now.sent message.now }
@@ -116,7 +107,13 @@ fn send_to<R: Wait, G: Gate>(
             send_on(scene, &mut *station, route, message)?;
             Ok(None)
         }
-        Err(fault) => fail(scene.post, &mut *station, state, sending, route_code(fault)),
+        Err(fault) => fail(
+            scene.post,
+            &mut *station,
+            state,
+            sending,
+            SendFault::Unrouted(fault),
+        ),
     }
 }
 
@@ -144,7 +141,7 @@ fn send_on_each<R: Wait, G: Gate>(
 }
 
 /// Sends a message on each route of its port, in the order of the connections (22.2.1, `to all
-/// component`); where there is none, the behaviour ends by the refusal 41, which is answered.
+/// component`); where there is none, the behaviour ends by 41 `NoRoute`, which is answered.
 ///
 /// 50 `Memory` as [`send_on`].
 fn send_to_all<R: Wait, G: Gate>(
@@ -153,7 +150,7 @@ fn send_to_all<R: Wait, G: Gate>(
     state: &State,
     sending: &SendOperation,
     message: &Message,
-) -> Result<Option<u8>, Memory>
+) -> Result<Option<SendFault>, Memory>
     requires manned { IsManned (role_of scene.now.post.now) station.old }
     requires started { IsStarted station.old.desk.log sending.now.port }
     requires sent { IsSentAs (values_of state.now) sending.now.sent message.now }
@@ -169,7 +166,8 @@ fn send_to_all<R: Wait, G: Gate>(
     };
     let routes = scene.post.config.routes_from(port)?;
     if routes.is_empty() {
-        return fail(scene.post, &mut *station, state, sending, 41);
+        let no_route = SendFault::Unrouted(RouteFault::NoRoute);
+        return fail(scene.post, &mut *station, state, sending, no_route);
     }
     send_on_each(scene, &mut *station, routes.as_slice(), message)?;
     Ok(None)
@@ -184,7 +182,7 @@ fn send_to_one<R: Wait, G: Gate>(
     state: &State,
     sending: &SendOperation,
     message: &Message,
-) -> Result<Option<u8>, Memory>
+) -> Result<Option<SendFault>, Memory>
     requires manned { IsManned (role_of scene.now.post.now) station.old }
     requires started { IsStarted station.old.desk.log sending.now.port }
     requires sent { IsSentAs (values_of state.now) sending.now.sent message.now }
@@ -197,7 +195,10 @@ fn send_to_one<R: Wait, G: Gate>(
 {
     match named_of(scene.post, state, sending.to) {
         Some(named) => send_to(scene, &mut *station, state, sending, message, named),
-        None => fail(scene.post, &mut *station, state, sending, 43),
+        None => {
+            let unset_receiver = SendFault::UnsetVariable;
+            fail(scene.post, &mut *station, state, sending, unset_receiver)
+        }
     }
 }
 
@@ -209,7 +210,7 @@ fn send_started<R: Wait, G: Gate>(
     station: &mut Station,
     state: &State,
     sending: &SendOperation,
-) -> Result<Option<u8>, Memory>
+) -> Result<Option<SendFault>, Memory>
     requires manned { IsManned (role_of scene.now.post.now) station.old }
     requires started { IsStarted station.old.desk.log sending.now.port }
     requires held { HoldsAsDeclared scene.now.post.now state.now }
@@ -220,7 +221,8 @@ fn send_started<R: Wait, G: Gate>(
         (SendsAt scene.now.post.now state.now sending.now station.old station.new) }
 {
     let Some(message) = message_of(scene.post.alloc, state, &sending.sent)? else {
-        return fail(scene.post, &mut *station, state, sending, 43);
+        let unset_message = SendFault::UnsetVariable;
+        return fail(scene.post, &mut *station, state, sending, unset_message);
     };
     match sending.to {
         Receiver::All => send_to_all(scene, &mut *station, state, sending, &message),
@@ -228,10 +230,10 @@ fn send_started<R: Wait, G: Gate>(
     }
 }
 
-/// Carries out a send (ES 201 873-1, 22.2.1), and answers the number of the refusal by which the
-/// behaviour ends there, if it does: 40 where the port isn't started; else 43 where a variable of
-/// which the send speaks isn't set; else 41 where there is no route, or none to the component
-/// named, or 42 where there are several and no component is named.
+/// Carries out a send (ES 201 873-1, 22.2.1), and answers the fault by which the behaviour ends
+/// there, if it does: 40 `NotSending` where the port isn't started; else 43 `UnsetVariable` where a
+/// variable of which the send speaks isn't set; else 41 `NoRoute` where there is no route, or none
+/// to the component named, or 42 `NeedsTo` where there are several and no component is named.
 ///
 /// 50 `Memory` as [`send_on`].
 pub(crate) fn send<R: Wait, G: Gate>(
@@ -239,7 +241,7 @@ pub(crate) fn send<R: Wait, G: Gate>(
     station: &mut Station,
     state: &State,
     sending: &SendOperation,
-) -> Result<Option<u8>, Memory>
+) -> Result<Option<SendFault>, Memory>
     requires manned { IsManned (role_of scene.now.post.now) station.old }
     requires held { HoldsAsDeclared scene.now.post.now state.now }
     requires can { CanSend (stage_at scene.now.post.now) (depth_of state.now) sending.now }
@@ -251,6 +253,12 @@ pub(crate) fn send<R: Wait, G: Gate>(
     if station.desk.queue(sending.port).may_send() {
         send_started(scene, &mut *station, state, sending)
     } else {
-        fail(scene.post, &mut *station, state, sending, 40)
+        fail(
+            scene.post,
+            &mut *station,
+            state,
+            sending,
+            SendFault::NotSending,
+        )
     }
 }

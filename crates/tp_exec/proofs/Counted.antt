@@ -8,19 +8,19 @@ use Rattle.indexmap.specs.IndexMap.{IndexMap, Updates, get}
 use Rattle.tp_config.specs.declared.port_type.RouteId.{RouteId}
 use Rattle.tp_inbox.specs.History.{count_of, posted_on, same_route}
 use Rattle.tp_inbox.specs.Ledgers.{Sending, put_on_way}
-use Rattle.tp_inbox.specs.Places.{route_eq}
+use Rattle.tp_inbox.specs.Places.{KeepsOtherRoutes, route_eq}
 use Rattle.tp_inbox.specs.Routed.{absent_route, route_at}
 use Rattle.tp_inbox.proofs.Arrivals.{same_default}
 use Rattle.tp_inbox.proofs.Places.{eq_same}
 use Rattle.tp_inbox.proofs.Putting.{route_itself, route_same}
 use Rattle.tp_behaviour.specs.Outboxes.{routes_of}
-use Rattle.tp_exec.specs.Held.{AreFiledOf, IsCounted, IsFiled, KeepsOthers, ShareNone}
+use Rattle.tp_exec.specs.Held.{AreFiledOf, IsCounted, IsFiled, ShareNone}
 use Rattle.tp_exec.proofs.Pairs.{flat_from}
 
 -- of the first n routes of a sender it is filed how much was put there, and of none that isn't one of its routes
 pub record AreFirstFiled {S : Type 0} (n : ℕ) (s : Sending) (before now : IndexMap RouteId ℕ S) : Type 0 where
   pub filed : (k : ℕ) → k < n → IsFiled now s (route_at s.routes k)
-  pub others : KeepsOthers s.routes before now
+  pub others : KeepsOtherRoutes s.routes before now
 
 pub filed_none : {S : Type 0} (s : Sending) (m : IndexMap RouteId ℕ S) → AreFirstFiled 0 s m m
 filed_none s m = record { filed = λ k low. absurd (omega (arith, low)); others = λ r none. refl }
@@ -65,7 +65,7 @@ abbrev pub AreFiledBelow : {S : Type 0} → ℕ → List Sending → IndexMap Ro
 AreFiledBelow n ss counts = (k : ℕ) (d : Sending) → k < n → k < length ss → AreFiledOf counts (get_or ss k d)
 
 pub below_next : {S : Type 0} (ss : List Sending) (s : Sending) (n : ℕ) (now after : IndexMap RouteId ℕ S) → n < length ss → s ≡ get_or ss n s
-    → AllPairs ShareNone ss → AreFiledBelow n ss now → AreFiledOf after s → KeepsOthers s.routes now after → AreFiledBelow (n + 1) ss after
+    → AllPairs ShareNone ss → AreFiledBelow n ss now → AreFiledOf after s → KeepsOtherRoutes s.routes now after → AreFiledBelow (n + 1) ss after
 below_next ss s n now after low is apart h here others k d below within = by (cases_order k n) where
   at : get_or ss n d ≡ s
   at = same_default ss n d s low ∙ sym is

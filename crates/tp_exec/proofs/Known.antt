@@ -113,7 +113,7 @@ module _ (s : Setup) (c : CompId) (port : ℕ) where
   entry_lets (entry.Sent r n m) rest l on all = all
   entry_lets entry.Else rest l on all = all
   entry_lets (entry.Verdict v) rest l on all = all
-  entry_lets (entry.Failed code) rest l on all = all
+  entry_lets (entry.Failed fault) rest l on all = all
 
   history_lets : (k : List Entry) → IsSetup s → All (IsOnRoute s c) k → All LetsIn (history_of port k)
   unfolding history_of
@@ -158,7 +158,7 @@ module _ (s : Setup) (l : IsSetup s) (c : CompId) (d : Journal) (ports : d.ports
   known_at n (entry.Sent r number m) at within on out = into_port s l r.to.comp r out.1
   known_at n entry.Else at within on out = tt
   known_at n (entry.Verdict v) at within on out = tt
-  known_at n (entry.Failed code) at within on out = tt
+  known_at n (entry.Failed fault) at within on out = tt
 
   -- **it names what is of the configuration alone**
   pub known : All (IsKnown s c) d.log

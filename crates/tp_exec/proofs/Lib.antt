@@ -8,6 +8,7 @@ pub mod OpenedInboxes
 pub mod Dealing
 pub mod Manning
 pub mod NoCircle
+pub mod LawfulTraces
 pub mod Overtaking
 pub mod Holding
 pub mod Coming

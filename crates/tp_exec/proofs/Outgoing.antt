@@ -65,7 +65,7 @@ module _ (d : CompId) (out : List RouteId) (none : (r : RouteId) → Contains ou
   not_sent (entry.Halted p) h = refl
   not_sent entry.Else h = refl
   not_sent (entry.Verdict v) h = refl
-  not_sent (entry.Failed code) h = refl
+  not_sent (entry.Failed fault) h = refl
 
   pub none_sent : (k : List Entry) → All (IsSentBy out) k → sent_to d k ≡ []
   unfolding sent_to
@@ -97,7 +97,7 @@ module _ (d c : CompId) (routes : List RouteId) (none : (r : RouteId) → Contai
   not_come (entry.Sent r n m) h = absurd h
   not_come entry.Else h = absurd h
   not_come (entry.Verdict v) h = absurd h
-  not_come (entry.Failed code) h = absurd h
+  not_come (entry.Failed fault) h = absurd h
 
   none_arrived : (es : List Entry) → All (IsArrivalOn routes) es → arrived_from d c es ≡ []
   unfolding arrived_from

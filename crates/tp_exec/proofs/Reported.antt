@@ -76,10 +76,10 @@ room_more before rest done after x y room now is was same low = omega (arith, lo
 follows : (s : Setup) (c : CompId) (d : Option Behaviour) (o : Outcome) (k : List Entry) → BehaviourEnded s c d o k → IsRest k o
     → FollowsBehaviour s c d k (end_as o)
 follows s c (Some d) outcome.Done k h rest = h k refl
-follows s c (Some d) (outcome.Error code) k h rest = h k refl
+follows s c (Some d) (outcome.Error fault) k h rest = h k refl
 follows s c (Some d) (outcome.Waiting guards) k h rest = h k refl rest
 follows s c None outcome.Done k h rest = h k refl
-follows s c None (outcome.Error code) k h rest = h k refl
+follows s c None (outcome.Error fault) k h rest = h k refl
 follows s c None (outcome.Waiting guards) k h rest = h k refl rest
 
 -- what is numbered from n on has the numbers from n on

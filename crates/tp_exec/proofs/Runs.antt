@@ -89,12 +89,12 @@ module _ (out : List RouteId) where
   gone_out s c ways (entry.Halted p) h = tt
   gone_out s c ways entry.Else h = tt
   gone_out s c ways (entry.Verdict v) h = tt
-  gone_out s c ways (entry.Failed code) h = tt
+  gone_out s c ways (entry.Failed fault) h = tt
 
 -- a behaviour that has ended has done so in each history with its trace
 ended_so : (r : Actor) (body : Body) (o : Outcome) (k l : List Entry) → moments l ≡ moments k → HasEnded r body o k → HasEnded r body o l
 ended_so r body outcome.Done k l same h = λ whole is. h whole (is ∙ same)
-ended_so r body (outcome.Error code) k l same h = λ whole is. h whole (is ∙ same)
+ended_so r body (outcome.Error fault) k l same h = λ whole is. h whole (is ∙ same)
 ended_so r body (outcome.Waiting guards) k l same h = λ whole is none. h whole (is ∙ same) none
 
 behaviour_ended : (s : Setup) (c : CompId) (d : Option Behaviour) (o : Outcome) (k l : List Entry) → moments l ≡ moments k → BehaviourEnded s c d o k

@@ -77,7 +77,7 @@ entry_on s c (entry.Halted port) es false is all = (tt, all)
 entry_on s c (entry.Sent r number m) es false is all = (tt, all)
 entry_on s c entry.Else es false is all = (tt, all)
 entry_on s c (entry.Verdict v) es false is all = (tt, all)
-entry_on s c (entry.Failed code) es false is all = (tt, all)
+entry_on s c (entry.Failed fault) es false is all = (tt, all)
 entry_on s c _ es true is all = absurd (cc)
 
 -- where all arrivals are of routes into the component, so are all of its entries

@@ -55,11 +55,6 @@ AreFiledOf counts s = All (IsFiled counts s) s.routes
 abbrev pub ShareNone : Sending → Sending → Type 0
 ShareNone s t = All (λ (r : RouteId). All (λ (q : RouteId). q ≢ r) t.routes) s.routes
 
--- of routes that none of these is, the one table has what the other has
-abbrev pub KeepsOthers : {S : Type 0} → List RouteId → IndexMap RouteId ℕ S → IndexMap RouteId ℕ S → Type 0
-KeepsOthers routes before after =
-    (r : RouteId) → All (λ (q : RouteId). q ≢ r) routes → get route_eq after r ≡ get route_eq before r
-
 -- how many messages were put on the route is counted
 abbrev pub IsCounted : List (RouteId × ℕ) → Sending → RouteId → Type 0
 IsCounted counts s r = count_of r counts ≡ length (posted_on r s.ledger)

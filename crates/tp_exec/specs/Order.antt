@@ -49,8 +49,8 @@ pub record CameAt (report : Report) (a : ℕ) (r : RouteId) (number : ℕ) : Typ
   pub sender : envelope.sender ≡ r.source.0
   pub numbered : envelope.number ≡ number
 
--- **no message overtakes another**: of two that one component sent to one other, at whatever ports, that came first which
--- was sent first
+-- **no message overtakes another**: of two that one component sent to one other, at whatever ports, that came first
+-- which was sent first
 abbrev pub NoneOvertakes : Report → Type 0
 NoneOvertakes report =
     (r q : RouteId) (i j n o a b : ℕ) (m w : Stamped) → r.source ≡ q.source → r.to.comp ≡ q.to.comp → i < j

@@ -41,7 +41,7 @@ IsAtRest e = IsRest e.desk.log e.outcome
 -- how a behaviour ended, for its report
 abbrev pub end_as : Outcome → End
 end_as outcome.Done = end.Done
-end_as (outcome.Error code) = end.Error code
+end_as (outcome.Error fault) = end.Error fault
 end_as (outcome.Waiting guards) = end.Waiting
 
 -- each port has a lawful history, the entries name no other port, and the stamps of what was sent grow

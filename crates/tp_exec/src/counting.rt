@@ -3,9 +3,9 @@ ghost use Rattle.std.specs.Prelude.{◌≡◌, ℕ, All, AllPairs, Contains, IfO
 ghost use Rattle.indexmap.specs.IndexMap.{get};
 ghost use Rattle.tp_config.specs.declared.port_type.RouteId.{RouteId as Route};
 ghost use Rattle.tp_inbox.specs.Ledgers.{Sending};
-ghost use Rattle.tp_inbox.specs.Places.{route_eq};
+ghost use Rattle.tp_inbox.specs.Places.{KeepsOtherRoutes, route_eq};
 ghost use Rattle.tp_behaviour.specs.Outboxes.{routes_of};
-ghost use Rattle.tp_exec.specs.Held.{AreFiledOf, IsCounted, KeepsOthers, ShareNone};
+ghost use Rattle.tp_exec.specs.Held.{AreFiledOf, IsCounted, ShareNone};
 
 use indexmap::IndexMap;
 use std::alloc::Global;
@@ -18,7 +18,7 @@ use tp_refusal::memory::Memory;
 /// 50 `Memory` where an allocation was refused.
 fn file(counts: &mut IndexMap<RouteId, u64>, sender: &Sender) -> Result<(), Memory>
     ensures filed { OnOk result (AreFiledOf counts.new sender.now) }
-    ensures others { OnOk result (KeepsOthers sender.now.routes counts.old counts.new) }
+    ensures others { OnOk result (KeepsOtherRoutes sender.now.routes counts.old counts.new) }
 {
     for way in 0..sender.ways() {
         counts.insert(sender.route(way), sender.count(way))?;

@@ -1,8 +1,14 @@
-//! A law of what a report promises, as a function whose contract it is. It does nothing.
-ghost use Rattle.tp_exec.specs.Laws.{RoutesFollow};
+//! Laws of what a report promises, each as a function whose contract it is. They do nothing.
+ghost use Rattle.tp_exec.specs.Laws.{RoutesFollow, TracesAreLawful};
 
 /// The law that what is delivered between two components is delivered on each route from the one to
 /// the other.
 pub fn routes_follow()
     ensures { RoutesFollow }
+{}
+
+/// The law that the trace of a report is lawful: the histories of which it is written obey the
+/// rules of ports, of delivery on every route, and of circles.
+pub fn traces_are_lawful()
+    ensures { TracesAreLawful }
 {}

@@ -26,7 +26,7 @@ fn end_of(outcome: &Outcome) -> End
 {
     match outcome {
         Outcome::Done => End::Done,
-        Outcome::Error(code) => End::Error(*code),
+        Outcome::Error(fault) => End::Error(*fault),
         Outcome::Waiting(_) => End::Waiting,
     }
 }

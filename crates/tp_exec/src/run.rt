@@ -14,7 +14,7 @@ use std::alloc::Global;
 use std::sync::Wait;
 use std::thread::Threads;
 use tp_behaviour::gate::Gate;
-use tp_inbox::floor::Floor;
+use tp_floor::floor::Floor;
 use tp_play::test_case::TestCase;
 use tp_report::report::Report;
 

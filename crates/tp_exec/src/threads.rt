@@ -21,7 +21,7 @@ use tp_behaviour::outcome::Outcome;
 use tp_behaviour::post::Post;
 use tp_behaviour::station::Station;
 use tp_config::port_type::CompId;
-use tp_inbox::floor::Floor;
+use tp_floor::floor::Floor;
 use tp_inbox::owner::Closer;
 use tp_play::test_case::TestCase;
 use tp_refusal::memory::Memory;

@@ -149,7 +149,7 @@ no_arrival r (entry.Halted p) n = refl
 no_arrival r (entry.Sent q number m) n = refl
 no_arrival r entry.Else n = refl
 no_arrival r (entry.Verdict v) n = refl
-no_arrival r (entry.Failed code) n = refl
+no_arrival r (entry.Failed fault) n = refl
 
 arrived_step : (r : RouteId) (e : Entry) (xs ys : List Entry) (b : Bool) → is_arrival e ≡ b → filter_map (arrival_on r) xs ≡ filter_map (arrival_on r) ys
     → filter_map (arrival_on r) (e ∷ xs) ≡ filter_map (arrival_on r) (cond b (e ∷ ys) ys)
@@ -179,7 +179,7 @@ none_arrived comp source (entry.Halted p) n = refl
 none_arrived comp source (entry.Sent q number m) n = refl
 none_arrived comp source entry.Else n = refl
 none_arrived comp source (entry.Verdict v) n = refl
-none_arrived comp source (entry.Failed code) n = refl
+none_arrived comp source (entry.Failed fault) n = refl
 
 came_step : (comp source : CompId) (e : Entry) (xs ys : List Entry) (b : Bool) → is_arrival e ≡ b
     → filter_map (arrival_from comp source) xs ≡ filter_map (arrival_from comp source) ys

@@ -8,17 +8,11 @@ use Rattle.tp_config.proofs.port_type.RouteId.TheSendSync.{the_send as route_sen
 use Rattle.crossbeam_queue.proofs.seg_queue.Chained.TheSendSync.{the_send as chained_send, the_sync as chained_sync}
 use Rattle.crossbeam_queue.proofs.seg_queue.Ends.TheSendSync.{the_send as ends_send, the_sync as ends_sync}
 use Rattle.atomic_blocks.proofs.web.Seat.TheSendSync.{the_send as seat_send}
-use Rattle.atomic_table.proofs.shared.Shared.TheSendSync.{the_send as shared_send, the_sync as shared_sync}
-use Rattle.atomic_table.proofs.send_lease.SendLease.TheSendSync.{the_send as lease_send, the_sync as lease_sync}
-use Rattle.atomic_table.proofs.shared.Seat.TheSendSync.{the_send as place_pass_send}
-use Rattle.tp_inbox.proofs.floor.Counts.TheSendSync.{the_send as counts_send}
+use Rattle.tp_floor.proofs.Crossing.{bell_send}
 use Rattle.tp_inbox.specs.contracts.stamped.Stamped as stamped
 use Rattle.tp_inbox.specs.contracts.posted.Posted as posted
 use Rattle.tp_inbox.specs.contracts.envelope.Envelope as envelope
 use Rattle.tp_inbox.specs.contracts.entry.Entry as entry
-use Rattle.tp_inbox.specs.contracts.floor.Floor as floor
-use Rattle.tp_inbox.specs.contracts.floor.Place as place
-use Rattle.tp_inbox.specs.contracts.bell.Bell as bell
 use Rattle.tp_inbox.specs.contracts.hub.Hub as hub
 use Rattle.tp_inbox.specs.contracts.owner.Owner as owner
 use Rattle.tp_inbox.specs.contracts.owner.Owner.TheInside as owner_inside
@@ -59,19 +53,6 @@ envelope_send = search (sendable, crosses, stamped_field_send) depth 20
 
 pub envelope_sync : IsSync envelope.the_row
 envelope_sync = search (sendable, crosses, stamped_field_sync) depth 20
-
-pub floor_send : IsSend floor.the_row
-floor_send = search (sendable, crosses, shared_send, lease_send, counts_send) depth 30
-
-pub floor_sync : IsSync floor.the_row
-floor_sync = search (sendable, crosses, shared_sync, lease_sync, counts_send) depth 30
-
--- a place as it stands in another type's field
-pub place_field_send : IsSend (place.the_field).row
-place_field_send = search (sendable, crosses, floor_send, floor_sync, place_pass_send) depth 20
-
-pub bell_send : IsSend bell.the_row
-bell_send = search (sendable, crosses, place_field_send) depth 20
 
 pub hub_send : IsSend hub.the_row
 hub_send = search (sendable, crosses, envelope_send, bell_send, chained_send, ends_send) depth 30

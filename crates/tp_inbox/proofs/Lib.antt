@@ -14,4 +14,3 @@ pub mod Senders
 pub mod Putting
 pub mod Sources
 pub mod Ways
-pub mod Standing

@@ -37,7 +37,7 @@ names_none : (port : ℕ) (e : Entry) → IsNote e → event_at port e ≡ None
 names_none port (entry.Sent r number m) note = refl
 names_none port entry.Else note = refl
 names_none port (entry.Verdict v) note = refl
-names_none port (entry.Failed code) note = refl
+names_none port (entry.Failed fault) note = refl
 names_none port (entry.Arrive p env stamp) note = absurd note
 names_none port (entry.Took p env branch) note = absurd note
 names_none port (entry.Found p env branch) note = absurd note
@@ -52,7 +52,7 @@ within_note : (n : ℕ) (e : Entry) → IsNote e → IsWithin n e
 within_note n (entry.Sent r number m) note = tt
 within_note n entry.Else note = tt
 within_note n (entry.Verdict v) note = tt
-within_note n (entry.Failed code) note = tt
+within_note n (entry.Failed fault) note = tt
 within_note n (entry.Arrive p env stamp) note = absurd note
 within_note n (entry.Took p env branch) note = absurd note
 within_note n (entry.Found p env branch) note = absurd note
@@ -80,7 +80,7 @@ within_event n port (entry.Halted p) y low is = named_port n port p event.Halted
 within_event n port (entry.Sent r number m) y low is = tt
 within_event n port entry.Else y low is = tt
 within_event n port (entry.Verdict v) y low is = tt
-within_event n port (entry.Failed code) y low is = tt
+within_event n port (entry.Failed fault) y low is = tt
 
 -- the history of a port, with one more entry
 history-push : (port : ℕ) (log : List Entry) (e : Entry) → history_of port (log ++ e ∷ []) ≡ history_of port log ++ filter_map (event_at port) (e ∷ [])

@@ -43,7 +43,7 @@ came_one comp r here (entry.Halted p) xs = refl
 came_one comp r here (entry.Sent q number m) xs = refl
 came_one comp r here entry.Else xs = refl
 came_one comp r here (entry.Verdict v) xs = refl
-came_one comp r here (entry.Failed code) xs = refl
+came_one comp r here (entry.Failed fault) xs = refl
 
 -- of what came from a component, what is of one of its routes is what came on that route
 pub came_on : (comp : CompId) (r : RouteId) → r.to.comp ≡ comp → (k : List Entry) → posted_on r (arrived_from comp r.source k) ≡ arrived_on r k
@@ -82,7 +82,7 @@ sent_one comp r here (entry.Stopped p) xs = refl
 sent_one comp r here (entry.Halted p) xs = refl
 sent_one comp r here entry.Else xs = refl
 sent_one comp r here (entry.Verdict v) xs = refl
-sent_one comp r here (entry.Failed code) xs = refl
+sent_one comp r here (entry.Failed fault) xs = refl
 
 -- of what was sent to a component, what is of one of its routes is what was sent on that route
 pub sent_by_routes : (comp : CompId) (r : RouteId) → r.to.comp ≡ comp → (k : List Entry) → posted_on r (sent_to comp k) ≡ sent_on r k

@@ -36,7 +36,7 @@ abbrev pub IsNote : Entry → Type 0
 IsNote (entry.Sent r number m) = Unit {0}
 IsNote entry.Else = Unit {0}
 IsNote (entry.Verdict v) = Unit {0}
-IsNote (entry.Failed code) = Unit {0}
+IsNote (entry.Failed fault) = Unit {0}
 IsNote _ = ⊥
 
 -- an entry that names a port names one of the first n

@@ -36,8 +36,8 @@ AreTold places counts es =
     (length counts ≡ length places)
     × ((k : ℕ) → k < length places → slice_index_or counts k 0 ≡ length (of (slice_index_or places k 0) es))
 
--- a sender's pass is of its inbox's queue, and knows the places of its routes, of which no two are equal, and what it has
--- put, which are the ledger's messages; the counts are those of its routes
+-- a sender's pass is of its inbox's queue, and knows the places of its routes, of which no two are equal, and what it
+-- has put, which are the ledger's messages; the counts are those of its routes
 pub record IsSender (s : sender.Inside) : Type 0 where
   pub pass : IsSegPassOf (arc_value s.hub).line s.pass
   pub view : s.pass.me.view.client ≡ sender_pass s.places.items s.pass.me.view.client.put

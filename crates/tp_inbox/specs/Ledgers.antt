@@ -18,8 +18,8 @@ pub record Inbox : Type 0 where
   pub routes : List RouteId
   pub queue : SegId Global
 
--- a sender: its inbox, the component that sends by it, its routes, which are all from that component into the inbox, and
--- what it has put, in its order over all of them
+-- a sender: its inbox, the component that sends by it, its routes, which are all from that component into the inbox,
+-- and what it has put, in its order over all of them
 pub record Sending : Type 0 where
   pub inbox : Inbox
   pub source : CompId
@@ -59,7 +59,8 @@ putting s way m = posting s (route_at s.routes way) m
 -- a sender for this component into this inbox that has those of the inbox's first n routes which are from it, and has
 -- put nothing
 abbrev pub sender_by : Inbox → ℕ → CompId → Sending
-sender_by inbox n source = record { inbox = inbox; source = source; routes = routes_by source (take n inbox.routes); ledger = [] }
+sender_by inbox n source =
+    record { inbox = inbox; source = source; routes = routes_by source (take n inbox.routes); ledger = [] }
 
 -- the senders of this inbox, as far as they are made of its first n routes
 abbrev pub AreMade : Inbox → ℕ → List Sending → Type 0

@@ -1,3 +1,4 @@
+pub mod Faults
 pub mod History
 pub mod Desks
 pub mod Lending
@@ -8,4 +9,3 @@ pub mod Places
 pub mod Ledgers
 pub mod Ends
 pub mod Gathers
-pub mod Standing

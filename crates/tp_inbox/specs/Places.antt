@@ -1,5 +1,5 @@
--- The places of routes in a list, by a table.
-use Rattle.std.specs.Prelude.{◌≡◌, ◌<◌, ℕ, Bool, Some, List}
+-- The places of routes in a list, by a table; what a table of routes keeps.
+use Rattle.std.specs.Prelude.{◌≡◌, ◌≢◌, ◌<◌, ℕ, Bool, Some, List, All}
 use Rattle.indexmap.specs.IndexMap.{IndexMap, get}
 use Rattle.tp_config.specs.declared.port_type.RouteId.{RouteId}
 use Rattle.tp_config.specs.contracts.port_type.RouteIdPartialEq.TheImpl.{eq-value}
@@ -13,3 +13,8 @@ route_eq = eq-value.it
 pub record AreFiled {S : Type 0} (n : ℕ) (routes : List RouteId) (places : IndexMap RouteId ℕ S) : Type 0 where
   pub found : (k : ℕ) → k < n → get route_eq places (route_at routes k) ≡ Some k
   pub known : (r : RouteId) (k : ℕ) → get route_eq places r ≡ Some k → (k < n) × (route_at routes k ≡ r)
+
+-- of routes that none of these is, the table has afterwards what it had before
+abbrev pub KeepsOtherRoutes : {V S : Type 0} → List RouteId → IndexMap RouteId V S → IndexMap RouteId V S → Type 0
+KeepsOtherRoutes routes before after =
+    (r : RouteId) → All (λ (q : RouteId). q ≢ r) routes → get route_eq after r ≡ get route_eq before r

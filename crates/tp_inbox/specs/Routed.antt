@@ -78,12 +78,12 @@ pub record AreArrivals (routes : List RouteId) (es : List Entry) : Type 0 where
   pub routed : All (IsArrivalOn routes) es
   pub order : AreNumbered routes es
 
--- from each of these components, what came to this one begins what it has put there: with its routes and numbers, in its
--- order over all routes
+-- from each of these components, what came to this one begins what it has put there: with its routes and numbers, in
+-- its order over all routes
 abbrev pub AreBegun : CompId → List Entry → List (CompId × List Posted) → Type 0
 AreBegun comp es sent = All (λ (s : CompId × List Posted). Begins (arrived_from comp s.0 es) s.1) sent
 
--- from each of these components, what came to this one is what it has put there: all of it, with its routes and numbers,
--- in its order over all routes
+-- from each of these components, what came to this one is what it has put there: all of it, with its routes and
+-- numbers, in its order over all routes
 abbrev pub AreDelivered : CompId → List Entry → List (CompId × List Posted) → Type 0
 AreDelivered comp es sent = All (λ (s : CompId × List Posted). arrived_from comp s.0 es ≡ s.1) sent

@@ -2,6 +2,7 @@
 ghost use Rattle.std.specs.Prelude.{◌≡◌};
 ghost use Rattle.tp_inbox.specs.History.{stamp_of};
 
+use crate::send_fault::SendFault;
 use crate::stamped::Stamped;
 use tp_config::port_type::RouteId;
 use tp_queue::event::Env;
@@ -38,8 +39,8 @@ pub enum Entry {
     Else,
     /// `setverdict` with this verdict (24.2).
     Verdict(Verdict),
-    /// The behaviour ended at a statement with the refusal of this number.
-    Failed(u8),
+    /// The behaviour ended at a send that couldn't be carried out, by this fault (22.2.1).
+    Failed(SendFault),
 }
 
 impl Entry {

@@ -2,27 +2,17 @@
 ghost use Rattle.std.specs.Prelude.{◌≡◌, ◌<◌, length};
 ghost use Rattle.tp_inbox.specs.Routed.{AreRoutes, env_of, route_at};
 
-use crate::bell::Bell;
 use crate::envelope::Envelope;
-use crate::floor::Floor;
 use crate::rule::InboxQueue;
 use crate::stamped::Stamped;
 use std::alloc::Global;
 use std::sync::{Arc, Condvar, Mutex, MutexGuard, Wait};
 use tp_config::port_type::{CompId, RouteId};
+use tp_floor::bell::{Bell, Woken};
+use tp_floor::floor::Floor;
+use tp_floor::seam::OpenSeam;
 use tp_queue::event::Env;
 use tp_value::message::Message;
-
-/// What a wait found.
-#[derive(Clone, Copy, Debug, PartialEq, Eq)]
-pub enum Woken {
-    /// The inbox holds a message.
-    Arrived,
-    /// It holds none, and it was closed.
-    Closed,
-    /// It holds none, it is open, and no other living behaviour is awake.
-    Last,
-}
 
 /// What an owner and its senders share: the queue, the routes into the component, and the bell.
 ///
@@ -75,14 +65,14 @@ impl Hub {
     /// Announces a push, and wakes the owner where it rests and has not taken this one out yet.
     pub(crate) fn announce<R: Wait>(&self, rt: &R) {
         let mut bell = self.bell.lock(rt);
-        let wakes = bell.announce(rt);
+        let wakes = bell.announce(rt, &mut OpenSeam);
         self.wake(bell, wakes);
     }
 
     /// Closes the inbox, and wakes the owner where it rests.
     pub(crate) fn close<R: Wait>(&self, rt: &R) {
         let mut bell = self.bell.lock(rt);
-        let wakes = bell.close(rt);
+        let wakes = bell.close(rt, &mut OpenSeam);
         self.wake(bell, wakes);
     }
 
@@ -102,7 +92,7 @@ impl Hub {
         if let Some(found) = bell.look(taken) {
             return found;
         }
-        if let Some(last) = bell.rest(rt, taken) {
+        if let Some(last) = bell.rest(rt, &mut OpenSeam, taken) {
             return last;
         }
         let bell = self.rung.wait_while(rt, bell, |bell| bell.rests());

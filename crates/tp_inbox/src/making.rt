@@ -13,7 +13,6 @@ ghost use Rattle.crossbeam_queue.specs.SegTies.{IsSegPassOf};
 ghost use Rattle.std.specs.Arc.{arc_value};
 
 use crate::desk::port_count;
-use crate::floor::Floor;
 use crate::hub::Hub;
 use crate::owner::{Closer, Owner};
 use crate::rule::{InboxQueue, Pass, Route};
@@ -23,6 +22,7 @@ use std::alloc::Global;
 use std::sync::Arc;
 use tp_config::config::Config;
 use tp_config::port_type::{CompId, RouteId};
+use tp_floor::floor::Floor;
 use tp_refusal::memory::Memory;
 
 /// The routes into a component, by receiving port, then in the order of the connecting statements.

@@ -11,7 +11,7 @@ ghost use Rattle.tp_inbox.specs.Ledgers.{IsDeskOf, drained_on};
 
 use crate::desk::Desk;
 use crate::envelope::Envelope;
-use crate::hub::{Hub, Woken};
+use crate::hub::Hub;
 use crate::posted::Posted;
 use crate::rule::{InboxQueue, Pass, Take};
 use crate::stamped::Stamped;
@@ -20,6 +20,7 @@ use std::alloc::Global;
 use std::marker::Model;
 use std::sync::{Arc, Wait};
 use tp_config::port_type::{CompId, RouteId};
+use tp_floor::bell::Woken;
 use tp_queue::event::Env;
 use tp_refusal::memory::Memory;
 use tp_value::message::Message;

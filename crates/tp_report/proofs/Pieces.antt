@@ -18,8 +18,9 @@ use Rattle.tp_inbox.specs.declared.entry.Entry.{Entry}
 use Rattle.tp_inbox.specs.Desks.{Journal, at_port}
 use Rattle.tp_report.specs.declared.report.CompReport.{CompReport}
 use Rattle.tp_report.specs.declared.report.Report.{Report}
+use Rattle.tp_report.specs.declared.telling.Telling.{Telling}
 use Rattle.tp_report.specs.Lines.{envelope_line, heading, entry_text, end_text, verdict_line, left_at, left_below, component_port}
-use Rattle.tp_report.specs.Reports.{component_text, report_text}
+use Rattle.tp_report.specs.Reports.{component_text, told_text}
 use Rattle.tp_report.specs.Typed.{is_typed}
 use Rattle.tp_report.specs.Words.{type_name, message_text}
 
@@ -87,26 +88,26 @@ left_more made d n c es own is start here now p q =
     subst (λ k. Appends start now (left_below made d k)) (sym (add-one n))
     (appends_both start here now (left_below made d n) (left_at made d n) p (subst (Appends here now) at q))
 
-pub whole_component : {T E : Type 0} (r : Result T E) (made : Made) (x : CompReport) (c : CompId) (k : List Entry) → c ≡ x.desk.comp → k ≡ x.desk.log
-    → (start headed noted ended judged done : Option (List ℕ)) → Appends start headed (heading made c) → Appends headed noted (flat_map (entry_text made c) k)
+pub whole_component : {T E : Type 0} (r : Result T E) (how : Telling) (made : Made) (x : CompReport) (c : CompId) (k : List Entry) → c ≡ x.desk.comp → k ≡ x.desk.log
+    → (start headed noted ended judged done : Option (List ℕ)) → Appends start headed (heading made c) → Appends headed noted (flat_map (entry_text how made c) k)
     → Appends noted ended (end_text x.ending) → Appends ended judged (verdict_line (codes "verdict") x.verdict)
     → OnOk r (Appends judged done (left_below made x.desk x.desk.ports))
-    → OnOk r (Appends start done (component_text made x))
+    → OnOk r (Appends start done (component_text how made x))
 unfolding component_text
-whole_component r made x c k own is start headed noted ended judged done name entries end verdict left =
+whole_component r how made x c k own is start headed noted ended judged done name entries end verdict left =
     then r start headed done _ _ (subst (λ e. Appends start headed (heading made e)) own name)
     (then r headed noted done _ _
-    (subst (λ e. Appends headed noted (flat_map (entry_text made e) x.desk.log)) own
-    (subst (λ l. Appends headed noted (flat_map (entry_text made c) l)) is entries))
+    (subst (λ e. Appends headed noted (flat_map (entry_text how made e) x.desk.log)) own
+    (subst (λ l. Appends headed noted (flat_map (entry_text how made c) l)) is entries))
     (then r noted ended done _ _ end (then r ended judged done _ _ verdict left)))
 
-pub whole_report : {T E : Type 0} (r : Result T E) (made : Made) (report : Report) (xs : List CompReport) → xs ≡ report.components.items
-    → (start here done : Option (List ℕ)) → Appends start here (flat_map (component_text made) xs)
+pub whole_report : {T E : Type 0} (r : Result T E) (how : Telling) (made : Made) (report : Report) (xs : List CompReport) → xs ≡ report.components.items
+    → (start here done : Option (List ℕ)) → Appends start here (flat_map (component_text how made) xs)
     → OnOk r (Appends here done (verdict_line (codes "result") report.result))
-    → OnOk r (Appends start done (report_text made report))
-unfolding report_text
-whole_report r made report xs is start here done components result =
-    then r start here done _ _ (subst (λ ys. Appends start here (flat_map (component_text made) ys)) is components) result
+    → OnOk r (Appends start done (told_text how made report))
+unfolding told_text
+whole_report r how made report xs is start here done components result =
+    then r start here done _ _ (subst (λ ys. Appends start here (flat_map (component_text how made) ys)) is components) result
 
 pub not_past : {X : Type 0} (xs : List X) (i : ℕ) → slice_get xs i ≡ None → i < length xs → ⊥
 not_past xs i e low = elim ((slice_get_cases xs i).1) [ inl w ↦ absurd (cc) | inr w ↦ absurd (omega arith) ]

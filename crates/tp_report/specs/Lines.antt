@@ -2,6 +2,7 @@
 use Rattle.std.specs.Prelude.{ℕ, zero, suc, List, [], ◌∷◌, ◌++◌, codes}
 use Rattle.std.specs.List.{flat_map}
 use Rattle.std.specs.Fmt.{decimal}
+use Rattle.tp_refusal.specs.Label.{label}
 use Rattle.tp_queue.specs.declared.event.Env.{Env}
 use Rattle.tp_queue.specs.History.{queued}
 use Rattle.tp_value.specs.declared.message.Message.{Message}
@@ -15,6 +16,10 @@ use Rattle.tp_inbox.specs.declared.entry.Entry.TheVariants as entry
 use Rattle.tp_inbox.specs.Desks.{Journal, at_port}
 use Rattle.tp_inbox.specs.declared.ending.End.{End}
 use Rattle.tp_inbox.specs.declared.ending.End.TheVariants as ending
+use Rattle.tp_inbox.specs.declared.send_fault.SendFault.{SendFault}
+use Rattle.tp_inbox.specs.Faults.{send_refusal}
+use Rattle.tp_report.specs.declared.telling.Telling.{Telling}
+use Rattle.tp_report.specs.declared.telling.Telling.TheVariants as telling
 use Rattle.tp_report.specs.Words.{line, component_name, port_name, full_name, message_text, verdict_word}
 
 -- a component
@@ -25,9 +30,9 @@ heading made c = line (codes "component" ∷ component_name made.config c ∷ []
 abbrev pub verdict_line : List ℕ → Verdict → List ℕ
 verdict_line word v = line (word ∷ verdict_word v ∷ [])
 
--- a word and the number of a refusal
-abbrev pub code_line : List ℕ → ℕ → List ℕ
-code_line word code = line (word ∷ decimal code ∷ [])
+-- a word and the number of the refusal by which a send failed
+abbrev pub failure_line : List ℕ → SendFault → List ℕ
+failure_line word fault = line (word ∷ decimal (label (send_refusal fault)).0 ∷ [])
 
 -- a word and a port of the component itself
 abbrev pub port_line : Made → List ℕ → PortRef → List ℕ
@@ -52,25 +57,30 @@ sent_line made r number m =
 abbrev pub component_port : CompId → ℕ → PortRef
 component_port c port = record { comp = c; port = port }
 
--- an entry of a component's history: one line, and none for an arrival
-abbrev pub entry_text : Made → CompId → Entry → List ℕ
-entry_text made c (entry.Sent route number stamped) = sent_line made route number stamped.message
-entry_text made c (entry.Took port e branch) = envelope_line made (codes "took") (component_port c port) e
-entry_text made c (entry.Found port e branch) = envelope_line made (codes "found") (component_port c port) e
-entry_text made c (entry.Dropped port e branch) = envelope_line made (codes "dropped") (component_port c port) e
-entry_text made c (entry.Cleared port) = port_line made (codes "cleared") (component_port c port)
-entry_text made c (entry.Started port) = port_line made (codes "started") (component_port c port)
-entry_text made c (entry.Stopped port) = port_line made (codes "stopped") (component_port c port)
-entry_text made c (entry.Halted port) = port_line made (codes "halted") (component_port c port)
-entry_text made c entry.Else = line (codes "else" ∷ [])
-entry_text made c (entry.Verdict v) = verdict_line (codes "set") v
-entry_text made c (entry.Failed code) = code_line (codes "failed") code
-entry_text made c (entry.Arrive port e stamp) = []
+-- what came to a port: no line in a report, and one in a trace
+abbrev pub arrival_text : Telling → Made → PortRef → Env Message → List ℕ
+arrival_text telling.Report made p e = []
+arrival_text telling.Trace made p e = envelope_line made (codes "came") p e
+
+-- an entry of a component's history: one line, but of an arrival only in a trace
+abbrev pub entry_text : Telling → Made → CompId → Entry → List ℕ
+entry_text how made c (entry.Sent route number stamped) = sent_line made route number stamped.message
+entry_text how made c (entry.Took port e branch) = envelope_line made (codes "took") (component_port c port) e
+entry_text how made c (entry.Found port e branch) = envelope_line made (codes "found") (component_port c port) e
+entry_text how made c (entry.Dropped port e branch) = envelope_line made (codes "dropped") (component_port c port) e
+entry_text how made c (entry.Cleared port) = port_line made (codes "cleared") (component_port c port)
+entry_text how made c (entry.Started port) = port_line made (codes "started") (component_port c port)
+entry_text how made c (entry.Stopped port) = port_line made (codes "stopped") (component_port c port)
+entry_text how made c (entry.Halted port) = port_line made (codes "halted") (component_port c port)
+entry_text how made c entry.Else = line (codes "else" ∷ [])
+entry_text how made c (entry.Verdict v) = verdict_line (codes "set") v
+entry_text how made c (entry.Failed fault) = failure_line (codes "failed") fault
+entry_text how made c (entry.Arrive port e stamp) = arrival_text how made (component_port c port) e
 
 -- how the behaviour ended
 abbrev pub end_text : End → List ℕ
 end_text ending.Done = line (codes "end" ∷ codes "done" ∷ [])
-end_text (ending.Error code) = code_line (codes "end error") code
+end_text (ending.Error fault) = failure_line (codes "end error") fault
 end_text ending.Waiting = line (codes "end" ∷ codes "waiting" ∷ [])
 
 -- what is left at a port, the oldest first

@@ -1,4 +1,4 @@
--- The text of a report, and which reports have one.
+-- The text of a report and its trace, and which reports have them.
 use Rattle.std.specs.Prelude.{◌≡◌, ℕ, List, ◌++◌, Some, All, codes, length, slice_get}
 use Rattle.std.specs.List.{flat_map}
 use Rattle.tp_queue.specs.declared.event.Env.{Env}
@@ -11,21 +11,31 @@ use Rattle.tp_inbox.specs.declared.entry.Entry.TheVariants as entry
 use Rattle.tp_inbox.specs.Desks.{Journal}
 use Rattle.tp_report.specs.declared.report.CompReport.{CompReport}
 use Rattle.tp_report.specs.declared.report.Report.{Report}
+use Rattle.tp_report.specs.declared.telling.Telling.{Telling}
+use Rattle.tp_report.specs.declared.telling.Telling.TheVariants as telling
 use Rattle.tp_report.specs.Lines.{component_port, sender_of, heading, entry_text, end_text, verdict_line, left_below}
 
 -- one component: its name, what its behaviour did, how it ended, its verdict, and what is left at its ports
-unfoldable pub component_text : Made → CompReport → List ℕ
-component_text made x =
+unfoldable pub component_text : Telling → Made → CompReport → List ℕ
+component_text how made x =
     heading made x.desk.comp
-    ++ (flat_map (entry_text made x.desk.comp) x.desk.log
+    ++ (flat_map (entry_text how made x.desk.comp) x.desk.log
     ++ (end_text x.ending
     ++ (verdict_line (codes "verdict") x.verdict
     ++ left_below made x.desk x.desk.ports)))
 
--- **the text of a report**: its components in their order, and the overall verdict
-unfoldable pub report_text : Made → Report → List ℕ
-report_text made report =
-    flat_map (component_text made) report.components.items ++ verdict_line (codes "result") report.result
+-- what is told of a report: its components in their order, and the overall verdict
+unfoldable pub told_text : Telling → Made → Report → List ℕ
+told_text how made report =
+    flat_map (component_text how made) report.components.items ++ verdict_line (codes "result") report.result
+
+-- **the text of a report**: no arrival has a line
+abbrev pub report_text : Made → Report → List ℕ
+report_text = told_text telling.Report
+
+-- **the trace of a report**: each arrival has its line
+abbrev pub trace_text : Made → Report → List ℕ
+trace_text = told_text telling.Trace
 
 -- the port of the component, and the sender of the message there, are of the configuration
 abbrev pub AreOf : Setup → CompId → ℕ → Env Message → Type 0

@@ -22,7 +22,7 @@ verdict_set (entry.Verdict v) = Some v
 verdict_set _ = None
 
 abbrev pub is_failure : Entry → Bool
-is_failure (entry.Failed code) = true
+is_failure (entry.Failed fault) = true
 is_failure _ = false
 
 -- the local verdict of a component: `error` if its behaviour failed, else the worst that it has set

@@ -2,14 +2,18 @@
 ghost use Rattle.std.specs.Prelude.{◌≡◌, All, OnOk};
 ghost use Rattle.std.specs.List.{flat_map};
 ghost use Rattle.std.specs.Io.KnownBytes.{Appends};
-ghost use Rattle.tp_report.specs.Lines.{entry_text, component_port};
+ghost use Rattle.tp_config.specs.Setup.{IsComponent, IsPort};
+ghost use Rattle.tp_report.specs.Lines.{arrival_text, entry_text, component_port, sender_of};
 ghost use Rattle.tp_report.specs.Reports.{IsKnown};
 
-use crate::lines::{write_code, write_envelope, write_port, write_sent, write_verdict};
+use crate::lines::{write_envelope, write_failure, write_port, write_sent, write_verdict};
+use crate::telling::Telling;
 use std::io::Write;
 use tp_config::port_type::{CompId, PortRef};
 use tp_inbox::entry::Entry;
 use tp_play::test_case::TestCase;
+use tp_queue::event::Env;
+use tp_value::message::Message;
 use tp_value::writing::{WriteFault, write_bytes};
 
 /// A port of a component.
@@ -19,16 +23,36 @@ fn at(comp: CompId, port: u32) -> PortRef
     PortRef { comp, port }
 }
 
-/// Writes an entry of the component's history: a line, and nothing for an arrival.
+/// Writes what came to a port: nothing in a report, a line in a trace.
+fn write_arrival<W: Write>(
+    test_case: &TestCase,
+    telling: Telling,
+    port: PortRef,
+    env: &Env<Message>,
+    out: &mut W,
+) -> Result<(), WriteFault>
+    requires port { IsPort test_case.now.config port }
+    requires sender { IsComponent test_case.now.config (sender_of env.now) }
+    ensures { OnOk result (Appends (W.contents out.old) (W.contents out.new)
+        (arrival_text telling test_case.now port env.now)) }
+{
+    match telling {
+        Telling::Report => Ok(()),
+        Telling::Trace => write_envelope(test_case, b"came", port, env, out),
+    }
+}
+
+/// Writes an entry of the component's history: a line, but for an arrival only in a trace.
 fn write_entry<W: Write>(
     test_case: &TestCase,
+    telling: Telling,
     comp: CompId,
     entry: &Entry,
     out: &mut W,
 ) -> Result<(), WriteFault>
     requires { IsKnown test_case.now.config comp entry.now }
     ensures { OnOk result (Appends (W.contents out.old) (W.contents out.new)
-        (entry_text test_case.now comp entry.now)) }
+        (entry_text telling test_case.now comp entry.now)) }
 {
     match entry {
         Entry::Sent(route, number, stamped) => write_sent(
@@ -55,24 +79,27 @@ fn write_entry<W: Write>(
         Entry::Halted(port) => write_port(test_case, b"halted", at(comp, *port), out),
         Entry::Else => write_bytes(b"else\n", out),
         Entry::Verdict(verdict) => write_verdict(b"set", *verdict, out),
-        Entry::Failed(code) => write_code(b"failed", *code, out),
-        Entry::Arrive(..) => Ok(()),
+        Entry::Failed(fault) => write_failure(b"failed", *fault, out),
+        Entry::Arrive(port, env, _) => {
+            write_arrival(test_case, telling, at(comp, *port), env, out)
+        }
     }
 }
 
 /// Writes the component's history.
 pub fn write_entries<W: Write>(
     test_case: &TestCase,
+    telling: Telling,
     comp: CompId,
     entries: &[Entry],
     out: &mut W,
 ) -> Result<(), WriteFault>
     requires { All (IsKnown test_case.now.config comp) entries.now }
     ensures { OnOk result (Appends (W.contents out.old) (W.contents out.new)
-        (flat_map (entry_text test_case.now comp) entries.now)) }
+        (flat_map (entry_text telling test_case.now comp) entries.now)) }
 {
     for entry in entries {
-        write_entry(test_case, comp, entry, out)?;
+        write_entry(test_case, telling, comp, entry, out)?;
     }
     Ok(())
 }

@@ -5,6 +5,7 @@ mod entries;
 mod left;
 mod lines;
 pub mod report;
+pub mod telling;
 pub mod verdicts;
 mod words;
 pub mod writing;

@@ -4,7 +4,7 @@ ghost use Rattle.std.specs.Fmt.{decimal};
 ghost use Rattle.std.specs.Io.KnownBytes.{Appends};
 ghost use Rattle.tp_config.specs.Setup.{IsComponent, IsPort};
 ghost use Rattle.tp_report.specs.Words.{message_text, rest_of_line};
-ghost use Rattle.tp_report.specs.Lines.{code_line, end_text, envelope_line, heading, port_line, sender_of, sent_line, verdict_line};
+ghost use Rattle.tp_report.specs.Lines.{end_text, envelope_line, failure_line, heading, port_line, sender_of, sent_line, verdict_line};
 
 use crate::words::{
     verdict_word, write_component_name, write_full_name, write_message, write_number,
@@ -13,6 +13,7 @@ use crate::words::{
 use std::io::Write;
 use tp_config::port_type::{CompId, PortRef, RouteId};
 use tp_inbox::ending::End;
+use tp_inbox::send_fault::SendFault;
 use tp_play::test_case::TestCase;
 use tp_queue::event::Env;
 use tp_value::message::Message;
@@ -46,14 +47,14 @@ pub fn write_verdict<W: Write>(word: &[u8], verdict: Verdict, out: &mut W) -> Re
     write_bytes(b"\n", out)
 }
 
-/// Writes a word and the number of a refusal.
-pub fn write_code<W: Write>(word: &[u8], code: u8, out: &mut W) -> Result<(), WriteFault>
+/// Writes a word and the number of the refusal by which a send failed.
+pub fn write_failure<W: Write>(word: &[u8], fault: SendFault, out: &mut W) -> Result<(), WriteFault>
     ensures { OnOk result (Appends (W.contents out.old) (W.contents out.new)
-        (code_line word.now code)) }
+        (failure_line word.now fault)) }
 {
     write_bytes(word, out)?;
     write_bytes(b" ", out)?;
-    write_number(code as u64, out)?;
+    write_number(fault.refusal().label().0 as u64, out)?;
     write_bytes(b"\n", out)
 }
 
@@ -63,7 +64,7 @@ pub fn write_end<W: Write>(ending: End, out: &mut W) -> Result<(), WriteFault>
 {
     match ending {
         End::Done => write_bytes(b"end done\n", out),
-        End::Error(code) => write_code(b"end error", code, out),
+        End::Error(fault) => write_failure(b"end error", fault, out),
         End::Waiting => write_bytes(b"end waiting\n", out),
     }
 }

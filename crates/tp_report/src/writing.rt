@@ -1,13 +1,14 @@
-//! The text of a report.
+//! The text of a report, and its trace.
 ghost use Rattle.std.specs.Prelude.{All, OnOk};
 ghost use Rattle.std.specs.List.{flat_map};
 ghost use Rattle.std.specs.Io.KnownBytes.{Appends};
-ghost use Rattle.tp_report.specs.Reports.{IsPresent, IsReportable, component_text, report_text};
+ghost use Rattle.tp_report.specs.Reports.{IsPresent, IsReportable, component_text, told_text};
 
 use crate::entries::write_entries;
 use crate::left::write_left;
 use crate::lines::{write_end, write_heading, write_verdict};
 use crate::report::{CompReport, Report};
+use crate::telling::Telling;
 use std::io::Write;
 use tp_play::test_case::TestCase;
 use tp_value::writing::WriteFault;
@@ -15,16 +16,17 @@ use tp_value::writing::WriteFault;
 /// Writes what is reported of one component.
 fn write_component<W: Write>(
     test_case: &TestCase,
+    telling: Telling,
     component: &CompReport,
     out: &mut W,
 ) -> Result<(), WriteFault>
     requires { IsPresent test_case.now.config component.now }
     ensures { OnOk result (Appends (W.contents out.old) (W.contents out.new)
-        (component_text test_case.now component.now)) }
+        (component_text telling test_case.now component.now)) }
 {
     let comp = component.desk.comp();
     write_heading(test_case, comp, out)?;
-    write_entries(test_case, comp, component.desk.log(), out)?;
+    write_entries(test_case, telling, comp, component.desk.log(), out)?;
     write_end(component.ending, out)?;
     write_verdict(b"verdict", component.verdict, out)?;
     write_left(test_case, &component.desk, out)
@@ -33,15 +35,16 @@ fn write_component<W: Write>(
 /// Writes what is reported of each component.
 fn write_components<W: Write>(
     test_case: &TestCase,
+    telling: Telling,
     components: &[CompReport],
     out: &mut W,
 ) -> Result<(), WriteFault>
     requires { All (IsPresent test_case.now.config) components.now }
     ensures { OnOk result (Appends (W.contents out.old) (W.contents out.new)
-        (flat_map (component_text test_case.now) components.now)) }
+        (flat_map (component_text telling test_case.now) components.now)) }
 {
     for component in components {
-        write_component(test_case, component, out)?;
+        write_component(test_case, telling, component, out)?;
     }
     Ok(())
 }
@@ -49,19 +52,21 @@ fn write_components<W: Write>(
 /// Writes the text of a report of this test case, line by line: for each component its name, a line
 /// for each entry of its history that is no arrival, how its behaviour ended, its verdict, and what
 /// is left at its ports, the oldest message of each port first; at the end the overall verdict. A
-/// message is its type and its value, or `-` where the value hasn't the type.
+/// message is its type and its value, or `-` where the value hasn't the type. As a trace, the same
+/// with a line for each arrival too, at its place in the history.
 ///
 /// 3 `Write` where the writer answers an error or takes no byte; how much is written then is open.
 /// It takes no memory, and writes in small pieces: give it a writer with a buffer.
 pub fn write_report<W: Write>(
     test_case: &TestCase,
+    telling: Telling,
     report: &Report,
     out: &mut W,
 ) -> Result<(), WriteFault>
     requires { IsReportable test_case.now.config report.now }
     ensures { OnOk result (Appends (W.contents out.old) (W.contents out.new)
-        (report_text test_case.now report.now)) }
+        (told_text telling test_case.now report.now)) }
 {
-    write_components(test_case, report.components.as_slice(), out)?;
+    write_components(test_case, telling, report.components.as_slice(), out)?;
     write_verdict(b"result", report.result, out)
 }

@@ -1,6 +1,6 @@
 //! Configurations of the worked kind, each refusal on the calls themselves, and refused memory.
 use crate::asking::{Call, Question, answers, carries_out};
-use crate::making::{add, at, connect, empty, four, map, port, port_type, route};
+use crate::making::{add, at, connect, empty, four, four_again, map, port, port_type, route};
 use crate::showing::{display, says};
 use indexmap::IndexMap;
 use std::process::Abort;
@@ -24,7 +24,7 @@ const STAR: &[(Question, &str)] = &[
 ];
 
 /// The components of `four`, with mtc:p connected to a:p, b:p and c:p in this order.
-fn star<R: AllocGlobal + Abort>(rt: &R) -> Config {
+pub fn star<R: AllocGlobal + Abort>(rt: &R) -> Config {
     let mut config = four(rt.alloc()).expect(rt, "memory");
     for name in ["a", "b", "c"] {
         assert_eq!(rt;
@@ -327,10 +327,7 @@ fn comes_by_three_routes<R: Abort>(rt: &R, config: &Config) {
 /// is then as if it had not been called.
 #[test]
 fn refused_memory_leaves_connections_as_they_were(rt: HostRuntime) {
-    let mut config = match four(rt.alloc()) {
-        Ok(config) => config,
-        Err(_) => four(rt.alloc()).expect(&rt, "memory"),
-    };
+    let mut config = four_again(&rt);
     for (name, comp) in [("a", 1), ("b", 2), ("c", 3)] {
         connects_in_the_end(&rt, &mut config, name, comp);
     }

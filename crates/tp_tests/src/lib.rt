@@ -1,12 +1,19 @@
-//! Tests of the public calls of the crates below: `tp_token`, `tp_queue`, `tp_port`, `tp_value` and
-//! `tp_config`. They stand here, and not in the crates that they test, so that those are proved
-//! once. `writers` is proved without the tests too, since wrong bodies are tried without them.
+//! Tests of the public calls of the crates below: `tp_token`, `tp_queue`, `tp_port`, `tp_value`,
+//! `tp_config` and `tp_inbox`. They stand here, and not in the crates that they test, so that those
+//! are proved once. `writers` is proved without the tests too, since wrong bodies are tried without
+//! them.
 #![tactic(auto)]
 
 #[cfg(test)]
 mod asking;
 #[cfg(test)]
 mod configurations;
+#[cfg(test)]
+mod desk_calls;
+#[cfg(test)]
+mod ends;
+#[cfg(test)]
+mod inboxes;
 #[cfg(test)]
 mod lists;
 #[cfg(test)]
@@ -23,4 +30,6 @@ mod templates;
 mod tokens;
 #[cfg(test)]
 mod values;
+#[cfg(test)]
+mod wakings;
 pub mod writers;

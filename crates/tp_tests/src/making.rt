@@ -4,6 +4,7 @@ ghost use Rattle.tp_config.specs.Setup.{IsPort};
 
 use indexmap::IndexMap;
 use std::alloc::Global;
+use std::process::Abort;
 use tp_config::config::Config;
 use tp_config::connecting::ConnectFault;
 use tp_config::creating::CreateFault;
@@ -129,6 +130,14 @@ pub fn four(alloc: Global) -> Result<Config, CreateFault> {
             drop(config);
             Err(fault)
         }
+    }
+}
+
+/// The same, made a second time where memory is refused.
+pub fn four_again<R: AllocGlobal + Abort>(rt: &R) -> Config {
+    match four(rt.alloc()) {
+        Ok(config) => config,
+        Err(_) => four(rt.alloc()).expect(rt, "memory"),
     }
 }
 

@@ -3,9 +3,12 @@
 use std::fmt::{Debug, Display};
 use std::process::Abort;
 
-/// A value as `{:?}` prints it.
+/// A value as `{:?}` prints it, written a second time where memory is refused.
 pub fn debug<R: AllocGlobal + Abort, D: Debug + Drop>(rt: &R, value: D) -> String {
-    format!(in rt.alloc(); "{value:?}").expect(rt, "memory")
+    match format!(in rt.alloc(); "{value:?}") {
+        Ok(text) => text,
+        Err(_) => format!(in rt.alloc(); "{value:?}").expect(rt, "memory"),
+    }
 }
 
 /// A value as `{}` prints it.

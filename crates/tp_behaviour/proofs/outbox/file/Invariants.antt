@@ -1,5 +1,6 @@
 -- How many of the sender's routes are filed, and that no others changed.
-use Rattle.tp_behaviour.specs.Outboxes.{AreFiledAt, KeepsOtherRoutes}
+use Rattle.tp_inbox.specs.Places.{KeepsOtherRoutes}
+use Rattle.tp_behaviour.specs.Outboxes.{AreFiledAt}
 use Rattle.tp_behaviour.proofs.outbox.file.Given as goal
 
 -- the routes so far are filed

@@ -6,6 +6,6 @@ use Rattle.tp_behaviour.proofs.playing.play_send.Goals as goal
 -- the behaviour ends by the refusal that the send met
 pub returns-in-Some-clause-ended : goal.returns-in-Some-clause-ended
 returns-in-Some-clause-ended g c =
-    failed (role_of c.args.scene.now.post.now) (values_of c.args.state.now) c.args.sending.now c.in-Some.code c.args.station.now.desk.log
+    failed (role_of c.args.scene.now.post.now) (values_of c.args.state.now) c.args.sending.now c.in-Some.fault c.args.station.now.desk.log
     c.send.new.station.desk.log
     (rw c.in-Some.is at c.in_ok-send.ensures.sends)

@@ -10,8 +10,8 @@ send_on-requires-clause-known g c κs within = c.requires.manned.posted.ways c.a
 pub fail-requires-clause-cause : goal.fail-requires-clause-cause
 fail-requires-clause-cause g c =
     cause_route (role_of c.args.scene.now.post.now) (values_of c.args.state.now) c.args.sending.now c.args.message.now c.args.named c.in-Err.fault
-    c.route_code.result c.args.station.now.desk.log
-    c.requires.started c.requires.sent c.requires.named c.in-Err.ensures.route c.route_code.ensures
+    c.args.station.now.desk.log
+    c.requires.started c.requires.sent c.requires.named c.in-Err.ensures.route
 
 pub returns-in_ok-send_on-in-Ok-clause-sends : goal.returns-in_ok-send_on-in-Ok-clause-sends
 returns-in_ok-send_on-in-Ok-clause-sends g c =

@@ -7,4 +7,4 @@ use Rattle.tp_report.proofs.entries.write_entries.Given as goal
 
 abbrev pub invariant-loop-entry : goal.invariant-loop-entry
 invariant-loop-entry g l =
-    Appends (g.W.Write.contents l.initial.out) (g.W.Write.contents l.out) (flat_map (entry_text l.test_case l.comp) (take l.entry-index l.entries))
+    Appends (g.W.Write.contents l.initial.out) (g.W.Write.contents l.out) (flat_map (entry_text l.telling l.test_case l.comp) (take l.entry-index l.entries))

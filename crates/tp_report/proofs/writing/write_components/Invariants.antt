@@ -7,4 +7,4 @@ use Rattle.tp_report.proofs.writing.write_components.Given as goal
 
 abbrev pub invariant-loop-component : goal.invariant-loop-component
 invariant-loop-component g l =
-    Appends (g.W.Write.contents l.initial.out) (g.W.Write.contents l.out) (flat_map (component_text l.test_case) (take l.component-index l.components))
+    Appends (g.W.Write.contents l.initial.out) (g.W.Write.contents l.out) (flat_map (component_text l.telling l.test_case) (take l.component-index l.components))

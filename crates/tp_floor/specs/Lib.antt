@@ -1,0 +1,3 @@
+pub mod Bells
+pub mod Ringing
+pub mod Standing

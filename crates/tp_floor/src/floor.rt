@@ -1,0 +1,240 @@
+//! The floor that all behaviours of a run stand on: how many live, and how many of them rest.
+ghost use Rattle.std.specs.Prelude.{◌≡◌, ◌<◌, ◌≤◌, ◌↔◌, ◌+◌, ◌-◌, [], ◌∷◌, true, if◌then◌else◌};
+ghost use Rattle.std.specs.Arc.{arc_value};
+ghost use Rattle.crossbeam_utils.specs.Seq.{IsSamePass, cell_view};
+
+use crate::seam::{OpenSeam, Seam};
+use crossbeam_utils::atomic::seq_cell::{Pass, RuledSeqCell, Words};
+use crossbeam_utils::rule::{Outcome, Protocol};
+use std::alloc::Global;
+use std::sync::{Arc, Wait};
+use tp_refusal::memory::Memory;
+
+/// How many behaviours live, and how many of these rest.
+#[derive(Clone, Copy, PartialEq, Eq)]
+pub(crate) struct Counts {
+    living: u64,
+    resting: u64,
+    ghost few: { resting ≤ living },
+}
+
+impl Words<2> for Counts {
+    ghost words = { λ c. c.living ∷ c.resting ∷ [] };
+
+    fn to_words(self) -> [u64; 2] {
+        [self.living, self.resting]
+    }
+
+    fn from_words(bits: &[u64; 2]) -> Counts {
+        Counts {
+            living: bits[0],
+            resting: bits[1],
+        }
+    }
+}
+
+impl Counts {
+    /// One behaviour, which is awake, has ended. True where others live and all of them rest. Where
+    /// nobody is awake nothing changes.
+    fn leave(&mut self) -> bool
+        ensures living { self.old.resting < self.old.living
+            → self.new.living + 1 ≡ self.old.living }
+        ensures nobody { self.old.resting ≡ self.old.living → self.new.living ≡ self.old.living }
+        ensures resting { self.new.resting ≡ self.old.resting }
+        ensures all_rest { result ≡ true
+            ↔ (self.old.resting < self.old.living)
+            × (0 < self.new.living)
+            × (self.new.resting ≡ self.new.living) }
+    {
+        if self.resting >= self.living {
+            return false;
+        }
+        self.living -= 1;
+        self.living > 0 && self.resting == self.living
+    }
+
+    /// One behaviour rests from now on. False where no other is awake: then it does not rest.
+    fn rest(&mut self) -> bool
+        ensures living { self.new.living ≡ self.old.living }
+        ensures rests { result ≡ true ↔ self.old.resting + 1 < self.old.living }
+        ensures resting { self.new.resting
+            ≡ (if result then self.old.resting + 1 else self.old.resting) }
+    {
+        if self.living == 0 || self.resting >= self.living - 1 {
+            return false;
+        }
+        self.resting += 1;
+        true
+    }
+
+    /// One behaviour rests no more.
+    fn rise(&mut self)
+        ensures living { self.new.living ≡ self.old.living }
+        ensures resting { self.new.resting ≡ self.old.resting - 1 }
+    {
+        if self.resting > 0 {
+            self.resting -= 1;
+        }
+    }
+}
+
+/// The rule of a floor: so many rest as its places say. It holds between any two steps of any
+/// threads.
+pub(crate) struct Standing;
+
+impl Protocol<Counts, u64> for Standing {
+    ghost use Rattle.tp_floor.specs.Standing.{AreCounted};
+
+    ghost holds = { AreCounted };
+
+    ghost first = { 0 };
+}
+
+/// A step at which the number that rests changes as the place does, or neither changes.
+struct Together;
+
+impl Outcome<Counts, u64> for Together {
+    ghost use Rattle.tp_floor.specs.Standing.{ChangeTogether};
+
+    ghost then = { ChangeTogether };
+}
+
+/// The counts of a floor.
+type Cell = RuledSeqCell<Counts, u64, Standing, 2>;
+
+/// Who lives and who rests in a run, so that a run in which all wait can be noticed.
+///
+/// A behaviour lives until it has left. It rests from the moment that it finds nothing at its bell
+/// until a push is announced there or the inbox is closed. The number that rests is the number of
+/// bells whose owner rests. The counts have no lock that lasts longer than one call here, so that
+/// they may be changed under an inbox's lock.
+#[derive(Drop)]
+pub struct Floor {
+    counts: Cell,
+}
+
+impl Floor {
+    /// A floor with so many living behaviours, all of them awake.
+    ///
+    /// 50 `Memory` where an allocation was refused.
+    pub fn new(alloc: Global, living: u32) -> Result<Arc<Floor, Global>, Memory> {
+        let living = u64::from(living);
+        let (counts, _) = Cell::ruled(alloc, Counts { living, resting: 0 })?;
+        Ok(Arc::new(alloc, Floor { counts })?)
+    }
+
+    /// The counts. The place of this pass is among those that are counted.
+    fn look<R: Wait>(&self, rt: &R, pass: &mut Pass<Counts, u64>) -> Counts
+        requires { pass.old.table_id ≡ self.now.counts.table.shared.table_id }
+        ensures same { IsSamePass pass.old pass.new }
+        ensures place { cell_view pass.new ≡ cell_view pass.old }
+        ensures counted { cell_view pass.old ≤ result.resting }
+    {
+        self.counts.load_as::<Together, R>(rt, pass)
+    }
+
+    /// One behaviour has ended. True where others live and all of them rest: then nothing will wake
+    /// them but their inboxes being closed. Where nobody lives it changes nothing, and answers
+    /// false. Takes no memory.
+    pub fn leave<R: Wait>(&self, rt: &R) -> bool {
+        self.leave_by(rt, &mut OpenSeam)
+    }
+
+    /// Leaves, with this seam.
+    pub(crate) fn leave_by<R: Wait, S: Seam>(&self, rt: &R, seam: &mut S) -> bool {
+        let mut pass = self.counts.pass();
+        for _ in rt.forever() {
+            let seen = self.look(rt, &mut pass);
+            let mut left = seen;
+            let all_rest = left.leave();
+            seam.between();
+            let done = self
+                .counts
+                .compare_exchange_as::<Together, R>(rt, &mut pass, seen, left);
+            if done.is_ok() {
+                return all_rest;
+            }
+        }
+        // The loop ends by a return alone.
+        unreachable!()
+    }
+
+    /// How many rest, at one moment of the call. Takes no memory.
+    pub fn resting<R: Wait>(&self, rt: &R) -> u64 {
+        self.look(rt, &mut self.counts.pass()).resting
+    }
+
+    /// How many live.
+    #[cfg(test)]
+    pub(crate) fn living<R: Wait>(&self, rt: &R) -> u64 {
+        self.look(rt, &mut self.counts.pass()).living
+    }
+}
+
+/// One behaviour's place on a floor.
+///
+/// What its pass knows is 1 where the behaviour rests, and else 0. By the floor's rule the number
+/// that rests is the sum of this over all places, so that nobody rests or rises without being
+/// counted, and nobody is counted twice.
+#[derive(Drop)]
+pub(crate) struct Place {
+    floor: Arc<Floor, Global>,
+    pub(crate) pass: Pass<Counts, u64>,
+    ghost here: { pass.table_id ≡ (arc_value floor).counts.table.shared.table_id },
+}
+
+impl Place {
+    /// A place on this floor, of a behaviour that is awake.
+    pub(crate) fn on(floor: Arc<Floor, Global>) -> Place
+        ensures { cell_view result.pass ≡ 0 }
+    {
+        let pass = floor.counts.pass();
+        Place { floor, pass }
+    }
+
+    /// The behaviour rests from now on. False where no other living one is awake: then it does not.
+    pub(crate) fn rest<R: Wait, S: Seam>(&mut self, rt: &R, seam: &mut S) -> bool
+        requires { cell_view self.old.pass ≡ 0 }
+        ensures { cell_view self.new.pass ≡ (if result then 1 else 0) }
+    {
+        for _ in rt.forever() {
+            let seen = self.floor.look(rt, &mut self.pass);
+            let mut rested = seen;
+            if !rested.rest() {
+                return false;
+            }
+            seam.between();
+            let done = self
+                .floor
+                .counts
+                .compare_exchange_as::<Together, R>(rt, &mut self.pass, seen, rested);
+            if done.is_ok() {
+                return true;
+            }
+        }
+        // The loop ends by a return alone.
+        unreachable!()
+    }
+
+    /// The behaviour rests no more.
+    pub(crate) fn rise<R: Wait, S: Seam>(&mut self, rt: &R, seam: &mut S)
+        requires { cell_view self.old.pass ≡ 1 }
+        ensures { cell_view self.new.pass ≡ 0 }
+    {
+        for _ in rt.forever() {
+            let seen = self.floor.look(rt, &mut self.pass);
+            let mut risen = seen;
+            risen.rise();
+            seam.between();
+            let done = self
+                .floor
+                .counts
+                .compare_exchange_as::<Together, R>(rt, &mut self.pass, seen, risen);
+            if done.is_ok() {
+                return;
+            }
+        }
+        // The loop ends by a return alone.
+        unreachable!()
+    }
+}

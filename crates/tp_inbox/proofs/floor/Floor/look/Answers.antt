@@ -1,7 +1,0 @@
--- A look at the counts keeps the floor's rule.
-use Rattle.std.proofs.Common.{rules}
-use Rattle.tp_inbox.proofs.Standing.{looks}
-use Rattle.tp_inbox.proofs.floor.Floor.look.Goals as goal
-
-pub load_as-requires : goal.load_as-requires
-load_as-requires g c = (search rules, (search rules, (search rules, looks _ _)))

@@ -1,0 +1,11 @@
+//! Which lines are written of a report.
+
+/// Which lines are written of a report.
+#[derive(Clone, Copy, Debug, PartialEq, Eq)]
+pub enum Telling {
+    /// Those of a report, which has none for an arrival.
+    Report,
+    /// Those of a trace: the same, and a line for each arrival at its place in its component's
+    /// history.
+    Trace,
+}

@@ -1,0 +1,253 @@
+//! The calls of a desk on worked values: what they answer, the history, stamps, and refused memory.
+use crate::ends::{Ends, Mailbox, integer, two};
+use crate::making::{four_again, route};
+use crate::showing::{debug, says};
+use std::process::Abort;
+use std::sync::Wait;
+use tp_config::port_type::CompId;
+use tp_inbox::desk::Desk;
+use tp_inbox::entry::Entry;
+use tp_inbox::send_fault::SendFault;
+use tp_inbox::sender::Sender;
+use tp_inbox::stamped::Stamped;
+use tp_queue::event::Env;
+use tp_refusal::memory::Memory;
+use tp_value::message::{Message, MsgTemplate};
+use tp_value::template::Template;
+use tp_value::types::Ty;
+use tp_value::verdict::Verdict;
+
+/// A desk of two ports, made a second time where memory is refused.
+fn desk<R: AllocGlobal + Abort>(rt: &R) -> Desk {
+    let config = four_again(rt);
+    assert!(rt; config.len() > 1);
+    let desk = match Desk::new(rt.alloc(), &config, CompId(1)) {
+        Ok(desk) => desk,
+        Err(Memory) => Desk::new(rt.alloc(), &config, CompId(1)).expect(rt, "memory"),
+    };
+    drop(config);
+    desk
+}
+
+/// One call of a desk, at its port 0. What is received is given by its type, if it has to have one,
+/// by its sender and by the branch.
+#[derive(Clone, Copy)]
+enum Call {
+    /// A message comes from component 0: its number, which it is itself, and its stamp.
+    Arrive(u32, u64),
+    Receive(Option<Ty>, Option<u32>, usize),
+    Check(Option<Ty>, Option<u32>, usize),
+    Trigger(Option<Ty>, Option<u32>, usize),
+    Clear,
+    Start,
+    Stop,
+    Halt,
+    /// Whether it may send.
+    MaySend,
+    /// The next stamp.
+    Stamp,
+    /// Notes a sending with the next stamp.
+    Sent,
+    Else,
+    Verdict,
+    Failed,
+}
+
+/// What wants this type, or each message.
+fn wanted(ty: Option<Ty>) -> MsgTemplate {
+    match ty {
+        Some(ty) => MsgTemplate::Of(ty, Template::Any),
+        None => MsgTemplate::Any,
+    }
+}
+
+/// The message that comes with this number.
+fn env(number: u32) -> Env<Message> {
+    Env {
+        sender: 0,
+        number: u64::from(number),
+        msg: integer(i64::from(number)),
+    }
+}
+
+/// Notes a sending with the next stamp: what that answers.
+fn sent<R: AllocGlobal + Abort>(rt: &R, desk: &mut Desk) -> String {
+    let stamp = desk.stamp().expect(rt, "a stamp");
+    let message = integer(7);
+    debug(
+        rt,
+        desk.note(Entry::Sent(route(0, 1, 0), 0, Stamped { stamp, message })),
+    )
+}
+
+/// What a call answers, as it is printed.
+fn answer<R: AllocGlobal + Abort>(rt: &R, desk: &mut Desk, call: Call) -> String {
+    assert!(rt; desk.port_count() > 0);
+    match call {
+        Call::Arrive(number, stamp) => debug(rt, desk.arrive(0, env(number), stamp)),
+        Call::Receive(ty, from, branch) => debug(rt, desk.receive(0, &wanted(ty), from, branch)),
+        Call::Check(ty, from, branch) => debug(rt, desk.check(0, &wanted(ty), from, branch)),
+        Call::Trigger(ty, from, branch) => debug(rt, desk.trigger(0, &wanted(ty), from, branch)),
+        Call::Clear => debug(rt, desk.clear(0)),
+        Call::Start => debug(rt, desk.start(0)),
+        Call::Stop => debug(rt, desk.stop(0)),
+        Call::Halt => debug(rt, desk.halt(0)),
+        Call::MaySend => debug(rt, desk.queue(0).may_send()),
+        Call::Stamp => debug(rt, desk.stamp()),
+        Call::Sent => sent(rt, desk),
+        Call::Else => debug(rt, desk.note(Entry::Else)),
+        Call::Verdict => debug(rt, desk.note(Entry::Verdict(Verdict::Pass))),
+        Call::Failed => debug(rt, desk.note(Entry::Failed(SendFault::NotSending))),
+    }
+}
+
+/// The same, a second time where memory is refused: the history is as long as before then.
+fn answer_again<R: AllocGlobal + Abort>(rt: &R, desk: &mut Desk, call: Call) -> String {
+    let had = desk.log().len();
+    let first = answer(rt, desk, call);
+    if first.as_str().starts_with("Err") {
+        assert!(rt; desk.log().len() == had);
+        drop(first);
+        return answer(rt, desk, call);
+    }
+    first
+}
+
+/// Carries out the calls of a table: beside each stands its answer.
+fn carries_out<R: AllocGlobal + Abort>(rt: &R, desk: &mut Desk, calls: &[(Call, &str)]) {
+    for (place, (call, wanted)) in calls.iter().enumerate() {
+        says(rt, place, answer_again(rt, desk, *call), *wanted);
+    }
+}
+
+/// Asserts what a history is.
+fn is_noted<R: AllocGlobal + Abort>(rt: &R, log: &[Entry], wanted: &[&str]) {
+    assert!(rt; log.len() == wanted.len());
+    for (place, (entry, wanted)) in log.iter().zip(wanted).enumerate() {
+        says(rt, place, debug(rt, entry), *wanted);
+    }
+}
+
+/// The calls of a desk on its happy path, each made again where memory is refused: what they
+/// answer, and the history.
+#[test]
+fn refused_memory_leaves_a_desk_as_it_was(rt: HostRuntime) {
+    const CALLS: &[(Call, &str)] = &[
+        (Call::Arrive(0, 0), "Ok(())"),
+        (Call::Arrive(1, 1), "Ok(())"),
+        (Call::Arrive(2, 2), "Ok(())"),
+        (Call::Arrive(3, 3), "Ok(())"),
+        (Call::Receive(Some(Ty::Integer), Some(1), 0), "Ok(None)"),
+        (
+            Call::Check(Some(Ty::Integer), Some(0), 2),
+            "Ok(Some(Env { sender: 0, number: 0, \
+            msg: Message { ty: Integer, value: Int(0) } }))",
+        ),
+        (
+            Call::Receive(None, None, 1),
+            "Ok(Some(Env { sender: 0, number: 0, \
+            msg: Message { ty: Integer, value: Int(0) } }))",
+        ),
+        (
+            Call::Trigger(Some(Ty::Integer), Some(1), 3),
+            "Ok(Dropped(Env { sender: 0, number: 1, \
+            msg: Message { ty: Integer, value: Int(1) } }))",
+        ),
+        (
+            Call::Trigger(Some(Ty::Integer), Some(0), 0),
+            "Ok(Took(Env { sender: 0, number: 2, \
+            msg: Message { ty: Integer, value: Int(2) } }))",
+        ),
+        (Call::Halt, "Ok(Some(1))"),
+        (Call::Clear, "Ok(1)"),
+        (Call::Stop, "Ok(())"),
+        (Call::MaySend, "false"),
+        (Call::Start, "Ok(0)"),
+        (Call::Stamp, "Some(4)"),
+        (Call::Sent, "Ok(())"),
+        (Call::Else, "Ok(())"),
+        (Call::Verdict, "Ok(())"),
+        (Call::Failed, "Ok(())"),
+    ];
+    const LOG: &[&str] = &[
+        "Arrive(0, Env { sender: 0, number: 0, msg: Message { ty: Integer, value: Int(0) } }, 0)",
+        "Arrive(0, Env { sender: 0, number: 1, msg: Message { ty: Integer, value: Int(1) } }, 1)",
+        "Arrive(0, Env { sender: 0, number: 2, msg: Message { ty: Integer, value: Int(2) } }, 2)",
+        "Arrive(0, Env { sender: 0, number: 3, msg: Message { ty: Integer, value: Int(3) } }, 3)",
+        "Found(0, Env { sender: 0, number: 0, msg: Message { ty: Integer, value: Int(0) } }, 2)",
+        "Took(0, Env { sender: 0, number: 0, msg: Message { ty: Integer, value: Int(0) } }, 1)",
+        "Dropped(0, Env { sender: 0, number: 1, msg: Message { ty: Integer, value: Int(1) } }, 3)",
+        "Took(0, Env { sender: 0, number: 2, msg: Message { ty: Integer, value: Int(2) } }, 0)",
+        "Halted(0)",
+        "Cleared(0)",
+        "Stopped(0)",
+        "Started(0)",
+        "Sent(RouteId { source: CompId(0), to: PortRef { comp: CompId(1), port: 0 } }, 0, \
+        Stamped { stamp: 4, message: Message { ty: Integer, value: Int(7) } })",
+        "Else",
+        "Verdict(Pass)",
+        "Failed(NotSending)",
+    ];
+    let mut desk = desk(&rt);
+    carries_out(&rt, &mut desk, CALLS);
+    is_noted(&rt, desk.log(), LOG);
+    drop(desk);
+}
+
+/// The next stamp is one above the greatest that came, and there is none above the last number.
+#[test]
+fn stamps_are_used_up(rt: HostRuntime) {
+    const CALLS: &[(Call, &str)] = &[
+        (Call::Stamp, "Some(1)"),
+        (Call::Arrive(0, 20), "Ok(())"),
+        (Call::Arrive(0, 7), "Ok(())"),
+        (Call::Stamp, "Some(21)"),
+        (Call::Sent, "Ok(())"),
+        (Call::Stamp, "Some(22)"),
+        (Call::Arrive(0, u64::MAX), "Ok(())"),
+        (Call::Stamp, "None"),
+    ];
+    let mut desk = desk(&rt);
+    carries_out(&rt, &mut desk, CALLS);
+    drop(desk);
+}
+
+/// Sends `integer:n`, a second time where memory is refused: nothing was put or noted then.
+fn send_again<R: Wait + Abort>(rt: &R, desk: &mut Desk, sender: &mut Sender, n: i64) {
+    assert!(rt; sender.ways() == 1);
+    let (put, noted) = (sender.count(0), desk.log().len());
+    let message = integer(n);
+    if desk.send(rt, &mut *sender, 0, &message).is_err() {
+        assert!(rt; sender.count(0) == put && desk.log().len() == noted);
+        assert!(rt; desk.send(rt, &mut *sender, 0, &message).is_ok());
+    }
+    drop(message);
+    assert!(rt; sender.ways() == 1);
+    assert!(rt; sender.count(0) == put.wrapping_add(1));
+}
+
+/// The messages that were sent have the stamps 1 and 2 and the numbers 0 and 1, and were put, also
+/// where memory was refused at first.
+#[test]
+fn refused_memory_puts_and_notes_nothing(rt: HostRuntime) {
+    const LOG: &[&str] = &[
+        "Sent(RouteId { source: CompId(0), to: PortRef { comp: CompId(1), port: 0 } }, 0, \
+        Stamped { stamp: 1, message: Message { ty: Integer, value: Int(1) } })",
+        "Sent(RouteId { source: CompId(0), to: PortRef { comp: CompId(1), port: 0 } }, 1, \
+        Stamped { stamp: 2, message: Message { ty: Integer, value: Int(2) } })",
+    ];
+    let (ends, floor) = two(&rt, ["p"].as_slice());
+    let Ends {
+        mailbox,
+        mut senders,
+        closer,
+    } = ends;
+    let Mailbox { owner, mut desk } = mailbox;
+    for n in 1..3 {
+        for sender in &mut senders {
+            send_again(&rt, &mut desk, sender, n);
+        }
+    }
+    is_noted(&rt, desk.log(), LOG);
+    drop((owner, desk, senders, closer, floor));
+}

@@ -1,0 +1,235 @@
+//! Makes inboxes with all their ends, and calls them where memory may be refused.
+ghost use Rattle.std.specs.Prelude.{◌≡◌};
+
+use crate::making::{connect, four_again};
+use std::alloc::Global;
+use std::marker::Model;
+use std::process::Abort;
+use std::sync::{Arc, Wait};
+use tp_config::config::Config;
+use tp_config::port_type::{CompId, RouteId};
+use tp_floor::bell::Woken;
+use tp_floor::floor::Floor;
+use tp_inbox::desk::Desk;
+use tp_inbox::gathered::{Settled, gather};
+use tp_inbox::making::inbox;
+use tp_inbox::owner::{Closer, Owner};
+use tp_inbox::sender::{PutFault, Sender};
+use tp_inbox::stamped::Stamped;
+use tp_refusal::memory::Memory;
+use tp_value::message::Message;
+use tp_value::types::Ty;
+use tp_value::value::Value;
+
+/// The message `integer:n`.
+pub fn integer(n: i64) -> Message {
+    Message {
+        ty: Ty::Integer,
+        value: Value::Int(n),
+    }
+}
+
+/// The message `integer:n`, whose stamp is n without its sign.
+pub fn stamped(n: i64) -> Stamped {
+    Stamped {
+        stamp: n.unsigned_abs(),
+        message: integer(n),
+    }
+}
+
+/// Whether it is `integer:n` with that stamp.
+pub fn is_stamped(stamped: &Stamped, n: i64) -> bool {
+    match stamped.message.value {
+        Value::Int(value) => {
+            stamped.message.ty == Ty::Integer && value == n && stamped.stamp == n.unsigned_abs()
+        }
+        _ => false,
+    }
+}
+
+/// An owner and its component's desk, which has all that was drained.
+#[derive(Drop)]
+pub struct Mailbox {
+    pub owner: Owner,
+    pub desk: Desk,
+}
+
+impl Model for Mailbox {
+    ghost use Rattle.std.specs.Prelude.{◌≡◌};
+    ghost use Rattle.tp_value.specs.contracts.value.Value as value_contract;
+    ghost use Rattle.std.specs.Coded.{codes};
+    ghost use Rattle.tp_inbox.specs.History.{arrivals};
+    ghost use Rattle.tp_inbox.specs.Desks.{Journal};
+    ghost use Rattle.tp_inbox.specs.Ledgers.{Draining, IsDeskOf};
+
+    ghost Value = { Draining × Journal };
+
+    ghost coded = { Prim.hlevel (codes, value_contract.the_row.coded) };
+
+    ghost view = { λ s. (s.owner, s.desk) };
+
+    ghost invariant = { λ s.
+        IsDeskOf s.owner.inbox s.desk × (arrivals s.desk.log ≡ s.owner.drained) };
+}
+
+impl Mailbox {
+    /// What a drain answers.
+    pub fn drain<R: Wait>(&mut self, rt: &R) -> Result<u64, Memory>
+        ensures { self.new.0.inbox ≡ self.old.0.inbox }
+    {
+        self.owner.drain(rt, &mut self.desk)
+    }
+}
+
+/// All ends of one inbox.
+#[derive(Drop)]
+pub struct Ends {
+    pub mailbox: Mailbox,
+    pub senders: Vec<Sender>,
+    pub closer: Closer,
+}
+
+impl Model for Ends {
+    ghost use Rattle.std.specs.Prelude.{List};
+    ghost use Rattle.tp_value.specs.contracts.value.Value as value_contract;
+    ghost use Rattle.std.specs.Coded.{codes};
+    ghost use Rattle.tp_inbox.specs.Ledgers.{AreSenders, Inbox, Sending};
+
+    ghost Value = { Inbox × List Sending };
+
+    ghost coded = { Prim.hlevel (codes, value_contract.the_row.coded) };
+
+    ghost view = { λ s. (s.mailbox.0.inbox, s.senders.items) };
+
+    ghost invariant = { λ s. AreSenders s.mailbox.0.inbox s.senders.items };
+}
+
+/// The ends of a component's inbox, and its desk.
+fn ends_once(
+    alloc: Global,
+    config: &Config,
+    comp: CompId,
+    floor: &Arc<Floor, Global>,
+) -> Result<Ends, Memory> {
+    if comp.0 as usize >= config.len() {
+        return Err(Memory);
+    }
+    let desk = Desk::new(alloc, config, comp)?;
+    match inbox(alloc, config, comp, floor) {
+        Ok((owner, senders, closer)) => {
+            let mailbox = Mailbox { owner, desk };
+            Ok(Ends {
+                mailbox,
+                senders,
+                closer,
+            })
+        }
+        Err(Memory) => {
+            drop(desk);
+            Err(Memory)
+        }
+    }
+}
+
+/// The same, made a second time of the same configuration where memory is refused.
+pub fn ends_of<R: AllocGlobal + Abort>(
+    rt: &R,
+    config: &Config,
+    comp: CompId,
+    floor: &Arc<Floor, Global>,
+) -> Ends {
+    match ends_once(rt.alloc(), config, comp, floor) {
+        Ok(ends) => ends,
+        Err(Memory) => ends_once(rt.alloc(), config, comp, floor).expect(rt, "memory"),
+    }
+}
+
+/// A floor with so many behaviours, made a second time where memory is refused.
+pub fn floor_of<R: AllocGlobal + Abort>(rt: &R, living: u32) -> Arc<Floor, Global> {
+    match Floor::new(rt.alloc(), living) {
+        Ok(floor) => floor,
+        Err(Memory) => Floor::new(rt.alloc(), living).expect(rt, "memory"),
+    }
+}
+
+/// Connects the ports of these names of mtc and a, each a second time where memory is refused.
+fn connect_each<R: Abort>(rt: &R, config: &mut Config, ports: &[&str]) {
+    for name in ports {
+        let (p, q) = (("mtc", *name), ("a", *name));
+        if connect(config, p, q) != Some(Ok(())) {
+            assert!(rt; connect(config, p, q) == Some(Ok(())));
+        }
+    }
+}
+
+/// The ends of a's inbox, on a floor of two, where mtc and a are connected by their ports of these
+/// names. What is refused memory is made a second time.
+pub fn two<R: AllocGlobal + Abort>(rt: &R, ports: &[&str]) -> (Ends, Arc<Floor, Global>) {
+    let mut config = four_again(rt);
+    connect_each(rt, &mut config, ports);
+    let floor = floor_of(rt, 2);
+    let ends = ends_of(rt, &config, CompId(1), &floor);
+    drop(config);
+    (ends, floor)
+}
+
+impl Ends {
+    /// Puts `integer:n` with the sender at this place, on this one of its routes. Nothing where
+    /// there is no such sender or route; what is refused comes back as it was.
+    pub fn put<R: Wait + Abort>(
+        &mut self,
+        rt: &R,
+        place: usize,
+        way: usize,
+        n: i64,
+    ) -> Option<Result<u64, PutFault>> {
+        if place >= self.senders.len() || way >= self.senders[place].ways() {
+            return None;
+        }
+        match self.senders[place].put(rt, way, stamped(n)) {
+            Ok(number) => Some(Ok(number)),
+            Err((fault, back)) => {
+                assert!(rt; is_stamped(&back, n));
+                drop(back);
+                Some(Err(fault))
+            }
+        }
+    }
+
+    /// What a drain answers.
+    pub fn drain<R: Wait>(&mut self, rt: &R) -> Result<u64, Memory> {
+        self.mailbox.drain(rt)
+    }
+
+    /// How many the first sender has put on its first route.
+    pub fn count(&self) -> u64 {
+        match self.senders.first() {
+            Some(sender) if sender.ways() > 0 => sender.count(0),
+            _ => 0,
+        }
+    }
+
+    /// The first route of the first sender.
+    pub fn route(&self) -> Option<RouteId> {
+        match self.senders.first() {
+            Some(sender) if sender.ways() > 0 => Some(sender.route(0)),
+            _ => None,
+        }
+    }
+
+    /// What was put and what is left, asked a second time where memory is refused; and the desk.
+    pub fn settle<R: Wait + Abort>(self, rt: &R) -> (Settled, Desk) {
+        let Ends {
+            mailbox,
+            senders,
+            closer,
+        } = self;
+        drop(closer);
+        let Mailbox { owner, desk } = mailbox;
+        let settled = match gather(rt, owner, senders).settle(rt, &desk) {
+            Ok(settled) => settled,
+            Err((Memory, again)) => again.settle(rt, &desk).ok().expect(rt, "memory"),
+        };
+        (settled, desk)
+    }
+}

@@ -1,0 +1,226 @@
+//! The calls of one inbox's ends, what a wait answers where nobody else is there, and refused
+//! memory.
+use crate::ends::{Ends, floor_of, two};
+use crate::making::route;
+use crate::showing::{debug, says};
+use std::process::Abort;
+use std::sync::Wait;
+use tp_floor::bell::Woken;
+use tp_floor::floor::Floor;
+use tp_inbox::gathered::Settled;
+use tp_inbox::sender::{PutFault, ROUTE_LIMIT};
+use tp_refusal::memory::Memory;
+
+/// A call of an inbox's ends, or of the floor.
+enum Call {
+    /// Puts `integer:n` on this one of the sender's routes.
+    Put(usize, i64),
+    /// How many the sender has put on its first route.
+    Count,
+    /// The sender's first route.
+    Route,
+    Drain,
+    /// How many were drained of a route, by the numbers of the sender, the receiver and its port.
+    Drained(u32, u32, u32),
+    Wait,
+    Close,
+    Leave,
+}
+
+/// What a call answers, as it is printed.
+fn answer<R: AllocGlobal + Abort + Wait>(
+    rt: &R,
+    ends: &mut Ends,
+    floor: &Floor,
+    call: &Call,
+) -> String {
+    match *call {
+        Call::Put(way, n) => debug(rt, ends.put(rt, 0, way, n)),
+        Call::Count => debug(rt, ends.count()),
+        Call::Route => debug(rt, ends.route()),
+        Call::Drain => debug(rt, ends.drain(rt)),
+        Call::Drained(source, comp, port) => {
+            debug(rt, ends.mailbox.owner.drained(route(source, comp, port)))
+        }
+        Call::Wait => debug(rt, ends.mailbox.owner.wait(rt)),
+        Call::Close => debug(rt, ends.closer.close(rt)),
+        Call::Leave => debug(rt, floor.leave(rt)),
+    }
+}
+
+/// Carries out the calls of a table: beside each stands its answer.
+fn carries_out<R: AllocGlobal + Abort + Wait>(
+    rt: &R,
+    ends: &mut Ends,
+    floor: &Floor,
+    calls: &[(Call, &str)],
+) {
+    for (place, (call, wanted)) in calls.iter().enumerate() {
+        says(rt, place, answer(rt, ends, floor, call), *wanted);
+    }
+}
+
+/// Asserts what the desk notes in the end, what was put, and what is left of it in the inbox.
+fn settles<R: AllocGlobal + Abort + Wait>(rt: &R, ends: Ends, log: &str, sent: &str, rest: &str) {
+    let (settled, desk) = ends.settle(rt);
+    says(rt, 0, debug(rt, desk.log()), log);
+    drop(desk);
+    let Settled {
+        sent: put,
+        rest: left,
+    } = settled;
+    says(rt, 1, debug(rt, put), sent);
+    says(rt, 2, debug(rt, left), rest);
+}
+
+/// What a sender puts on two routes comes in its order over both, each numbered by itself.
+#[test]
+fn two_routes(rt: HostRuntime) {
+    const CALLS: &[(Call, &str)] = &[
+        (Call::Put(0, 4), "Some(Ok(0))"),
+        (Call::Put(1, 5), "Some(Ok(0))"),
+        (Call::Put(0, 6), "Some(Ok(1))"),
+        (Call::Put(2, 9), "None"),
+        (Call::Drain, "Ok(3)"),
+        (Call::Put(0, 7), "Some(Ok(2))"),
+    ];
+    const LOG: &str = "[\
+        Arrive(0, Env { sender: 0, number: 0, msg: Message { ty: Integer, value: Int(4) } }, 4), \
+        Arrive(1, Env { sender: 0, number: 0, msg: Message { ty: Integer, value: Int(5) } }, 5), \
+        Arrive(0, Env { sender: 0, number: 1, msg: Message { ty: Integer, value: Int(6) } }, 6)]";
+    const SENT: &str = "[(CompId(0), [\
+        Posted { route: RouteId { source: CompId(0), to: PortRef { comp: CompId(1), port: 0 } }, \
+        number: 0, stamped: Stamped { stamp: 4, \
+        message: Message { ty: Integer, value: Int(4) } } }, \
+        Posted { route: RouteId { source: CompId(0), to: PortRef { comp: CompId(1), port: 1 } }, \
+        number: 0, stamped: Stamped { stamp: 5, \
+        message: Message { ty: Integer, value: Int(5) } } }, \
+        Posted { route: RouteId { source: CompId(0), to: PortRef { comp: CompId(1), port: 0 } }, \
+        number: 1, stamped: Stamped { stamp: 6, \
+        message: Message { ty: Integer, value: Int(6) } } }, \
+        Posted { route: RouteId { source: CompId(0), to: PortRef { comp: CompId(1), port: 0 } }, \
+        number: 2, stamped: Stamped { stamp: 7, \
+        message: Message { ty: Integer, value: Int(7) } } }\
+        ])]";
+    const REST: &str =
+        "[(0, Env { sender: 0, number: 2, msg: Message { ty: Integer, value: Int(7) } }, 7)]";
+    let (mut ends, floor) = two(&rt, ["p", "q"].as_slice());
+    carries_out(&rt, &mut ends, &floor, CALLS);
+    drop(floor);
+    settles(&rt, ends, LOG, SENT, REST);
+}
+
+/// A sender tells its route, and the owner how many it has drained of a route: none of one into
+/// another component's port of that number, and none of another sender's.
+#[test]
+fn routes_are_told(rt: HostRuntime) {
+    const CALLS: &[(Call, &str)] = &[
+        (Call::Put(0, 4), "Some(Ok(0))"),
+        (Call::Drain, "Ok(1)"),
+        (
+            Call::Route,
+            "Some(RouteId { source: CompId(0), to: PortRef { comp: CompId(1), port: 0 } })",
+        ),
+        (Call::Drained(0, 1, 0), "1"),
+        (Call::Drained(0, 2, 0), "0"),
+        (Call::Drained(1, 1, 0), "0"),
+    ];
+    let (mut ends, floor) = two(&rt, ["p"].as_slice());
+    carries_out(&rt, &mut ends, &floor, CALLS);
+    drop((ends, floor));
+}
+
+/// What `leave` and `wait` answer where nobody else is there, and after a closing.
+#[test]
+fn alone_on_the_floor(rt: HostRuntime) {
+    const CALLS: &[(Call, &str)] = &[
+        (Call::Leave, "false"),
+        (Call::Wait, "Last"),
+        (Call::Close, "()"),
+        (Call::Wait, "Closed"),
+        (Call::Put(0, 1), "Some(Ok(0))"),
+        (Call::Wait, "Arrived"),
+        (Call::Drain, "Ok(1)"),
+        (Call::Wait, "Closed"),
+    ];
+    let (mut ends, floor) = two(&rt, ["p"].as_slice());
+    carries_out(&rt, &mut ends, &floor, CALLS);
+    let nobody = floor_of(&rt, 0);
+    assert!(rt; !nobody.leave(&rt));
+    drop((ends, floor, nobody));
+}
+
+/// Puts the integers from 0 on, as many as a route takes: each has its number.
+fn fills<R: Wait + Abort>(rt: &R, ends: &mut Ends) {
+    for n in 0..ROUTE_LIMIT {
+        let put = ends.put(rt, 0, 0, n as i64);
+        assert!(rt; matches!(put, Some(Ok(number)) if number == n));
+    }
+}
+
+/// A route takes 100,000 messages, numbered from 0, and hands the next one back.
+#[test]
+fn a_route_has_a_limit(rt: HostRuntime) {
+    const CALLS: &[(Call, &str)] = &[
+        (Call::Put(0, 7), "Some(Err(Limit))"),
+        (Call::Count, "100000"),
+        (Call::Drain, "Ok(100000)"),
+    ];
+    let (mut ends, floor) = two(&rt, ["p"].as_slice());
+    fills(&rt, &mut ends);
+    carries_out(&rt, &mut ends, &floor, CALLS);
+    drop((ends, floor));
+}
+
+/// Puts `integer:n`, which gets this number; a second time where memory is refused.
+fn put_again<R: Wait + Abort>(rt: &R, ends: &mut Ends, n: i64, number: u64) {
+    match ends.put(rt, 0, 0, n) {
+        Some(Err(PutFault::Memory)) => {
+            assert!(rt; ends.count() == number);
+            let put = ends.put(rt, 0, 0, n);
+            assert!(rt; matches!(put, Some(Ok(given)) if given == number));
+        }
+        put => assert!(rt; matches!(put, Some(Ok(given)) if given == number)),
+    }
+}
+
+/// Drains so many messages, in two turns where memory is refused.
+fn drain_again<R: Wait + Abort>(rt: &R, ends: &mut Ends, count: u64) {
+    match ends.drain(rt) {
+        Ok(moved) => assert!(rt; moved == count),
+        Err(Memory) => {
+            assert!(rt; ends.mailbox.owner.wait(rt) == Woken::Arrived);
+            assert!(rt; ends.drain(rt).is_ok());
+        }
+    }
+}
+
+/// The worked row: what `put`, `count`, `drain`, `gather` and `settle` answer for one route, where
+/// each call that is refused memory is made again.
+#[test]
+fn refused_memory_loses_nothing(rt: HostRuntime) {
+    const LOG: &str = "[\
+        Arrive(0, Env { sender: 0, number: 0, msg: Message { ty: Integer, value: Int(4) } }, 4), \
+        Arrive(0, Env { sender: 0, number: 1, msg: Message { ty: Integer, value: Int(5) } }, 5)]";
+    const SENT: &str = "[(CompId(0), [\
+        Posted { route: RouteId { source: CompId(0), to: PortRef { comp: CompId(1), port: 0 } }, \
+        number: 0, stamped: Stamped { stamp: 4, \
+        message: Message { ty: Integer, value: Int(4) } } }, \
+        Posted { route: RouteId { source: CompId(0), to: PortRef { comp: CompId(1), port: 0 } }, \
+        number: 1, stamped: Stamped { stamp: 5, \
+        message: Message { ty: Integer, value: Int(5) } } }, \
+        Posted { route: RouteId { source: CompId(0), to: PortRef { comp: CompId(1), port: 0 } }, \
+        number: 2, stamped: Stamped { stamp: 6, \
+        message: Message { ty: Integer, value: Int(6) } } }\
+        ])]";
+    const REST: &str =
+        "[(0, Env { sender: 0, number: 2, msg: Message { ty: Integer, value: Int(6) } }, 6)]";
+    let (mut ends, floor) = two(&rt, ["p"].as_slice());
+    drop(floor);
+    put_again(&rt, &mut ends, 4, 0);
+    put_again(&rt, &mut ends, 5, 1);
+    assert!(rt; ends.count() == 2);
+    drain_again(&rt, &mut ends, 2);
+    put_again(&rt, &mut ends, 6, 2);
+    settles(&rt, ends, LOG, SENT, REST);
+}
