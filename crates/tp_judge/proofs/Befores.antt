@@ -125,7 +125,8 @@ chain trace component below (suc more) k a b at end =
       chain trace component below more (suc k) middle b there (ap (slice_get row) same ∙ end),
     )
 
-leads_on : (demands : List Demand) (f g x y z : ℕ) → LeadsTo demands f x y → LeadsTo demands g y z
+-- what is led to leads on
+pub leads_on : (demands : List Demand) (f g x y z : ℕ) → LeadsTo demands f x y → LeadsTo demands g y z
     → (h : ℕ) × LeadsTo demands h x z
 leads_on demands zero g x y z wanted then' = (suc g, (y, wanted, then'))
 leads_on demands (suc f) g x y z leads then' =

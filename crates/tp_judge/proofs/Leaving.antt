@@ -1,9 +1,12 @@
 -- What is told as left, line by line.
-use Rattle.std.proofs.Common.{◌≡◌, ◌≢◌, inl, ℕ, ◌+◌, ◌<◌, ◌≤◌, Some, None, List, [], ◌∷◌, ◌++◌, length, get_or, take, refl, ap, sym, ◌∙◌, append-nil, Bor, arith}
+use Rattle.std.proofs.Common.{◌≡◌, ◌≢◌, inl, inr, ℕ, zero, suc, ◌+◌, ◌<◌, ◌≤◌, Option, Some, None, List, [], ◌∷◌, ◌++◌, length, get_or, take, refl, ap, sym, ◌∙◌, append-nil, Bor, arith}
 use Rattle.std.specs.Prelude.{slice_get}
 use Rattle.std.specs.Option.{option_to_list}
+use Rattle.std.specs.declared.vec.Vec.{Vec}
+use Rattle.std.specs.declared.alloc.Global.{Global}
+use Rattle.std.proofs.lemmas.Bool.{cases_eq}
 use Rattle.std.proofs.lemmas.List.{length-take-le}
-use Rattle.std.proofs.lemmas.Option.{slice_get_within}
+use Rattle.std.proofs.lemmas.Option.{same_Some, slice_get_within}
 use Rattle.tp_queue.specs.declared.event.Env.{Env}
 use Rattle.tp_queue.specs.declared.event.Event.{Event}
 use Rattle.tp_queue.specs.History.{queued}
@@ -16,7 +19,9 @@ use Rattle.tp_judge.specs.declared.place.Rule.TheVariants as rule
 use Rattle.tp_judge.specs.Gathered.{seen}
 use Rattle.tp_judge.specs.Lines.{left_of}
 use Rattle.tp_judge.specs.Rules.{left_in}
-use Rattle.tp_judge.specs.Lawful.{IsLeftBroken}
+use Rattle.tp_judge.specs.Lawful.{IsCloserNumber, IsCloserOf, IsLeftBroken, IsNoEndBefore}
+use Rattle.tp_judge.specs.PortRows.{AreClosers}
+use Rattle.tp_judge.proofs.Parcels.{length-seen}
 use Rattle.tp_judge.proofs.Stepping.{filter_map-more, seen_at, seen-take, take_got}
 
 -- the lines so far tell so many of the queue
@@ -82,3 +87,42 @@ seen_first (y ∷ xs) x is =
 pub not_left : (a : Act) → ((m : Mention) → a ≡ act.Left m → ⊥) → left_of a ≡ None
 not_left (act.Left m) none = absurd (none m refl)
 not_left _ none = refl
+
+-- one line more doesn't say that the component ended
+pub no_end_more : (closing : List (Bor Line)) (i : ℕ) (d : Bor Line) → i < length closing → IsNoEndBefore (seen closing) i
+    → (get_or closing i d).now.act ≢ act.End → IsNoEndBefore (seen closing) (i + 1)
+no_end_more closing i d within was here k line below stands = elim (cases_eq k i) [
+  | inl same ↦
+      λ is. here (ap (λ (l : Line). l.act)
+      (same_Some (get_or closing i d).now line (sym (seen_at closing i d within) ∙ ap (slice_get (seen closing)) (sym same) ∙ stands)) ∙ is)
+  | inr apart ↦ was k line (omega arith) stands
+]
+
+-- it says so
+pub closer_here : (closing : List (Bor Line)) (i : ℕ) (d : Bor Line) → i < length closing → IsNoEndBefore (seen closing) i
+    → (get_or closing i d).now.act ≡ act.End → IsCloserNumber (seen closing) (get_or closing i d).now.number
+closer_here closing i d within was is =
+    ((get_or closing i d).now, record { place = i; at = seen_at closing i d within; none_before = was; which = inl is }, refl)
+
+-- none does
+pub closer_last : (closing : List (Bor Line)) (i : ℕ) (d : Bor Line) → i + 1 ≡ length closing → IsNoEndBefore (seen closing) (length closing)
+    → IsCloserNumber (seen closing) (get_or closing i d).now.number
+closer_last closing i d last was =
+    let count = length-seen closing in (
+      (get_or closing i d).now,
+      record {
+        place = i;
+        at = seen_at closing i d (omega arith);
+        none_before = λ k line below. was k line (omega arith);
+        which = inr (λ k line below. was k line (omega arith), last ∙ sym count);
+      },
+      refl,
+    )
+
+-- which line closes the section of this number
+pub closer_at : (rows : List (Vec (Bor Line) Global)) (closers : List (Option ℕ)) (k : ℕ) (row : Vec (Bor Line) Global) (closer : Option ℕ)
+    → AreClosers rows closers → k < length rows → IsCloserOf (seen (get_or rows k row).items) (get_or closers k closer)
+closer_at [] closers k row closer z below = absurd (omega (arith, below))
+closer_at (r ∷ rows) [] k row closer z below = absurd z
+closer_at (r ∷ rows) (c ∷ closers) zero row closer z below = z.0
+closer_at (r ∷ rows) (c ∷ closers) (suc k) row closer z below = closer_at rows closers k row closer z.1 (omega (arith, below))

@@ -3,8 +3,20 @@ pub mod Replays
 pub mod Leaving
 pub mod Collecting
 pub mod Unlawful
+mod Zips
 pub mod Parcels
 pub mod Deliveries
 pub mod Named
 pub mod Pairs
 pub mod Befores
+pub mod Ranks
+pub mod SentCame
+pub mod OwnPlaces
+pub mod IntoRuns
+pub mod OfRuns
+pub mod Makings
+pub mod Demanding
+pub mod Noting
+pub mod SendingRows
+pub mod Rounds
+pub mod Deciding

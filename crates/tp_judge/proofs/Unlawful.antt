@@ -1,6 +1,7 @@
 -- A place at a port excludes that the port is lawful.
-use Rattle.std.proofs.Common.{◌⊎◌, inl, inr, List, length, ap, sym, ◌∙◌, take, arith}
+use Rattle.std.proofs.Common.{◌≡◌, ◌⊎◌, inl, inr, ℕ, Some, List, [], ◌∷◌, length, refl, ap, sym, ◌∙◌, take, arith}
 use Rattle.std.specs.Prelude.{slice_get}
+use Rattle.std.proofs.lemmas.Option.{none-some}
 use Rattle.tp_queue.specs.declared.event.Event.{Event}
 use Rattle.tp_judge.specs.declared.line.MessageId.{MessageId}
 use Rattle.tp_judge.specs.declared.line.Line.{Line}
@@ -11,6 +12,11 @@ use Rattle.tp_judge.specs.Lawful.{IsLawfulPort, IsLeftMissing, IsLeftWrong, IsTo
 use Rattle.tp_judge.proofs.Replays.{broken_unlawful}
 use Rattle.tp_judge.proofs.Stepping.{at_seam, split_line}
 
+-- where a line stands, a first one does
+pub first_there : (closing : List Line) (k : ℕ) (line : Line) → slice_get closing k ≡ Some line → (x : Line) × (slice_get closing 0 ≡ Some x)
+first_there [] k line at = absurd (none-some line at)
+first_there (x ∷ closing) k line at = (x, refl)
+
 unlawful_left : (h : List (Event MessageId)) (left closing : List Line) (place : Place)
     → IsLeftWrong h left closing place ⊎ IsLeftMissing h left closing place → IsToldLeft h left closing → ⊥
 unlawful_left h left closing place (inl w) told =
@@ -19,7 +25,8 @@ unlawful_left h left closing place (inl w) told =
     let rest = split_line (λ line. left_of line.act) left w.before w.line w.env w.stands w.says in
     w.wrong (ap (λ l. slice_get l (length front)) (sym same ∙ rest.1) ∙ at_seam front rest.0 w.env)
 unlawful_left h left closing place (inr m) told =
-    let same = rw m.closes at told in
+    let first = first_there closing m.closes.1.place m.closes.0 m.closes.1.at in
+    let same = rw first.1 at told in
     let equal = ap length same in
     let missing = m.missing in
     omega arith

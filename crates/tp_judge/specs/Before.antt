@@ -3,8 +3,6 @@ use Rattle.std.specs.Prelude.{◌≡◌, ◌<◌, ℕ, Some, List, slice_get}
 use Rattle.tp_judge.specs.declared.line.Parcel.{Parcel}
 use Rattle.tp_judge.specs.declared.line.Line.{Line}
 use Rattle.tp_judge.specs.declared.line.By.TheVariants as by
-use Rattle.tp_judge.specs.declared.place.Rule.TheVariants as rule
-use Rattle.tp_judge.specs.declared.place.Place.{Place}
 use Rattle.tp_judge.specs.declared.trace.Trace.{Trace}
 use Rattle.tp_judge.specs.Lines.{lines_with}
 use Rattle.tp_judge.specs.Delivered.{IsJoined, ParcelAt}
@@ -36,7 +34,3 @@ pub data HappensBefore (trace : Trace) : ℕ → ℕ → Type 0 where
 -- **no circle**: no line happens before itself
 abbrev pub NoCircle : Trace → Type 0
 NoCircle trace = (n : ℕ) → HappensBefore trace n n → ⊥
-
--- a line that happens before itself
-abbrev pub IsCirclePlace : Trace → Place → Type 0
-IsCirclePlace trace place = (place.rule ≡ rule.Circle) × HappensBefore trace place.line place.line

@@ -1,5 +1,5 @@
 -- What makes the routes of a trace lawful, and where they aren't.
-use Rattle.std.specs.Prelude.{◌≡◌, ◌≢◌, ◌<◌, ℕ, true, Some, IsSome, List, length, slice_get}
+use Rattle.std.specs.Prelude.{◌≡◌, ◌≢◌, ◌<◌, ◌⊎◌, ℕ, true, Some, IsSome, List, length, slice_get}
 use Rattle.std.specs.List.{filter_map}
 use Rattle.tp_judge.specs.declared.line.Parcel.{Parcel}
 use Rattle.tp_judge.specs.declared.line.Line.{Line}
@@ -36,17 +36,29 @@ pub record IsTold (lines : List Line) (k : ℕ) (place : Place) : Type 0 where
   pub stands : slice_get lines k ≡ Some line
   pub told : place.line ≡ line.number
 
+-- no arrival has the parcel's number
+abbrev pub NeverCame : List Line → Parcel → Type 0
+NeverCame came p = (j : ℕ) (q : Parcel) → ParcelAt came j q → q.number ≢ p.number
+
+-- nothing came of what was sent behind this place
+abbrev pub NoneCameBehind : List Line → List Line → ℕ → Type 0
+NoneCameBehind sent came k = (m : ℕ) (p : Parcel) → k < m → ParcelAt sent m p → NeverCame came p
+
+-- the place in the order is that of a message that was sent later
+abbrev pub IsOvertaken : List Line → List Line → ℕ → Type 0
+IsOvertaken sent came k = (m : ℕ) × (p : Parcel) × (k < m) × ParcelAt sent m p × ParcelAt came k p
+
 -- where the route isn't lawful. Each of these lines names one parcel
 pub data IsUnlawfulRoute (sent came : List Line) (place : Place) : Type 0 where
   -- a sending has not the next number
   numbering : (k : ℕ) (p : Parcel) → place.rule ≡ rule.Numbering → IsTold sent k place → ParcelAt sent k p
       → p.number ≢ k → IsUnlawfulRoute sent came place
-  -- what was sent never came
+  -- what was sent never came, and nothing that was sent behind it did either, or one of these took its place
   lost : (k : ℕ) (p : Parcel) → place.rule ≡ rule.Lost → IsTold sent k place → ParcelAt sent k p
-      → ((j : ℕ) → ParcelAt came j p → ⊥) → IsUnlawfulRoute sent came place
-  -- what came had come before
-  doubled : (j k : ℕ) (p : Parcel) → place.rule ≡ rule.Doubled → IsTold came k place → ParcelAt came k p
-      → j < k → ParcelAt came j p → IsUnlawfulRoute sent came place
+      → NeverCame came p → NoneCameBehind sent came k ⊎ IsOvertaken sent came k → IsUnlawfulRoute sent came place
+  -- what came has a number that had come before
+  doubled : (j k : ℕ) (p q : Parcel) → place.rule ≡ rule.Doubled → IsTold came k place → ParcelAt came k p
+      → j < k → ParcelAt came j q → q.number ≡ p.number → IsUnlawfulRoute sent came place
   -- what came was never sent
   invented : (k : ℕ) (p : Parcel) → place.rule ≡ rule.Invented → IsTold came k place → ParcelAt came k p
       → ((j : ℕ) (q : Parcel) → ParcelAt sent j q → q.number ≢ p.number) → IsUnlawfulRoute sent came place

@@ -1,8 +1,10 @@
 -- What makes a trace lawful.
-use Rattle.std.specs.Prelude.{◌⊎◌}
+use Rattle.std.specs.Prelude.{◌⊎◌, List}
+use Rattle.std.specs.List.Sorted.{IsNonDecreasingBy}
 use Rattle.tp_judge.specs.declared.place.Place.{Place}
 use Rattle.tp_judge.specs.declared.trace.Trace.{Trace}
-use Rattle.tp_judge.specs.Before.{IsCirclePlace, NoCircle}
+use Rattle.tp_judge.specs.Before.{NoCircle}
+use Rattle.tp_judge.specs.Circles.{IsCirclePlace}
 use Rattle.tp_judge.specs.Delivered.{Delivered, IsRoutePlace}
 use Rattle.tp_judge.specs.Lawful.{IsPortPlace, LawfulPorts}
 
@@ -19,6 +21,10 @@ pub record IsLawful (trace : Trace) : Type 0 where
 -- a place where one of the latter two is broken
 abbrev pub IsOrderPlace : Trace → Place → Type 0
 IsOrderPlace trace place = IsRoutePlace trace place ⊎ IsCirclePlace trace place
+
+-- by their lines, in the order of the text
+abbrev pub AreInOrder : List Place → Type 0
+AreInOrder places = IsNonDecreasingBy (λ place. place.line) places
 
 -- a place where a rule is broken
 abbrev pub IsPlace : Trace → Place → Type 0

@@ -1,9 +1,11 @@
 -- What makes the ports of a trace lawful, and where they aren't.
-use Rattle.std.specs.Prelude.{◌≡◌, ◌≢◌, ◌<◌, ◌^◌, ◌⊎◌, ℕ, Some, List, All, take, length, slice_get, slice_index, OnSome}
+use Rattle.std.specs.Prelude.{◌≡◌, ◌≢◌, ◌+◌, ◌<◌, ◌^◌, ◌⊎◌, ℕ, Option, Some, None, List, [], All, take, length, slice_get, slice_index, OnSome, ⊤}
 use Rattle.tp_queue.specs.declared.event.Env.{Env}
 use Rattle.tp_queue.specs.declared.event.Event.{Event}
 use Rattle.tp_queue.specs.History.{Lawful, queued}
 use Rattle.tp_judge.specs.declared.line.MessageId.{MessageId}
+use Rattle.tp_judge.specs.declared.line.Act.{Act}
+use Rattle.tp_judge.specs.declared.line.Act.TheVariants as act
 use Rattle.tp_judge.specs.declared.line.Line.{Line}
 use Rattle.tp_judge.specs.declared.line.By.TheVariants as by
 use Rattle.tp_judge.specs.declared.place.Rule.TheVariants as rule
@@ -33,11 +35,28 @@ pub record IsLeftWrong (h : List (Event MessageId)) (left closing : List Line) (
   pub says : left_of line.act ≡ Some env
   pub wrong : slice_get (queued h) (length (left_in (take before left))) ≢ Some env
 
+-- none of the lines before this place says that the component ended
+abbrev pub IsNoEndBefore : List Line → ℕ → Type 0
+IsNoEndBefore closing end = (k : ℕ) (line : Line) → k < end → slice_get closing k ≡ Some line → line.act ≢ act.End
+
+-- the first line that says that the component ended, or the last line where none does
+pub record IsCloser (closing : List Line) (line : Line) : Type 0 where
+  pub place : ℕ
+  pub at : slice_get closing place ≡ Some line
+  pub none_before : IsNoEndBefore closing place
+  pub which : (line.act ≡ act.End) ⊎ (IsNoEndBefore closing (length closing) × (place + 1 ≡ length closing))
+
+abbrev pub IsCloserNumber : List Line → ℕ → Type 0
+IsCloserNumber closing number = (line : Line) × IsCloser closing line × (number ≡ line.number)
+
+-- none where the section is open
+abbrev pub IsCloserOf : List Line → Option ℕ → Type 0
+IsCloserOf closing None = closing ≡ []
+IsCloserOf closing (Some number) = IsCloserNumber closing number
+
 -- fewer messages are told as left than are queued, at the line that closes the section
 pub record IsLeftMissing (h : List (Event MessageId)) (left closing : List Line) (place : Place) : Type 0 where
-  pub line : Line
-  pub closes : slice_get closing 0 ≡ Some line
-  pub told : place.line ≡ line.number
+  pub closes : IsCloserNumber closing place.line
   pub missing : length (left_in left) < length (queued h)
 
 -- what is left is told wrongly
@@ -61,6 +80,22 @@ pub record AreWithin (trace : Trace) : Type 0 where
   pub sections : All (HasKeyBelow by.Component trace.components) trace.lines.items
   pub numbers : All (λ line. line.number < trace.numbers) trace.lines.items
   pub few : trace.numbers < 2 ^ 32
+
+-- a line names a route with the port at the route's end, and what came to a port came to the component that it belongs to.
+-- `ports` has of each route the port at its end
+abbrev pub IsRoutedAct : Trace → List ℕ → ℕ → Act → Type 0
+IsRoutedAct trace ports component (act.Sent m) = m.port ≡ slice_index ports m.route
+IsRoutedAct trace ports component (act.Came m) =
+    (m.port ≡ slice_index ports m.route) × (component ≡ slice_index trace.owners.items m.port)
+IsRoutedAct trace ports component _ = ⊤
+
+abbrev pub IsRouted : Trace → List ℕ → Line → Type 0
+IsRouted trace ports line = IsRoutedAct trace ports line.component line.act
+
+-- each line does
+pub record AreRouted (trace : Trace) : Type 0 where
+  pub ports : List ℕ
+  pub each : All (IsRouted trace ports) trace.lines.items
 
 -- the lines of a port, what they tell as left, and what closes the section that they are in
 abbrev pub IsLawfulAt : Trace → ℕ → Type 0

@@ -9,4 +9,8 @@ pub mod Routed
 pub mod RouteRows
 pub mod Before
 pub mod Demands
+pub mod OneRun
+pub mod Sendings
+pub mod Latest
+pub mod Circles
 pub mod Judged

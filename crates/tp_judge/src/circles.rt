@@ -1,8 +1,10 @@
 //! The rule on circles.
-ghost use Rattle.std.specs.Prelude.{IfOk, MatchOption};
-ghost use Rattle.tp_judge.specs.Before.{IsCirclePlace, NoCircle};
+ghost use Rattle.std.specs.Prelude.{◌<◌, IfOk, MatchOption, length};
+ghost use Rattle.tp_judge.specs.Before.{NoCircle};
+ghost use Rattle.tp_judge.specs.Circles.{IsCirclePlace};
 ghost use Rattle.tp_judge.specs.Delivered.{Delivered};
 ghost use Rattle.tp_judge.specs.Lawful.{AreWithin};
+ghost use Rattle.tp_judge.specs.OneRun.{IsLeastOf};
 
 use crate::demands::make_demands;
 use crate::place::{Place, Rule};
@@ -12,7 +14,22 @@ use tp_order::answer::Answer;
 use tp_order::order::order_or_circle;
 use tp_refusal::memory::Memory;
 
-/// A line of a trace whose routes are lawful that happens before itself, if there is one.
+/// The least of these numbers, of which there is one at least.
+pub(crate) fn least(xs: &[usize]) -> usize
+    requires { 0 < length xs.now }
+    ensures { IsLeastOf xs.now result }
+{
+    let mut least = xs[0];
+    for x in xs {
+        if *x < least {
+            least = *x;
+        }
+    }
+    least
+}
+
+/// A line of a trace whose routes are lawful that happens before itself, if there is one: the first,
+/// in the order of the text, of the circle that is found.
 pub fn circle_place(alloc: Global, trace: &Trace) -> Result<Option<Place>, Memory>
     requires within { AreWithin trace.now }
     requires delivered { Delivered trace.now }
@@ -23,7 +40,7 @@ pub fn circle_place(alloc: Global, trace: &Trace) -> Result<Option<Place>, Memor
     match order_or_circle(alloc, trace.numbers, &demands)? {
         Answer::Ordered(_) => Ok(None),
         Answer::Circle(circle) => Ok(Some(Place {
-            line: circle[0] as u32,
+            line: least(&circle) as u32,
             rule: Rule::Circle,
         })),
     }

@@ -1,6 +1,7 @@
 //! All three rules.
 ghost use Rattle.std.specs.Prelude.{◌≡◌, ◌↔◌, ◌++◌, [], All, IfOk, IsTrue, OnOk};
-ghost use Rattle.tp_judge.specs.Judged.{IsLawful, IsOrderly, IsOrderPlace, IsPlace};
+ghost use Rattle.std.specs.List.Sorted.{IsPermutation};
+ghost use Rattle.tp_judge.specs.Judged.{AreInOrder, IsLawful, IsOrderly, IsOrderPlace, IsPlace};
 ghost use Rattle.tp_judge.specs.Lawful.{AreWithin};
 
 use crate::circles::circle_place;
@@ -46,15 +47,26 @@ fn order_places(alloc: Global, trace: &Trace) -> Result<Vec<Place>, Memory>
     }
 }
 
-/// The places where a trace isn't lawful: one at most for each port and each route, and one for
-/// circles, which are looked for where all routes are lawful.
+/// Puts places in the order of their lines; those of one line stay as they are.
+fn put_in_order(places: &mut Vec<Place>) -> Result<(), Memory>
+    ensures sorted { OnOk result (AreInOrder places.new.items) }
+    ensures same { OnOk result (IsPermutation places.old.items places.new.items) }
+{
+    places.sort_by_key(|place| place.line)?;
+    Ok(())
+}
+
+/// The places where a trace isn't lawful, in the order of their lines: one at most for each port and
+/// each route, and one for circles, which are looked for where all routes are lawful.
 pub fn judge(alloc: Global, trace: &Trace) -> Result<Vec<Place>, Memory>
     requires { AreWithin trace.now }
     ensures lawful { IfOk result (λ places. (places.items ≡ []) ↔ IsLawful trace.now) }
     ensures told { IfOk result (λ places. All (IsPlace trace.now) places.items) }
+    ensures sorted { IfOk result (λ places. AreInOrder places.items) }
 {
     let mut places = port_places(alloc, trace)?;
     let order = order_places(alloc, trace)?;
     append(&mut places, &order)?;
+    put_in_order(&mut places)?;
     Ok(places)
 }

@@ -1,5 +1,6 @@
 //! The lines of a trace, with numbers in place of names and messages.
 ghost use Rattle.std.specs.Prelude.{◌≡◌};
+ghost use Rattle.tp_judge.specs.OneRun.{is_looking};
 ghost use Rattle.tp_judge.specs.Lines.{came_route, event_port, key_of, left_port, parcel_of, sent_route};
 
 use std::alloc::Global;
@@ -160,6 +161,23 @@ impl Act {
             Act::Left(mention) => Some(mention.port),
             _ => None,
         }
+    }
+
+    /// Whether its component looked at ports.
+    pub(crate) fn is_looking(self) -> bool
+        ensures { result ≡ is_looking self }
+    {
+        matches!(
+            self,
+            Act::Took(_)
+                | Act::Found(_)
+                | Act::Dropped(_)
+                | Act::Cleared(_)
+                | Act::Started(_)
+                | Act::Stopped(_)
+                | Act::Halted(_)
+                | Act::Else
+        )
     }
 
     /// The parcel that was sent, or that came.

@@ -2,10 +2,10 @@
 ghost use Rattle.std.specs.Prelude.{◌≡◌, ◌↔◌, ◌<◌, [], All, IfOk, IsTrue, MatchOption, Some, length, slice_get};
 ghost use Rattle.tp_queue.specs.History.{queued};
 ghost use Rattle.tp_judge.specs.Gathered.{seen};
-ghost use Rattle.tp_judge.specs.Lawful.{AreWithin, IsLawfulAt, IsLawfulPort, IsLeftBroken};
+ghost use Rattle.tp_judge.specs.Lawful.{AreWithin, IsCloserNumber, IsCloserOf, IsLawfulAt, IsLawfulPort, IsLeftBroken};
 ghost use Rattle.tp_judge.specs.Lawful.{IsPortPlace, IsToldLeft, IsUnlawfulAt, IsUnlawfulPort};
 ghost use Rattle.tp_judge.specs.Lawful.{LawfulPorts};
-ghost use Rattle.tp_judge.specs.PortRows.{ArePortRows};
+ghost use Rattle.tp_judge.specs.PortRows.{AreClosers, ArePortRows};
 ghost use Rattle.tp_judge.specs.Lines.{envelope};
 
 use crate::gathering::gather;
@@ -27,13 +27,60 @@ fn is_queued(queue: &PortQueue<MessageId>, place: u64, mention: Mention) -> bool
     }
 }
 
-/// A line where what is told as left isn't what is queued, if there is one.
-fn left_place(queue: &PortQueue<MessageId>, left: &[&Line], closing: &[&Line]) -> Option<Place>
+/// The number of the line at which it is told that something isn't told as left: the first that says
+/// that the component ended, or the last where none does.
+fn closer_number(closing: &[&Line]) -> u32
+    requires { 0 < length closing.now }
+    ensures { IsCloserNumber (seen closing.now) result }
+{
+    for line in closing {
+        if let Act::End = line.act {
+            return line.number;
+        }
+    }
+    closing[closing.len() - 1].number
+}
+
+/// The same, and `None` where the section is open.
+fn closer_of(closing: &[&Line]) -> Option<u32>
+    ensures { IsCloserOf (seen closing.now) result }
+{
+    if closing.is_empty() {
+        return None;
+    }
+    Some(closer_number(closing))
+}
+
+/// Of each component the same: once, and not again for each of its ports.
+fn closers_of(alloc: Global, closing: &[Vec<&Line>]) -> Result<Vec<Option<u32>>, Memory>
+    ensures { IfOk result (λ closers. AreClosers closing.now closers.items) }
+{
+    let mut closers = Vec::with_capacity(alloc, closing.len())?;
+    for row in closing {
+        closers.push(closer_of(row))?;
+    }
+    Ok(closers)
+}
+
+/// A line where what is told as left isn't what is queued, if there is one. The section is closed by
+/// the line of this number, or open.
+fn left_place(
+    queue: &PortQueue<MessageId>,
+    left: &[&Line],
+    closing: &[&Line],
+    closer: Option<u32>,
+) -> Option<Place>
+    requires { IsCloserOf (seen closing.now) closer }
     ensures { MatchOption result
         (IsToldLeft queue.now (seen left.now) (seen closing.now))
         (IsLeftBroken queue.now (seen left.now) (seen closing.now)) }
 {
-    let closer = closing.first()?;
+    // Of an open section nothing is asked.
+    let Some(closer) = closer else {
+        return None;
+    };
+    // Of these lines the clauses speak.
+    let _ = closing;
     let count = queue.queued_len();
     let mut told = 0u64;
     for line in left {
@@ -49,7 +96,7 @@ fn left_place(queue: &PortQueue<MessageId>, left: &[&Line], closing: &[&Line]) -
     }
     if told < count {
         return Some(Place {
-            line: closer.number,
+            line: closer,
             rule: Rule::Left,
         });
     }
@@ -62,14 +109,16 @@ fn port_place(
     events: &[&Line],
     left: &[&Line],
     closing: &[&Line],
+    closer: Option<u32>,
 ) -> Result<Option<Place>, Memory>
+    requires { IsCloserOf (seen closing.now) closer }
     ensures { IfOk result (λ place. MatchOption place
         (IsLawfulPort (seen events.now) (seen left.now) (seen closing.now))
         (IsUnlawfulPort (seen events.now) (seen left.now) (seen closing.now))) }
 {
     match replay(alloc, events)? {
         Replayed::Unlawful(place) => Ok(Some(place)),
-        Replayed::Lawful(queue) => Ok(left_place(&queue, left, closing)),
+        Replayed::Lawful(queue) => Ok(left_place(&queue, left, closing, closer)),
     }
 }
 
@@ -79,6 +128,7 @@ struct PortRows<'t> {
     events: Vec<Vec<&'t Line>>,
     left: Vec<Vec<&'t Line>>,
     closing: Vec<Vec<&'t Line>>,
+    closers: Vec<Option<u32>>,
 }
 
 fn gather_ports<'t>(alloc: Global, trace: &'t Trace) -> Result<PortRows<'t>, Memory>
@@ -89,10 +139,12 @@ fn gather_ports<'t>(alloc: Global, trace: &'t Trace) -> Result<PortRows<'t>, Mem
     let events = gather(alloc, &trace.lines, By::Port, ports)?;
     let left = gather(alloc, &trace.lines, By::Left, ports)?;
     let closing = gather(alloc, &trace.lines, By::Closing, trace.components)?;
+    let closers = closers_of(alloc, &closing)?;
     Ok(PortRows {
         events,
         left,
         closing,
+        closers,
     })
 }
 
@@ -115,6 +167,7 @@ fn place_at(
         &rows.events[port],
         &rows.left[port],
         &rows.closing[owner],
+        rows.closers[owner],
     )?;
     Ok(place)
 }

@@ -1,9 +1,9 @@
 //! The rule on delivery: one route.
-ghost use Rattle.std.specs.Prelude.{◌≡◌, ◌↔◌, ◌<◌, ◌≤◌, ℕ, All, IfSome, IsTrue, MatchOption, length, slice_get};
+ghost use Rattle.std.specs.Prelude.{◌≡◌, ◌↔◌, ◌<◌, All, IfSome, IsTrue, MatchOption, length, slice_get};
 ghost use Rattle.tp_judge.specs.Delivered.{AreNumbered, IsDelivered, IsTold, IsUnlawfulRoute};
-ghost use Rattle.tp_judge.specs.Delivered.{NamesParcel, ParcelAt, parcels};
+ghost use Rattle.tp_judge.specs.Delivered.{IsOvertaken, NamesParcel, ParcelAt, parcels};
 ghost use Rattle.tp_judge.specs.Gathered.{seen};
-ghost use Rattle.tp_judge.specs.Routed.{AgreesBelow, DiffersAt, IsMisnumbered};
+ghost use Rattle.tp_judge.specs.Routed.{AgreesBelow, DiffersAt, HasNumberFrom, IsMisnumbered, NoNumberFrom};
 
 use crate::line::{Line, Parcel};
 use crate::place::{Place, Rule};
@@ -88,19 +88,42 @@ fn first_difference(sent: &[&Line], came: &[&Line]) -> Option<usize>
     None
 }
 
-/// The first place from this one on where the parcel came, if there is one.
-fn find_from(came: &[&Line], from: usize, parcel: Parcel) -> Option<usize>
+/// The first place from this one on where something came with the number, if there is one.
+fn find_from(came: &[&Line], from: usize, number: u64) -> Option<usize>
     requires { All NamesParcel (seen came.now) }
     ensures { MatchOption result
-        ((k : ℕ) → from ≤ k → ParcelAt (seen came.now) k parcel → ⊥)
-        (λ k. (from ≤ k) × (k < length came.now) × ParcelAt (seen came.now) k parcel) }
+        (NoNumberFrom (seen came.now) from number)
+        (HasNumberFrom (seen came.now) from number) }
 {
     for place in from..came.len() {
-        if parcel_at(came, place) == parcel {
+        if parcel_at(came, place).number == number {
             return Some(place);
         }
     }
     None
+}
+
+/// What is wrong where a message came that was sent later.
+fn overtaken_at(sent: &[&Line], came: &[&Line], place: usize) -> Place
+    requires sent { All NamesParcel (seen sent.now) }
+    requires came { All NamesParcel (seen came.now) }
+    requires numbered { AreNumbered (parcels (seen sent.now)) }
+    requires agrees { AgreesBelow (seen sent.now) (seen came.now) place }
+    requires overtaken { IsOvertaken (seen sent.now) (seen came.now) place }
+    requires within { place < length sent.now }
+    ensures { IsUnlawfulRoute (seen sent.now) (seen came.now) result }
+{
+    let parcel = parcel_at(sent, place);
+    match find_from(came, place, place as u64) {
+        None => told_at(Rule::Lost, sent, place),
+        Some(later) => {
+            let is_same = is_parcel(parcel, parcel_at(came, later));
+            if !is_same {
+                return told_at(Rule::Changed, came, later);
+            }
+            told_at(Rule::Reordered, came, later)
+        }
+    }
 }
 
 /// What is wrong where another message came than was sent.
@@ -116,18 +139,15 @@ fn fault_at(sent: &[&Line], came: &[&Line], place: usize) -> Place
     if parcel.number >= sent.len() as u64 {
         return told_at(Rule::Invented, came, place);
     }
-    let original = parcel.number as usize;
-    let is_same = is_parcel(parcel_at(sent, original), parcel);
+    if parcel.number < place as u64 {
+        return told_at(Rule::Doubled, came, place);
+    }
+    let original = parcel_at(sent, parcel.number as usize);
+    let is_same = is_parcel(original, parcel);
     if !is_same {
         return told_at(Rule::Changed, came, place);
     }
-    if original < place {
-        return told_at(Rule::Doubled, came, place);
-    }
-    match find_from(came, place, parcel_at(sent, place)) {
-        None => told_at(Rule::Lost, sent, place),
-        Some(later) => told_at(Rule::Reordered, came, later),
-    }
+    overtaken_at(sent, came, place)
 }
 
 /// A line at which the route isn't lawful, if there is one.

@@ -1,5 +1,5 @@
 -- How much is taken of a reader, and how the reading of a text ends.
-use Rattle.std.specs.Prelude.{◌≡◌, ℕ, ◌*◌, ◌^◌, ◌≤◌, ◌⊎◌, Option, Some, None, List, length}
+use Rattle.std.specs.Prelude.{◌≡◌, ℕ, ◌+◌, ◌*◌, ◌^◌, ◌≤◌, ◌⊎◌, Option, Some, None, List, length}
 use Rattle.std.specs.Io.KnownBytes.{Consumes}
 use Rattle.tp_text.specs.declared.text.ReadFault.{ReadFault}
 use Rattle.tp_text.specs.declared.text.ReadFault.TheVariants as read_fault
@@ -9,17 +9,22 @@ abbrev pub IsFull : ℕ → Type 0
 IsFull n = (n ≡ 0) ⊎ ((k : ℕ) × (n ≡ 8192 * 2 ^ k))
 
 -- there is room for so many bytes: doubled each time, up to one more than the limit
-abbrev pub IsRoom : ℕ → Type 0
-IsRoom n = IsFull n ⊎ (n ≡ 1048577)
+abbrev pub IsRoom : ℕ → ℕ → Type 0
+IsRoom limit n = IsFull n ⊎ (n ≡ limit + 1)
 
 -- so many bytes are taken where reading ends with this fault, or with none: one more than the limit exactly where there
 -- are too many, and want of memory comes only where the room is full
-abbrev pub EndsAt : Option ReadFault → ℕ → Type 0
-EndsAt None n = n ≤ 1048576
-EndsAt (Some read_fault.Read) n = n ≤ 1048576
-EndsAt (Some read_fault.Limit) n = n ≡ 1048577
-EndsAt (Some read_fault.Memory) n = (n ≤ 1048576) × IsFull n
+abbrev pub EndsAt : ℕ → Option ReadFault → ℕ → Type 0
+EndsAt limit None n = n ≤ limit
+EndsAt limit (Some read_fault.Read) n = n ≤ limit
+EndsAt limit (Some read_fault.Limit) n = n ≡ limit + 1
+EndsAt limit (Some read_fault.Memory) n = (n ≤ limit) × IsFull n
 
--- reading takes bytes off the front of what the reader has, where that is known, and ends with this fault, or with none
+-- reading within this limit takes bytes off the front of what the reader has, where that is known, and ends with this
+-- fault, or with none
+abbrev pub TakesWithin : ℕ → Option (List ℕ) → Option (List ℕ) → Option ReadFault → Type 0
+TakesWithin limit old new fault = (bytes : List ℕ) × Consumes old new bytes × EndsAt limit fault (length bytes)
+
+-- the same of a text of 1 MiB at most
 abbrev pub TakesBytes : Option (List ℕ) → Option (List ℕ) → Option ReadFault → Type 0
-TakesBytes old new fault = (bytes : List ℕ) × Consumes old new bytes × EndsAt fault (length bytes)
+TakesBytes old new fault = TakesWithin 1048576 old new fault

@@ -1,9 +1,9 @@
 //! A whole text, read within the limit.
-ghost use Rattle.std.specs.Prelude.{◌≡◌, ◌≢◌, ◌+◌, ◌<◌, ◌≤◌, Err, IfErr, IfOk, IfSome, OnErr, OnOk, drop, length, take, vec_len};
+ghost use Rattle.std.specs.Prelude.{◌≡◌, ◌≢◌, ◌+◌, ◌<◌, ◌≤◌, ◌^◌, Err, IfErr, IfOk, IfSome, OnErr, OnOk, drop, length, take, vec_len};
 ghost use Rattle.std.specs.Result.{result_err};
 ghost use Rattle.std.specs.Io.KnownBytes.{Consumes, IsAtEnd, Keeps};
 ghost use Rattle.tp_text.specs.declared.text.ReadFault.TheVariants as read_fault;
-ghost use Rattle.tp_text.specs.Reading.{IsFull, IsRoom, TakesBytes};
+ghost use Rattle.tp_text.specs.Reading.{IsFull, IsRoom, TakesBytes, TakesWithin};
 
 use std::alloc::{AllocError, Global};
 use std::io::{ErrorKind, Read};
@@ -19,8 +19,8 @@ pub enum ReadFault {
     /// 2 Read: the reader answered an error.
     #[error("the text could not be read")]
     Read,
-    /// 15 Limit: the text has more than 1,048,576 bytes.
-    #[error("the text has more than {TEXT_LIMIT} bytes")]
+    /// 15 Limit: the text has more bytes than it may have.
+    #[error("the text is too long")]
     Limit,
     /// 50 Memory: an allocation was refused.
     #[error("out of memory")]
@@ -43,10 +43,31 @@ pub fn read_text<R: Read>(alloc: Global, reader: &mut R) -> Result<Vec<u8>, Read
     ensures taken { TakesBytes
         (R.remaining reader.old) (R.remaining reader.new) (result_err result) }
 {
+    read_within(alloc, reader, TEXT_LIMIT)
+}
+
+/// Reads all that the reader has, and at most one byte more than the limit.
+///
+/// 2 `Read`, 15 `Limit` and 50 `Memory` as [`read_text`] says, with this limit in place of its own.
+pub fn read_within<R: Read>(
+    alloc: Global,
+    reader: &mut R,
+    limit: usize,
+) -> Result<Vec<u8>, ReadFault>
+    requires { limit < 2 ^ 62 }
+    ensures whole { IfOk result (λ text.
+        IfSome (R.remaining reader.old) (λ all. text.items ≡ all)) }
+    ensures end { OnOk result (IsAtEnd (R.remaining reader.new)) }
+    ensures short { IfOk result (λ text. length text.items ≤ limit) }
+    ensures long { result ≡ Err read_fault.Limit
+        → IfSome (R.remaining reader.old) (λ all. limit < length all) }
+    ensures taken { TakesWithin limit
+        (R.remaining reader.old) (R.remaining reader.new) (result_err result) }
+{
     let mut text = Vec::new(alloc);
     let mut size = 0;
-    while size <= TEXT_LIMIT {
-        match read_more(reader, &mut text, size) {
+    while size <= limit {
+        match read_more(reader, &mut text, size, limit) {
             Ok(0) => {
                 text.truncate(size);
                 return Ok(text);
@@ -60,15 +81,21 @@ pub fn read_text<R: Read>(alloc: Global, reader: &mut R) -> Result<Vec<u8>, Read
 
 /// One read, behind the first bytes of a text, `size` of them. It answers how many more there are
 /// then, and 0 only at the end.
-fn read_more<R: Read>(reader: &mut R, text: &mut Vec<u8>, size: usize) -> Result<usize, ReadFault>
-    requires size { size ≤ 1048576 }
+fn read_more<R: Read>(
+    reader: &mut R,
+    text: &mut Vec<u8>,
+    size: usize,
+    limit: usize,
+) -> Result<usize, ReadFault>
+    requires limit { limit < 2 ^ 62 }
+    requires size { size ≤ limit }
     requires within { size ≤ vec_len text.old }
-    requires most { vec_len text.old ≤ 1048577 }
-    requires doubled { IsRoom (vec_len text.old) }
+    requires most { vec_len text.old ≤ limit + 1 }
+    requires doubled { IsRoom limit (vec_len text.old) }
     ensures front { take size text.new.items ≡ take size text.old.items }
     ensures within { IfOk result (λ count. size + count ≤ vec_len text.new) }
-    ensures most { vec_len text.new ≤ 1048577 }
-    ensures doubled { IsRoom (vec_len text.new) }
+    ensures most { vec_len text.new ≤ limit + 1 }
+    ensures doubled { IsRoom limit (vec_len text.new) }
     ensures more { IfOk result (λ count. Consumes
         (R.remaining reader.old)
         (R.remaining reader.new)
@@ -78,7 +105,7 @@ fn read_more<R: Read>(reader: &mut R, text: &mut Vec<u8>, size: usize) -> Result
     ensures fault { IfErr result (λ fault. fault ≢ ReadFault.Limit) }
     ensures full { IfErr result (λ fault. fault ≡ ReadFault.Memory → IsFull size) }
 {
-    if make_room(text, size).is_err() {
+    if make_room(text, size, limit).is_err() {
         return Err(ReadFault::Memory);
     }
     read_behind(reader, text.as_mut_slice(), size)
@@ -122,35 +149,35 @@ fn read_again<R: Read>(reader: &mut R, part: &mut [u8]) -> Result<usize, ReadFau
 
 /// Makes room for a byte behind those of this number: where there is none, twice as much as there
 /// was, and never more than one byte beyond the limit.
-fn make_room(text: &mut Vec<u8>, size: usize) -> Result<(), AllocError>
-    requires size { size ≤ 1048576 }
+fn make_room(text: &mut Vec<u8>, size: usize, limit: usize) -> Result<(), AllocError>
+    requires limit { limit < 2 ^ 62 }
+    requires size { size ≤ limit }
     requires within { size ≤ vec_len text.old }
-    requires most { vec_len text.old ≤ 1048577 }
-    requires doubled { IsRoom (vec_len text.old) }
+    requires most { vec_len text.old ≤ limit + 1 }
+    requires doubled { IsRoom limit (vec_len text.old) }
     ensures front { take size text.new.items ≡ take size text.old.items }
     ensures within { size ≤ vec_len text.new }
     ensures room { OnOk result (size < vec_len text.new) }
     ensures full { OnErr result (IsFull size) }
-    ensures most { vec_len text.new ≤ 1048577 }
-    ensures doubled { IsRoom (vec_len text.new) }
+    ensures most { vec_len text.new ≤ limit + 1 }
+    ensures doubled { IsRoom limit (vec_len text.new) }
 {
     if size < text.len() {
         return Ok(());
     }
-    text.resize(next_room(size), 0)
+    text.resize(next_room(size, limit), 0)
 }
 
 /// The room behind a room that is full: twice as much, and never more than one byte beyond the
 /// limit.
-fn next_room(size: usize) -> usize
-    requires size { size ≤ 1048576 }
-    requires doubled { IsRoom size }
+fn next_room(size: usize, limit: usize) -> usize
+    requires limit { limit < 2 ^ 62 }
+    requires size { size ≤ limit }
+    requires doubled { IsRoom limit size }
     ensures more { size < result }
-    ensures most { result ≤ 1048577 }
-    ensures doubled { IsRoom result }
+    ensures most { result ≤ limit + 1 }
+    ensures doubled { IsRoom limit result }
 {
-    if size == 0 {
-        return FIRST_READ;
-    }
-    (size * 2).min(TEXT_LIMIT + 1)
+    let more = if size == 0 { FIRST_READ } else { size * 2 };
+    more.min(limit + 1)
 }

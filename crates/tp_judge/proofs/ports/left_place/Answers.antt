@@ -4,15 +4,19 @@ use Rattle.std.proofs.lemmas.Option.{slice_get_within}
 use Rattle.std.proofs.lemmas.Bool.{false≢true}
 use Rattle.tp_queue.specs.History.{queued}
 use Rattle.tp_judge.specs.Gathered.{seen}
+use Rattle.tp_judge.specs.Lawful.{IsCloserNumber}
 use Rattle.tp_judge.specs.Lines.{envelope, left_of}
-use Rattle.tp_judge.proofs.Leaving.{TellsFirst, tells_one, tells_none, tells_wrong, seen_first, not_left}
+use Rattle.tp_judge.proofs.Leaving.{TellsFirst, tells_one, tells_none, tells_wrong, not_left}
+use Rattle.tp_judge.proofs.Unlawful.{first_there}
 use Rattle.tp_judge.proofs.ports.left_place.Goals as goal
-use Rattle.tp_judge.proofs.ports.left_place.Goals.{in-Left+else-not-is_queued, in_default}
+use Rattle.tp_judge.proofs.ports.left_place.Goals.{in-Left+else-not-is_queued, in_default-act}
 
 pub returns-then-not-is_queued : goal.returns-then-not-is_queued
 returns-then-not-is_queued c =
-    tells_wrong c.args.queue.now c.args.left.now (seen c.args.closing.now) c.loop-line.line-index c.loop-line.told _ _ _
-    (seen_first c.args.closing.now _ (sym c.in_ok-closer.ensures.value)) c.loop-line-test.true c.loop-line.invariant
+    let closes : IsCloserNumber (seen c.args.closing.now) c.in-Some.closer = rw c.in-Some.is at c.requires in
+    let first = first_there (seen c.args.closing.now) closes.1.place closes.0 closes.1.at in
+    tells_wrong c.args.queue.now c.args.left.now (seen c.args.closing.now) c.loop-line.line-index c.loop-line.told _ first.0 _
+    first.1 c.loop-line-test.true c.loop-line.invariant
     (ap left_of c.in-Left.is) (λ is. false≢true (c.if-not-is_queued.ensures.1 is))
 
 pub overflow_add-told : goal.overflow_add-told
@@ -29,8 +33,8 @@ loop-line-preserved c =
           subst P (sym w.told-is)
           (tells_one (queued c.args.queue.now) c.args.left.now c.loop-line.line-index c.loop-line.told _ _
           c.loop-line-test.true c.loop-line.invariant (ap left_of w.in-Left.is) (w.if-not-is_queued.ensures.0 refl))
-      | in_default w ↦
+      | in_default-act w ↦
           subst P (sym w.told-is)
           (tells_none (queued c.args.queue.now) c.args.left.now c.loop-line.line-index c.loop-line.told _
-          c.loop-line-test.true c.loop-line.invariant (not_left _ w.in_default.not-Left))
+          c.loop-line-test.true c.loop-line.invariant (not_left _ w.in_default-act.not-Left))
     ]

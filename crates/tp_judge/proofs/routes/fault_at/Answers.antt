@@ -1,12 +1,12 @@
 -- Which rule is broken, by the number of what came.
-use Rattle.std.proofs.Common.{◌≢◌, Some, List, refl, ap, sym, ◌∙◌, arith}
+use Rattle.std.proofs.Common.{◌≢◌, Some, refl, ap, sym, ◌∙◌, arith}
 use Rattle.std.proofs.lemmas.Bool.{false≢true}
-use Rattle.tp_judge.specs.declared.line.Parcel.{Parcel}
+use Rattle.std.proofs.lemmas.Option.{slice_get_within}
 use Rattle.std.specs.Prelude.{slice_get}
 use Rattle.tp_judge.specs.Gathered.{seen}
-use Rattle.tp_judge.specs.Delivered.{parcels, invented, changed, doubled, reordered}
+use Rattle.tp_judge.specs.Delivered.{parcels, invented, changed}
 use Rattle.tp_judge.proofs.Parcels.{named_within}
-use Rattle.tp_judge.proofs.Deliveries.{lost_here, same_parcel}
+use Rattle.tp_judge.proofs.Deliveries.{doubled_here, same_parcel}
 use Rattle.tp_judge.proofs.routes.fault_at.Goals as goal
 
 pub returns-then-parcel-sent : goal.returns-then-parcel-sent
@@ -18,42 +18,34 @@ returns-then-parcel-sent c =
     let past = c.if-parcel-sent.true in
     omega arith)
 
+pub returns-then-parcel-place : goal.returns-then-parcel-place
+returns-then-parcel-place c =
+    let parcel = c.parcel_at-parcel.result in
+    doubled_here (seen c.args.sent.now) (seen c.args.came.now) c.args.place parcel c.told_at-then-parcel-place.result
+    c.requires.numbered c.requires.differs.before c.told_at-then-parcel-place.ensures.rule c.told_at-then-parcel-place.ensures.told
+    c.parcel_at-parcel.ensures (slice_get_within (parcels (seen c.args.came.now)) c.args.place parcel c.parcel_at-parcel.ensures)
+    c.if-parcel-place.true
+
 pub returns-then-not-is_same : goal.returns-then-not-is_same
 returns-then-not-is_same c =
     let parcel = c.parcel_at-parcel.result in
-    let sent = c.parcel_at.result in
-    let number = c.requires.numbered parcel.number sent c.parcel_at.ensures in
+    let sent = c.parcel_at-original.result in
+    let number = c.requires.numbered parcel.number sent c.parcel_at-original.ensures in
     changed parcel.number c.args.place parcel sent c.told_at-then-not-is_same.ensures.rule c.told_at-then-not-is_same.ensures.told
-    c.parcel_at-parcel.ensures c.parcel_at.ensures number
+    c.parcel_at-parcel.ensures c.parcel_at-original.ensures number
     (λ message. false≢true (c.if-not-is_same.ensures.1 (same_parcel sent parcel number message)))
 
-pub returns-then-original-place : goal.returns-then-original-place
-returns-then-original-place c =
+pub overtaken_at-requires-clause-overtaken : goal.overtaken_at-requires-clause-overtaken
+overtaken_at-requires-clause-overtaken c =
     let parcel = c.parcel_at-parcel.result in
-    let before = c.if-original-place.true in
-    doubled parcel.number c.args.place parcel c.told_at-then-original-place.ensures.rule c.told_at-then-original-place.ensures.told
-    c.parcel_at-parcel.ensures before
-    (sym (c.requires.differs.before parcel.number before) ∙ c.parcel_at.ensures ∙ ap Some (c.if-not-is_same.ensures.0 refl))
-
-pub returns-in-None : goal.returns-in-None
-returns-in-None c =
-    lost_here (seen c.args.sent.now) (seen c.args.came.now) c.args.place c.parcel_at-2.result c.told_at-in-None.result
-    c.requires.numbered c.requires.differs.before c.told_at-in-None.ensures.rule c.told_at-in-None.ensures.told c.parcel_at-2.ensures
-    c.in-None.ensures
-
-pub returns-in-Some : goal.returns-in-Some
-returns-in-Some c =
-    let parcel = c.parcel_at-parcel.result in
-    let later = c.in-Some.later in
-    let there = c.parcel_at.ensures ∙ ap Some (c.if-not-is_same.ensures.0 refl) in
-    let sent : List Parcel = parcels (seen c.args.sent.now) in
-    let came : List Parcel = parcels (seen c.args.came.now) in
+    let there = c.parcel_at-original.ensures ∙ ap Some (c.if-not-is_same.ensures.0 refl) in
     let other : c.args.place ≢ parcel.number =
-    λ e. c.requires.differs.here (ap (slice_get sent) e ∙ there ∙ sym c.parcel_at-parcel.ensures) in
-    let behind : c.args.place ≢ later =
-    λ e. c.requires.differs.here (c.parcel_at-2.ensures ∙ sym (ap (slice_get came) e ∙ c.in-Some.ensures.2)) in
-    let high = c.if-original-place.false in
-    let from = c.in-Some.ensures.0 in
-    reordered c.args.place parcel.number c.args.place later c.parcel_at-2.result parcel
-    c.told_at-in-Some.ensures.rule c.told_at-in-Some.ensures.told c.in-Some.ensures.2 c.parcel_at-2.ensures
-    (omega arith) there (omega arith) c.parcel_at-parcel.ensures
+    λ e. c.requires.differs.here (ap (slice_get (parcels (seen c.args.sent.now))) e ∙ there ∙ sym c.parcel_at-parcel.ensures) in
+    let high = c.if-parcel-place.false in
+    (parcel.number, parcel, omega arith, there, c.parcel_at-parcel.ensures)
+
+pub overtaken_at-requires-clause-within : goal.overtaken_at-requires-clause-within
+overtaken_at-requires-clause-within c =
+    let low = c.if-parcel-sent.false in
+    let high = c.if-parcel-place.false in
+    omega arith

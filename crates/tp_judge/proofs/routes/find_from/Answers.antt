@@ -5,7 +5,7 @@ use Rattle.tp_judge.proofs.routes.find_from.Goals as goal
 
 pub returns : goal.returns
 returns c =
-    λ k low at.
-    let within = named_within c.args.came.now c.requires k c.args.parcel at in
+    λ k p low at.
+    let within = named_within c.args.came.now c.requires k p at in
     let done = c.loop-place-test.false in
-    c.loop-place.invariant k low (omega arith) at
+    c.loop-place.invariant k p low (omega arith) at

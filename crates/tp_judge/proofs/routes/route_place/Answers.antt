@@ -3,7 +3,7 @@ use Rattle.std.proofs.Common.{length, ◌∙◌, arith}
 use Rattle.tp_judge.specs.Gathered.{seen}
 use Rattle.tp_judge.specs.Delivered.{parcels, numbering}
 use Rattle.tp_judge.proofs.Parcels.{length-parcels, length-seen, named_there, named_within}
-use Rattle.tp_judge.proofs.Deliveries.{lost_here, same_lists}
+use Rattle.tp_judge.proofs.Deliveries.{lost_behind, same_lists}
 use Rattle.tp_judge.proofs.routes.route_place.Goals as goal
 
 pub returns-in-Some : goal.returns-in-Some
@@ -18,10 +18,10 @@ returns-then-came-sent c =
     let size = length-seen c.args.sent.now in
     let short = c.if-came-sent.true in
     let there = named_there sent c.requires.sent (length c.args.came.now) (omega arith) in
-    lost_here sent came (length c.args.came.now) there.0 c.told_at-then-came-sent.result c.in_default.ensures.numbered
+    lost_behind sent came (length c.args.came.now) there.0 c.told_at-then-came-sent.result c.in_default.ensures.numbered
     c.in_default-first_difference.ensures.differs c.told_at-then-came-sent.ensures.rule c.told_at-then-came-sent.ensures.told
     there.1
-    (λ j high at. let within = named_within c.args.came.now c.requires.came j there.0 at in omega arith)
+    (λ j p at. named_within c.args.came.now c.requires.came j p at)
 
 pub returns : goal.returns
 returns c =

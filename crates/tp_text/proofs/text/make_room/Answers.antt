@@ -5,4 +5,4 @@ use Rattle.tp_text.proofs.Taking.{either_room}
 use Rattle.tp_text.proofs.text.make_room.Goals as goal
 
 pub returns-clause-doubled : goal.returns-clause-doubled
-returns-clause-doubled c = subst IsRoom (sym c.resize.ensures.len) (either_room _ _ _ c.next_room.ensures.doubled c.requires.doubled)
+returns-clause-doubled c = subst (IsRoom c.args.limit) (sym c.resize.ensures.len) (either_room _ _ _ _ c.next_room.ensures.doubled c.requires.doubled)

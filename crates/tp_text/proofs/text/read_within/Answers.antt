@@ -4,7 +4,7 @@ use Rattle.std.proofs.lemmas.List.{places}
 use Rattle.tp_text.specs.Reading.{EndsAt}
 use Rattle.std.proofs.KnownBytes.{Consumes-kept}
 use Rattle.tp_text.proofs.Taking.{ends_before, taken_more}
-use Rattle.tp_text.proofs.text.read_text.Goals as goal
+use Rattle.tp_text.proofs.text.read_within.Goals as goal
 
 pub loop-size-preserved : goal.loop-size-preserved
 loop-size-preserved g c =
@@ -16,5 +16,5 @@ returns-in-Err-clause-taken g c =
     let long = length-take-le c.loop-size.size c.loop-size.text.items (search (rules, places)) in (
       _,
       Consumes-kept _ _ _ _ c.loop-size.invariant.3 c.in-Err.ensures.kept,
-      subst (EndsAt (Some c.in-Err.fault)) (sym long) (ends_before _ _ c.loop-size-test.true c.in-Err.ensures.fault c.in-Err.ensures.full),
+      subst (EndsAt c.args.limit (Some c.in-Err.fault)) (sym long) (ends_before c.args.limit _ _ c.loop-size-test.true c.in-Err.ensures.fault c.in-Err.ensures.full),
     )

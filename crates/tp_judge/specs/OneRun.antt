@@ -1,0 +1,196 @@
+-- What makes a trace one run: whether all that its components did can have happened one after another, each message in its
+-- queue at once when it was sent (ES 201 873-4). A line is known by its place in the trace.
+--
+-- Four traces, each of them lawful. Before a line stands its place, and its component.
+--
+--     0  a  sent b.p 0 question      One run, by the order 0 4 5 2. Where b takes the question (4), what had come to it (3)
+--     1  a  came p b 0 answer        is all that was sent to it so far; so it is where a takes the answer (2), which was
+--     2  a  took p b 0 answer        sent (5) before.
+--     3  b  came p a 0 question
+--     4  b  took p a 0 question
+--     5  b  sent a.p 0 answer
+--
+--     0  a  sent b.p 0 early         Delayed. `early` was sent (0) before `go` (1), that before c took it (3) and sent
+--     1  a  sent c.p 0 go            `late` (4), and that before b took it (6). So b looked at its ports when `early` had
+--     2  c  came p a 0 go            been sent, and it hadn't come (7): that asks for 6 before 0. The lines 0 1 3 4 6 are
+--     3  c  took p a 0 go            a circle.
+--     4  c  sent b.q 0 late
+--     5  b  came q c 0 late
+--     6  b  took q c 0 late
+--     7  b  came p a 0 early
+--
+--     0  a  sent a.p 0 note          Delayed. The `else` (1) looked when the note had been sent, and it hadn't come (2).
+--     1  a  else
+--     2  a  came p a 0 note
+--
+--     0  b  else                     One run, by the order 0 2: the `else` looked before the call was sent.
+--     1  b  came p a 0 call
+--     2  a  sent b.p 0 call
+use Rattle.std.specs.Prelude.{◌≡◌, ◌<◌, ◌≤◌, ◌+◌, ◌-◌, ◌==◌, ◌&&◌, ◌++◌, ℕ, Bool, true, false, Option, Some, None, List, All, Contains, cond, length, take, slice_get, slice_index, option_and_then, unwrap_or}
+use Rattle.std.specs.List.{filter_map}
+use Rattle.tp_order.specs.Order.{StandsAt, StandsBefore}
+use Rattle.tp_judge.specs.declared.line.Mention.{Mention}
+use Rattle.tp_judge.specs.declared.line.Act.{Act}
+use Rattle.tp_judge.specs.declared.line.Act.TheVariants as act
+use Rattle.tp_judge.specs.declared.line.Line.{Line}
+use Rattle.tp_judge.specs.declared.one_run.OneRun.{OneRun}
+use Rattle.tp_judge.specs.declared.one_run.OneRun.TheVariants as answer
+use Rattle.tp_judge.specs.declared.trace.Trace.{Trace}
+use Rattle.tp_judge.specs.Delivered.{IsJoined}
+
+-- whether the line says what its component did itself, and not what came to it or was left
+abbrev pub is_own : Act → Bool
+is_own (act.Came m) = false
+is_own (act.Left m) = false
+is_own _ = true
+
+-- whether its component looked at ports
+abbrev pub is_looking : Act → Bool
+is_looking (act.Took m) = true
+is_looking (act.Found m) = true
+is_looking (act.Dropped m) = true
+is_looking (act.Cleared port) = true
+is_looking (act.Started port) = true
+is_looking (act.Stopped port) = true
+is_looking (act.Halted port) = true
+is_looking act.Else = true
+is_looking _ = false
+
+abbrev pub sent_mention : Act → Option Mention
+sent_mention (act.Sent m) = Some m
+sent_mention _ = None
+
+abbrev pub came_mention : Act → Option Mention
+came_mention (act.Came m) = Some m
+came_mention _ = None
+
+-- whether both ends of the message's route have a section
+abbrev pub is_joined : Trace → Mention → Bool
+is_joined trace m = unwrap_or (slice_get trace.joined.items m.route) false
+
+-- the message, where it's on such a route and for this component
+abbrev pub kept_for : Trace → ℕ → ℕ → Mention → Option Mention
+kept_for trace component receiver m = cond (is_joined trace m && (receiver == component)) (Some m) None
+
+-- what the line sends to a port of this component
+abbrev pub sent_to : Trace → ℕ → Line → Option Mention
+sent_to trace component line =
+    option_and_then (λ m. kept_for trace component (slice_index trace.owners.items m.port) m) (sent_mention line.act)
+
+-- what came by the line, in the section of this component
+abbrev pub came_to : Trace → ℕ → Line → Option Mention
+came_to trace component line =
+    option_and_then (λ m. kept_for trace component line.component m) (came_mention line.act)
+
+-- the line at this place
+abbrev pub LineAt : Trace → ℕ → Line → Type 0
+LineAt trace place line = slice_get trace.lines.items place ≡ Some line
+
+-- what the line at this place sends to the component
+abbrev pub sent_from : Trace → ℕ → ℕ → Option Mention
+sent_from trace component place = option_and_then (sent_to trace component) (slice_get trace.lines.items place)
+
+-- what the lines at these places send to it, in their order
+abbrev pub all_sent_to : Trace → ℕ → List ℕ → List Mention
+all_sent_to trace component places = filter_map (sent_from trace component) places
+
+-- what came in the component's section before this place
+abbrev pub all_came_to : Trace → ℕ → ℕ → List Mention
+all_came_to trace component place = filter_map (came_to trace component) (take place trace.lines.items)
+
+-- the one list is the other, or its front
+abbrev pub IsFrontOf : List Mention → List Mention → Type 0
+IsFrontOf front whole = (rest : List Mention) × (front ++ rest ≡ whole)
+
+-- at this place stands a line of the component's section, and what it says is so
+pub record IsLineOf (trace : Trace) (says : Act → Type 0) (component place : ℕ) : Type 0 where
+  pub line : Line
+  pub at : LineAt trace place line
+  pub within : line.component ≡ component
+  pub is : says line.act
+
+-- a line of the component's section that says what it did itself
+abbrev pub IsOwnAt : Trace → ℕ → ℕ → Type 0
+IsOwnAt trace component place = IsLineOf trace (λ a. is_own a ≡ true) component place
+
+-- one with which it looked at ports
+abbrev pub IsLookAt : Trace → ℕ → ℕ → Type 0
+IsLookAt trace component place = IsLineOf trace (λ a. is_looking a ≡ true) component place
+
+-- **a run**: an order of all lines that say what components did themselves, such that
+pub record IsRun (trace : Trace) (order : List ℕ) : Type 0 where
+  pub own : (i place : ℕ) → StandsAt order i place → (component : ℕ) × IsOwnAt trace component place
+  pub each : (component place : ℕ) → IsOwnAt trace component place → (i : ℕ) × StandsAt order i place
+  pub once : (i j place : ℕ) → StandsAt order i place → StandsAt order j place → i ≡ j
+  -- it keeps the order of each section
+  pub kept : (component j k : ℕ) → j < k → IsOwnAt trace component j → IsOwnAt trace component k
+      → StandsBefore order j k
+  -- what came before a line in its section was sent by lines before it, in this order
+  pub sent : (component i place : ℕ) → StandsAt order i place → IsOwnAt trace component place
+      → IsFrontOf (all_came_to trace component place) (all_sent_to trace component (take i order))
+  -- where the line looks at ports that is all that was sent to its component by lines before it
+  pub seen : (component i place : ℕ) → StandsAt order i place → IsLookAt trace component place
+      → all_came_to trace component place ≡ all_sent_to trace component (take i order)
+  -- in the end all that was sent has come
+  pub ended : (component : ℕ)
+      → all_came_to trace component (length trace.lines.items) ≡ all_sent_to trace component order
+
+-- **one run**: there is such an order
+abbrev pub IsOneRun : Trace → Type 0
+IsOneRun trace = (order : List ℕ) × IsRun trace order
+
+-- the message is sent at this place
+pub record IsSentAt (trace : Trace) (place : ℕ) (m : Mention) : Type 0 where
+  pub line : Line
+  pub at : LineAt trace place line
+  pub is : line.act ≡ act.Sent m
+
+-- it comes there, to this component, by a route both ends of which have a section
+abbrev pub ComesAt : Trace → ℕ → ℕ → Mention → Type 0
+ComesAt trace component place m = IsLineOf trace (λ a. (a ≡ act.Came m) × IsJoined trace m.route) component place
+
+-- what the line at the first place asks of a run: that the one at the second stands before the one at the third
+pub data IsDemandedAt (trace : Trace) : ℕ → ℕ → ℕ → Type 0 where
+  -- the lines of a section stand in their order
+  in_section : (component j k : ℕ) → j < k → IsOwnAt trace component j → IsOwnAt trace component k
+      → IsDemandedAt trace k j k
+  -- what came before a line was sent before it
+  seen_before : (component j k s : ℕ) (m : Mention) → j < k → ComesAt trace component j m → IsSentAt trace s m
+      → IsOwnAt trace component k → IsDemandedAt trace k s k
+  -- what came behind a line that looks was sent behind it
+  unseen_before : (component j k s : ℕ) (m : Mention) → j < k → IsLookAt trace component j
+      → ComesAt trace component k m → IsSentAt trace s m → IsDemandedAt trace k j s
+  -- what came to a component was sent in the order in which it came
+  in_turn : (component j k s t : ℕ) (m n : Mention) → j < k → ComesAt trace component j m → IsSentAt trace s m
+      → ComesAt trace component k n → IsSentAt trace t n → IsDemandedAt trace k s t
+
+-- some line asks for it
+abbrev pub IsDemanded : Trace → ℕ → ℕ → Type 0
+IsDemanded trace x y = (k : ℕ) × IsDemandedAt trace k x y
+
+-- the first of these numbers, by their size
+abbrev pub IsLeastOf : List ℕ → ℕ → Type 0
+IsLeastOf xs least = Contains xs least × All (λ x. least ≤ x) xs
+
+-- a circle of the demands: each of these places has to stand before the next, and the last before the first
+pub record IsDemandCircle (trace : Trace) (circle : List ℕ) : Type 0 where
+  pub some : 0 < length circle
+  pub next : (i : ℕ) → i + 1 < length circle
+      → IsDemanded trace (slice_index circle i) (slice_index circle (i + 1))
+  pub round : IsDemanded trace (slice_index circle (length circle - 1)) (slice_index circle 0)
+
+-- the trace isn't one run, and the line of this number is the first, in the order of the text, of a circle of the demands
+pub record IsDelayedAt (trace : Trace) (number : ℕ) : Type 0 where
+  pub none : IsOneRun trace → ⊥
+  pub circle : List ℕ
+  pub is_circle : IsDemandCircle trace circle
+  pub place : ℕ
+  pub first : IsLeastOf circle place
+  pub line : Line
+  pub at : LineAt trace place line
+  pub told : number ≡ line.number
+
+-- what is said of a trace whose routes are lawful
+abbrev pub IsRunAnswer : Trace → OneRun → Type 0
+IsRunAnswer trace answer.OneRun = IsOneRun trace
+IsRunAnswer trace (answer.Delayed number) = IsDelayedAt trace number

@@ -1,0 +1,11 @@
+pub mod Keeping
+pub mod Apart
+pub mod Zips
+pub mod Growing
+pub mod Turning
+pub mod Within
+pub mod Joined
+pub mod Routing
+pub mod Making
+pub mod Lengths
+pub mod OneToOne

@@ -1,0 +1,28 @@
+-- Each line is taken in its turn.
+use Rattle.std.proofs.Common.{◌≡◌, ◌+◌, ◌≤◌, length, arith, ap, sym}
+use Rattle.tp_referee.proofs.Turning.{Numbered-first, Numbered-more, all_numbered, known_here}
+use Rattle.tp_referee.proofs.numbering.number_lines.Goals as goal
+
+pub loop-place-init : goal.loop-place-init
+loop-place-init c = record {
+  numbered = Numbered-first c.args.trace.now c.args.tables.now 0 c.in_ok-lines.lines.items c.line_count.ensures.trace c.requires.size c.in_ok-lines.ensures.items;
+  whole = c.requires.whole;
+}
+
+pub step-requires-clause-here : goal.step-requires-clause-here
+step-requires-clause-here c =
+    known_here c.args.trace.now c.loop-place.place c.loop-place.tables c.loop-place.here c.loop-place.lines.items _ c.line-line.ensures c.loop-place.invariant.numbered
+
+pub loop-place-preserved : goal.loop-place-preserved
+loop-place-preserved c = record {
+  numbered =
+      Numbered-more c.args.trace.now c.loop-place.place c.loop-place.tables c.step.new.tables c.loop-place.here c.in_ok-here.here
+      c.loop-place.lines.items c.step.new.lines.items c.line_count.ensures.trace c.in_ok-here.ensures.grows c.loop-place.invariant.numbered
+      _ c.line-line.ensures c.in_ok-here.ensures.turn;
+  whole = c.in_ok-here.ensures.whole;
+}
+
+pub returns-clause-lines : goal.returns-clause-lines
+returns-clause-lines c =
+    all_numbered c.args.trace.now c.loop-place.place c.loop-place.tables c.loop-place.here c.loop-place.lines.items (omega arith)
+    c.loop-place.invariant.numbered

@@ -1,0 +1,10 @@
+-- The lines so far are numbered, by tables that are whole.
+use Rattle.tp_referee.specs.Turns.{IsWhole}
+use Rattle.tp_referee.proofs.Turning.{Numbered}
+use Rattle.tp_referee.proofs.numbering.number_lines.Given as goal
+
+abbrev pub invariant-loop-place : goal.invariant-loop-place
+invariant-loop-place l = record {
+  numbered : Numbered l.trace l.place l.tables l.here l.lines.items;
+  whole : IsWhole l.tables;
+}

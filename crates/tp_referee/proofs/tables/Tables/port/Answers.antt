@@ -1,0 +1,18 @@
+-- The name's number stays when the port gets its own.
+use Rattle.std.proofs.Common.{[], arith}
+use Rattle.tp_referee.proofs.Growing.{Grows-then, kept_length}
+use Rattle.tp_referee.proofs.tables.Tables.port.Goals as goal
+
+pub returns-clause-there : goal.returns-clause-there
+returns-clause-there c = record {
+  word = c.in_ok-word.word;
+  there = c.in_ok-port.ensures.there;
+  named = c.in_ok-port.ensures.grows.names _ _ c.in_ok-word.ensures.there;
+}
+
+pub returns-clause-grows : goal.returns-clause-grows
+returns-clause-grows c = Grows-then 1 1 2 _ _ _ (omega arith) c.in_ok-word.ensures.grows c.in_ok-port.ensures.grows
+
+pub port_key-requires-clause-component : goal.port_key-requires-clause-component
+port_key-requires-clause-component c =
+    kept_length c.args.self.now.components c.name.new.self.components c.args.component [] c.in_ok-word.ensures.grows.components c.requires.component

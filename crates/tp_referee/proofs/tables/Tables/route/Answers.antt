@@ -1,0 +1,23 @@
+-- A route more.
+use Rattle.std.proofs.Common.{◌∙◌, Some, ap, length, subst, sym, arith}
+use Rattle.tp_referee.specs.Kept.{Keeps}
+use Rattle.tp_referee.specs.declared.tables.RouteKey.{RouteKey}
+use Rattle.tp_referee.proofs.Apart.{route_eq, route_same}
+use Rattle.tp_referee.proofs.Keeping.{few_key, kept_key}
+use Rattle.tp_referee.proofs.tables.Tables.route.Goals as goal
+
+pub returns-clause-there : goal.returns-clause-there
+returns-clause-there c =
+    let found = c.in_ok-number.ensures.there in found.1 ∙ ap Some (sym (route_same _ found.0 found.2))
+
+pub returns-clause-grows : goal.returns-clause-grows
+returns-clause-grows c =
+    let key : RouteKey = record { sender = c.args.sender; port = c.args.port } in
+    record {
+      components = λ k x e. e;
+      names = λ k x e. e;
+      ports = λ k x e. e;
+      routes = subst (Keeps c.args.self.now.routes.keys) (sym c.in_ok-number.ensures.keys) (kept_key route_eq c.args.self.now.routes.keys key);
+      messages = λ k x e. e;
+      few = omega (arith, ap length c.in_ok-number.ensures.keys, few_key route_eq c.args.self.now.routes.keys key);
+    }

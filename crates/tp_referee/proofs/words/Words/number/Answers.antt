@@ -1,0 +1,32 @@
+-- The word that is found is the one that was looked for, and the others stay at their places.
+use Rattle.std.proofs.Common.{◌≡◌, ◌∙◌, Some, ap, map, subst, sym, length, arith}
+use Rattle.std.specs.Str.{bytes_eq}
+use Rattle.std.proofs.lemmas.List.{length-map}
+use Rattle.std.proofs.lemmas.Slice.Eq.{bytes_eq-Decides}
+use Rattle.tp_referee.specs.Kept.{Keeps}
+use Rattle.tp_referee.proofs.Keeping.{at_view, few_key, kept_key, kept_views}
+use Rattle.tp_referee.proofs.words.Words.number.Goals as goal
+
+pub returns-clause-there : goal.returns-clause-there
+returns-clause-there c =
+    let found = c.in_ok-number.ensures.there in
+    at_view (λ w. w.now) c.number_of.new.keys.keys c.in_ok-number.number found.0 found.1
+    ∙ ap Some (sym ((bytes_eq-Decides c.args.word.now found.0.now).0 found.2))
+
+pub returns-clause-kept : goal.returns-clause-kept
+returns-clause-kept c =
+    let kept = subst (Keeps c.self.inside.words.keys) (sym c.in_ok-number.ensures.keys)
+    (kept_key (λ v w. bytes_eq v.now w.now) c.self.inside.words.keys c.args.word) in
+    subst (λ l. Keeps l (map (λ w. w.now) c.number_of.new.keys.keys)) c.self.view_is
+    (kept_views (λ w. w.now) c.self.inside.words.keys c.number_of.new.keys.keys kept)
+
+pub returns-clause-few : goal.returns-clause-few
+returns-clause-few c =
+    omega (
+      arith,
+      ap length c.in_ok-number.ensures.keys,
+      few_key (λ v w. bytes_eq v.now w.now) c.self.inside.words.keys c.args.word,
+      length-map c.number_of.new.keys.keys (λ w. w.now),
+      length-map c.self.inside.words.keys (λ w. w.now),
+      ap length c.self.view_is,
+    )

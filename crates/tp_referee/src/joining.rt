@@ -1,0 +1,83 @@
+//! Which routes have a section at both ends.
+ghost use Rattle.std.specs.Prelude.{◌≡◌, ◌↔◌, ◌<◌, ℕ, Contains, IfOk, IsTrue, Some, List, length, map, slice_get, true};
+ghost use Rattle.tp_trace.specs.Tree.{names_of};
+ghost use Rattle.tp_referee.specs.Joining.{AreSections, AreJoinedBy, IsJoinedBy};
+
+use crate::tables::{PortKey, RouteKey};
+use crate::words::Words;
+use std::alloc::Global;
+use tp_refusal::memory::Memory;
+use tp_trace::tree::Trace;
+
+/// Of each component whether it has a section.
+pub fn sections_of(
+    alloc: Global,
+    trace: &Trace<'_>,
+    components: &Words<'_>,
+) -> Result<Vec<bool>, Memory>
+    ensures { IfOk result (λ sections. AreSections trace.now components.now sections.items) }
+{
+    let mut sections = Vec::with_capacity(alloc, components.len())?;
+    for number in 0..components.len() {
+        let section = trace.section_of(components.word(number));
+        sections.push(section.is_some())?;
+    }
+    Ok(sections)
+}
+
+/// Of each port the component that it belongs to.
+pub fn owners_of(alloc: Global, ports: &[PortKey]) -> Result<Vec<u32>, Memory>
+    ensures { IfOk result (λ owners. owners.items ≡ map (λ port. port.component) ports.now) }
+{
+    let owners = ports.iter().map(|port| port.component).collect(alloc)?;
+    Ok(owners)
+}
+
+/// Whether this one has a section.
+fn is_section(sections: &[bool], component: u32) -> bool
+    ensures { IsTrue result ↔ (slice_get sections.now component ≡ Some true) }
+{
+    matches!(sections.get(component as usize), Some(true))
+}
+
+/// Whether both of these have a section.
+fn are_sections(sections: &[bool], one: u32, other: u32) -> bool
+    ensures { IsTrue result
+        ↔ ((slice_get sections.now one ≡ Some true) × (slice_get sections.now other ≡ Some true)) }
+{
+    is_section(sections, one) && is_section(sections, other)
+}
+
+/// The component that a port belongs to, where there is one.
+fn owner_of(owners: &[u32], port: u32) -> Option<u32>
+    ensures { result ≡ slice_get owners.now port }
+{
+    owners.get(port as usize).copied()
+}
+
+/// Whether both ends of a route have a section.
+fn is_joined(route: RouteKey, owners: &[u32], sections: &[bool]) -> bool
+    ensures { IsTrue result ↔ IsJoinedBy owners.now sections.now route }
+{
+    match owner_of(owners, route.port) {
+        None => false,
+        Some(owner) => are_sections(sections, route.sender, owner),
+    }
+}
+
+/// Of each route whether both ends have a section.
+pub fn joined_of(
+    alloc: Global,
+    routes: &[RouteKey],
+    owners: &[u32],
+    sections: &[bool],
+) -> Result<Vec<bool>, Memory>
+    ensures { IfOk result (λ joined.
+        AreJoinedBy owners.now sections.now routes.now joined.items) }
+{
+    let mut joined = Vec::with_capacity(alloc, routes.len())?;
+    for route in routes {
+        joined.push(is_joined(*route, owners, sections))?;
+    }
+    Ok(joined)
+}

@@ -1,0 +1,106 @@
+//! The lines of a trace, with numbers in place of names and messages.
+ghost use Rattle.std.specs.Prelude.{◌≡◌, ◌<◌, ◌≤◌, ◌+◌, IfOk, OnOk, length, slice_get};
+ghost use Rattle.std.specs.List.{AllZip};
+ghost use Rattle.tp_trace.specs.Tree.{IsTrace, told_of};
+ghost use Rattle.tp_judge.specs.Lawful.{AreWithin};
+ghost use Rattle.tp_referee.specs.Numbering.{IsLine, IsNumberingOf, stands_of};
+ghost use Rattle.tp_referee.specs.OneToOne.{IsOneToOne};
+ghost use Rattle.tp_judge.specs.Lawful.{AreRouted};
+ghost use Rattle.tp_referee.specs.Turns.{Grows, HasRoom, IsInside, IsTurn, IsWhole, size};
+
+use crate::joining::{joined_of, owners_of, sections_of};
+use crate::tables::Tables;
+use std::alloc::Global;
+use tp_judge::line::Line as NumberedLine;
+use tp_judge::trace::Trace as NumberedTrace;
+use tp_refusal::memory::Memory;
+use tp_trace::line::Line;
+use tp_trace::tree::Trace;
+
+/// Takes a line of this number, in the section of the component of that number, and answers the
+/// number of the component in whose section the next line stands if it begins none.
+fn step<'t>(
+    tables: &mut Tables<'t>,
+    lines: &mut Vec<NumberedLine>,
+    here: u32,
+    number: u32,
+    line: &Line<'t>,
+) -> Result<u32, Memory>
+    requires room { HasRoom 5 tables.old }
+    requires whole { IsWhole tables.old }
+    requires here { IsInside (told_of line.now) → here < length tables.old.components }
+    ensures turn { IfOk result (λ after.
+        IsTurn tables.new here number (told_of line.now) after lines.old.items lines.new.items) }
+    ensures grows { OnOk result (Grows 5 tables.old tables.new) }
+    ensures whole { OnOk result (IsWhole tables.new) }
+{
+    match line {
+        Line::Component(name) => {
+            let after = tables.component(name)?;
+            Ok(after)
+        }
+        Line::Result(_) => Ok(here),
+        _ => {
+            let act = tables.act(here, line)?;
+            lines.push(NumberedLine {
+                number,
+                component: here,
+                act,
+            })?;
+            Ok(here)
+        }
+    }
+}
+
+/// The lines of the sections, in numbers; the tables are filled with what these stand for.
+fn number_lines<'t>(
+    alloc: Global,
+    trace: &Trace<'t>,
+    tables: &mut Tables<'t>,
+) -> Result<Vec<NumberedLine>, Memory>
+    requires few { length trace.now ≤ 268435456 }
+    requires size { size tables.old ≡ 0 }
+    requires whole { IsWhole tables.old }
+    ensures lines { IfOk result (λ lines.
+        AllZip (IsLine tables.new) (stands_of trace.now) lines.items) }
+    ensures whole { OnOk result (IsWhole tables.new) }
+{
+    let mut lines = Vec::with_capacity(alloc, trace.line_count())?;
+    let mut here = 0;
+    for place in 0..trace.line_count() {
+        let line = trace.line(place);
+        here = step(tables, &mut lines, here, place as u32 + 1, &line)?;
+    }
+    Ok(lines)
+}
+
+/// A trace in numbers. Each name, port, route and message has the number of its first sight.
+///
+/// 50 `Memory` where an allocation was refused. It takes 40 bytes for each line, and what stands in
+/// the tables as long as it works.
+pub fn number_trace(alloc: Global, trace: &Trace<'_>) -> Result<NumberedTrace, Memory>
+    requires { length trace.now ≤ 268435456 }
+    ensures numbering { IfOk result (IsNumberingOf trace.now) }
+    ensures within { IfOk result AreWithin }
+    ensures routed { IfOk result AreRouted }
+{
+    let mut tables = Tables::new(alloc);
+    let lines = number_lines(alloc, trace, &mut tables)?;
+    tables.know_distinct();
+    let sections = sections_of(alloc, trace, &tables.components)?;
+    let owners = owners_of(alloc, tables.ports.as_slice())?;
+    let joined = joined_of(alloc, tables.routes.as_slice(), &owners, &sections)?;
+    Ok(NumberedTrace {
+        lines,
+        owners,
+        joined,
+        components: tables.components.len(),
+        numbers: trace.line_count() + 1,
+    })
+}
+
+/// Two lines of a trace in numbers have one number for their component, port, route or message
+/// exactly where the lines of the text name the same: a law, and no work.
+pub fn numbers_are_names()
+    ensures { IsOneToOne }
+{}

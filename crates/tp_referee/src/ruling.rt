@@ -1,0 +1,70 @@
+//! What is said of the text of a trace.
+ghost use Rattle.std.specs.Prelude.{◌≡◌, ◌↔◌, [], IfErr, IfOk, IsTrue};
+ghost use Rattle.tp_trace.specs.Faults.{IsFaultOf};
+ghost use Rattle.tp_judge.specs.Lawful.{AreRouted, AreWithin};
+ghost use Rattle.tp_referee.specs.Rulings.{IsNumberedText, IsRulingOf, IsRulingOn};
+
+use crate::numbering::number_trace;
+use std::alloc::Global;
+use tp_judge::judging::judge;
+use tp_judge::one_run::{OneRun, one_run};
+use tp_judge::place::Place;
+use tp_judge::trace::Trace;
+use tp_refusal::memory::Memory;
+use tp_trace::reading::{TraceFault, read_trace};
+
+/// What is said of a trace.
+#[derive(Drop)]
+pub enum Ruling {
+    /// It is lawful, and one run or not.
+    Lawful(OneRun),
+    /// It isn't lawful at these places, one or more, in the order of their lines.
+    Unlawful(Vec<Place>),
+}
+
+/// Whether there are none.
+fn are_none(places: &[Place]) -> bool
+    ensures { IsTrue result ↔ (places.now ≡ []) }
+{
+    matches!(places, [])
+}
+
+/// What is said of a trace in numbers.
+fn ruling_on(alloc: Global, trace: &Trace) -> Result<Ruling, Memory>
+    requires within { AreWithin trace.now }
+    requires routed { AreRouted trace.now }
+    ensures { IfOk result (IsRulingOn trace.now) }
+{
+    let places = judge(alloc, trace)?;
+    if are_none(&places) {
+        let run = one_run(alloc, trace)?;
+        return Ok(Ruling::Lawful(run));
+    }
+    Ok(Ruling::Unlawful(places))
+}
+
+/// Reads a text as a trace, and numbers that. Its lines as they are read are there no more then.
+fn number_text(alloc: Global, text: &[u8]) -> Result<Trace, TraceFault>
+    ensures numbered { IfOk result (IsNumberedText text.now) }
+    ensures within { IfOk result AreWithin }
+    ensures routed { IfOk result AreRouted }
+    ensures fault { IfErr result (IsFaultOf text.now) }
+{
+    let trace = read_trace(alloc, text)?;
+    let numbered = number_trace(alloc, &trace)?;
+    Ok(numbered)
+}
+
+/// Says of a text whether it is a lawful trace, and where it isn't.
+///
+/// Refused are 15 `Limit` a text of more than 268,435,456 bytes, 1 `BadLine` the first line of
+/// another form than a trace has, and 50 `Memory` where an allocation was refused. The time is
+/// linear in the text, but for the sorting of the places.
+pub fn referee(alloc: Global, text: &[u8]) -> Result<Ruling, TraceFault>
+    ensures ruling { IfOk result (IsRulingOf text.now) }
+    ensures fault { IfErr result (IsFaultOf text.now) }
+{
+    let trace = number_text(alloc, text)?;
+    let ruling = ruling_on(alloc, &trace)?;
+    Ok(ruling)
+}

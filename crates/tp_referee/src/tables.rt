@@ -1,0 +1,267 @@
+//! What the numbers of a trace stand for.
+ghost use Rattle.std.specs.Prelude.{◌≡◌, ◌<◌, ◌≤◌, [], IfOk, OnOk, Some, length, slice_get};
+ghost use Rattle.tp_trace.specs.Tree.{letter_of, told_of};
+ghost use Rattle.tp_referee.specs.Numbering.{AreDistinct, IsAct, IsComponent, IsMention, IsOperated, IsPassed, IsPort, act_of, operation_act, receiver_of, sender_of};
+ghost use Rattle.tp_referee.specs.Turns.{Grows, HasRoom, IsWhole, size};
+
+use crate::numbers::number_of;
+use crate::words::Words;
+use indexmap::IndexSet;
+use std::alloc::Global;
+use tp_judge::line::{Act, Mention, MessageId, Parcel};
+use tp_queue::operation::PortOperation;
+use tp_refusal::memory::Memory;
+use tp_trace::line::{Fate, Line, Message};
+
+/// A port: the number of its component, and that of its name among the names of ports.
+#[derive(Clone, Copy, Debug, PartialEq, Eq, Hash)]
+pub struct PortKey {
+    pub component: u32,
+    pub name: u32,
+}
+
+/// A route: the number of its sender, a component, and that of the port at its end.
+#[derive(Clone, Copy, Debug, PartialEq, Eq, Hash)]
+pub struct RouteKey {
+    pub sender: u32,
+    pub port: u32,
+}
+
+/// What the numbers stand for: the place of each in its table.
+#[derive(Drop)]
+pub struct Tables<'t> {
+    /// The components, by their names.
+    pub components: Words<'t>,
+    /// The names of ports.
+    pub names: Words<'t>,
+    pub ports: IndexSet<PortKey>,
+    pub routes: IndexSet<RouteKey>,
+    /// The messages, by their bytes.
+    pub messages: Words<'t>,
+}
+
+/// What became of a message.
+fn act_of(fate: Fate, mention: Mention) -> Act
+    ensures { result ≡ act_of fate mention }
+{
+    match fate {
+        Fate::Sent => Act::Sent(mention),
+        Fate::Came => Act::Came(mention),
+        Fate::Took => Act::Took(mention),
+        Fate::Found => Act::Found(mention),
+        Fate::Dropped => Act::Dropped(mention),
+        Fate::Left => Act::Left(mention),
+    }
+}
+
+/// Who sent it, and whose port it is for, where it is told here of a message from or to the other.
+fn ends(fate: Fate, here: u32, other: u32) -> (u32, u32)
+    ensures sender { result.0 ≡ sender_of fate here other }
+    ensures receiver { result.1 ≡ receiver_of fate here other }
+{
+    match fate {
+        Fate::Sent => (here, other),
+        Fate::Came | Fate::Took | Fate::Found | Fate::Dropped | Fate::Left => (other, here),
+    }
+}
+
+/// An operation on the port of this number.
+fn operation_act(operation: PortOperation, port: u32) -> Act
+    ensures { result ≡ operation_act operation port }
+{
+    match operation {
+        PortOperation::Start => Act::Started(port),
+        PortOperation::Stop => Act::Stopped(port),
+        PortOperation::Halt => Act::Halted(port),
+        PortOperation::Clear => Act::Cleared(port),
+    }
+}
+
+impl<'t> Tables<'t> {
+    /// Nothing has a number.
+    pub fn new(alloc: Global) -> Tables<'t>
+        ensures size { size result ≡ 0 }
+        ensures whole { IsWhole result }
+    {
+        Tables {
+            components: Words::new(alloc),
+            names: Words::new(alloc),
+            ports: IndexSet::new(alloc),
+            routes: IndexSet::new(alloc),
+            messages: Words::new(alloc),
+        }
+    }
+
+    /// Named for the sake of its clause, that nothing has two numbers.
+    pub fn know_distinct(&self)
+        ensures { AreDistinct self.now }
+    {
+        let _ = self.components.len();
+        let _ = self.names.len();
+        let _ = self.ports.len();
+        let _ = self.routes.len();
+        let _ = self.messages.len();
+    }
+
+    /// The number of the component of this name.
+    pub fn component(&mut self, name: &'t [u8]) -> Result<u32, Memory>
+        requires room { HasRoom 1 self.old }
+        requires whole { IsWhole self.old }
+        ensures there { IfOk result (λ number. IsComponent self.new number name.now) }
+        ensures grows { OnOk result (Grows 1 self.old self.new) }
+        ensures whole { OnOk result (IsWhole self.new) }
+    {
+        let number = self.components.number(name)?;
+        Ok(number)
+    }
+
+    /// The number of a port that has been given its name's number.
+    fn port_key(&mut self, component: u32, name: u32) -> Result<u32, Memory>
+        requires room { HasRoom 1 self.old }
+        requires whole { IsWhole self.old }
+        requires component { component < length self.old.components }
+        ensures there { IfOk result (λ number. slice_get self.new.ports.keys number
+            ≡ Some (record { component = component; name = name })) }
+        ensures grows { OnOk result (Grows 1 self.old self.new) }
+        ensures whole { OnOk result (IsWhole self.new) }
+    {
+        let number = number_of(&mut self.ports, PortKey { component, name })?;
+        Ok(number)
+    }
+
+    /// The number of a name of ports.
+    fn name(&mut self, name: &'t [u8]) -> Result<u32, Memory>
+        requires room { HasRoom 1 self.old }
+        requires whole { IsWhole self.old }
+        ensures there { IfOk result (λ number. slice_get self.new.names number ≡ Some name.now) }
+        ensures grows { OnOk result (Grows 1 self.old self.new) }
+        ensures whole { OnOk result (IsWhole self.new) }
+    {
+        let number = self.names.number(name)?;
+        Ok(number)
+    }
+
+    /// The number of the port of this name of the component of this number.
+    fn port(&mut self, component: u32, name: &'t [u8]) -> Result<u32, Memory>
+        requires room { HasRoom 2 self.old }
+        requires whole { IsWhole self.old }
+        requires component { component < length self.old.components }
+        ensures there { IfOk result (λ number. IsPort self.new number component name.now) }
+        ensures grows { OnOk result (Grows 2 self.old self.new) }
+        ensures whole { OnOk result (IsWhole self.new) }
+    {
+        let word = self.name(name)?;
+        let port = self.port_key(component, word)?;
+        Ok(port)
+    }
+
+    /// The number of the route from this sender to this port.
+    fn route(&mut self, sender: u32, port: u32) -> Result<u32, Memory>
+        requires room { HasRoom 1 self.old }
+        requires whole { IsWhole self.old }
+        ensures there { IfOk result (λ number. slice_get self.new.routes.keys number
+            ≡ Some (record { sender = sender; port = port })) }
+        ensures grows { OnOk result (Grows 1 self.old self.new) }
+        ensures whole { OnOk result (IsWhole self.new) }
+    {
+        let number = number_of(&mut self.routes, RouteKey { sender, port })?;
+        Ok(number)
+    }
+
+    /// The number of a message.
+    fn message(&mut self, text: &'t [u8]) -> Result<u32, Memory>
+        requires room { HasRoom 1 self.old }
+        requires whole { IsWhole self.old }
+        ensures there { IfOk result (λ number. slice_get self.new.messages number ≡ Some text.now) }
+        ensures grows { OnOk result (Grows 1 self.old self.new) }
+        ensures whole { OnOk result (IsWhole self.new) }
+    {
+        let number = self.messages.number(text)?;
+        Ok(number)
+    }
+
+    /// A message between the components of these numbers.
+    fn mention(
+        &mut self,
+        sender: u32,
+        receiver: u32,
+        message: &Message<'t>,
+    ) -> Result<Mention, Memory>
+        requires room { HasRoom 4 self.old }
+        requires whole { IsWhole self.old }
+        requires receiver { receiver < length self.old.components }
+        ensures mention { IfOk result (IsMention self.new sender receiver (letter_of message.now)) }
+        ensures grows { OnOk result (Grows 4 self.old self.new) }
+        ensures whole { OnOk result (IsWhole self.new) }
+    {
+        let port = self.port(receiver, message.port)?;
+        let route = self.route(sender, port)?;
+        let text = self.message(message.text)?;
+        let parcel = Parcel {
+            number: message.number,
+            message: MessageId(text),
+        };
+        Ok(Mention {
+            port,
+            route,
+            parcel,
+        })
+    }
+
+    /// What became of a message, as it is told in the section of the component of this number.
+    fn passed(&mut self, here: u32, fate: Fate, message: &Message<'t>) -> Result<Act, Memory>
+        requires room { HasRoom 5 self.old }
+        requires whole { IsWhole self.old }
+        requires here { here < length self.old.components }
+        ensures act { IfOk result (IsPassed self.new here fate (letter_of message.now)) }
+        ensures grows { OnOk result (Grows 5 self.old self.new) }
+        ensures whole { OnOk result (IsWhole self.new) }
+    {
+        let other = self.component(message.component)?;
+        let (sender, receiver) = ends(fate, here, other);
+        let mention = self.mention(sender, receiver, message)?;
+        Ok(act_of(fate, mention))
+    }
+
+    /// An operation on a port of the component of this number.
+    fn operated(
+        &mut self,
+        here: u32,
+        operation: PortOperation,
+        name: &'t [u8],
+    ) -> Result<Act, Memory>
+        requires room { HasRoom 2 self.old }
+        requires whole { IsWhole self.old }
+        requires here { here < length self.old.components }
+        ensures act { IfOk result (IsOperated self.new here operation name.now) }
+        ensures grows { OnOk result (Grows 2 self.old self.new) }
+        ensures whole { OnOk result (IsWhole self.new) }
+    {
+        let port = self.port(here, name)?;
+        Ok(operation_act(operation, port))
+    }
+
+    /// What a line tells, in the section of the component of this number.
+    pub fn act(&mut self, here: u32, line: &Line<'t>) -> Result<Act, Memory>
+        requires room { HasRoom 5 self.old }
+        requires whole { IsWhole self.old }
+        requires here { here < length self.old.components }
+        ensures act { IfOk result (IsAct self.new here (told_of line.now)) }
+        ensures grows { OnOk result (Grows 5 self.old self.new) }
+        ensures whole { OnOk result (IsWhole self.new) }
+    {
+        match line {
+            Line::Message(fate, message) => {
+                let act = self.passed(here, *fate, message)?;
+                Ok(act)
+            }
+            Line::Operation(operation, name) => {
+                let act = self.operated(here, *operation, name)?;
+                Ok(act)
+            }
+            Line::Else => Ok(Act::Else),
+            Line::End(_) => Ok(Act::End),
+            Line::Component(_) | Line::Note(_, _) | Line::Result(_) => Ok(Act::Other),
+        }
+    }
+}

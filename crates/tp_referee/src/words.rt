@@ -1,0 +1,71 @@
+//! Words of a text, each with a number.
+ghost use Rattle.std.specs.Prelude.{◌≡◌, ◌≢◌, ◌+◌, ◌<◌, ◌≤◌, [], AllPairs, IfOk, OnOk, Some, length, slice_get};
+ghost use Rattle.tp_referee.specs.Kept.{Keeps};
+
+use crate::numbers::number_of;
+use indexmap::IndexSet;
+use std::alloc::Global;
+use std::marker::Model;
+use tp_refusal::memory::Memory;
+
+/// Words, no two of them equal, numbered from 0 by first sight. Each lies in the text.
+pub struct Words<'t> {
+    words: IndexSet<&'t [u8]>,
+}
+
+impl Drop for Words<'_> {
+    // Written out, so that what owns one calls this, and proves no drop of what is inside.
+    fn drop(self) {
+        let Words { words } = self;
+        drop(words);
+    }
+}
+
+impl<'t> Model for Words<'t> {
+    ghost use Rattle.std.specs.Prelude.{ℕ, List, map};
+
+    ghost Value = { List (List ℕ) };
+
+    ghost view = { λ s. map (λ word. word.now) s.words.keys };
+}
+
+impl<'t> Words<'t> {
+    /// No words.
+    pub fn new(alloc: Global) -> Words<'t>
+        ensures { result ≡ [] }
+    {
+        Words {
+            words: IndexSet::new(alloc),
+        }
+    }
+
+    /// How many words there are.
+    pub fn len(&self) -> usize
+        ensures count { result ≡ length self.now }
+        ensures distinct { AllPairs (λ a b. a ≢ b) self.now }
+    {
+        self.words.len()
+    }
+
+    /// The word of this number.
+    pub fn word(&self, number: usize) -> &'t [u8]
+        requires { number < length self.now }
+        ensures { slice_get self.now number ≡ Some result.now }
+    {
+        match self.words.get_index(number) {
+            Some(word) => word,
+            None => unreachable!(),
+        }
+    }
+
+    /// The number of a word, which is there from now on.
+    pub fn number(&mut self, word: &'t [u8]) -> Result<u32, Memory>
+        requires { length self.old < 4294967296 }
+        ensures there { IfOk result (λ number. slice_get self.new number ≡ Some word.now) }
+        ensures kept { OnOk result (Keeps self.old self.new) }
+        ensures few { OnOk result (length self.new ≤ length self.old + 1) }
+    {
+        let number = number_of(&mut self.words, word)?;
+        Ok(number)
+    }
+}
