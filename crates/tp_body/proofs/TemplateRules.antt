@@ -1,5 +1,5 @@
 -- The lines of the definition of templates, as rules on templates that are known by an equation.
-use Rattle.std.proofs.Common.{◌≡◌, ℕ, ◌+◌, ◌<◌, ℤ, Bool, List, [], ◌∷◌, ◌++◌, Option, Some, map, subst, string_bytes, length, take, get_or, FitsSigned, w64, Vec}
+use Rattle.std.proofs.Common.{◌≡◌, ℕ, ◌+◌, ◌<◌, ℤ, Bool, List, [], ◌∷◌, ◌++◌, Option, Some, map, refl, ap, ◌∙◌, subst, string_bytes, length, take, get_or, FitsSigned, w64, Vec}
 use Rattle.std.specs.declared.alloc.Global.{Global}
 use Rattle.std.specs.declared.string.String.{String}
 use Rattle.tp_value.specs.declared.types.Ty.{Ty}
@@ -18,7 +18,7 @@ use Rattle.tp_play.specs.declared.body.RecvTemplate.{RecvTemplate}
 use Rattle.tp_play.specs.declared.body.RecvTemplate.TheVariants as r
 use Rattle.tp_name.specs.Named.{IsPlace}
 use Rattle.tp_body.specs.Messages as d
-use Rattle.tp_body.specs.Messages.{IsTemplate, AreMembers, AreElementTemplates, IsElementTemplate, AreFieldTemplates, AreNamedTemplates, part_of}
+use Rattle.tp_body.specs.Messages.{IsTemplate, AreMembers, AreElementTemplates, IsElementTemplate, AreFieldTemplates, AreNamedTemplates, IsListTemplate, IsRecordTemplate, part_of}
 use Rattle.tp_body.proofs.ValueRules.{pushed}
 
 module _ (types : Types) (turns : List (List ℕ)) where
@@ -55,20 +55,25 @@ module _ (types : Types) (turns : List (List ℕ)) where
       → IsTemplate types turns u x (r.Pattern (map part_of cs.items))
   template_pattern u x cs e f = rw (e, f) (d.pattern cs)
 
-  pub template_elements : (u element : Ty) (x : Template) (ts : Vec Template Global) (rs : List RecvTemplate) → x ≡ t.List ts
-      → named types u ≡ Some (def.ListOf element)
-      → AreElementTemplates types turns element ts.items rs → IsTemplate types turns u x (r.List rs)
-  template_elements u element x ts rs e f h = rw e (d.element_templates u element ts rs f h)
+  pub template_list : (u : Ty) (x : Template) (ts : Vec Template Global) (y : RecvTemplate) → x ≡ t.List ts → IsListTemplate types turns u ts.items y
+      → IsTemplate types turns u x y
+  template_list u x ts y e h = rw e (h.stands ts refl)
 
-  pub template_places : (u : Ty) (fields : List Field) (x : Template) (ts : Vec Template Global) (rs : List RecvTemplate) → x ≡ t.List ts
-      → named types u ≡ Some (def.Record fields)
-      → AreFieldTemplates types turns fields ts.items rs → IsTemplate types turns u x (r.Record rs)
-  template_places u fields x ts rs e f h = rw e (d.place_templates u fields ts rs f h)
+  pub template_record : (u : Ty) (x : Template) (ts : Vec TemplateField Global) (y : RecvTemplate) → x ≡ t.Record ts
+      → IsRecordTemplate types turns u ts.items y → IsTemplate types turns u x y
+  template_record u x ts y e h = rw e (h.stands ts refl)
 
-  pub template_fields : (u : Ty) (fields : List Field) (x : Template) (ts : Vec TemplateField Global) (rs : List RecvTemplate) → x ≡ t.Record ts
-      → named types u ≡ Some (def.Record fields)
-      → length ts.items ≡ length fields → AreNamedTemplates types turns ts.items fields rs → IsTemplate types turns u x (r.Record rs)
-  template_fields u fields x ts rs e f n h = rw e (d.field_templates u fields ts rs f n h)
+  pub list_elements : (u element : Ty) (xs : List Template) (rs : List RecvTemplate) → named types u ≡ Some (def.ListOf element)
+      → AreElementTemplates types turns element xs rs → IsListTemplate types turns u xs (r.List rs)
+  list_elements u element xs rs f h = record { stands = λ v e. d.element_templates u element v rs f (rw e h) }
+
+  pub list_places : (u : Ty) (fields : List Field) (xs : List Template) (rs : List RecvTemplate) → named types u ≡ Some (def.Record fields)
+      → AreFieldTemplates types turns fields xs rs → IsListTemplate types turns u xs (r.Record rs)
+  list_places u fields xs rs f h = record { stands = λ v e. d.place_templates u fields v rs f (rw e h) }
+
+  pub record_fields : (u : Ty) (fields : List Field) (xs : List TemplateField) (rs : List RecvTemplate) → named types u ≡ Some (def.Record fields)
+      → length xs ≡ length fields → AreNamedTemplates types turns xs fields rs → IsRecordTemplate types turns u xs (r.Record rs)
+  record_fields u fields xs rs f n h = record { stands = λ v e. d.field_templates u fields v rs f (ap length e ∙ n) (rw e h) }
 
   pub template_many : (u : Ty) (x : Template) → x ≡ t.AnyOrNone → IsElementTemplate types turns u x r.AnyOrNone
   template_many u x e = rw e (d.many u)
@@ -107,9 +112,11 @@ pub ruleset cases = (
   template_none_of,
   template_range,
   template_pattern,
-  template_elements,
-  template_places,
-  template_fields,
+  template_list,
+  template_record,
+  list_elements,
+  list_places,
+  record_fields,
   template_many,
   template_single,
 )

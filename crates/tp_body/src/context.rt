@@ -5,6 +5,7 @@ use tp_name::name::Name;
 use tp_refusal::refusal::Refusal;
 use tp_token::fault::ScriptFault;
 use tp_tree::tree::ComponentName;
+use tp_value::types::Ty;
 
 /// Where a statement, a value or a template stands: what its names may mean, and the line for its
 /// refusals.
@@ -21,7 +22,7 @@ pub struct Context<'a, 'v, 'm> {
 }
 
 impl<'a, 'v, 'm> Context<'a, 'v, 'm> {
-    ghost use Rattle.std.specs.Prelude.{◌≡◌, ◌≢◌, Contains, IfErr, OnOk};
+    ghost use Rattle.std.specs.Prelude.{◌≡◌, ◌≢◌, Contains, IfErr, OnErr, OnOk};
 
     /// 11 `Unknown`.
     pub fn unknown(&self) -> ScriptFault
@@ -42,6 +43,19 @@ impl<'a, 'v, 'm> Context<'a, 'v, 'm> {
         ensures { result ≡ ScriptFault.Refused Refusal.WrongType self.now.line }
     {
         refused(Refusal::WrongType, self.line)
+    }
+
+    /// 13 `WrongType` where the type isn't the one that is wanted.
+    pub fn check_type(&self, ty: Ty, wanted: Ty) -> Result<(), ScriptFault>
+        ensures ok { OnOk result (ty ≡ wanted) }
+        ensures other { OnErr result (ty ≢ wanted) }
+        ensures err { IfErr result (λ fault.
+            fault ≡ ScriptFault.Refused Refusal.WrongType self.now.line) }
+    {
+        if ty != wanted {
+            return Err(self.wrong_type());
+        }
+        Ok(())
     }
 
     /// 14 `Direction`.

@@ -6,6 +6,7 @@ mod lookup;
 mod messages;
 mod operations;
 mod placing;
+mod plain;
 pub mod scope;
 pub mod size;
 pub mod statements;

@@ -5,15 +5,13 @@ ghost use Rattle.tp_body.specs.Messages.{AreElements, AreFields, AreNamed, IsVal
 
 use crate::context::Context;
 use crate::placing::field_places;
+use crate::plain::{resolve_text, resolve_turn};
 use std::alloc::Global;
-use tp_name::name::find;
 use tp_play::body::SendValue;
 use tp_token::fault::ScriptFault;
 use tp_tree::message::{Value, ValueField};
 use tp_value::items::Items;
-use tp_value::shared::Shared;
 use tp_value::types::{Field, Ty, TypeDef};
-use tp_value::typing::are_printable;
 
 /// What a value of this type stands for.
 ///
@@ -34,30 +32,23 @@ pub fn resolve_value(
 {
     match value {
         Value::Int(number) => {
+            context.check_type(ty, Ty::Integer)?;
             // Read, so that it is known to have 64 bits.
-            let _number = *number;
-            match ty {
-                Ty::Integer => Ok(SendValue::Int(*number)),
-                Ty::Boolean | Ty::Charstring | Ty::Named(_) => Err(context.wrong_type()),
-            }
+            let number = *number;
+            Ok(SendValue::Int(number))
         }
-        Value::Bool(truth) => match ty {
-            Ty::Boolean => Ok(SendValue::Bool(*truth)),
-            Ty::Integer | Ty::Charstring | Ty::Named(_) => Err(context.wrong_type()),
-        },
+        Value::Bool(truth) => {
+            context.check_type(ty, Ty::Boolean)?;
+            Ok(SendValue::Bool(*truth))
+        }
         Value::Text(text) => {
-            if ty != Ty::Charstring || !are_printable(text) {
-                return Err(context.wrong_type());
-            }
-            Ok(SendValue::Text(Shared::from_slice(alloc, text)?))
+            let text = resolve_text(alloc, context, ty, text)?;
+            Ok(SendValue::Text(text))
         }
-        Value::Name(name) => match find(context.turns, name.as_str()) {
-            Some(place) => match ty {
-                Ty::Integer => Ok(SendValue::Turn(place)),
-                Ty::Boolean | Ty::Charstring | Ty::Named(_) => Err(context.wrong_type()),
-            },
-            None => Err(context.no_turn(name.as_str())),
-        },
+        Value::Name(name) => {
+            let place = resolve_turn(context, ty, name.as_str())?;
+            Ok(SendValue::Turn(place))
+        }
         Value::List(values) => match context.scope.types.definition(ty) {
             Some(TypeDef::ListOf(element)) => {
                 let made = resolve_elements(alloc, context, *element, values)?;

@@ -167,10 +167,7 @@ fn resolve_receiver(context: &Context, to: &Option<Destination>) -> Result<Recei
     match to {
         None => Ok(Receiver::Nobody),
         Some(Destination::AllComponents) => Ok(Receiver::All),
-        Some(Destination::Component(component)) => {
-            let receiver = resolve_component(context, component)?;
-            Ok(receiver)
-        }
+        Some(Destination::Component(component)) => resolve_component(context, component),
     }
 }
 

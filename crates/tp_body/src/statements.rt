@@ -19,7 +19,7 @@ use tp_queue::operation::PortOperation;
 use tp_refusal::refusal::Refusal;
 use tp_token::fault::ScriptFault;
 use tp_tree::tree;
-use tp_tree::tree::{Action, BranchBody, Control, Turns, Variable, VerdictName};
+use tp_tree::tree::{Action, BranchBody, Control, Counted, Turns, Variable, VerdictName};
 use tp_value::items::Items;
 
 /// The loop variables inside a `for`.
@@ -107,18 +107,9 @@ fn resolve_statement<'m>(
             let receiving = resolve_receive(alloc, context, receive)?;
             Ok(Statement::Receive(receiving))
         }
-        Action::Control(control) => {
-            let made = resolve_control(context, control)?;
-            Ok(made)
-        }
-        Action::AllPorts(operation) => {
-            let made = resolve_all_ports(context, *operation)?;
-            Ok(made)
-        }
-        Action::SetVerdict(name) => {
-            let made = resolve_set_verdict(context, *name)?;
-            Ok(made)
-        }
+        Action::Control(control) => resolve_control(context, control),
+        Action::AllPorts(operation) => resolve_all_ports(context, *operation),
+        Action::SetVerdict(name) => resolve_set_verdict(context, *name),
         Action::Alt(branches, otherwise) => {
             let made = resolve_branches(alloc, context, branches)?;
             let Some(otherwise) = otherwise else {
@@ -127,20 +118,34 @@ fn resolve_statement<'m>(
             let block = resolve_block(alloc, context, &otherwise.block)?;
             Ok(Statement::Alt(made, Some(block)))
         }
-        Action::For(looped) => {
-            let name = looped.turns.name.as_str();
-            if !is_new(context, name) {
-                return Err(context.duplicate());
-            }
-            let inside = turns_inside(alloc, context.turns, name)?;
-            let around = Context {
-                turns: &inside,
-                ..*context
-            };
-            let block = resolve_block(alloc, &around, &looped.block)?;
-            Ok(counted_for(&looped.turns, block))
-        }
+        Action::For(looped) => resolve_for(alloc, context, looped),
     }
+}
+
+/// What a counted `for` stands for: 12 `Duplicate` for a loop variable whose name isn't new, then
+/// what stands in its block, inside of which there is that variable too.
+#[cycle(statement)]
+#[tactic(auto, using(crate::proofs::StatementRules::cases))]
+fn resolve_for<'m>(
+    alloc: Global,
+    context: &Context<'_, '_, 'm>,
+    looped: &'m Counted,
+) -> Result<Statement, ScriptFault>
+    ensures { IfOk result (IsStatement
+        context.now.scope.now context.now.variables.now (texts context.now.turns.now)
+        (Action.For looped.now)) }
+{
+    let name = looped.turns.name.as_str();
+    if !is_new(context, name) {
+        return Err(context.duplicate());
+    }
+    let inside = turns_inside(alloc, context.turns, name)?;
+    let around = Context {
+        turns: &inside,
+        ..*context
+    };
+    let block = resolve_block(alloc, &around, &looped.block)?;
+    Ok(counted_for(&looped.turns, block))
 }
 
 /// What the statements of a block stand for.
@@ -179,10 +184,7 @@ fn resolve_after<'m>(
 {
     match body {
         BranchBody::Nothing => Ok(Items::new(alloc)),
-        BranchBody::Block(statements) => {
-            let block = resolve_block(alloc, context, statements)?;
-            Ok(block)
-        }
+        BranchBody::Block(statements) => resolve_block(alloc, context, statements),
     }
 }
 

@@ -1,21 +1,19 @@
 //! What the templates of receiving operations stand for.
 ghost use Rattle.std.specs.Prelude.{◌≡◌, IfOk, length, map};
 ghost use Rattle.tp_name.specs.Named.{texts};
-ghost use Rattle.tp_body.specs.Messages.{AreElementTemplates, AreFieldTemplates, AreMembers, AreNamedTemplates, IsElementTemplate, IsTemplate, part_of};
+ghost use Rattle.tp_body.specs.Messages.{AreElementTemplates, AreFieldTemplates, AreMembers, AreNamedTemplates, IsElementTemplate, IsListTemplate, IsRecordTemplate, IsTemplate, part_of};
 
 use crate::context::Context;
 use crate::placing::field_places;
+use crate::plain::{resolve_text, resolve_turn};
 use std::alloc::Global;
-use tp_name::name::find;
 use tp_play::body::{RecvTemplate, SendValue};
 use tp_token::fault::ScriptFault;
 use tp_tree::message::{Template, TemplateField};
 use tp_value::fitting::are_ordered;
 use tp_value::items::Items;
-use tp_value::shared::Shared;
 use tp_value::template::PatternPart;
 use tp_value::types::{Field, Ty, TypeDef};
-use tp_value::typing::are_printable;
 
 /// What a character of a pattern stands for.
 fn pattern_part(character: u8) -> PatternPart
@@ -41,6 +39,26 @@ fn parts(alloc: Global, text: &[u8]) -> Result<Items<PatternPart>, ScriptFault>
     Ok(parts)
 }
 
+/// What a range stands for: 13 `WrongType` for another type than `integer`, and for a lower bound
+/// above the upper.
+#[tactic(auto, using(crate::proofs::TemplateRules::cases))]
+fn resolve_range(
+    context: &Context,
+    ty: Ty,
+    lower: Option<i64>,
+    upper: Option<i64>,
+) -> Result<RecvTemplate, ScriptFault>
+    ensures { IfOk result
+        (IsTemplate context.now.scope.now.types.now (texts context.now.turns.now)
+        ty (Template.Range lower upper)) }
+{
+    context.check_type(ty, Ty::Integer)?;
+    if !are_ordered(lower, upper) {
+        return Err(context.wrong_type());
+    }
+    Ok(RecvTemplate::Range(lower, upper))
+}
+
 /// What a template of this type stands for.
 ///
 /// The first fault from left to right is answered, the number and the names of a record's fields
@@ -61,31 +79,23 @@ pub fn resolve_template(
 {
     match template {
         Template::Int(number) => {
+            context.check_type(ty, Ty::Integer)?;
             // Read, so that it is known to have 64 bits.
-            let _number = *number;
-            match ty {
-                Ty::Integer => Ok(RecvTemplate::Exact(SendValue::Int(*number))),
-                Ty::Boolean | Ty::Charstring | Ty::Named(_) => Err(context.wrong_type()),
-            }
+            let number = *number;
+            Ok(RecvTemplate::Exact(SendValue::Int(number)))
         }
-        Template::Bool(truth) => match ty {
-            Ty::Boolean => Ok(RecvTemplate::Exact(SendValue::Bool(*truth))),
-            Ty::Integer | Ty::Charstring | Ty::Named(_) => Err(context.wrong_type()),
-        },
+        Template::Bool(truth) => {
+            context.check_type(ty, Ty::Boolean)?;
+            Ok(RecvTemplate::Exact(SendValue::Bool(*truth)))
+        }
         Template::Text(text) => {
-            if ty != Ty::Charstring || !are_printable(text) {
-                return Err(context.wrong_type());
-            }
-            let text = Shared::from_slice(alloc, text)?;
+            let text = resolve_text(alloc, context, ty, text)?;
             Ok(RecvTemplate::Exact(SendValue::Text(text)))
         }
-        Template::Name(name) => match find(context.turns, name.as_str()) {
-            Some(place) => match ty {
-                Ty::Integer => Ok(RecvTemplate::Exact(SendValue::Turn(place))),
-                Ty::Boolean | Ty::Charstring | Ty::Named(_) => Err(context.wrong_type()),
-            },
-            None => Err(context.no_turn(name.as_str())),
-        },
+        Template::Name(name) => {
+            let place = resolve_turn(context, ty, name.as_str())?;
+            Ok(RecvTemplate::Exact(SendValue::Turn(place)))
+        }
         Template::Any => Ok(RecvTemplate::Any),
         Template::AnyOrNone => Err(context.wrong_type()),
         Template::OneOf(members) => {
@@ -96,38 +106,61 @@ pub fn resolve_template(
             let made = resolve_members(alloc, context, ty, members)?;
             Ok(RecvTemplate::NoneOf(made))
         }
-        Template::Range(lower, upper) => {
-            if ty != Ty::Integer || !are_ordered(*lower, *upper) {
-                return Err(context.wrong_type());
-            }
-            Ok(RecvTemplate::Range(*lower, *upper))
-        }
+        Template::Range(lower, upper) => resolve_range(context, ty, *lower, *upper),
         Template::Pattern(text) => {
-            if ty != Ty::Charstring {
-                return Err(context.wrong_type());
-            }
+            context.check_type(ty, Ty::Charstring)?;
             let made = parts(alloc, text)?;
             Ok(RecvTemplate::Pattern(made))
         }
-        Template::List(members) => match context.scope.types.definition(ty) {
-            Some(TypeDef::ListOf(element)) => {
-                let made = resolve_element_templates(alloc, context, *element, members)?;
-                Ok(RecvTemplate::List(made))
-            }
-            Some(TypeDef::Record(fields)) => {
-                let made = resolve_field_templates(alloc, context, fields.as_slice(), members)?;
-                Ok(RecvTemplate::Record(made))
-            }
-            None => Err(context.wrong_type()),
-        },
-        Template::Record(entries) => match context.scope.types.definition(ty) {
-            Some(TypeDef::Record(fields)) => {
-                let made = resolve_named_templates(alloc, context, fields.as_slice(), entries)?;
-                Ok(RecvTemplate::Record(made))
-            }
-            Some(TypeDef::ListOf(_)) | None => Err(context.wrong_type()),
-        },
+        Template::List(members) => resolve_list(alloc, context, ty, members),
+        Template::Record(entries) => resolve_record(alloc, context, ty, entries),
     }
+}
+
+/// What templates in braces stand for: those of the elements of a record of, or those of the fields
+/// of a record, by their places. 13 `WrongType` for any other type.
+#[cycle(template)]
+#[tactic(auto, using(crate::proofs::TemplateRules::cases))]
+fn resolve_list(
+    alloc: Global,
+    context: &Context,
+    ty: Ty,
+    members: &[Template],
+) -> Result<RecvTemplate, ScriptFault>
+    ensures { IfOk result (IsListTemplate
+        context.now.scope.now.types.now (texts context.now.turns.now) ty members.now) }
+{
+    match context.scope.types.definition(ty) {
+        Some(TypeDef::ListOf(element)) => {
+            let made = resolve_element_templates(alloc, context, *element, members)?;
+            Ok(RecvTemplate::List(made))
+        }
+        Some(TypeDef::Record(fields)) => {
+            let made = resolve_field_templates(alloc, context, fields.as_slice(), members)?;
+            Ok(RecvTemplate::Record(made))
+        }
+        None => Err(context.wrong_type()),
+    }
+}
+
+/// What templates in braces stand for that are given under the names of fields. 13 `WrongType` for
+/// any type but that of a record.
+#[cycle(template)]
+#[tactic(auto, using(crate::proofs::TemplateRules::cases))]
+fn resolve_record(
+    alloc: Global,
+    context: &Context,
+    ty: Ty,
+    entries: &[TemplateField],
+) -> Result<RecvTemplate, ScriptFault>
+    ensures { IfOk result (IsRecordTemplate
+        context.now.scope.now.types.now (texts context.now.turns.now) ty entries.now) }
+{
+    let Some(TypeDef::Record(fields)) = context.scope.types.definition(ty) else {
+        return Err(context.wrong_type());
+    };
+    let made = resolve_named_templates(alloc, context, fields.as_slice(), entries)?;
+    Ok(RecvTemplate::Record(made))
 }
 
 /// What the templates in parentheses stand for.
@@ -166,8 +199,7 @@ fn resolve_element_template(
     if let Template::AnyOrNone = member {
         return Ok(RecvTemplate::AnyOrNone);
     }
-    let one = resolve_template(alloc, context, ty, member)?;
-    Ok(one)
+    resolve_template(alloc, context, ty, member)
 }
 
 /// What the templates of the elements of a record of stand for.

@@ -2,3 +2,4 @@ pub mod Line
 pub mod Outcome
 pub mod Checked
 pub mod Ran
+pub mod Judged

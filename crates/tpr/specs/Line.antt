@@ -8,6 +8,8 @@ abbrev pub mode_text : Mode → List ℕ
 mode_text mode.Queue = codes "queue"
 mode_text mode.Check = codes "check"
 mode_text mode.Run = codes "run"
+mode_text mode.Trace = codes "trace"
+mode_text mode.Judge = codes "judge"
 
 -- the words are the mode's, and then the FILE, if one is given
 abbrev pub Asks : List (List ℕ) → Mode → Option (List ℕ) → Type 0

@@ -12,6 +12,10 @@ pub enum Mode {
     Check,
     /// Runs a test case.
     Run,
+    /// Runs a test case, and prints the trace of its run.
+    Trace,
+    /// Says whether a trace is lawful.
+    Judge,
 }
 
 /// The mode of this word, if it names one.
@@ -25,6 +29,10 @@ fn mode_of(word: &str) -> Option<Mode>
         Some(Mode::Check)
     } else if word == "run" {
         Some(Mode::Run)
+    } else if word == "trace" {
+        Some(Mode::Trace)
+    } else if word == "judge" {
+        Some(Mode::Judge)
     } else {
         None
     }

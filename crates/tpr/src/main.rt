@@ -1,12 +1,14 @@
-//! `tpr`: message ports of TTCN-3, replayed, checked and run.
+//! `tpr`: message ports of TTCN-3, replayed, checked, run, traced and judged.
 #![tactic(auto)]
 
 ghost use Rattle.std.specs.Prelude.{◌≡◌, IfSome};
 ghost use Rattle.tpr.specs.Checked.{IsCheckAnswer};
+ghost use Rattle.tpr.specs.Judged.{IsJudgeAnswer};
 ghost use Rattle.tpr.specs.Outcome.{IsQueueAnswer};
-ghost use Rattle.tpr.specs.Ran.{IsRunAnswer};
+ghost use Rattle.tpr.specs.Ran.{IsRunAnswer, IsTraceAnswer};
 
 mod checking;
+mod judging;
 mod line;
 mod modes;
 mod running;
@@ -14,9 +16,10 @@ mod running;
 mod tests;
 
 use checking::answer_check;
+use judging::answer_judge;
 use line::{Mode, mode_and_file};
 use modes::{FAULTED, answer_fault, answer_queue};
-use running::answer_run;
+use running::{answer_run, answer_trace};
 use std::env::Env;
 use std::fs::File;
 use std::io::{BufWriter, ErrorKind, Read, Write};
@@ -50,11 +53,17 @@ fn answer<T: AllocGlobal + Threads + Wait + Sync, R: Read, W: Write>(
         (R.remaining reader.new) (W.contents writer.old) (W.contents writer.new)) }
     ensures run { mode ≡ Mode.Run → IfSome result (IsRunAnswer (R.remaining reader.old)
         (R.remaining reader.new) (W.contents writer.old) (W.contents writer.new)) }
+    ensures trace { mode ≡ Mode.Trace → IfSome result (IsTraceAnswer (R.remaining reader.old)
+        (R.remaining reader.new) (W.contents writer.old) (W.contents writer.new)) }
+    ensures judge { mode ≡ Mode.Judge → IfSome result (IsJudgeAnswer (R.remaining reader.old)
+        (R.remaining reader.new) (W.contents writer.old) (W.contents writer.new)) }
 {
     match mode {
         Mode::Queue => answer_queue(rt.alloc(), reader, writer),
         Mode::Check => answer_check(rt.alloc(), reader, writer),
         Mode::Run => answer_run(rt, rt.alloc(), reader, writer, &OpenGate),
+        Mode::Trace => answer_trace(rt, rt.alloc(), reader, writer, &OpenGate),
+        Mode::Judge => answer_judge(rt.alloc(), reader, writer),
     }
 }
 

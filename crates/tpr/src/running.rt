@@ -2,7 +2,8 @@
 ghost use Rattle.std.specs.Prelude.{◌≡◌, IfSome, OnSome};
 ghost use Rattle.std.specs.Io.KnownBytes.{Appends};
 ghost use Rattle.tp_exec.specs.Faults.{run_fault_text};
-ghost use Rattle.tpr.specs.Ran.{IsRunAnswer, IsRunOf};
+ghost use Rattle.tp_report.specs.Reports.{told_text};
+ghost use Rattle.tpr.specs.Ran.{IsRunAnswer, IsRunOf, IsTraceAnswer};
 
 use crate::checking::{answer_check_fault, check_script};
 use crate::modes::{ANSWERED, FAULTED, flushed};
@@ -15,6 +16,7 @@ use tp_exec::fault::{RunFault, write_run_fault};
 use tp_exec::gate::Gate;
 use tp_exec::run::run;
 use tp_play::test_case::TestCase;
+use tp_report::telling::Telling;
 use tp_report::writing::write_report;
 
 /// Prints the line of a fault of a run. The status is 3; `None` where the writer failed.
@@ -29,19 +31,21 @@ fn answer_run_fault<W: Write>(writer: &mut W, fault: RunFault) -> Option<u8>
     }
 }
 
-/// Runs a test case, and prints its report, or the line of the fault by which there is none.
+/// Runs a test case, and prints its report or the trace of it, or the line of the fault by which
+/// there is none.
 fn answer_test_case<T: Threads + Wait + Sync, W: Write, G: Gate>(
     rt: &T,
     alloc: Global,
     test_case: &TestCase,
+    telling: Telling,
     writer: &mut W,
     gate: &G,
 ) -> Option<u8>
-    ensures { IfSome result (IsRunOf test_case.now
+    ensures { IfSome result (IsRunOf (told_text telling) test_case.now
         (W.contents writer.old) (W.contents writer.new)) }
 {
     match run(rt, alloc, test_case, gate) {
-        Ok(report) => match write_report(test_case, &report, writer) {
+        Ok(report) => match write_report(test_case, telling, &report, writer) {
             Ok(()) => {
                 // The process ends behind this: to drop a long history first is a tenth of a run.
                 mem::forget(report);
@@ -73,6 +77,28 @@ pub fn answer_run<T: Threads + Wait + Sync, R: Read, W: Write, G: Gate>(
 {
     match check_script(alloc, reader) {
         Err(fault) => answer_check_fault(writer, fault),
-        Ok(test_case) => answer_test_case(rt, alloc, &test_case, writer, gate),
+        Ok(test_case) => answer_test_case(rt, alloc, &test_case, Telling::Report, writer, gate),
+    }
+}
+
+/// Reads a script, checks it, and runs its test case, as [`answer_run`] does, but prints the trace
+/// of the run: its report with the arrivals in it, each as a line `came PORT SENDER NUMBER MESSAGE`
+/// at its place in the history of the component that it came to.
+///
+/// The status and the lines of faults are those of [`answer_run`], and so is what may stay open. It
+/// may wait for good.
+pub fn answer_trace<T: Threads + Wait + Sync, R: Read, W: Write, G: Gate>(
+    rt: &T,
+    alloc: Global,
+    reader: &mut R,
+    writer: &mut W,
+    gate: &G,
+) -> Option<u8>
+    ensures { IfSome result (IsTraceAnswer (R.remaining reader.old) (R.remaining reader.new)
+        (W.contents writer.old) (W.contents writer.new)) }
+{
+    match check_script(alloc, reader) {
+        Err(fault) => answer_check_fault(writer, fault),
+        Ok(test_case) => answer_test_case(rt, alloc, &test_case, Telling::Trace, writer, gate),
     }
 }

@@ -1,5 +1,6 @@
 -- The next statement or branch stands for what is made; a `for` adds its variable to those around.
-use Rattle.std.proofs.Common.{arith, ◌≡◌, [], ◌∷◌, ◌++◌, ap, sym, ◌∙◌, string_bytes}
+use Rattle.std.proofs.Common.{arith, ◌≡◌, [], ◌∷◌, ◌++◌, refl, ap, sym, ◌∙◌, string_bytes}
+use Rattle.tp_tree.specs.declared.tree.Action.TheVariants as action
 use Rattle.tp_tree.specs.declared.tree.Counted.{out-Counted}
 use Rattle.tp_name.specs.Named.{texts}
 use Rattle.tp_body.specs.Scoping.{IsNew}
@@ -26,15 +27,15 @@ resolve_branches-loop-branch-preserved t c =
 pub resolve_branch-returns : goal.resolve_branch-returns
 resolve_branch-returns t c = branch (texts c.args.context.now.turns.now) c.args.branch.now _ c.in_ok-receiving.ensures c.in_ok-block.ensures
 
-pub resolve_statement-returns-in_ok-block-in-For : goal.resolve_statement-returns-in_ok-block-in-For
-resolve_statement-returns-in_ok-block-in-For t c =
-    let looped = out-Counted c.in-For.looped in
+pub resolve_for-returns : goal.resolve_for-returns
+resolve_for-returns t c =
+    let looped = out-Counted c.args.looped.now in
     let scope = c.args.context.now.scope.now in
     let variables = c.args.context.now.variables.now in
     let turns = texts c.args.context.now.turns.now in
     let new : IsNew scope variables turns (string_bytes looped.turns.name) = rw c.as_str-name.ensures.value at c.is_new.ensures c.if-not-is_new.false in
-    let row : texts c.deref-in-For.result.now ≡ turns ++ string_bytes looped.turns.name ∷ [] =
-    ap texts c.deref-in-For.ensures.value ∙ c.in_ok-inside-in-For.ensures ∙ ap (λ x. turns ++ x ∷ []) c.as_str-name.ensures.value in
-    let inside : IsBlock scope variables (turns ++ string_bytes looped.turns.name ∷ []) looped.block.items c.in_ok-block-in-For.block =
-    rw (sym row, sym c.deref-in-For-2.ensures.value) c.in_ok-block-in-For.ensures in
-    rw c.counted_for.ensures (statement_for scope variables turns c.args.action.now c.in-For.looped c.in_ok-block-in-For.block c.in-For.is new inside)
+    let row : texts c.deref.result.now ≡ turns ++ string_bytes looped.turns.name ∷ [] =
+    ap texts c.deref.ensures.value ∙ c.in_ok-inside.ensures ∙ ap (λ x. turns ++ x ∷ []) c.as_str-name.ensures.value in
+    let inside : IsBlock scope variables (turns ++ string_bytes looped.turns.name ∷ []) looped.block.items c.in_ok-block.block =
+    rw (sym row, sym c.deref-2.ensures.value) c.in_ok-block.ensures in
+    rw c.counted_for.ensures (statement_for scope variables turns (action.For c.args.looped.now) c.args.looped.now c.in_ok-block.block refl new inside)

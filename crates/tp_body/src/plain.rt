@@ -1,0 +1,45 @@
+//! What a text and the name of a loop variable stand for, in values and in templates.
+ghost use Rattle.std.specs.Prelude.{◌≡◌, IfOk, OnOk};
+ghost use Rattle.tp_name.specs.Named.{IsPlace, texts};
+ghost use Rattle.tp_value.specs.HasType.{ArePrintable};
+
+use crate::context::Context;
+use std::alloc::Global;
+use tp_name::name::find;
+use tp_token::fault::ScriptFault;
+use tp_value::shared::Shared;
+use tp_value::types::Ty;
+use tp_value::typing::are_printable;
+
+/// What a text stands for: 13 `WrongType` for another type than `charstring`, and for a character
+/// that can't be printed; 50.
+pub fn resolve_text(
+    alloc: Global,
+    context: &Context,
+    ty: Ty,
+    text: &[u8],
+) -> Result<Shared<u8>, ScriptFault>
+    ensures text { IfOk result (λ made. made ≡ text.now) }
+    ensures charstring { OnOk result (ty ≡ Ty.Charstring) }
+    ensures printable { OnOk result (ArePrintable text.now) }
+{
+    context.check_type(ty, Ty::Charstring)?;
+    if !are_printable(text) {
+        return Err(context.wrong_type());
+    }
+    let made = Shared::from_slice(alloc, text)?;
+    Ok(made)
+}
+
+/// The place of the loop variable of this name, which stands for an integer: 13 `WrongType` for a
+/// variable, and for another type than `integer`; 11 `Unknown` for any other name.
+pub fn resolve_turn(context: &Context, ty: Ty, name: &str) -> Result<usize, ScriptFault>
+    ensures place { IfOk result (IsPlace (texts context.now.turns.now) name.now) }
+    ensures integer { OnOk result (ty ≡ Ty.Integer) }
+{
+    let Some(place) = find(context.turns, name) else {
+        return Err(context.no_turn(name));
+    };
+    context.check_type(ty, Ty::Integer)?;
+    Ok(place)
+}

@@ -1,0 +1,78 @@
+-- The outcome of mode judge: what is printed of a trace, and the status.
+use Rattle.std.specs.Prelude.{◌≡◌, ℕ, ◌≤◌, ◌⊎◌, Option, List, length, IfSome}
+use Rattle.std.specs.Io.KnownBytes.{Appends, Consumes}
+use Rattle.tp_text.specs.Reading.{IsFull}
+use Rattle.tp_text.specs.declared.text.ReadFault.{ReadFault}
+use Rattle.tp_text.specs.declared.text.ReadFault.TheVariants as read_fault
+use Rattle.tp_refusal.specs.declared.refusal.Refusal.TheVariants as refusal
+use Rattle.tp_trace.specs.declared.reading.TraceFault.{TraceFault}
+use Rattle.tp_trace.specs.declared.reading.TraceFault.TheVariants as trace_fault
+use Rattle.tp_trace.specs.Faults.{IsFaultOf}
+use Rattle.tp_referee.specs.declared.ruling.Ruling.{Ruling}
+use Rattle.tp_referee.specs.Answers.{ruling_status, ruling_text}
+use Rattle.tp_referee.specs.Rulings.{IsRulingOf}
+use Rattle.tpr.specs.declared.judging.JudgeFault.{JudgeFault}
+use Rattle.tpr.specs.declared.judging.JudgeFault.TheVariants as judge_fault
+use Rattle.tpr.specs.Outcome.{memory_text, refused_text, unread_text}
+
+abbrev pub judge_fault_of : ReadFault → JudgeFault
+judge_fault_of read_fault.Read = judge_fault.Read
+judge_fault_of read_fault.Limit = judge_fault.Trace trace_fault.Limit
+judge_fault_of read_fault.Memory = judge_fault.Trace trace_fault.Memory
+
+-- a text that is too long has its fault at line 0
+abbrev pub trace_fault_text : TraceFault → List ℕ
+trace_fault_text (trace_fault.BadLine line) = refused_text refusal.BadLine line
+trace_fault_text trace_fault.Limit = refused_text refusal.Limit 0
+trace_fault_text trace_fault.Memory = memory_text
+
+-- what is printed of a fault of mode judge
+abbrev pub judge_fault_text : JudgeFault → List ℕ
+judge_fault_text judge_fault.Read = unread_text
+judge_fault_text (judge_fault.Trace f) = trace_fault_text f
+
+abbrev pub trace_fault_status : TraceFault → ℕ
+trace_fault_status (trace_fault.BadLine line) = 2
+trace_fault_status trace_fault.Limit = 2
+trace_fault_status trace_fault.Memory = 3
+
+-- and the status: 2 where the text was refused, 3 where the fault isn't the text's
+abbrev pub judge_fault_status : JudgeFault → ℕ
+judge_fault_status judge_fault.Read = 2
+judge_fault_status (judge_fault.Trace f) = trace_fault_status f
+
+-- a fault of a text that is read first, where reading took so many bytes of it: memory may be wanting where the room
+-- for the text is full, whatever the text, and then for a text that isn't too long
+abbrev pub IsTraceFaultIn : List ℕ → ℕ → TraceFault → Type 0
+IsTraceFaultIn text taken (trace_fault.BadLine line) = IsFaultOf text (trace_fault.BadLine line)
+IsTraceFaultIn text taken trace_fault.Limit = IsFaultOf text trace_fault.Limit
+IsTraceFaultIn text taken trace_fault.Memory =
+    (taken ≤ 268435456) × (IsFull taken ⊎ (length text ≤ 268435456))
+
+-- and the reader may fail anywhere within the limit
+abbrev pub IsJudgeFaultOf : List ℕ → ℕ → JudgeFault → Type 0
+IsJudgeFaultOf text taken judge_fault.Read = taken ≤ 268435456
+IsJudgeFaultOf text taken (judge_fault.Trace f) = IsTraceFaultIn text taken f
+
+-- the same of what the reader has, where that is known
+abbrev pub HasJudgeFault : Option (List ℕ) → Option (List ℕ) → JudgeFault → Type 0
+HasJudgeFault old new fault =
+    (bytes : List ℕ) × Consumes old new bytes × IfSome old (λ text. IsJudgeFaultOf text (length bytes) fault)
+
+-- what is said of the trace that was read was added, and the status is its own
+pub record IsJudged (known old new : Option (List ℕ)) (status : ℕ) : Type 0 where
+  pub ruling : Ruling
+  pub judged : IfSome known (λ text. IsRulingOf text ruling)
+  pub code : status ≡ ruling_status ruling
+  pub printed : Appends old new (ruling_text ruling)
+
+-- the line of a fault was added that the text has which was read, and the status is the fault's
+pub record IsNotJudged (known left old new : Option (List ℕ)) (status : ℕ) : Type 0 where
+  pub fault : JudgeFault
+  pub found : HasJudgeFault known left fault
+  pub code : status ≡ judge_fault_status fault
+  pub printed : Appends old new (judge_fault_text fault)
+
+-- where the writer doesn't fail: what is said of the trace that was read, or the line and the status of its fault
+abbrev pub IsJudgeAnswer : Option (List ℕ) → Option (List ℕ) → Option (List ℕ) → Option (List ℕ) → ℕ → Type 0
+IsJudgeAnswer known left old new status = IsJudged known old new status ⊎ IsNotJudged known left old new status

@@ -1,0 +1,133 @@
+//! Whether a trace is lawful.
+ghost use Rattle.std.specs.Prelude.{◌≡◌, IfErr, IfOk, IfSome, OnOk, OnSome};
+ghost use Rattle.std.specs.Io.KnownBytes.{Appends};
+ghost use Rattle.tp_referee.specs.Answers.{ruling_status, ruling_text};
+ghost use Rattle.tp_referee.specs.Rulings.{IsRulingOf};
+ghost use Rattle.tpr.specs.Judged.{HasJudgeFault, IsJudgeAnswer, judge_fault_status, judge_fault_text};
+
+use crate::modes::{
+    ANSWERED, FAULTED, REFUSED, flushed, write_memory, write_refused, write_unread,
+};
+use std::alloc::Global;
+use std::io;
+use std::io::{Read, Write};
+use tp_referee::ruling::{Ruling, referee};
+use tp_referee::writing::write_ruling;
+use tp_refusal::refusal::Refusal;
+use tp_text::text::{ReadFault, read_within};
+use tp_trace::reading::{TRACE_LIMIT, TraceFault};
+
+/// Why a text isn't judged.
+#[derive(Clone, Copy, Debug, PartialEq, Eq)]
+pub enum JudgeFault {
+    /// 2 Read: the reader answered an error.
+    Read,
+    /// The text is no trace, or memory was refused.
+    Trace(TraceFault),
+}
+
+impl From<ReadFault> for JudgeFault {
+    ghost use Rattle.std.specs.Prelude.{◌≡◌};
+    ghost use Rattle.tpr.specs.Judged.{judge_fault_of};
+
+    ghost from_gives = { λ read fault. fault ≡ judge_fault_of read };
+
+    fn from(read: ReadFault) -> JudgeFault {
+        match read {
+            ReadFault::Read => JudgeFault::Read,
+            ReadFault::Limit => JudgeFault::Trace(TraceFault::Limit),
+            ReadFault::Memory => JudgeFault::Trace(TraceFault::Memory),
+        }
+    }
+}
+
+/// Reads a text, and says whether it is a lawful trace.
+fn judge_text<R: Read>(alloc: Global, reader: &mut R) -> Result<Ruling, JudgeFault>
+    ensures ruling { IfOk result (λ ruling.
+        IfSome (R.remaining reader.old) (λ text. IsRulingOf text ruling)) }
+    ensures fault { IfErr result (HasJudgeFault (R.remaining reader.old) (R.remaining reader.new)) }
+{
+    match read_within(alloc, reader, TRACE_LIMIT) {
+        Err(fault) => Err(JudgeFault::from(fault)),
+        Ok(text) => match referee(alloc, text.as_slice()) {
+            Err(fault) => Err(JudgeFault::Trace(fault)),
+            Ok(ruling) => Ok(ruling),
+        },
+    }
+}
+
+/// Writes the line of a fault.
+fn write_judge_fault<W: Write>(writer: &mut W, fault: JudgeFault) -> io::Result<()>
+    ensures { OnOk result (Appends (W.contents writer.old) (W.contents writer.new)
+        (judge_fault_text fault)) }
+{
+    match fault {
+        JudgeFault::Read => write_unread(writer),
+        JudgeFault::Trace(TraceFault::BadLine(line)) => {
+            write_refused(writer, Refusal::BadLine, line)
+        }
+        JudgeFault::Trace(TraceFault::Limit) => write_refused(writer, Refusal::Limit, 0),
+        JudgeFault::Trace(TraceFault::Memory) => write_memory(writer),
+    }
+}
+
+/// The status of a fault.
+fn judge_fault_status(fault: JudgeFault) -> u8
+    ensures { result ≡ judge_fault_status fault }
+{
+    match fault {
+        JudgeFault::Read | JudgeFault::Trace(TraceFault::BadLine(_) | TraceFault::Limit) => REFUSED,
+        JudgeFault::Trace(TraceFault::Memory) => FAULTED,
+    }
+}
+
+/// Prints the line of a fault, and answers its status. `None` where the writer failed.
+fn answer_judge_fault<W: Write>(writer: &mut W, fault: JudgeFault) -> Option<u8>
+    ensures code { IfSome result (λ status. status ≡ judge_fault_status fault) }
+    ensures printed { OnSome result (Appends (W.contents writer.old) (W.contents writer.new)
+        (judge_fault_text fault)) }
+{
+    match write_judge_fault(writer, fault) {
+        Ok(()) => flushed(writer, judge_fault_status(fault)),
+        Err(_) => None,
+    }
+}
+
+/// The status where a trace was judged.
+fn ruling_status(ruling: &Ruling) -> u8
+    ensures { result ≡ ruling_status ruling.now }
+{
+    match ruling {
+        Ruling::Lawful(_) => ANSWERED,
+        Ruling::Unlawful(_) => REFUSED,
+    }
+}
+
+/// Prints what is said of a trace, and answers its status. `None` where the writer failed.
+fn answer_ruling<W: Write>(writer: &mut W, ruling: &Ruling) -> Option<u8>
+    ensures code { IfSome result (λ status. status ≡ ruling_status ruling.now) }
+    ensures printed { OnSome result (Appends (W.contents writer.old) (W.contents writer.new)
+        (ruling_text ruling.now)) }
+{
+    match write_ruling(writer, ruling) {
+        Ok(()) => flushed(writer, ruling_status(ruling)),
+        Err(_) => None,
+    }
+}
+
+/// Reads a trace, and prints `lawful` and `one run` or `delayed line L`, or a line
+/// `unlawful RULE line L` for each place where it isn't; or the line of its fault.
+///
+/// The status is 0 where it is lawful; 2 where it isn't, or was refused: `refused 2 Read`,
+/// `refused 1 BadLine line L` or `refused 15 Limit line 0`, above 268,435,456 bytes; 3 where memory
+/// was refused, `fault 50 Memory`. `None` where the writer failed; how much is printed then is
+/// open.
+pub fn answer_judge<R: Read, W: Write>(alloc: Global, reader: &mut R, writer: &mut W) -> Option<u8>
+    ensures { IfSome result (IsJudgeAnswer (R.remaining reader.old) (R.remaining reader.new)
+        (W.contents writer.old) (W.contents writer.new)) }
+{
+    match judge_text(alloc, reader) {
+        Err(fault) => answer_judge_fault(writer, fault),
+        Ok(ruling) => answer_ruling(writer, &ruling),
+    }
+}
