@@ -1,19 +1,23 @@
 """Tests tools/explore: the classes of reports that it finds are those of all orders.
 
     explored.py each PROGRAM SCRIPT..
+    explored.py acts PROGRAM SCRIPT..
     explored.py planted NAME..
+    explored.py looks SCRIPT..
     explored.py random SEED NUMBER
     explored.py told SCRIPT ANSWER
 
 `each` runs what the reduction finds on PROGRAM, which forces orders, and compares the classes with those of every
 order of steps in the model of runs (tests/orders/). A line `passed ORDERS RUNS SCRIPT` for each script says how many
 orders there are, and how many were run. Then, with the sends to all components written as sends to each, with
-those of every order of acts, which are smaller than steps.
+those of every order of acts, which are smaller than steps. Where a script has an `alt` of which each look is a step
+of its own, they are compared with those of acts at once. `acts` does the same with those of acts alone, on scripts
+of which no order of steps can be made.
 
 `planted` leaves out each of the rules by which two steps can't change places, one after the other: some script
-must tell it. `random` makes so many scripts by chance, and compares the classes that are found in the model alone.
-`told` reads what `tools/explore SCRIPT --json` printed: its answer is ANSWER, and its reports are those of SCRIPT's
-expected files.
+must tell it; `looks` takes the looks of an `alt` for one step, which each of its scripts must tell. `random` makes
+so many scripts by chance, and compares the classes that are found in the model alone. `told` reads what
+`tools/explore SCRIPT --json` printed: its answer is ANSWER, and its reports are those of SCRIPT's expected files.
 
 It prints lines that begin with `FAILED: ` where something doesn't hold.
 """
@@ -26,14 +30,16 @@ import sys
 import tempfile
 import time
 from concurrent.futures import ProcessPoolExecutor
+from functools import partial
 from typing import Callable, Optional
+from unittest.mock import patch
 
 sys.dont_write_bytecode = True
 ROOT = os.path.dirname(os.path.dirname(os.path.realpath(__file__)))
 sys.path.insert(0, os.path.join(ROOT, "tools"))
 
 from library import reduction, touching  # noqa: E402
-from library.exploration import Bounds, Exploration, discarding_lines  # noqa: E402
+from library.exploration import Bounds, Exploration  # noqa: E402
 from library.forced_runs import ForcedRuns  # noqa: E402
 from library.forced_script import ForcedScript, forced_script  # noqa: E402
 from library.model_of_runs import Act, Run, TestCase  # noqa: E402
@@ -59,16 +65,16 @@ def classes_of_steps(case: TestCase) -> tuple[int, Classes]:
 
 def classes_of_acts(case: TestCase) -> Optional[Classes]:
     """The classes of the reports of all orders of acts, None where too many states would be looked at."""
-    seen, classes, open_runs = set(), set(), [Run(case)]
+    steps, seen, classes, open_runs = touching.Steps(), set(), set(), [Run(case)]
     while open_runs:
         run = open_runs.pop()
-        if (state := reduction.state_of(run, None)) in seen:
+        if (state := steps.state(steps.known(run))) in seen:
             continue
         seen.add(state)
         if len(seen) > MOST_STATES:
             return None
         living = [who for who in touching.components_of(case) if run.statement(who) is not None]
-        tried = [(after := run.copy(), after.act(who)) for who in living]
+        tried = [(after := run.copy_of(run.reached(who)), after.act(who)) for who in living]
         open_runs += [after for after, act in tried if act is not Act.WAITS]
         if all(act is Act.WAITS for _, act in tried):
             classes.add(class_of(run.report()))
@@ -80,7 +86,7 @@ def classes_in_model(script: ForcedScript, is_over: Callable[[], bool] = lambda:
     case, apart = script.case(), frozenset()
     while True:
         processes = processes_of(case, apart)
-        orders = list(reduction.Reduction(Run(case), processes, None, is_over).new_ones())
+        orders = list(reduction.Reduction(Run(case), processes, touching.Steps(), None, is_over).new_ones())
         left = frozenset().union(*(left_of_twins(it.run, processes) for it in orders))
         if not left:
             return len(orders), {class_of(it.run.report()) for it in orders}
@@ -108,32 +114,52 @@ def difference(what: str, found: Classes, wanted: Classes) -> Optional[str]:
     return f"{what}: {len(found)} classes of {len(wanted)}; this one {which}:\n{told[0]}"
 
 
+def not_run_in(exploration: Exploration) -> Optional[str]:
+    """What is wrong with the runs: each order must be held, and come to the report of the model."""
+    wrong = exploration.why_not_all()
+    return f"not all were run as they should: {wrong}" if wrong else None
+
+
 def wrong_in(program: str, path: str) -> tuple[int, int, Optional[str]]:
     """How many orders there are, how many were run, and what is wrong."""
     case = TestCase(read_script(path))
     number, wanted = classes_of_steps(case)
+    if goes_by_looks(case):
+        acts = classes_of_acts(case) or set()
+        if not wanted <= acts:
+            return number, 0, "an order of steps isn't among those of acts"
+        wanted = acts
     whole = explored(program, forced_script(bytes_of(path), False))
-    runs = len(whole.found.runs)
-    if whole.found.failed or whole.found.unlike or whole.found.over:
-        return number, runs, f"not all were run as they should: {whole.why_not_all()}"
-    wrong = difference("orders of steps", set(whole.found.classes), wanted)
+    wrong = not_run_in(whole) or difference("orders of steps", set(whole.found.classes), wanted)
     script = forced_script(bytes_of(path))
     if wrong is None and len(script.tokens) != len(whole.script.tokens):
-        wrong = difference("orders of acts", set(explored(program, script).found.classes), classes_of_acts(case) or set())
-    return number, runs, wrong
+        wrong = wrong_acts_in(program, path)[2]
+    return number, len(whole.found.runs), wrong
 
 
-def line_of(program: str, path: str) -> str:
+def wrong_acts_in(program: str, path: str) -> tuple[int, int, Optional[str]]:
+    """How many classes there are, how many orders were run, and what is wrong."""
+    wanted = classes_of_acts(TestCase(read_script(path))) or set()
+    found = explored(program, forced_script(bytes_of(path)))
+    wrong = not_run_in(found) or difference("orders of acts", set(found.found.classes), wanted)
+    return len(wanted), len(found.found.runs), wrong
+
+
+def goes_by_looks(case: TestCase) -> bool:
+    return any(touching.goes_by_looks(it) for body in case.bodies for it in body.code)
+
+
+def line_of(looking: Callable, program: str, path: str) -> str:
     try:
-        number, runs, wrong = wrong_in(program, path)
+        number, runs, wrong = looking(program, path)
     except Exception as error:  # a script that can't be read is a failure, and not the end of the others
         number, runs, wrong = 0, 0, repr(error)
     return f"passed {number} {runs} {path}" if wrong is None else f"FAILED: {path}: {wrong}"
 
 
-def each(program: str, paths: list[str]) -> None:
+def each(looking: Callable, program: str, paths: list[str]) -> None:
     with ProcessPoolExecutor(os.cpu_count()) as pool:
-        for line in pool.map(line_of, [program] * len(paths), paths):
+        for line in pool.map(partial(line_of, looking, program), paths):
             print(line, flush=True)
 
 
@@ -160,6 +186,15 @@ def planted(names: list[str]) -> None:
     reduction.depends = touching.depends
     wrong = [path for path in paths if is_told(path, wanted[path])]
     print(f"FAILED: with all rules too: {wrong}" if wrong else "passed with all rules none of them differs")
+
+
+def looks_as_one_step(paths: list[str]) -> None:
+    for path in paths:
+        wanted = classes_of_acts(TestCase(read_script(path))) or set()
+        told = [is_told(path, wanted)]
+        with patch.object(touching, "goes_by_looks", lambda statement: False):
+            told.append(is_told(path, wanted))
+        print(f"passed {path}" if told == [False, True] else f"FAILED: {path} doesn't tell that looks are one step")
 
 
 def is_told(path: str, wanted: Classes) -> bool:
@@ -190,8 +225,6 @@ def wrong_by_chance(path: str) -> Optional[str]:
     found = classes_in_model(script, lambda: time.monotonic() > end)[1]
     if time.monotonic() > end:
         return "" if found <= wanted else difference("orders of acts", found, wanted)
-    if script.whole or discarding_lines(script.case()):
-        return None if found <= wanted else difference("orders of acts", found, wanted)
     return difference("orders of acts", found, wanted)
 
 
@@ -241,10 +274,12 @@ def main() -> int:
     what, *words = sys.argv[1:]
     if what == "told":
         return told_rightly(*words)
-    if what == "each":
-        each(words[0], words[1:])
+    if what in ("each", "acts"):
+        each(wrong_in if what == "each" else wrong_acts_in, words[0], words[1:])
     elif what == "planted":
         planted(words)
+    elif what == "looks":
+        looks_as_one_step(words)
     else:
         by_chance(words[0], int(words[1]))
     return 0

@@ -25,6 +25,10 @@ explored_planted=(clear_between_two_sends cleared_message_is_waited_for_in_vain 
     halted_port_is_waited_at_in_vain own_sendings_are_ahead_of_the_mark two_send_to_each_other
     receive_waits_for_each_sender system_talks_to_two check_waits_and_leaves_the_message alt_waits_at_two_ports)
 
+# Scripts of tests/acts/ on which the looks of an alt are taken for one step.
+explored_by_looks=(else_is_chosen_behind_a_discard.ttcn message_comes_between_two_looks.ttcn
+    two_triggers_discard_in_turn.ttcn)
+
 run_explore() { # WORDS..
     observe env TPR_ORDERED="$ordered" "$root/tools/explore" "$@"
 }
@@ -43,9 +47,17 @@ explored_orders_are_few() {
     ((run > 0 && run * 10 <= all))
 }
 
+# Scripts in which others act between two acts of one step, and a larger one: the classes of all orders of acts.
+explored_acts() {
+    python3 -B tests/explored.py acts "$ordered" tests/acts/*.ttcn >"$room/explored_acts"
+    count_told "$room/explored_acts"
+}
+
 explored_rules() {
     python3 -B tests/explored.py planted "${explored_planted[@]/%/.ttcn}" >"$room/explored_rules"
     count_told "$room/explored_rules"
+    python3 -B tests/explored.py looks "${explored_by_looks[@]/#/tests/acts/}" >"$room/explored_looks"
+    count_told "$room/explored_looks"
 }
 
 explored_by_chance() {
@@ -104,10 +116,29 @@ explored_again() {
     echo 'mtc nobody' >"$room/explored_order"
     run_explore "$script.ttcn" --order "$room/explored_order"
     tool_must "an order that names nobody" 2 says_alone "explore: $room/explored_order, line 1: no component is named"
-    echo 'b mtc' >"$room/explored_order"
+    # A send tries no branch: the gate gives up at once, and not after its ten million turns.
+    echo 'mtc mtc+ a' >"$room/explored_order"
     run_explore "$script.ttcn" --order "$room/explored_order"
     tool_must "an order that can't be held" 4 prints "not held
 "
+    echo 'a mtc a mtc+ mtc+ mtc mtc' >"$room/explored_order"
+    run_explore tests/acts/message_comes_between_two_looks.ttcn --order "$room/explored_order"
+    tool_must "an order with a message between two looks" 0 tells_a_message_between_looks
+    echo 'a mtc++' >"$room/explored_order"
+    run_explore tests/acts/message_comes_between_two_looks.ttcn --order "$room/explored_order"
+    tool_must "an order with two signs behind a name" 2 \
+        says_alone "explore: $room/explored_order, line 1: no component is named 'mtc++'"
+}
+
+# What mtc does where one message comes before its first look, and one between two.
+tells_a_message_between_looks() {
+    says_nothing && cmp -s -- <(head -n 5 -- "$room/printed") - <<'EOF'
+component mtc
+dropped p a 0 integer:1
+took q a 0 integer:2
+else
+set pass
+EOF
 }
 
 # Of what is printed, the lines up to the first report are shown in a document, which may leave some out.
@@ -161,7 +192,17 @@ explored_bounds() {
     run_explore "$room/explored_four.ttcn" --runs 5 --seed 7
     tool_must "five runs of 18" 4 prints_in_short "pass, not all orders tried" "5 runs, 1 class"
     run_explore examples/trigger_in_an_alt_comes_before_else.ttcn
-    tool_must "an alt between the discards of which others may act" 4 begins_with "inconc, not all orders tried"
+    tool_must "an alt between the discards of which others may act" 0 begins_with "always inconc"
+    run_explore tests/acts/message_comes_between_two_looks.ttcn
+    tool_must "a verdict that hangs on what comes between two looks" 1 tells_parting_at_two_ports
+}
+
+# Both messages are of one sender, in one order: it is the look that comes before or behind the second.
+tells_parting_at_two_ports() {
+    begins_with "pass or fail" && prints_lines_in_order \
+        '  line 17: mtc discarded integer:1 from a at port p, sent at line 7;' \
+        '    in the other run, at line 16, it took integer:2 from a at port q, sent at line 8' \
+        '  nothing makes line 16 wait for line 8, nor line 8 for line 16'
 }
 
 # An interrupt comes once there were some runs: 10 senders have more orders than are tried in two minutes. On a
@@ -184,14 +225,48 @@ all_explored_interrupted() {
     explored_interrupted TERM
 }
 
+# The line of progress on a terminal; a component that waits for good; the order of a run that is told, run again.
+explored_as_told() {
+    local script=examples/broadcast_is_overtaken_by_an_answer.ttcn again
+    make_senders 6 at "$room/explored_six.ttcn"
+    observe env TPR_ORDERED="$ordered" python3 "$root/tests/tool_rules.py" terminal "$root/tools/explore" \
+        "$room/explored_six.ttcn"
+    tool_must "a line of progress on a terminal" 0 \
+        grep -q 'runs\?, [0-9]* class\(es\)\?, ways not tried yet: [1-9]' "$room/printed"
+    run_explore tests/orders/all_wait_for_each_other.ttcn
+    tool_must "components that wait for good" 0 grep -q '^error, 1 run: .* none, which waits for good' "$room/printed"
+    run_explore "$script"
+    again=$(sed -n 's/^A run that comes to fail; again: //p' "$room/printed")
+    sed -n '/^A run that comes to fail/,$ { s/^  //p }' "$room/printed" >"$room/explored_report"
+    TPR_ORDERED=$ordered observe bash -c "$again"
+    tool_must "the order of a run that is told" 0 prints_file "$room/explored_report"
+    TPR_ORDERED=$ordered "$root/tools/explore" "$script" >/dev/full 2>"$room/said"
+    status=$?
+    : >"$room/printed"
+    tool_must "an answer that can't be written" 3 says_alone "explore: the answer can't be written"
+}
+
 # What tools/suite writes of each case where it is asked.
 explored_in_a_suite() {
-    local script=examples/clear_comes_before_the_question.ttcn
-    observe env TPR="$tpr" TPR_ORDERED="$ordered" "$root/tools/suite" "$script" --explore \
-        --junit "$room/explored.xml"
-    tool_must "a suite that explores" 0 grep -qF '<property name="explored" value="always pass" />' "$room/explored.xml"
-    observe env TPR="$tpr" "$root/tools/suite" "$script" --explore
+    local faulty=examples/clear_may_discard_the_answer.ttcn repaired=examples/clear_comes_before_the_question.ttcn
+    observe env TPR="$tpr" TPR_ORDERED="$ordered" "$root/tools/suite" "$faulty" "$repaired" --explore \
+        --want none,pass,fail --junit "$room/explored.xml"
+    tool_must "a suite that explores" 0 properties_are "$room/explored.xml" \
+        "clear_may_discard_the_answer pass or fail" "clear_comes_before_the_question always pass"
+    observe env TPR="$tpr" "$root/tools/suite" "$repaired" --explore
     tool_must "a suite that explores and writes no XML" 4 prints_nothing
+}
+
+# The name of each case with what was explored of it.
+properties_are() { # FILE CASE..
+    python3 - "$@" <<'EOF'
+import sys
+import xml.etree.ElementTree as xml
+
+cases = xml.parse(sys.argv[1]).getroot().iter("testcase")
+explored = [(it.get("name"), it.find("properties/property[@name='explored']")) for it in cases]
+sys.exit(0 if [f"{name} {it.get('value')}" for name, it in explored if it is not None] == sys.argv[2:] else 1)
+EOF
 }
 
 # A program that holds no order, and none at all.
@@ -221,13 +296,15 @@ explores() {
     set_up "tpr_ordered is built" [ -x "$ordered" ] || return
     at_least 81 explored_orders
     set_up "a tenth of the orders is run at most" explored_orders_are_few
-    at_least 6 explored_rules
+    at_least 7 explored_acts
+    at_least 9 explored_rules
     at_least 1 explored_by_chance
     at_least 24 all_explored_pairs
-    at_least 5 explored_again
+    at_least 7 explored_again
     at_least 3 explored_in_documents
-    at_least 4 explored_bounds
+    at_least 5 explored_bounds
     at_least 4 all_explored_interrupted
+    at_least 4 explored_as_told
     at_least 2 explored_in_a_suite
     at_least 2 explored_other_programs
     at_least 4 explored_refusals

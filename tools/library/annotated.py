@@ -119,4 +119,4 @@ def _word(entry: Entry) -> str:
     if isinstance(entry, VerdictSet):
         return f"set {entry.verdict}"
     assert isinstance(entry, Failed)
-    return f"failed {entry.code}"
+    return f"failed {entry.fault:d}"

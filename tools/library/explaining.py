@@ -8,7 +8,8 @@ from typing import Optional, Union
 from .construct_letters import construct_of_rest
 from .construct_signs import Found, Signs, construct_of_name
 from .explanation import Answer, Explanation, Shown
-from .refusal_rules import NAMES, RULES_OF, Rule
+from .refusal_rules import RULES_OF, Rule
+from .refusals import Refusal
 from .script_checks import check_script
 from .script_cursor import GrammarFault
 from .script_faults import RuleFault
@@ -27,7 +28,7 @@ def explain(file: str, data: Optional[bytes], said: str) -> Explanation:
     if said == "accepted":
         return Explanation(file, Answer.ACCEPTED, said)
     refused = _REFUSED.fullmatch(said)
-    if refused is None or int(refused[1]) not in NAMES:
+    if refused is None or int(refused[1]) not in RULES_OF:
         answer = Answer.FAULT if _FAULT.fullmatch(said) else Answer.BROKEN
         return Explanation(file, answer, said.partition("\n")[0] or "nothing was printed")
     line = int(refused[3]) if refused[3] else None
@@ -64,7 +65,7 @@ def line_of(text: Text, fault: Fault) -> int:
 
 def _by_rules(explanation: Explanation) -> Explanation:
     """Where the own reading comes to another place: the rules of the number, and nothing of the script."""
-    rules = list(RULES_OF[explanation.number or 0])
+    rules = list(RULES_OF[Refusal(explanation.number or 0)])
     is_one = len(rules) == 1
     told = _sentence(rules[0]) if is_one else "a rule is broken, and it isn't sure where"
     explanation.sentence = told
@@ -180,6 +181,6 @@ _EXPLAINED = {TokenFault: _of_token, GrammarFault: _of_grammar, RuleFault: _of_r
 
 def rules_text(number: int) -> str:
     """The rules of a number, in the words of the documents."""
-    lines = [f"{number} {NAMES[number]}"]
-    lines += [f"  {rule.value}" for rule in RULES_OF[number]]
+    lines = [Refusal(number).told()]
+    lines += [f"  {rule.value}" for rule in RULES_OF[Refusal(number)]]
     return "\n".join(lines) + "\n"

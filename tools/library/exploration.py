@@ -10,11 +10,11 @@ from typing import Callable, Optional
 
 from .forced_runs import Answer, ForcedRuns, Outcome
 from .forced_script import ForcedScript
-from .model_of_runs import PlacedCase, Run, Tried
+from .model_of_runs import PlacedCase, Run
 from .parting import Parting, parting_of
 from .reduction import Order, Reduction
 from .run_classes import class_of, result_of
-from .touching import Place
+from .touching import Place, Steps
 from .twins import left_of_twins, processes_of
 from .words import VERDICTS
 
@@ -69,6 +69,8 @@ class Exploration:
     def __init__(self, script: ForcedScript, runs: ForcedRuns, bounds: Bounds, seed: Optional[int] = None):
         self.script = script
         self.case: PlacedCase = script.case()
+        self.begin = Run(self.case)
+        self.steps = Steps()
         self.forced = runs
         self.bounds = bounds
         self.chance = None if seed is None else random.Random(seed)
@@ -77,7 +79,9 @@ class Exploration:
         self.waiting: list[Order] = []
         self.under_way: Optional[tuple[list[Order], Future[list[Answer]]]] = None
         self.began = self.sent_at = time.monotonic()
-        self.show: Callable[[Found], None] = lambda found: None
+        self.shown_at = self.began
+        self.show: Callable[[Exploration], None] = lambda exploration: None
+        self.reduction: Optional[Reduction] = None
         self.is_all = False
 
     def explore(self) -> Found:
@@ -105,17 +109,26 @@ class Exploration:
 
     def _search(self, worker: ThreadPoolExecutor, apart: frozenset[Place]) -> frozenset[Place]:
         processes = processes_of(self.case, apart)
-        reduction = Reduction(Run(self.case), processes, self.chance, self.is_over)
+        self.reduction = Reduction(self.begin, processes, self.steps, self.chance, self.is_over)
         self.is_all = False
-        for order in reduction.new_ones():
+        for order in self.reduction.new_ones():
             if left := left_of_twins(order.run, processes):
                 return left
             self._take(worker, order)
-        self.is_all = not reduction.nodes
+        self.is_all = not self.reduction.nodes
         return frozenset()
 
     def is_over(self) -> bool:
-        return len(self.asked) >= self.bounds.runs or time.monotonic() - self.began > self.bounds.seconds
+        """Whether the bounds are met. The search asks at each step, and so what is known is shown now and then."""
+        now = time.monotonic()
+        if now - self.shown_at > SECONDS_AT_ONCE:
+            self.shown_at = now
+            self.show(self)
+        return len(self.asked) >= self.bounds.runs or now - self.began > self.bounds.seconds
+
+    def ways_left(self) -> int:
+        """How many ways on from what was found are known and not tried yet. Each may lead to more."""
+        return 0 if self.reduction is None else self.reduction.left()
 
     # Runs
 
@@ -135,7 +148,6 @@ class Exploration:
             self.under_way = (self.waiting, worker.submit(self.forced.run, lines))
         self.waiting = []
         self.sent_at = time.monotonic()
-        self.show(self.found)
 
     def _collect(self) -> None:
         """Takes what came of the orders that are run."""
@@ -162,7 +174,7 @@ class Exploration:
     # What is said of it
 
     def line_of(self, order: tuple[int, ...]) -> str:
-        return " ".join(self.case.names[who] for who in order)
+        return self.steps.line_of(self.begin, order)
 
     def why_not_all(self) -> list[str]:
         """Why it isn't so that all orders were tried."""
@@ -175,10 +187,6 @@ class Exploration:
             reasons.append("the time or the number of runs ended first (--minutes, --runs)")
         if found.unlike:
             reasons.append(f"{found.unlike} of the runs came to another report than the model of runs: a fault of tpr")
-        for line in self.script.whole:
-            reasons.append(f"line {line}: nothing can be put between the messages of this send to all")
-        for line in discarding_lines(self.case):
-            reasons.append(f"line {line}: nothing can be put between two discards of this alt at several ports")
         return reasons
 
     def partings(self) -> list[tuple[str, str, tuple[int, ...], tuple[int, ...], Optional[Parting]]]:
@@ -190,18 +198,6 @@ class Exploration:
             better, first, second = nearest(self.found.runs, verdicts[:place], worse)
             told.append((better, worse, first, second, parting_of(self.case, first, second)))
         return told
-
-
-def discarding_lines(case: PlacedCase) -> list[int]:
-    """The lines of each `alt` at several ports that may discard while it waits: between two discards nothing can be
-    put, since a gate holds whole statements."""
-    tried = [it for body in case.bodies for it in body.code if isinstance(it, Tried)]
-    return sorted({case.line(it) or 0 for it in tried if _may_discard_between(it)})
-
-
-def _may_discard_between(tried: Tried) -> bool:
-    guards = [guard for guard, _ in tried.choice.branches]
-    return any(it.how == "trigger" for it in guards) and len({it.port for it in guards}) > 1
 
 
 def nearest(

@@ -21,13 +21,18 @@ def first_line(exploration: Exploration) -> str:
 def text_of(exploration: Exploration, script: str) -> str:
     found = exploration.found
     pieces = [first_line(exploration)]
-    pieces.append(f"{counted(len(found.runs), 'run')}, {_classes(len(found.classes))}")
+    pieces.append(counts_of(exploration))
     pieces += [f"  {reason}" for reason in exploration.why_not_all()]
     pieces += ["", "\n".join(_lines_of_classes(exploration))]
     if len(found.verdicts()) > 1:
         pieces += [_text_of_partings(exploration)]
         pieces += [_text_of_verdict(exploration, verdict, script) for verdict in found.verdicts()]
     return "\n".join(pieces) + "\n"
+
+
+def counts_of(exploration: Exploration) -> str:
+    found = exploration.found
+    return f"{counted(len(found.runs), 'run')}, {_classes(len(found.classes))}"
 
 
 def _classes(number: int) -> str:

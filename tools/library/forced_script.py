@@ -1,9 +1,9 @@
 """Makes of a script one in which each act is a step of which a gate hears, and which prints the same reports.
 
-A gate holds whole statements, and hears of the end of one by the next (docs/DECISIONS.md). So behind the last
-statement of each body stands a loop without a turn, which does nothing and prints nothing. And a send to
-all components, between the messages of which others may act, is written as a send to each of them: the same
-messages, in the order of the connections. Where it can't be written so it stays whole, and is told.
+A gate hears of the end of a statement by the next (docs/DECISIONS.md). So behind the last statement of each body
+stands a loop without a turn, which does nothing and prints nothing. And a send to all components, between the
+messages of which a gate holds nobody, is written as a send to each of them: the same messages, in the order of the
+connections. A component whose name a parameter hides is handed to the function as a parameter more.
 """
 from __future__ import annotations
 
@@ -14,17 +14,16 @@ from typing import Iterator, Optional
 from .model_of_runs import Placed, PlacedCase
 from .script_grammar import read_module
 from .script_tokens import Text
-from .script_tree import Alt, Body, ComponentStart, Function, Loop, Send, Statement, TestCase
+from .script_tree import Alt, Body, ComponentStart, Creation, Function, Loop, Send, Statement, TestCase
 
 Edits = dict[int, tuple[int, list[str]]]  # by the place of a token: how many are taken out, and what stands there
 
 
 @dataclass
 class ForcedScript:
-    """The script that is run, by its tokens, and the lines of the sends to all that stay whole."""
+    """The script that is run, by its tokens."""
 
     tokens: list[Placed]
-    whole: list[int] = field(default_factory=list)
 
     def case(self) -> PlacedCase:
         return PlacedCase(self.tokens)
@@ -59,10 +58,14 @@ def placed_tokens(text: Text) -> list[Placed]:
 
 @dataclass(frozen=True)
 class _Runner:
-    """A component that carries out a body, and the components that the body's parameters mean."""
+    """A component that carries out a body, the components that the body's parameters mean, and the names that mean
+    something else there than a component of the test case. `handed` are components with the parameters by which they
+    are handed to it besides."""
 
     component: int
     arguments: dict[str, int]
+    hidden: set[str]
+    handed: dict[int, str] = field(default_factory=dict)
 
 
 class _Writer:
@@ -71,9 +74,9 @@ class _Writer:
     def __init__(self, text: Text):
         self.tokens = placed_tokens(text)
         self.definitions = read_module(text).definitions
+        self.test_case = next(it for it in self.definitions if isinstance(it, TestCase))
         self.case = PlacedCase(self.tokens)
         self.edits: Edits = {}
-        self.whole: list[int] = []
         taken = set(self.tokens)
         self.new_names = (name for number in count(1) if (name := f"forced{number}") not in taken)
         self.turn = next(self.new_names)
@@ -82,8 +85,7 @@ class _Writer:
         """The script with a loop without a turn at the end of each body."""
         for body in self.bodies():
             self.edits.update(self.last_step(body))
-        tokens = self.written(0, len(self.tokens), self.edits)
-        return ForcedScript(tokens, sorted(set(self.whole)))
+        return ForcedScript(self.written(0, len(self.tokens), self.edits))
 
     def bodies(self) -> list[Body]:
         return [it for it in self.definitions if isinstance(it, (Function, TestCase))]
@@ -126,39 +128,49 @@ class _Writer:
         """Writes them anew: those of the test case in their place, and those of a function in a copy of it for
         each start, since each component has connections of its own."""
         functions = {self.tokens[it.name]: it for it in self.bodies() if isinstance(it, Function)}
-        case = next(it for it in self.bodies() if isinstance(it, TestCase))
-        self.edits.update(self.split(case, _Runner(0, {})))
-        for start in case.starts:
+        self.edits.update(self.split(self.test_case, _Runner(0, {}, set())))
+        for start in self.test_case.starts:
             self.split_start(functions[self.tokens[start.function]], start)
 
     def split_start(self, function: Function, start: ComponentStart) -> None:
         given = [self.tokens[it] for it in start.arguments]
         meant = [self.case.places["mtc" if it == "self" else it] for it in given]
         arguments = {self.tokens[it.name]: component for it, component in zip(function.parameters, meant)}
-        edits = self.split(function, _Runner(self.case.places[self.tokens[start.component]], arguments))
+        runner = _Runner(self.case.places[self.tokens[start.component]], arguments, self.hidden_in(function))
+        edits = self.split(function, runner)
         if not edits:
             return
         name = next(self.new_names)
         behind = self.end_of(function) + 1
         copied = {**edits, **self.last_step(function), function.name: (1, [name])}
+        for component, parameter in runner.handed.items():
+            named = str(self.case.names[component])
+            self.add_one(copied, function.name, [self.type_of(named), parameter])
+            self.add_one(self.edits, start.function, [named])
         others = self.edits.get(behind, (0, []))[1]
         self.edits[behind] = (0, [*others, *self.written(function.start, behind, copied)])
         self.edits[start.function] = (1, [name])
 
+    def type_of(self, component: str) -> str:
+        created = (it for it in self.test_case.setups if isinstance(it, Creation))
+        return next(str(self.tokens[it.type]) for it in created if self.tokens[it.name] == component)
+
+    def add_one(self, edits: Edits, name: int, words: list[str]) -> None:
+        """Puts one parameter, or argument, more into the brackets behind the name."""
+        place = self.tokens.index(")", name)
+        new = edits.get(place, (0, []))[1]
+        comma = [","] if new or self.tokens[place - 1] != "(" else []
+        edits[place] = (0, [*new, *comma, *words])
+
     def split(self, body: Body, runner: _Runner) -> Edits:
         edits: Edits = {}
-        hidden = self.hidden_in(body)
         for send in sends_in(body.statements):
             if send.to is None or self.tokens[send.to] != "all":
                 continue
             ends = self.case.partners.get((runner.component, self.tokens[send.port]), [])
-            names = [self.name_of(component, runner, hidden) for component, _ in ends]
-            if len(names) < 2:
-                continue
-            if None in names:
-                self.whole.append(self.tokens[send.start].line)
-                continue
-            edits[send.start] = (send.to + 2 - send.start, self.sends_to(send, names))
+            if len(ends) > 1:
+                names = [self.name_of(component, runner) for component, _ in ends]
+                edits[send.start] = (send.to + 2 - send.start, self.sends_to(send, names))
         return edits
 
     def sends_to(self, send: Send, names: list[str]) -> list[str]:
@@ -170,19 +182,23 @@ class _Writer:
             tokens += [*self.tokens[send.start : send.to], Placed(name, line)]
         return tokens
 
-    def name_of(self, component: int, runner: _Runner, hidden: set[str]) -> Optional[str]:
-        """By which name the body can speak of the component, if by any."""
+    def name_of(self, component: int, runner: _Runner) -> str:
+        """By which name the body can speak of the component."""
         if component == runner.component:
             return "self"
         for name, meant in runner.arguments.items():
             if meant == component:
                 return name
         name = self.case.names[component]
-        return None if name in hidden else name
+        if name not in runner.hidden:
+            return name
+        if component not in runner.handed:
+            runner.handed[component] = next(self.new_names)
+        return runner.handed[component]
 
-    def hidden_in(self, body: Body) -> set[str]:
+    def hidden_in(self, body: Function) -> set[str]:
         """The names that mean something else in the body than a component of the test case."""
-        declared = list(body.variables) + (list(body.parameters) if isinstance(body, Function) else [])
+        declared = [*body.variables, *body.parameters]
         return {self.tokens[it.name] for it in declared} | {self.tokens[it.name] for it in loops_in(body.statements)}
 
 

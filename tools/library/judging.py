@@ -10,7 +10,7 @@ from .order import NoOrderFound, rows_of
 from .reader import read_report
 from .report import Component, Failed, NotAReport, Report, VerdictSet
 from .runs import Printed, Stopped
-from .words import VERDICTS, told_code
+from .words import VERDICTS
 
 # What can come of a run, from the best to the worst: a report with its result, a refusal of the script,
 # a fault of the run, a run that was stopped at the bound, and anything else.
@@ -115,7 +115,7 @@ def _reason(component: Component, result: str) -> Optional[Reason]:
 def _error_of(component: Component) -> Optional[Reason]:
     last = component.entries[-1] if component.entries else None
     if isinstance(last, Failed):
-        what = f"{component.name} failed {told_code(last.code)}, report line {last.line.number}"
+        what = f"{component.name} failed {last.fault.told()}, report line {last.line.number}"
         return _behind(component, len(component.entries) - 1, what)
     if component.end.word == "waiting":
         what = f"{component.name} waits, report line {component.end.line.number}"

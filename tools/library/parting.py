@@ -73,6 +73,7 @@ class Told:
         self.steps: list[Done] = []
         self.of_each: list[list[Done]] = [[] for _ in case.names]
         self.sent: dict[Name, int] = {}  # of each message the line of its send
+        self.put: dict[Name, int] = {}  # and how many steps came before it
         self.next_steps = Steps()
         run = Run(case)
         for who in components:
@@ -80,12 +81,12 @@ class Told:
         self.last = run
 
     def follow(self, run: Run, who: int) -> Run:
-        touch, after = self.next_steps.touch(run, who), self.next_steps.after(run, who)
-        assert touch is not None
+        step, after = self.next_steps.step(run, who), self.next_steps.after(run, who)
+        assert step is not None
         statement = run.statement(who)
         line = self.line_of(run, after, who)
-        for name in touch.put:
-            self.sent[name] = line
+        for name in step.touch.put:
+            self.sent[name], self.put[name] = line, len(self.steps)
         lines = tuple(after.components[who].lines[len(run.components[who].lines) :])
         told = Done(who, statement, line, lines, tuple(touched_by(run, after, who)))
         self.steps.append(told)
@@ -93,12 +94,17 @@ class Told:
         return after
 
     def line_of(self, run: Run, after: Run, who: int) -> int:
-        """The line of the statement; of an `alt` that of the branch that was chosen."""
+        """The line of the statement; of an `alt` that of the branch that was chosen, or that discarded last."""
         statement = run.statement(who)
         if isinstance(statement, Tried) and not after.components[who].lines[-1] == "else":
             guard = chosen_guard(run, who, statement, after)
             return self.case.line(guard) or 0
         return self.case.line(statement) or 0
+
+    def is_put_behind(self, name: Name, who: int, at: int) -> bool:
+        """Whether the message came behind the step of this number of the component, or never."""
+        place = [place for place, step in enumerate(self.steps) if step.who == who][at]
+        return self.put.get(name, len(self.steps)) > place
 
     def waits_at(self, who: int) -> Optional[int]:
         """The line at which the component waits for good."""
@@ -107,7 +113,10 @@ class Told:
 
 
 def chosen_guard(run: Run, who: int, tried: Tried, after: Run) -> object:
-    """The branch that was chosen: the first that wants what was taken or found."""
+    """The branch that was chosen: the first that wants what was taken or found; else the one that discarded."""
+    looked = after.components[who].looked
+    if looked:
+        return tried.choice.branches[looked[-1] - 1][0]
     what, port = after.components[who].lines[-1].split(" ")[:2]
     top = got(run, after, who, port, what == "took")
     for guard, _ in tried.choice.branches:
@@ -164,16 +173,23 @@ def _first_unlike(one: Told, other: Told) -> Optional[tuple[int, int]]:
 
 
 def _unordered_lines(one: Told, other: Told, who: int, at: int) -> Optional[tuple[int, int]]:
-    """The lines of two sends, or of a send and a look or operation, that came in one order here and in the other
-    there."""
+    """The lines of two sends to one port, or of a send and a look or operation, that came in one order here and in
+    the other there."""
     steps = [told.of_each[who][at] if at < len(told.of_each[who]) else None for told in (one, other)]
     messages = [{} if it is None else it.names() for it in steps]
     only_one = [name for name in messages[0] if name not in messages[1]]
     only_other = [name for name in messages[1] if name not in messages[0]]
-    if only_one and only_other:
-        return one.sent[only_one[0]], other.sent[only_other[0]]
-    told, names, step = (one, only_one, steps[0]) if only_one else (other, only_other, steps[1])
-    return (step.line, told.sent[names[0]]) if names and step is not None and None not in steps else None
+    if None in steps:
+        return None
+    if not only_one or not only_other:
+        told, names, step = (one, only_one, steps[0]) if only_one else (other, only_other, steps[1])
+        return (step.line, told.sent[names[0]]) if names else None
+    first, second = only_one[0], only_other[0]
+    if first[:2] == second[:2] and first[2] != second[2]:
+        return one.sent[first], other.sent[second]
+    if one.is_put_behind(second, who, at):
+        return steps[1].line, other.sent[second]
+    return (steps[0].line, one.sent[first]) if other.is_put_behind(first, who, at) else None
 
 
 def _deed(told: Told, who: int, at: int) -> Deed:

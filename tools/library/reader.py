@@ -23,7 +23,8 @@ from .report import (
     Sent,
     VerdictSet,
 )
-from .words import CODES, MOST_COMPONENTS, MOST_ON_A_ROUTE, is_component_name, is_name, worst
+from .refusals import SEND_FAULTS, Refusal
+from .words import MOST_COMPONENTS, MOST_ON_A_ROUTE, is_component_name, is_name, worst
 
 _FOREIGN = re.compile(rb"[^\n -~]")
 _SENT = re.compile(r"sent ([^ .]+)\.([^ ]+) (0|[1-9][0-9]{0,5}) (.+)")
@@ -125,7 +126,7 @@ class _Reader:
         line, found = self.take(_END, "the end of the component's behaviour")
         if found[1]:
             return End(line, found[1], None)
-        return End(line, "error", _code(line, found[2]))
+        return End(line, "error", _fault(line, found[2]))
 
     def left(self) -> tuple[Received, ...]:
         left = []
@@ -207,13 +208,13 @@ def _verdict_set(line: Line) -> Optional[VerdictSet]:
 
 def _failed(line: Line) -> Optional[Failed]:
     found = _FAILED.fullmatch(line.text)
-    return Failed(line, _code(line, found[1])) if found else None
+    return Failed(line, _fault(line, found[1])) if found else None
 
 
-def _code(line: Line, digits: str) -> int:
-    if int(digits) not in CODES:
+def _fault(line: Line, digits: str) -> Refusal:
+    if int(digits) not in SEND_FAULTS:
         raise NotAReport(line.number, f"no behaviour ends with the number {digits}")
-    return int(digits)
+    return Refusal(int(digits))
 
 
 _ENTRIES: dict[str, Callable[[Line], Optional[Entry]]] = {
@@ -257,8 +258,8 @@ def _check_failure(component: Component) -> None:
         if isinstance(entry, Failed):
             raise NotAReport(entry.line.number + 1, "the behaviour has ended on the line before")
     last = component.entries[-1] if component.entries else None
-    failed = last.code if isinstance(last, Failed) else None
-    if failed != component.end.code:
+    failed = last.fault if isinstance(last, Failed) else None
+    if failed != component.end.fault:
         raise NotAReport(component.end.line.number, "this is not how the behaviour ended")
 
 

@@ -4,12 +4,13 @@ from __future__ import annotations
 from typing import Callable, Iterable
 
 from .deliveries import Place
+from .refusals import Refusal
 from .report import Received
 from .script_tree import Alt, Receive, Send, SetVerdict, Statement
 from .standing import Standing, statements_in
 from .walk import Chosen, Stop, StopKind, Turns, Walk
 from .ways import Ways, first_of_verdict
-from .words import and_, lines_told, told_code
+from .words import and_, lines_told
 
 _MOST_COMPONENTS = 5
 
@@ -133,10 +134,10 @@ def _of_error(ways: Ways) -> list[str]:
 def _stopped_at(ways: Ways, number: int) -> str:
     walk = ways.walks[number]
     assert walk.stop is not None
-    line, code = ways.case.line(walk.stop.start), walk.component.end.code
-    if code is None:
+    line, fault = ways.case.line(walk.stop.start), walk.component.end.fault
+    if fault is None:
         return f"{walk.component.name} waits for good at line {line}"
-    return f"{walk.component.name} ended at line {line} by a send, {told_code(code)}"
+    return f"{walk.component.name} ended at line {line} by a send, {fault.told()}"
 
 
 def _stopped_by(ways: Ways, number: int) -> list[str]:
@@ -145,8 +146,8 @@ def _stopped_by(ways: Ways, number: int) -> list[str]:
     assert stop is not None
     name, turns = walk.component.name, turns_told(stop.turns)
     if stop.send is not None:
-        assert walk.component.end.code is not None
-        cause = _CAUSES[walk.component.end.code](ways, walk, stop, stop.send)
+        assert walk.component.end.fault is not None
+        cause = _CAUSES[walk.component.end.fault](ways, walk, stop, stop.send)
         return [f"{name}, line {ways.case.line(stop.start)}{turns}: {cause}."]
     standing = Standing(ways, walk, stop.turns, stop.receives)
     lines = [f"{name}, line {ways.case.line(it.start)}{turns}" for it in stop.receives]
@@ -209,4 +210,9 @@ def _partners(ways: Ways, walk: Walk, send: Send) -> list[str]:
     return [component for component, _ in ends]
 
 
-_CAUSES = {40: _not_sending, 41: _no_route, 42: _needs_to, 43: _unset}
+_CAUSES = {
+    Refusal.NOT_SENDING: _not_sending,
+    Refusal.UNSET_VARIABLE: _unset,
+    Refusal.NO_ROUTE: _no_route,
+    Refusal.NEEDS_TO: _needs_to,
+}

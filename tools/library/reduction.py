@@ -19,18 +19,8 @@ from collections import defaultdict
 from dataclasses import dataclass, field
 from typing import Callable, Iterator, Optional
 
-from .model_of_runs import Component, Run
-from .touching import Name, Place, Steps, Touch, depends, finished
-
-State = tuple[tuple, ...]
-
-
-@dataclass(frozen=True)
-class Step:
-    """A process can carry out a step: its component, and what it touches."""
-
-    who: int
-    touch: Touch
+from .model_of_runs import Run
+from .touching import Known, Name, Place, Step, Steps, Touch, depends, finished
 
 
 @dataclass
@@ -47,7 +37,7 @@ class Node:
     """A run up to some event: the steps that can come next, those to be tried, and those that need not be."""
 
     run: Run
-    state: State
+    state: int
     steps: dict[int, Step]
     asleep: set[int]
     tried: list[int] = field(default_factory=list)
@@ -60,20 +50,6 @@ class Order:
 
     components: tuple[int, ...]
     run: Run
-
-
-def state_of(run: Run, before: Optional[Node]) -> State:
-    """All of a run that bears on what can come. What a step didn't change is taken from the run before it."""
-    if before is None:
-        return tuple(_state_of_one(it) for it in run.components)
-    known = zip(run.components, before.run.components, before.state)
-    return tuple(state if now is then else _state_of_one(now) for now, then, state in known)
-
-
-def _state_of_one(component: Component) -> tuple:
-    ports = tuple((it.status, it.ahead, *it.queue) for it in component.ports.values())
-    kept = (*component.loops.items(), None, *component.variables.items(), None, *component.numbers.items())
-    return component.place, component.sent, component.failure, component.verdict, kept, ports
 
 
 class Index:
@@ -100,6 +76,11 @@ class Index:
         return events
 
 
+def first_step(known: list[Known], process: list[int]) -> Optional[Step]:
+    """The next step of the process, by what is known of all components."""
+    return next((step for who in process if (step := known[who].step) is not None), None)
+
+
 class Reduction:
     """The search for orders. It ends early once `is_over` says so."""
 
@@ -107,6 +88,7 @@ class Reduction:
         self,
         run: Run,
         processes: list[list[int]],
+        steps: Steps,
         chance: Optional[random.Random] = None,
         is_over: Callable[[], bool] = lambda: False,
     ):
@@ -116,14 +98,15 @@ class Reduction:
         self.events: list[Event] = []
         self.last: list[list[int]] = [[] for _ in processes]  # the places of the events of each process
         self.index = Index()
-        self.steps = Steps()
-        self.known: set[tuple[State, int]] = set()  # steps of orders, by the state before them
+        self.steps = steps
+        self.known: set[tuple[int, int]] = set()  # steps of orders, by the state before them
         self.nodes: list[Node] = []
         self.nodes.append(self.node(run, set()))
 
     def node(self, run: Run, asleep: set[int]) -> Node:
-        steps = {place: step for place in range(len(self.processes)) if (step := self.step(run, place)) is not None}
-        node = Node(run, state_of(run, self.nodes[-1] if self.nodes else None), steps, asleep)
+        known = self.steps.known(run)
+        steps = {place: step for place, of in enumerate(self.processes) if (step := first_step(known, of)) is not None}
+        node = Node(run, self.steps.state(known), steps, asleep)
         awake = [it for it in steps if it not in asleep]
         if awake:
             node.tried.append(self.chosen(awake))
@@ -132,9 +115,9 @@ class Reduction:
     def step(self, run: Run, process: int) -> Optional[Step]:
         """The next step of the process, if it can be carried out."""
         for who in self.processes[process]:
-            touch = self.steps.touch(run, who)
-            if touch is not None:
-                return Step(who, touch)
+            step = self.steps.step(run, who)
+            if step is not None:
+                return step
         return None
 
     def chosen(self, processes: list[int]) -> int:
@@ -142,16 +125,16 @@ class Reduction:
 
     def new_ones(self) -> Iterator[Order]:
         """The orders that have something new."""
-        for order in self.orders():
+        for _ in self.ends():
             steps = {(node.state, event.step.who) for node, event in zip(self.nodes, self.events)}
             if not steps or not steps <= self.known:
                 self.known |= steps
-                yield order
+                yield self.order()
 
-    def orders(self) -> Iterator[Order]:
-        """All orders that are found."""
+    def ends(self) -> Iterator[None]:
+        """Comes to the end of each order that is found."""
         if not self.nodes[0].steps:
-            yield self.order()
+            yield
         while self.nodes and not self.is_over():
             node = self.nodes[-1]
             process = self.next_of(node)
@@ -160,10 +143,21 @@ class Reduction:
                 continue
             self.enter(node, process)
             if not self.nodes[-1].steps:
-                yield self.order()
+                yield
 
     def order(self) -> Order:
-        return Order(tuple(event.step.who for event in self.events), finished(self.nodes[-1].run))
+        """The order to which the search has come. Of a component that waits for good between two looks no gate hears
+        the last of them, and nobody sees any: they come behind all others."""
+        run = self.nodes[-1].run
+        components = [event.step.who for event in self.events]
+        waiting = [(who, len(it.looked)) for who, it in enumerate(run.components) if it.looked]
+        if waiting:
+            for who, looks in waiting:
+                components = without_last(components, who, looks)
+            run = self.nodes[0].run
+            for who in components:
+                run = self.steps.after(run, who)
+        return Order(tuple(components), finished(run))
 
     def next_of(self, node: Node) -> Optional[int]:
         """The next process to be tried behind the node."""
@@ -173,6 +167,10 @@ class Reduction:
                 return process
             node.next_tried += 1
         return None
+
+    def left(self) -> int:
+        """How many steps are put to be tried, and aren't yet."""
+        return sum(it not in node.asleep for node in self.nodes for it in node.tried[node.next_tried :])
 
     def leave(self) -> None:
         """All is tried behind the last node: the step that led there need not be tried again."""
@@ -240,3 +238,9 @@ class Reduction:
         firsts = [self.events[at].process for at in kept if not self.events[at].behind & among]
         held = any(self.events[at].process == process or depends(self.events[at].step.touch, touch) for at in kept)
         return firsts if held else [*firsts, process]
+
+
+def without_last(components: list[int], who: int, number: int) -> list[int]:
+    """Without the last steps of this component, so many."""
+    places = [at for at, it in enumerate(components) if it == who][-number:]
+    return [it for at, it in enumerate(components) if at not in places]

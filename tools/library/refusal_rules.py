@@ -3,32 +3,7 @@ from __future__ import annotations
 
 from enum import Enum
 
-# The numbers that docs/REFUSALS.md has.
-NAMES = {
-    2: "Read",
-    10: "Syntax",
-    11: "Unknown",
-    12: "Duplicate",
-    13: "WrongType",
-    14: "Direction",
-    15: "Limit",
-    16: "NotInSut",
-    17: "NoDone",
-    18: "NotStarted",
-    20: "Directions",
-    21: "TwoPortsOfOne",
-    22: "Mixed",
-    23: "NotOneToOne",
-    24: "MapDirections",
-    25: "SystemPort",
-    26: "SamePort",
-    27: "Already",
-    28: "NotSystem",
-    40: "NotSending",
-    41: "NoRoute",
-    42: "NeedsTo",
-    43: "UnsetVariable",
-}
+from .refusals import Refusal
 
 
 class Rule(Enum):
@@ -123,11 +98,11 @@ class Rule(Enum):
     UNSET = "a send of a variable, or to one, that has no value"
 
 
-# What must hold, or for 2, 10, 15 of the reader and 40 to 43 what must not.
+# What must hold, or for 2, 10, 15 of the reader and the ends of a send what must not.
 RULES_OF = {
-    2: (Rule.READ,),
-    10: (Rule.A_BYTE, Rule.A_TOKEN),
-    11: (
+    Refusal.READ: (Rule.READ,),
+    Refusal.SYNTAX: (Rule.A_BYTE, Rule.A_TOKEN),
+    Refusal.UNKNOWN: (
         Rule.A_TEST_CASE,
         Rule.MESSAGE_TYPE,
         Rule.COMPONENT_TYPE,
@@ -145,8 +120,8 @@ RULES_OF = {
         Rule.SENDER_TO,
         Rule.VARIABLE_TYPE,
     ),
-    12: (Rule.ONE_NAME, Rule.ONE_TEST_CASE, Rule.ONE_INNER_NAME, Rule.CREATED_NAME, Rule.NEW_NAME),
-    13: (
+    Refusal.DUPLICATE: (Rule.ONE_NAME, Rule.ONE_TEST_CASE, Rule.ONE_INNER_NAME, Rule.CREATED_NAME, Rule.NEW_NAME),
+    Refusal.WRONG_TYPE: (
         Rule.CREATED_SAME,
         Rule.STARTED_TYPE,
         Rule.ARGUMENT_COUNT,
@@ -158,8 +133,8 @@ RULES_OF = {
         Rule.VALUE_TO,
         Rule.SENDER_TO,
     ),
-    14: (Rule.LISTED,),
-    15: (
+    Refusal.DIRECTION: (Rule.LISTED,),
+    Refusal.LIMIT: (
         Rule.SHORT_TEXT,
         Rule.SHORT_NAME,
         Rule.SMALL_NUMBER,
@@ -169,20 +144,20 @@ RULES_OF = {
         Rule.FEW_COMPONENTS,
         Rule.FEW_STATEMENTS,
     ),
-    16: (Rule.SUT, Rule.STARTED_FUNCTION, Rule.NOT_IN_SUT),
-    17: (Rule.DONE,),
-    18: (Rule.STARTED_ONCE, Rule.ALL_STARTED),
-    20: (Rule.ALL_RECEIVED,),
-    21: (Rule.ONE_OF_EACH,),
-    22: (Rule.NOT_MAPPED, Rule.NOT_CONNECTED),
-    23: (Rule.NOT_MAPPED,),
-    24: (Rule.MAP_DIRECTIONS,),
-    25: (Rule.NO_SYSTEM_PORT,),
-    26: (Rule.DIFFERENT_PORTS,),
-    27: (Rule.NOT_YET,),
-    28: (Rule.ONE_SYSTEM_PORT,),
-    40: (Rule.NOT_SENDING,),
-    41: (Rule.NO_ROUTE,),
-    42: (Rule.NEEDS_TO,),
-    43: (Rule.UNSET,),
+    Refusal.NOT_IN_SUT: (Rule.SUT, Rule.STARTED_FUNCTION, Rule.NOT_IN_SUT),
+    Refusal.NO_DONE: (Rule.DONE,),
+    Refusal.NOT_STARTED: (Rule.STARTED_ONCE, Rule.ALL_STARTED),
+    Refusal.DIRECTIONS: (Rule.ALL_RECEIVED,),
+    Refusal.TWO_PORTS_OF_ONE: (Rule.ONE_OF_EACH,),
+    Refusal.MIXED: (Rule.NOT_MAPPED, Rule.NOT_CONNECTED),
+    Refusal.NOT_ONE_TO_ONE: (Rule.NOT_MAPPED,),
+    Refusal.MAP_DIRECTIONS: (Rule.MAP_DIRECTIONS,),
+    Refusal.SYSTEM_PORT: (Rule.NO_SYSTEM_PORT,),
+    Refusal.SAME_PORT: (Rule.DIFFERENT_PORTS,),
+    Refusal.ALREADY: (Rule.NOT_YET,),
+    Refusal.NOT_SYSTEM: (Rule.ONE_SYSTEM_PORT,),
+    Refusal.NOT_SENDING: (Rule.NOT_SENDING,),
+    Refusal.NO_ROUTE: (Rule.NO_ROUTE,),
+    Refusal.NEEDS_TO: (Rule.NEEDS_TO,),
+    Refusal.UNSET_VARIABLE: (Rule.UNSET,),
 }

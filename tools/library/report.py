@@ -4,6 +4,8 @@ from __future__ import annotations
 from dataclasses import dataclass
 from typing import NamedTuple, Optional, Union
 
+from .refusals import Refusal
+
 
 class NotAReport(Exception):
     """What was read isn't what `tpr run` prints, from this line on."""
@@ -71,7 +73,7 @@ class Failed(NamedTuple):
     """`failed CODE`, behind which there is no further entry"""
 
     line: Line
-    code: int
+    fault: Refusal
 
 
 Entry = Union[Sent, Received, Operation, Otherwise, VerdictSet, Failed]
@@ -82,7 +84,7 @@ class End(NamedTuple):
 
     line: Line
     word: str
-    code: Optional[int]
+    fault: Optional[Refusal]
 
 
 @dataclass(frozen=True)

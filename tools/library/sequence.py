@@ -7,7 +7,7 @@ from typing import NamedTuple, Optional
 from .deliveries import Deliveries, Message, Place, deliveries_of
 from .order import Row, rows_of
 from .report import Component, Failed, Operation, Otherwise, Received, Report, Sent, VerdictSet
-from .words import counted, readable, told_code
+from .words import counted, readable
 
 # How a message that stays in the queue ends in the row of its sending.
 _AT_THE_QUEUE = ("left", "discarded")
@@ -222,7 +222,7 @@ class _Steps:
         if isinstance(entry, VerdictSet):
             return Badge(place.component, f"set {entry.verdict}{mark}", entry.verdict)
         if isinstance(entry, Failed):
-            return Badge(place.component, f"failed {told_code(entry.code)}{mark}", "error")
+            return Badge(place.component, f"failed {entry.fault.told()}{mark}", "error")
         if isinstance(entry, Otherwise):
             return Badge(place.component, f"else{mark}", None)
         assert isinstance(entry, Operation)
@@ -245,8 +245,8 @@ class _Steps:
 
 def _foot(component: Component, mark: str = "") -> Foot:
     end = component.end.word
-    if component.end.code is not None:
-        end = f"error {told_code(component.end.code)}"
+    if component.end.fault is not None:
+        end = f"error {component.end.fault.told()}"
     return Foot(f"end {end}{mark}", component.verdict, tuple(left.line.text for left in component.left))
 
 

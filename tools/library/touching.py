@@ -7,7 +7,7 @@ mark behind it (22.5). All else can: a look that sees the top sees it whatever c
 from __future__ import annotations
 
 from dataclasses import dataclass
-from typing import Optional
+from typing import Iterable, Optional
 
 from .model_of_runs import Act, Component, Control, Message, Run, Send, TestCase, Tried
 
@@ -31,6 +31,14 @@ class Touch:
 NOTHING = Touch()
 
 
+@dataclass(frozen=True)
+class Step:
+    """The next step of a component, and what it touches."""
+
+    who: int
+    touch: Touch
+
+
 def depends(first: Touch, later: Touch) -> bool:
     """Whether two steps, the one directly behind the other, can't change places."""
     return bool(
@@ -42,76 +50,146 @@ def depends(first: Touch, later: Touch) -> bool:
     )
 
 
-class Steps:
-    """The next steps of components. What a component does that isn't a send hangs on what it has itself alone, so
-    it is kept by the component as it was before."""
+@dataclass
+class Known:
+    """What is known of a component as it stands in some runs: the number of its state, its next step, and the
+    component behind that step, where it changes no other."""
 
-    MOST_KEPT = 50_000
+    component: Component  # which so keeps its id
+    state: int
+    step: Optional[Step]
+    behind: Optional[Component] = None
+
+
+class Steps:
+    """The next steps of components, and the runs behind them.
+
+    What a component does next hangs on what it has itself alone, and the runs of a search share most of their
+    components. So what is known of a component is kept, and the runs behind a run are."""
+
+    MOST_KEPT = 20_000
 
     def __init__(self) -> None:
-        self.kept: dict[int, tuple[Component, Optional[tuple[Component, Touch]]]] = {}
+        self.components: dict[int, Known] = {}
+        self.behind: dict[int, tuple[Run, dict[int, Run]]] = {}
+        self.steps: dict[tuple[int, int], Optional[Step]] = {}
+        self.states_of_components: dict[tuple, int] = {}
+        self.states: dict[tuple[int, ...], int] = {}
 
-    def touch(self, run: Run, who: int) -> Optional[Touch]:
-        """What the component's next step touches. None where it has none, where it waits, and where nothing stands
-        behind it: of such a step no gate hears."""
-        statement = run.statement(who)
-        if statement is None:
-            return None
-        if isinstance(statement, Send):
-            return None if run.failure(who, statement) else _touch_of_send(run, who, statement)
-        own = self._own(run, who)
-        return None if own is None else own[1]
+    def step(self, run: Run, who: int) -> Optional[Step]:
+        """The component's next step. None where it has none, where it waits, and where nothing stands behind it: of
+        such a step no gate hears."""
+        return self._known(run, who).step
+
+    def known(self, run: Run) -> list[Known]:
+        """What is known of the components of the run."""
+        return [self._known(run, who) for who in range(len(run.components))]
+
+    def state(self, known: list[Known]) -> int:
+        """The number of a run's state: all that bears on what can come."""
+        state = tuple([it.state for it in known])
+        return self.states.setdefault(state, len(self.states))
 
     def after(self, run: Run, who: int) -> Run:
-        """The run in which the component has carried out the step."""
+        """The run in which the component has carried out its next step, which it has."""
+        if id(run) not in self.behind:
+            if len(self.behind) >= self.MOST_KEPT:
+                self.behind.clear()
+            self.behind[id(run)] = (run, {})
+        behind = self.behind[id(run)][1]
+        if who not in behind:
+            behind[who] = self._after(run, who)
+        return behind[who]
+
+    def line_of(self, run: Run, components: Iterable[int]) -> str:
+        """An order of steps as the program that forces it reads it."""
+        words = []
+        for who in components:
+            words.append(words_of(run, who))
+            run = self.after(run, who)
+        return " ".join(words)
+
+    def _known(self, run: Run, who: int) -> Known:
+        component = run.components[who]
+        known = self.components.get(id(component))
+        if known is None:
+            if len(self.components) >= self.MOST_KEPT:
+                self.components.clear()
+            state = self.states_of_components.setdefault(_state_of(component), len(self.states_of_components))
+            if (who, state) not in self.steps:
+                touch = _touch_of_next(run, who)
+                self.steps[who, state] = None if touch is None else Step(who, touch)
+            known = self.components[id(component)] = Known(component, state, self.steps[who, state])
+        return known
+
+    def _after(self, run: Run, who: int) -> Run:
         statement = run.statement(who)
         if isinstance(statement, Send):
-            after = _forked(run, {who, *(component for component, _ in run.routes(who, statement))})
+            after = run.copy_of(run.reached(who))
             after.step(who)
             return after
-        own = self._own(run, who)
-        assert own is not None
-        after = _forked(run, set())
-        after.components[who] = own[0]
+        known = self._known(run, who)
+        after = run.copy_of(() if known.behind else [who])
+        if known.behind is None:
+            _carry_out(after, who)
+            known.behind = after.components[who]
+        after.components[who] = known.behind
         return after
 
-    def _own(self, run: Run, who: int) -> Optional[tuple[Component, Touch]]:
-        before = run.components[who]
-        kept = self.kept.get(id(before))
-        if kept is None:
-            if len(self.kept) > self.MOST_KEPT:
-                self.kept.clear()
-            kept = self.kept[id(before)] = (before, _own_step(run, who))
-        return kept[1]
+
+def _state_of(component: Component) -> tuple:
+    ports = tuple([(it.status, it.ahead, *it.queue) for it in component.ports.values()])
+    kept = (*component.loops.items(), None, *component.variables.items(), None, *component.numbers.items())
+    return component.place, component.sent, component.failed, component.verdict, kept, ports
 
 
-def _own_step(run: Run, who: int) -> Optional[tuple[Component, Touch]]:
-    after = _forked(run, {who})
-    if not after.step(who) or after.statement(who) is None:
-        return None
-    return after.components[who], touch_of(run, after, who)
+def _carry_out(run: Run, who: int) -> Act:
+    """Carries out the component's next step."""
+    by_looks = goes_by_looks(run.statement(who))
+    act = run.act(who)
+    while act is Act.MORE and not by_looks:
+        act = run.act(who)
+    return act
 
 
-def _forked(run: Run, changed: set[int]) -> Run:
-    """A copy in which these components can change."""
-    after = Run.__new__(Run)
-    after.case = run.case
-    after.components = [it.copy() if at in changed else it for at, it in enumerate(run.components)]
-    return after
+def goes_by_looks(statement: object) -> bool:
+    """Whether each look at the branches is a step of its own: at several ports what comes between a `trigger`'s
+    discard and the next look can make a difference. At one port it makes none."""
+    if not isinstance(statement, Tried):
+        return False
+    guards = [guard for guard, _ in statement.choice.branches]
+    return any(it.how == "trigger" for it in guards) and len({it.port for it in guards}) > 1
 
 
-def touch_of(run: Run, after: Run, who: int) -> Touch:
-    """What the step touched by which one run became the other."""
+def words_of(run: Run, who: int) -> str:
+    """How an order names the component's next step: by its name, and by one with a `+` for each branch that it has
+    tried since it was named last."""
+    name, looked = run.case.names[who], run.components[who].looked
+    return " ".join([f"{name}+"] * looked[-1]) if looked and goes_by_looks(run.statement(who)) else name
+
+
+def _touch_of_next(run: Run, who: int) -> Optional[Touch]:
     statement = run.statement(who)
+    if statement is None:
+        return None
     if isinstance(statement, Send):
-        return _touch_of_send(run, who, statement)
+        return _touch_of_send(run, who, statement) if run.fault_of(who, statement) is None else None
+    after = run.copy_of([who])
+    if _carry_out(after, who) is Act.WAITS or after.statement(who) is None:
+        return None
+    return _touch_of(run, after, who)
+
+
+def _touch_of(run: Run, after: Run, who: int) -> Touch:
+    """What the step, which is no send, touched by which one run became the other."""
+    statement = run.statement(who)
     if isinstance(statement, Control):
         return _touch_of_control(run, who, statement)
     if isinstance(statement, Tried):
         ports = tuple(dict.fromkeys(guard.port for guard, _ in statement.choice.branches))
         if len(ports) == 1:
             return _touch_of_look(run, after, who, ports[0])
-        return _touch_of_looks(run, who, statement, ports)
+        return _touch_of_looks(run, who, ports)
     return NOTHING
 
 
@@ -152,18 +230,16 @@ def _touch_of_look(run: Run, after: Run, who: int, port: str) -> Touch:
     return Touch(seen=names, open=frozenset([place] if is_open else []))
 
 
-def _touch_of_looks(run: Run, who: int, tried: Tried, ports: tuple[str, ...]) -> Touch:
-    """At several ports it is taken to see each top, also that of a branch behind the one that is chosen, and all
-    that a trigger could discard: with another message elsewhere it would."""
-    triggered = {guard.port for guard, _ in tried.choice.branches if guard.how == "trigger"}
+def _touch_of_looks(run: Run, who: int, ports: tuple[str, ...]) -> Touch:
+    """At several ports one look is taken to see each top, also that of a branch behind the one that is chosen: with
+    another message elsewhere it would."""
     seen: list[Name] = []
     is_open: list[Place] = []
     for name in ports:
         port = run.components[who].ports[name]
-        reached = {"started": len(port.queue), "halted": port.ahead, "stopped": 0}[port.status]
-        looked_at = port.queue[: reached if name in triggered else min(reached, 1)]
-        seen += [name_of((who, name), it) for it in looked_at]
-        if port.status == "started" and (name in triggered or not port.queue):
+        if (top := port.top()) is not None:
+            seen.append(name_of((who, name), top))
+        elif port.status == "started":
             is_open.append((who, name))
     return Touch(seen=frozenset(seen), open=frozenset(is_open))
 

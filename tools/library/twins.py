@@ -37,7 +37,7 @@ def _twins_sign(case: TestCase, who: int, apart: frozenset[Place]) -> Optional[t
         return None
     run = Run(case)
     routes = run.routes(who, send)
-    if len(routes) != 1 or routes[0] in apart or routes[0][0] == who or run.failure(who, send) != 0:
+    if len(routes) != 1 or routes[0] in apart or routes[0][0] == who or run.fault_of(who, send) is not None:
         return None
     message = Message(*run.message(run.components[who], send), who, 0)
     return routes[0], *(_seen_by(run, routes[0][0], guard, message) for guard in _guards(case, routes[0]))

@@ -12,6 +12,7 @@ from dataclasses import dataclass, field
 from enum import Enum
 from typing import NamedTuple, Optional
 
+from .refusals import Refusal
 from .report import Component, Entry, Failed, Operation, Otherwise, Received, Sent, VerdictSet
 from .script_case import Case, End, Player
 from .script_forms import Plain, Test, value_of
@@ -213,11 +214,11 @@ class Walker:
     # Sends (22.2.1)
 
     def send(self, statement: Send) -> None:
-        code = self.failure(statement)
-        if code:
+        fault = self.fault_of(statement)
+        if fault is not None:
             entry = self.next()
-            if not isinstance(entry, Failed) or entry.code != code:
-                raise self.misfit([statement.start], f"`failed {code}` is next")
+            if not isinstance(entry, Failed) or entry.fault != fault:
+                raise self.misfit([statement.start], f"`failed {fault:d}` is next")
             self.note(statement.start)
             self.stop(StopKind.FAILED, statement.start, statement, ())
         text = self.text_of(statement)
@@ -228,18 +229,18 @@ class Walker:
                 raise self.misfit([statement.start], f"`sent {receiver}.{port}` of `{text}` is next")
             self.note(statement.start)
 
-    def failure(self, send: Send) -> int:
-        """Why the send can't be carried out, the first cause that holds, or 0."""
+    def fault_of(self, send: Send) -> Optional[Refusal]:
+        """Why the send can't be carried out, the first cause that holds."""
         if self.walk.ports[self.case.word(send.port)].status != "started":
-            return 40
+            return Refusal.NOT_SENDING
         if send.variable is not None and self.held(send.variable) is None:
-            return 43
+            return Refusal.UNSET_VARIABLE
         if self.is_to_one(send) and self.receiver(send) is None:
-            return 43
+            return Refusal.UNSET_VARIABLE
         routes = self.routes(send)
         if not routes:
-            return 41
-        return 42 if len(routes) > 1 and send.to is None else 0
+            return Refusal.NO_ROUTE
+        return Refusal.NEEDS_TO if len(routes) > 1 and send.to is None else None
 
     def is_to_one(self, send: Send) -> bool:
         return send.to is not None and self.case.word(send.to) != "all"

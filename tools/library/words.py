@@ -1,4 +1,4 @@
-"""The words of a report, and the numbers and names of refusals, as docs/PROFILE.md has them."""
+"""The words of a report, as docs/PROFILE.md has them."""
 from __future__ import annotations
 
 import functools
@@ -7,9 +7,6 @@ from typing import Iterable
 
 # From the best to the worst (ES 201 873-1, 24.1).
 VERDICTS = ("none", "pass", "inconc", "fail", "error")
-
-# The sends by which a behaviour ends.
-CODES = {40: "NotSending", 41: "NoRoute", 42: "NeedsTo", 43: "UnsetVariable"}
 
 RESERVED = frozenset(
     """all alt boolean charstring check clear complement component connect create done else error fail
@@ -64,10 +61,6 @@ def shown(text: str) -> str:
 def worst(verdicts: list[str]) -> str:
     """The worst of these, `none` where there are none."""
     return max(verdicts, key=VERDICTS.index, default="none")
-
-
-def told_code(code: int) -> str:
-    return f"{code} {CODES[code]}"
 
 
 def counted(number: int, what: str) -> str:

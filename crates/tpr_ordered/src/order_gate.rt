@@ -1,4 +1,5 @@
 //! A gate that forces an order of steps.
+use crate::orders::{Hold, Step};
 use std::alloc::{AllocError, Global};
 use std::sync::atomic::{AtomicBool, AtomicU64, Ordering};
 use std::thread;
@@ -8,16 +9,58 @@ use tp_exec::gate::Gate;
 /// After so many turns that yield, a gate gives up.
 pub const PATIENCE: u32 = 10_000_000;
 
+/// A step of one component, and where it stands in the order.
+#[derive(Clone, Copy, Debug)]
+struct Place {
+    /// How many steps stand before it.
+    number: u64,
+    /// Where the component is held.
+    hold: Hold,
+}
+
+/// What an order has of one component.
+#[derive(Drop)]
+struct Part {
+    /// Its steps.
+    places: Vec<Place>,
+    /// To how many of them it has come; behind the last it counts its statements.
+    met: AtomicU64,
+}
+
+impl Part {
+    /// The step to which it has come.
+    fn last(&self) -> Option<Place> {
+        let before = self.met.load(Ordering::SeqCst).checked_sub(1)?;
+        self.places.get(before as usize).copied()
+    }
+
+    /// The step to which it comes next.
+    fn next(&self) -> Option<Place> {
+        let met = self.met.load(Ordering::SeqCst);
+        self.places.get(met as usize).copied()
+    }
+
+    /// Whether it is held next inside the statement that it has begun.
+    fn is_next_inside(&self) -> bool {
+        matches!(self.next(), Some(place) if place.hold == Hold::Inside)
+    }
+}
+
 /// Holds each component before its next step until the order has come to it, and the component that
 /// the order names before it has come to its own next step: a gate hears of no end of a step but by
 /// this. So one step after the other is carried out, and the steps that the order doesn't name come
 /// behind all that it names.
 ///
-/// Where a component is held for too many turns, the gate gives up, and all pass from then on.
+/// A component that is held inside its statement has moved to its ports what came before, and not
+/// what comes meanwhile: that it sees in its next look. It is held there as often as the order says
+/// so, and no more.
+///
+/// Where a component is held for too many turns, or is to be held inside a statement that it has
+/// ended, the gate gives up, and all pass from then on.
 #[derive(Drop)]
 pub struct OrderGate {
-    /// For each component, by its number, the places at which the order names it, from 0.
-    places: Vec<Vec<u64>>,
+    /// What the order has of each component, by its number.
+    parts: Vec<Part>,
     /// How many steps the order names.
     length: u64,
     /// For how many turns a component is held.
@@ -28,50 +71,51 @@ pub struct OrderGate {
     gave_up: AtomicBool,
 }
 
-/// For each of so many components, the places at which the steps name it. A component of a greater
-/// number has none.
+/// What an order of these steps has of each of so many components. One with a greater number has
+/// none.
 ///
 /// 50 where an allocation was refused.
-fn places_in(
-    alloc: Global,
-    components: usize,
-    steps: &[CompId],
-) -> Result<Vec<Vec<u64>>, AllocError> {
-    let mut places = Vec::new(alloc);
+fn parts_of(alloc: Global, components: usize, steps: &[Step]) -> Result<Vec<Part>, AllocError> {
+    let mut parts = Vec::new(alloc);
     for _ in 0..components {
-        places.push(Vec::new(alloc))?;
+        parts.push(Part {
+            places: Vec::new(alloc),
+            met: AtomicU64::new(0),
+        })?;
     }
-    note_places(&mut places, steps)?;
-    Ok(places)
+    note_places(&mut parts, steps)?;
+    Ok(parts)
 }
 
-/// Adds the place of each step to the list of its component.
+/// Adds the place of each step to the part of its component.
 ///
 /// 50 where an allocation was refused.
-fn note_places(places: &mut Vec<Vec<u64>>, steps: &[CompId]) -> Result<(), AllocError> {
-    for (place, step) in steps.iter().enumerate() {
-        if let Some(list) = places.get_mut(step.0 as usize) {
-            list.push(place as u64)?;
+fn note_places(parts: &mut Vec<Part>, steps: &[Step]) -> Result<(), AllocError> {
+    for (number, step) in steps.iter().enumerate() {
+        if let Some(part) = parts.get_mut(step.who.0 as usize) {
+            part.places.push(Place {
+                number: number as u64,
+                hold: step.hold,
+            })?;
         }
     }
     Ok(())
 }
 
 impl OrderGate {
-    /// A gate for one run of a test case with so many components, in the order of these steps, each
-    /// named by its component. It gives up where a component is held for more than `patience`
-    /// turns.
+    /// A gate for one run of a test case with so many components, in the order of these steps. It
+    /// gives up where a component is held for more than `patience` turns.
     ///
     /// 50 where an allocation was refused.
     pub fn new(
         alloc: Global,
         components: usize,
-        steps: &[CompId],
+        steps: &[Step],
         patience: u32,
     ) -> Result<OrderGate, AllocError> {
-        let places = places_in(alloc, components, steps)?;
+        let parts = parts_of(alloc, components, steps)?;
         Ok(OrderGate {
-            places,
+            parts,
             length: steps.len() as u64,
             patience,
             ended: AtomicU64::new(0),
@@ -84,21 +128,16 @@ impl OrderGate {
         !self.gave_up.load(Ordering::SeqCst)
     }
 
-    /// The place in the order of this step of the component, its steps counted from 0, if the order
-    /// names it.
-    fn place_of(&self, who: CompId, step: u64) -> Option<u64> {
-        let places = self.places.get(who.0 as usize)?;
-        places.get(step as usize).copied()
-    }
-
-    /// The step before this one of the component has come to its end.
-    fn end_step_before(&self, who: CompId, step: u64) {
-        if step == 0 {
-            return;
+    /// The component comes to its next step, and is held until the order has come to it; where it
+    /// has none, until the order has come to its end.
+    fn come_to_next(&self, part: &Part) {
+        if let Some(place) = part.last() {
+            self.ended
+                .store(place.number.wrapping_add(1), Ordering::SeqCst);
         }
-        if let Some(place) = self.place_of(who, step - 1) {
-            self.ended.store(place.wrapping_add(1), Ordering::SeqCst);
-        }
+        let number = part.next().map_or(self.length, |place| place.number);
+        part.met.fetch_add(1, Ordering::SeqCst);
+        self.hold_until(number);
     }
 
     /// Returns once so many steps of the order have come to their end, or the gate has given up.
@@ -109,16 +148,30 @@ impl OrderGate {
             }
             thread::yield_now();
         }
+        self.give_up();
+    }
+
+    /// Lets all pass.
+    fn give_up(&self) {
         self.gave_up.store(true, Ordering::SeqCst);
     }
 }
 
 impl Gate for OrderGate {
-    fn before(&self, who: CompId, step: u64) {
-        self.end_step_before(who, step);
-        let place = self.place_of(who, step).unwrap_or(self.length);
-        self.hold_until(place);
+    fn before(&self, who: CompId, _step: u64) {
+        if let Some(part) = self.parts.get(who.0 as usize) {
+            if part.is_next_inside() {
+                self.give_up();
+            }
+            self.come_to_next(part);
+        }
     }
 
-    fn inside(&self, _who: CompId, _port: u32) {}
+    fn inside(&self, who: CompId, _port: u32) {
+        if let Some(part) = self.parts.get(who.0 as usize) {
+            if part.is_next_inside() {
+                self.come_to_next(part);
+            }
+        }
+    }
 }

@@ -3,16 +3,16 @@ ghost use Rattle.std.specs.Prelude.{OnOk};
 ghost use Rattle.tpr_ordered.specs.Ordered.{AreOrdersWritten, IsOrderWritten, IsRunWritten};
 
 use crate::order_gate::OrderGate;
-use crate::orders::Order;
+use crate::orders::{Order, Step};
 use std::alloc::Global;
 use std::io;
 use std::io::{ErrorKind, Write};
 use std::sync::Wait;
 use std::thread::Threads;
-use tp_config::port_type::CompId;
 use tp_exec::fault::{RunFault, write_run_fault};
 use tp_exec::run::run;
 use tp_play::test_case::TestCase;
+use tp_report::telling::Telling;
 use tp_report::writing::write_report;
 
 /// What the runs in all orders have in common.
@@ -32,7 +32,7 @@ pub struct Trial<'t, R> {
 /// gate gave up; or the line of the fault by which the run has no report.
 fn write_run<R: Threads + Wait + Sync, W: Write>(
     trial: &Trial<'_, R>,
-    steps: &[CompId],
+    steps: &[Step],
     writer: &mut W,
 ) -> io::Result<()>
     ensures { OnOk result (IsRunWritten trial.now.test_case.now
@@ -47,7 +47,7 @@ fn write_run<R: Threads + Wait + Sync, W: Write>(
         return writer.write_all(b"not held\n");
     }
     match outcome {
-        Ok(report) => match write_report(trial.test_case, &report, writer) {
+        Ok(report) => match write_report(trial.test_case, Telling::Report, &report, writer) {
             Ok(()) => Ok(()),
             Err(_) => Err(io::Error::from(ErrorKind::WriteZero)),
         },

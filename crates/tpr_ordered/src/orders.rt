@@ -4,16 +4,46 @@ use std::alloc::Global;
 use tp_config::config::Config;
 use tp_config::port_type::CompId;
 
+/// Where an order holds a component.
+#[derive(Clone, Copy, Debug, PartialEq, Eq)]
+pub enum Hold {
+    /// Before its next statement.
+    Before,
+    /// Inside the statement that it has begun: before it tries its next branch, or, in an operation
+    /// on ports, before its next port.
+    Inside,
+}
+
+/// A step of an order: a component is held until its turn has come, and goes on.
+#[derive(Clone, Copy, Debug, PartialEq, Eq)]
+pub struct Step {
+    /// The component.
+    pub who: CompId,
+    /// Where it is held.
+    pub hold: Hold,
+}
+
 /// An order of steps.
 #[derive(Drop)]
 pub struct Order {
     /// The line that says it, without its end.
     pub line: String,
-    /// The component of each step.
-    pub steps: Vec<CompId>,
+    /// Its steps.
+    pub steps: Vec<Step>,
 }
 
-/// The components that a line names, one space between two names. An empty line names none.
+/// The step that a word says: the name of a component, with a `+` behind it where it is held inside
+/// a statement. `None` where no component has that name.
+fn step_of(config: &Config, word: &str) -> Option<Step> {
+    let (name, hold) = match word.strip_suffix('+') {
+        Some(name) => (name, Hold::Inside),
+        None => (word, Hold::Before),
+    };
+    let who = config.comp_of(name)?;
+    Some(Step { who, hold })
+}
+
+/// The steps that a line says, one space between two words. An empty line says none.
 ///
 /// 11 `Unknown` where no component has a name, at the line of this number; 50 where an allocation
 /// was refused.
@@ -22,16 +52,16 @@ fn steps_of(
     config: &Config,
     line: &str,
     number: u32,
-) -> Result<Vec<CompId>, FileFault> {
+) -> Result<Vec<Step>, FileFault> {
     let mut steps = Vec::new(alloc);
     if line.is_empty() {
         return Ok(steps);
     }
-    for name in line.split(' ') {
-        let Some(comp) = config.comp_of(name) else {
+    for word in line.split(' ') {
+        let Some(step) = step_of(config, word) else {
             return Err(FileFault::unknown(number));
         };
-        steps.push(comp)?;
+        steps.push(step)?;
     }
     Ok(steps)
 }
@@ -46,8 +76,8 @@ fn order_of(alloc: Global, config: &Config, line: &str, number: u32) -> Result<O
 }
 
 /// The orders that a text says, one a line: the names of components of the configuration, one for
-/// each step, one space between two of them. Each line ends with a byte 10; the last may lack it.
-/// An empty line is the order of no step.
+/// each step, with a `+` behind one that is held inside its statement; one space between two of
+/// them. Each line ends with a byte 10; the last may lack it. An empty line is the order of no step.
 ///
 /// 2 `Read` where the text isn't UTF-8; else the first of 11 `Unknown`, at the first line in which
 /// a name is that of no component, and 50, where an allocation was refused.

@@ -8,6 +8,7 @@ use std::thread::Threads;
 use tp_exec::gate::Gate;
 use tp_exec::run::run;
 use tp_play::test_case::TestCase;
+use tp_report::telling::Telling;
 use tp_report::writing::write_report;
 use tp_script::reading::read_script;
 
@@ -31,7 +32,7 @@ fn report_of<R: Threads + Wait + Sync, G: Gate>(
     let test_case = test_case_of(alloc, script)?;
     let report = run(rt, alloc, &test_case, gate)?;
     let mut text = Vec::new(alloc);
-    write_report(&test_case, &report, &mut text)?;
+    write_report(&test_case, Telling::Report, &report, &mut text)?;
     Ok(text)
 }
 

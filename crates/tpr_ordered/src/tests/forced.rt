@@ -122,6 +122,69 @@ result fail
     Ok(())
 }
 
+/// One looks at two ports for what another sends there, and discards at one of them.
+const TRIGGER_AT_TWO_PORTS: &str = "module M {
+type port P message { inout integer; }
+type component C { port P p, q; }
+function f() runs on C { alt { [] q.receive { } [] p.trigger(integer:2) { } } setverdict(none); }
+function g() runs on C { p.send(integer:1); q.send(integer:3); setverdict(none); }
+testcase t() runs on C {
+var C o := C.create; var C a := C.create;
+connect(a:p, o:p); connect(a:q, o:q);
+o.start(f()); a.start(g());
+all component.done;
+}
+}";
+
+/// Orders of it, what is found in them, and what is left.
+const LOOKS: [(&str, &str, &str); 3] = [
+    ("a a o", "took q a 0 integer:3\n", "left p a 0 integer:1\n"),
+    (
+        "a o a o+ o+",
+        "dropped p a 0 integer:1\ntook q a 0 integer:3\n",
+        "",
+    ),
+    (
+        "a o o+ a o+",
+        "dropped p a 0 integer:1\ntook q a 0 integer:3\n",
+        "",
+    ),
+];
+
+/// A message that comes while one is held before a branch, is seen in the look behind it.
+#[test]
+fn a_send_between_two_looks(rt: HostRuntime) -> Result<(), Fail> {
+    for (line, found, left) in LOOKS {
+        let printed = answers_of(&rt, rt.alloc(), TRIGGER_AT_TWO_PORTS, line, PATIENCE)?;
+        let wanted = format!(in rt.alloc();
+            "order {line}\ncomponent mtc\nend done\nverdict none\n\
+             component o\n{found}set none\nend done\nverdict none\n{left}\
+             component a\nsent o.p 0 integer:1\nsent o.q 0 integer:3\nset none\n\
+             end done\nverdict none\nresult none\n\n"
+        )?;
+        assert!(rt;
+            printed.as_slice() == wanted.as_bytes(),
+            "in the order {line}"
+        );
+    }
+    Ok(())
+}
+
+/// The first branch of its first look is chosen, or, where nothing has come, none: it comes to no
+/// further branch.
+#[test]
+fn a_branch_that_is_not_tried(rt: HostRuntime) -> Result<(), Fail> {
+    for line in ["a a o o+ o+", "a a a+", "o o+ o+ o+ a a"] {
+        let printed = answers_of(&rt, rt.alloc(), TRIGGER_AT_TWO_PORTS, line, 1_000)?;
+        let wanted = format!(in rt.alloc(); "order {line}\nnot held\n\n")?;
+        assert!(rt;
+            printed.as_slice() == wanted.as_bytes(),
+            "in the order {line}"
+        );
+    }
+    Ok(())
+}
+
 /// One waits for what another sends.
 const RECEIVE_AND_SEND: &str = "module M {
 type port P message { inout integer; }
@@ -179,6 +242,8 @@ fn orders_of_no_component_are_refused(rt: HostRuntime) -> Result<(), Fail> {
         (" ", 1),
         ("\n\na o \n", 3),
         ("a\tb", 1),
+        ("a+\n+\n", 2),
+        ("a o++", 1),
     ] {
         let orders = read_orders(rt.alloc(), test_case.config(), lines.as_bytes());
         assert!(rt;
