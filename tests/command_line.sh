@@ -35,7 +35,7 @@ command_lines() {
 
 cannot_read() { # NAME FILE
     local mode
-    for mode in queue check run; do
+    for mode in queue check run trace judge; do
         observe "$tpr" "$mode" "$2" <text
         must "$1 in mode $mode" 2 "$unread" ''
     done
@@ -80,6 +80,10 @@ reading() {
     must "standard input" 0 "$answer" ''
     observe "$tpr" queue < <(for piece in arr 'ive a 1' $'\nre' 'ceive ?' $'\n'; do printf %s "$piece"; done)
     must "standard input that comes in pieces" 0 "$answer" ''
+    observe "$tpr" judge < <(for piece in compo 'nent a' $'\nelse' $'\ncame p b'; do printf %s "$piece"; done)
+    must "a trace that comes in pieces" 2 $'refused 1 BadLine line 3\n' ''
+    observe "$tpr" judge < <(for piece in compo 'nent a' $'\nelse' $'\n'; do printf %s "$piece"; done)
+    must "a trace that comes in pieces and is one" 0 $'lawful\none run\n' ''
     observe ./program queue text </dev/null
     must "the program through a link" 0 "$answer" ''
 }
@@ -128,23 +132,26 @@ limits() {
 
 # The program prints into what takes nothing, or not all.
 writing() {
-    local file
+    local words
     yes halt | head -n 200000 >many
     echo resume >bad
+    echo 'component a' >trace
     set_up "the text of many lines has them all" has_bytes many 1000000 || return
-    set_up "the text and the bad one are there" [ -s text -a -s bad -a ! -e missing ] || return
+    set_up "the text, the bad one and the trace are there" [ -s text -a -s bad -a -s trace -a ! -e missing ] || return
     set_up "there is a full device" [ -w /dev/full ] || return
     "$tpr" queue many 2>"$room/said" </dev/null | head -n 1 >"$room/printed"
     status=${PIPESTATUS[0]}
     must "a reader that leaves after a line" 3 $'halted 0\n' ''
     : >"$room/printed"
-    for file in many text bad missing; do
-        "$tpr" queue $file 2>"$room/said" >/dev/full </dev/null
+    for words in 'queue many' 'queue text' 'queue bad' 'queue missing' 'judge trace' 'judge bad' 'judge missing'; do
+        # shellcheck disable=SC2086
+        "$tpr" $words 2>"$room/said" >/dev/full </dev/null
         status=$?
-        must "a full device, with the file $file" 3 '' ''
-        "$tpr" queue $file 2>"$room/said" >&- </dev/null
+        must "a full device, with the words $words" 3 '' ''
+        # shellcheck disable=SC2086
+        "$tpr" $words 2>"$room/said" >&- </dev/null
         status=$?
-        must "a closed standard output, with the file $file" 3 '' ''
+        must "a closed standard output, with the words $words" 3 '' ''
     done
 }
 
@@ -153,8 +160,8 @@ command_line() {
     mkdir "$room/here"
     cd -- "$room/here" || exit 1
     at_least 9 command_lines
-    at_least 31 reading
+    at_least 47 reading
     at_least 7 limits
-    at_least 9 writing
+    at_least 15 writing
     cd -- "$root" || exit 1
 }

@@ -5,11 +5,13 @@
     tests/explain_rules.py columns JSON             nine of ten that are refused at a line have a column
     tests/explain_rules.py table JSON TABLE LEAST   each script of a table is told so
     tests/explain_rules.py words                    the tool's words are those of the documents
+    tests/explain_rules.py numbers                  each number has its name, in tools/, the documents and the program
 
 Each prints what is wrong and ends with status 1, or prints nothing and ends with status 0.
 """
 import json
 import os
+import re
 import sys
 
 ROOT = os.path.dirname(os.path.dirname(os.path.realpath(__file__)))
@@ -17,7 +19,8 @@ sys.dont_write_bytecode = True
 sys.path.insert(0, os.path.join(ROOT, "tools"))
 
 from library.constructs import Construct  # noqa: E402
-from library.refusal_rules import NAMES, RULES_OF  # noqa: E402
+from library.refusal_rules import RULES_OF  # noqa: E402
+from library.refusals import SEND_FAULTS, Refusal  # noqa: E402
 from library.words import RESERVED, RESERVED_ELSEWHERE  # noqa: E402
 
 
@@ -101,12 +104,10 @@ def check_table(file, table, least):
 
 
 def check_words():
-    """Each rule stands in a document, each number has its name, each construct its row with the same words."""
+    """Each rule stands in a document, each construct has its row with the same words."""
     refusals, profile = read(f"{ROOT}/docs/REFUSALS.md"), read(f"{ROOT}/docs/PROFILE.md")
-    for number, rules in RULES_OF.items():
-        must(f"{number} {NAMES[number]}" in refusals, f"docs/REFUSALS.md has no {number} {NAMES[number]}")
-        for rule in rules:
-            must(rule.value in refusals or rule.value in profile, f"no document says: {rule.value}")
+    for rule in (rule for rules in RULES_OF.values() for rule in rules):
+        must(rule.value in refusals or rule.value in profile, f"no document says: {rule.value}")
     reserved = set(profile.replace("`", " ").split())
     must(reserved >= RESERVED_ELSEWHERE | RESERVED, "docs/PROFILE.md hasn't each reserved word")
     page = read(f"{ROOT}/docs/FROM_TTCN3.md").splitlines()
@@ -123,7 +124,28 @@ def check_words():
         must(words in here, f"docs/FROM_TTCN3.md doesn't say of {title}: {words}")
 
 
-CHECKS = {"answers": check_answers, "columns": check_columns, "table": check_table, "words": check_words}
+def check_numbers():
+    """The numbers and names are those of the document's table, and of the one by which the program prints; the faults
+    of a send stand in their order."""
+    table = [(str(it.value), it.word) for it in Refusal]
+    page = read(f"{ROOT}/docs/REFUSALS.md").partition("\n## Numbers and names\n")[2].partition("\n## ")[0]
+    rows = "\n".join(line for line in page.splitlines() if line.startswith("|"))
+    listed = re.findall("([0-9]+) ([A-Za-z]+)", rows)
+    must(listed == table, f"docs/REFUSALS.md has {listed}, and tools/library/refusals.py {table}")
+    source = read(f"{ROOT}/crates/tp_refusal/src/refusal.rt")
+    printed = re.findall(r'Refusal::\w+ => \(([0-9]+), "(\w+)"\)', source)
+    must(printed == table, f"the program prints {printed}, and tools/library/refusals.py has {table}")
+    order = f"the first in the order {', '.join(f'{fault:d}' for fault in SEND_FAULTS)} counts"
+    must(order in read(f"{ROOT}/docs/PROFILE.md"), f"docs/PROFILE.md doesn't say: {order}")
+
+
+CHECKS = {
+    "answers": check_answers,
+    "columns": check_columns,
+    "table": check_table,
+    "words": check_words,
+    "numbers": check_numbers,
+}
 
 if __name__ == "__main__":
     try:

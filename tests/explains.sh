@@ -58,6 +58,8 @@ explained_tables() {
     tool_must "the scripts of docs/REFUSALS.md" 2 explain_rules_hold table "$room/explained" tests/explained/refusals 18
     observe python3 "$root/tests/explain_rules.py" words
     tool_must "the words of explain are those of the documents" 0 prints ''
+    observe python3 "$root/tests/explain_rules.py" numbers
+    tool_must "the numbers and names of refusals are those of the document and of the program" 0 prints ''
 }
 
 # Line 26 of the first example of README.md is changed, as it says there.

@@ -95,11 +95,15 @@ class Program:
             "queue": b"halt\n" * 20000,
             "check": SENDS_TO_ITSELF.encode(),
             "run": SENDS_TO_ITSELF.encode(),
+            "trace": SENDS_TO_ITSELF.encode(),
+            "judge": trace_of_sends(),
         }
         self.answers = {
             "queue": b"halted 0\n" + b"unchanged\n" * 19999 + b"left 0\n",
             "check": b"accepted\n",
             "run": report_of_sends(),
+            "trace": trace_of_sends(),
+            "judge": b"lawful\none run\n",
         }
         for mode, text in self.texts.items():
             with open(self.file(mode), "wb") as file:
@@ -132,15 +136,20 @@ class Program:
         """What was printed is the beginning of the answer, and doesn't look whole."""
         whole = self.answers[mode]
         must(whole.startswith(printed) and len(printed) < len(whole), f"printed {printed[-80:]!r}")
-        last = b"\nresult " if mode == "run" else b"\nleft "
+        last = b"\nresult " if mode in ("run", "trace") else b"\nleft "
         must(last not in printed and b"accepted" not in printed, f"it looks whole: {printed[-80:]!r}")
 
 
-def report_of_sends() -> bytes:
+def trace_of_sends() -> bytes:
     lines = ["component mtc"]
     for turn in range(5000):
-        lines += [f"sent mtc.q {turn} integer:{turn}", f"took q mtc {turn} integer:{turn}"]
+        lines += [f"{words} {turn} integer:{turn}" for words in ("sent mtc.q", "came q mtc", "took q mtc")]
     return "".join(f"{line}\n" for line in [*lines, "end done", "verdict none", "result none"]).encode()
+
+
+def report_of_sends() -> bytes:
+    lines = trace_of_sends().splitlines(keepends=True)
+    return b"".join(line for line in lines if not line.startswith(b"came "))
 
 
 def limited(kind: int, most: int) -> Callable[[], None]:
@@ -259,7 +268,7 @@ def limit_on_memory(program: Program, mode: str) -> None:
             ended.must_be(0, ended.printed)
         elif ended.status == 3:
             refusals += 1
-            ended.must_be(3, NO_THREAD if mode == "run" and ended.printed == NO_THREAD else MEMORY)
+            ended.must_be(3, NO_THREAD if mode in ("run", "trace") and ended.printed == NO_THREAD else MEMORY)
         else:
             must(ended.printed == b"" and not ended.status == 0, f"{kib} KiB: status {ended.status}")
     must(refusals > 0, "memory was refused in no run")
@@ -393,7 +402,7 @@ def signal_that_is_ignored(program: Program, mode: str) -> None:
 
 def cases() -> Iterator[tuple[str, str, Callable[[Program, str], None]]]:
     """Each case: its name, its mode, and what is tried."""
-    all_modes, long_modes = ("queue", "check", "run"), ("queue", "run")
+    all_modes, long_modes = ("queue", "check", "run", "judge"), ("queue", "run")
     for mode in all_modes:
         yield "a full device", mode, full_device
         yield "a pipe that nobody reads", mode, closed_pipe
@@ -411,6 +420,8 @@ def cases() -> Iterator[tuple[str, str, Callable[[Program, str], None]]]:
         yield "a small disk that is full", mode, small_disk
         for number in ENDING:
             yield f"{number.name} while it writes", mode, signal_while_writing(number)
+    for tried in (full_device, pipe_that_closes, file_that_is_full, limit_on_memory):
+        yield f"{tried.__name__.replace('_', ' ')}, with the arrivals", "trace", tried
     yield "no thread to be had", "run", no_threads
     yield "a limit on processes", "run", limit_on_processes
     for number in ENDING:

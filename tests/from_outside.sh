@@ -16,7 +16,7 @@ cases_from_outside() {
 }
 
 from_outside() {
-    local least=53
-    if is_script "$tpr"; then least=37; fi
+    local least=57
+    if is_script "$tpr"; then least=41; fi
     at_least "$least" cases_from_outside
 }

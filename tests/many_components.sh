@@ -1,5 +1,6 @@
 # Runs of scripts with 8, 20, 40 and 62 components, and of one with all 64 that a test case may have: a token that goes
-# round, a star, all to all, a tree, and so on (tests/many_components/shapes.py). `tpr`, `room`, `at_least` and
+# round, a star, all to all, a tree, and so on; and of 1, 3 and 8 components that send a thousand messages each to one
+# (tests/many_components/shapes.py). `tpr`, `room`, `at_least` and
 # `set_up` are those of ./test, `count_told` and `sum_of` those of tests/orders.sh.
 
 # How often each script is run, a quarter of it in each of four ways: on all processors, on two, on one, and beside
@@ -19,6 +20,6 @@ judge_of_many_components() {
 }
 
 many_components() {
-    at_least 164 runs_of_many_components
+    at_least 176 runs_of_many_components
     at_least 20 judge_of_many_components
 }

@@ -1,5 +1,6 @@
-# Some of the faults that ./test faults plants: parts by chance must fail on theirs (tests/faults.py). `tpr`, `ordered`
-# and `room` are those of ./test, `count_told` that of tests/orders.sh.
+# Some of the faults that ./test faults plants: parts by chance must fail on theirs (tests/faults.py); and whether the
+# faults that tests/races.py plants in the floor and the bell still fit there. `tpr`, `ordered` and `room` are those of
+# ./test, `count_told` that of tests/orders.sh.
 
 planted_at_once=3
 
@@ -7,4 +8,9 @@ planted_faults() {
     python3 -B tests/faults.py "$tpr" "$ordered" --some "$planted_at_once" "${FAULTS_SEED:-$RANDOM}" "$room/parts" \
         >"$room/faults"
     count_told "$room/faults"
+}
+
+faults_of_races() {
+    python3 -B tests/races.py --fit >"$room/races"
+    count_told "$room/races"
 }

@@ -1,9 +1,11 @@
 """Reports of test cases that never were: components that send, receive and operate on ports at random.
 
-The ports are those of docs/MODEL.md, told once more and apart from tools/: a queue, a status, and how
-many messages are ahead of the mark. So each report is one that tpr may print.
+The ports are those of docs/MODEL.md, told once more and apart from tools/, of which the table of numbers alone is
+used: a queue, a status, and how many messages are ahead of the mark. So each report is one that tpr may print.
 """
 import random
+
+from library.refusals import SEND_FAULTS
 
 VERDICTS = ("none", "pass", "inconc", "fail", "error")
 MESSAGES = ("integer:7", "boolean:true", 'charstring:"a ""b"" {c}"', "List:{1, -2}", 'Pair:{one := "", two := {}}')
@@ -92,9 +94,9 @@ class Run:
         self.histories[name].append("else")
 
     def fail(self, name):
-        code = self.random.choice([40, 41, 42, 43])
-        self.histories[name].append(f"failed {code}")
-        self.ends[name] = f"error {code}"
+        fault = self.random.choice(SEND_FAULTS)
+        self.histories[name].append(f"failed {fault:d}")
+        self.ends[name] = f"error {fault:d}"
 
     def lines(self):
         result = "none"

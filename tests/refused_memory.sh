@@ -1,5 +1,5 @@
 # Each allocation of the program refused in turn: it answers `fault 50 Memory` and nothing else, or
-# what it answers with ample memory. `root`, `room`, `count`, `at_least` and `set_up` are those of ./test.
+# what it answers with ample memory. `refused_of_traces` is that of tests/traces.sh; `root`, `room`, `count`, `at_least` and `set_up` are those of ./test.
 # The program is the built one itself, since a shell before it would be refused memory too.
 
 # Makes what is loaded before the C library to refuse a call; `with_refused` runs a command with it.
@@ -65,6 +65,7 @@ refused_memory_of_each() {
         refuse_each check "$root/examples/$base.ttcn" "$root/examples/$base.checked"
         count $?
     done
+    at_least 9 refused_of_traces
 }
 
 # One test of a crate that is right under refused memory too: it must pass with
@@ -90,8 +91,7 @@ refuse_each_of_test() { # TESTS NAME
 # How many tests of each crate are right under refused memory, at least. They are found by their names,
 # so that one which is given another name is missed here.
 declare -A least_refusing=(
-    [tp_inbox]=3
-    [tp_tests]=7
+    [tp_tests]=10
 )
 
 refused_memory_in_tests_of() { # CRATE

@@ -275,6 +275,8 @@ uses_installed() {
     installed tpr run "$examples/$bell.ttcn"
     tool_must "tpr run, installed" 0 cmp -- "$room/printed" "$examples/$bell.expected"
     cp -- "$room/printed" bell.report
+    installed tpr trace "$examples/$bell.ttcn"
+    tool_must "tpr trace, installed" 0 grep -qx 'came counter mtc 1 Order:.*' "$room/printed"
     installed tpr
     tool_must "tpr without words, installed" 4 prints_nothing
     installed tpr-chart --title "$bell" bell.report
@@ -357,7 +359,7 @@ manual_page() {
     if command -v man >/dev/null; then
         observe man --warnings -E UTF-8 -l tree/docs/tpr.1
         tool_must "the manual page" 0 says_nothing
-        set_up "the manual page tells the modes" grep -q 'tpr check | run | queue \[file\]' "$room/printed" && count 0
+        set_up "the manual page tells the modes" grep -q 'tpr check | run | trace | queue | judge \[file\]' "$room/printed" && count 0
     else
         release_left_out+=("the manual page, since there is no man")
     fi
@@ -378,7 +380,7 @@ of_the_package() {
         release_left_out+=("the package, since there is no dpkg-deb, or no /usr/bin/python3")
         return
     fi
-    at_least 15 package_is_installed
+    at_least 16 package_is_installed
     if command -v lintian >/dev/null; then
         at_least 1 package_by_lintian
     else

@@ -1,10 +1,15 @@
 # Runs in threads: again and again, with memory and threads refused, and on small stacks. `root`, `room`,
 # `tpr`, `count`, `at_least` and `set_up` are those of ./test. A run that doesn't end is stopped, and fails.
 
-# Whether the last run printed one of the reports that the example may have, and ended with status 0.
+# The mode in which calls are refused: `run`, or `trace`.
+mode_of_runs=run
+
+# Whether the last run printed one of the reports that the example may have, in mode `trace` with the arrivals in it,
+# and ended with status 0.
 is_a_report_of() { # EXAMPLE
     local file
     if [[ $status != 0 || -s $room/said ]]; then return 1; fi
+    if [[ $mode_of_runs == trace ]]; then sed -i '/^came /d' "$room/printed"; fi
     for file in "$root/examples/$1".expected*; do
         if cmp -s -- "$file" "$room/printed"; then return 0; fi
     done
@@ -103,7 +108,7 @@ judge_refused() { # EXAMPLE
 
 # Runs an example with calls refused.
 run_refused() { # EXAMPLE KIND=NUMBER..
-    with_refused "${@:2}" -- "$root/crates/tpr/out/tpr" run "$root/examples/$1.ttcn"
+    with_refused "${@:2}" -- "$root/crates/tpr/out/tpr" "$mode_of_runs" "$root/examples/$1.ttcn"
 }
 
 # Tells what the last run answered, which it may not.
@@ -196,14 +201,14 @@ module LongReport {
     }
 }
 END
-    "$tpr" run "$room/long_report.ttcn" >"$room/long_report" </dev/null
+    "$tpr" "$mode_of_runs" "$room/long_report.ttcn" >"$room/long_report" </dev/null
 }
 
 # Each write of a report refused in turn: status 3, and what was written before is its beginning.
 refuse_each_write() {
     local number bytes
     for ((number = 1; number <= 5000; number++)); do
-        with_refused WRITE=$number -- "$root/crates/tpr/out/tpr" run "$room/long_report.ttcn"
+        with_refused WRITE=$number -- "$root/crates/tpr/out/tpr" "$mode_of_runs" "$room/long_report.ttcn"
         if ! is_refused write; then break; fi
         bytes=$(wc -c <"$room/printed")
         if [[ $status != 3 || -s $room/said ]] || ! cmp -s -n "$bytes" -- "$room/long_report" "$room/printed"; then
@@ -258,6 +263,18 @@ refused_of_each_run() {
     set_up "a long report can be made" make_a_long_report || return
     refuse_each_write
     count $?
+    at_least 5 refused_of_traced_runs
+}
+
+# The same in mode `trace`.
+refused_of_traced_runs() {
+    local mode_of_runs=trace
+    counted refuse_each_of_run halt_holds_back_what_comes_later
+    counted refuse_each_of_run two_senders_to_one_that_ended
+    counted refuse_each_read login_is_answered
+    counted refuse_each_thread two_senders_to_one_that_ended 4
+    set_up "a long trace can be made" make_a_long_report || return
+    counted refuse_each_write
 }
 
 # A script of 500 turns, each with an alt over a template of 100 lists, one of them with this element.

@@ -1,7 +1,7 @@
 # Traces (docs/TRACES.md): a judge of them in Python (tests/traces/referee.py), against tables that were worked out by
-# hand and against all orders of small traces; `tpr judge` against that judge; and tools/titan. `root`, `room`, `tpr`,
-# `observe`, `count`, `at_least` and `set_up` are those of ./test, `count_told` that of tests/orders.sh, `tool_must`,
-# `says_nothing`, `says_alone` and `prints` those of tests/tools.sh.
+# hand and against all orders of small traces; `tpr judge` against that judge; tools/titan; and the traces of
+# `tpr trace`. `root`, `room`, `tpr`, `observe`, `count`, `at_least` and `set_up` are those of ./test, `count_told`
+# that of tests/orders.sh, `tool_must`, `says_nothing`, `says_alone` and `prints` those of tests/tools.sh.
 
 # What is asked of traces: JUDGE names another command in place of `tpr judge`.
 find_judge() {
@@ -44,30 +44,155 @@ played_traces_are_reports() {
 }
 
 the_judge_of_traces() {
-    told_by 180 tests/traces/rules.py planted tests/traces/planted.table
+    told_by 189 tests/traces/rules.py planted tests/traces/planted.table
     told_by 79 tests/traces/rules.py forms tests/traces/forms.table
     told_by 172 tests/traces/rules.py lines tests/traces/lines.texts
-    told_by 9 tests/traces/rules.py titan tests/titan/answers.table
+    told_by 11 tests/traces/rules.py titan tests/titan/answers.table
     told_by 13 tests/traces/rules.py document docs/TRACES.md
     told_by 134 tests/traces/rules.py played "${runnable[@]}"
     told_by 4 tests/traces/rules.py tried 2000
     at_least 5 played_traces_are_reports
 }
 
-# Lawful traces, each with every fault that can be planted by one edit, and with several; two that are cut, or have
-# other bytes; the tables; and traces that were played.
+# What `tpr trace` prints of five examples, in a folder of their own.
+make_traces() { # FOLDER
+    local base
+    mkdir -p -- "$1"
+    for base in closed_counter_serves_no_order heartbeats_are_skipped login_is_answered replies_go_to_their_senders \
+        two_senders_to_one_that_ended; do
+        "$tpr" trace "examples/$base.ttcn" >"$1/$base.trace" </dev/null || return
+    done
+}
+
+# Lawful traces: five of `tpr trace`, five of logs, and others. Each with every fault that can be planted by one edit,
+# and with several; two that are cut, or have other bytes; the tables; and traces that were played or made by chance.
 judged_traces() {
     local traces=(tests/traces/lawful/*.trace tests/titan/{kitchen,clearing,pairs,mapped,made}/trace)
     local small=(tests/traces/lawful/{one_port,ask_and_answer}.trace)
-    told_by 14 tests/traces/compare.py planted "${traces[@]}" -- "${judge_of_traces[@]}"
-    told_by 180 tests/traces/rules.py planted tests/traces/planted.table -- "${judge_of_traces[@]}"
+    set_up "the program prints traces" make_traces "$room/traced" && traces+=("$room"/traced/*.trace)
+    told_by 19 tests/traces/compare.py planted "${traces[@]}" -- "${judge_of_traces[@]}"
+    told_by 189 tests/traces/rules.py planted tests/traces/planted.table -- "${judge_of_traces[@]}"
     told_by 79 tests/traces/rules.py forms tests/traces/forms.table -- "${judge_of_traces[@]}"
-    told_by 9 tests/traces/rules.py titan tests/titan/answers.table -- "${judge_of_traces[@]}"
+    told_by 11 tests/traces/rules.py titan tests/titan/answers.table -- "${judge_of_traces[@]}"
     told_by 13 tests/traces/rules.py document docs/TRACES.md -- "${judge_of_traces[@]}"
-    told_by 14 tests/traces/compare.py several "${traces[@]}" -- "${judge_of_traces[@]}"
+    told_by 19 tests/traces/compare.py several "${traces[@]}" -- "${judge_of_traces[@]}"
     told_by 2 tests/traces/compare.py cuts "${small[@]}" -- "${judge_of_traces[@]}"
     told_by 2 tests/traces/compare.py bytes "${small[@]}" -- "${judge_of_traces[@]}"
     told_by 134 tests/traces/compare.py played "${runnable[@]}" -- "${judge_of_traces[@]}"
+    told_by 20 tests/traces/compare.py chance {1..20} -- "${judge_of_traces[@]}"
+    if [[ ! ${JUDGE-} ]]; then at_least 12 large_traces; fi
+}
+
+# Traces of which each call is refused in turn: a lawful one, one that isn't lawful in many lines, and one that has a
+# bad line. Beside each stand what is printed of it, and the status where that isn't 0.
+make_traces_to_refuse() {
+    local base
+    cp -- tests/traces/lawful/ask_and_answer.trace "$room/refused_lawful.trace"
+    seq 400 | awk '{ print "component a" $1; print "took p b 0 m" }' >"$room/refused_unlawful.trace"
+    { cat -- "$room/refused_lawful.trace" && echo sent; } >"$room/refused_bad.trace"
+    echo 2 >"$room/refused_unlawful.status"
+    echo 2 >"$room/refused_bad.status"
+    for base in "$room"/refused_{lawful,unlawful,bad}; do
+        python3 -B tests/traces/referee.py "$base.trace" >"$base.judged"
+        [[ -s $base.judged ]] || return
+    done
+}
+
+# Each read refused in turn: the answer is 2. Each write: status 3, and what was written before is the beginning.
+refuse_each_call_of_judge() { # BASE KIND
+    local base=$1 kind=$2 number bytes wanted=0
+    printf 'refused 2 Read\n' >"$room/no_read"
+    if [[ -e $base.status ]]; then wanted=$(<"$base.status"); fi
+    for ((number = 1; number <= 5000; number++)); do
+        with_refused "${kind^^}=$number" -- "$root/crates/tpr/out/tpr" judge "$base.trace"
+        if ! is_refused "$kind"; then break; fi
+        bytes=$(wc -c <"$room/printed")
+        if [[ $kind == read ]] && [[ $status == 2 ]] && cmp -s -- "$room/no_read" "$room/printed"; then continue; fi
+        if [[ $kind == write && $status == 3 ]] && cmp -s -n "$bytes" -- "$base.judged" "$room/printed"; then continue; fi
+        echo "FAILED: $base judged with $kind $number refused: status $status, and printed"
+        head -n 5 -- "$room/printed"
+        return 1
+    done
+    if ((number < 2)) || is_refused "$kind" || [[ $status != "$wanted" ]] || ! cmp -s -- "$base.judged" "$room/printed"; then
+        echo "FAILED: $base judged: $number calls to $kind, and the last run had status $status"
+        return 1
+    fi
+}
+
+refused_of_traces() {
+    local base
+    set_up "there are traces to judge" make_traces_to_refuse || return
+    for base in "$room"/refused_{lawful,unlawful,bad}; do
+        counted refuse_each judge "$base.trace" "$base.judged"
+        counted refuse_each_call_of_judge "$base" read
+        counted refuse_each_call_of_judge "$base" write
+    done
+}
+
+# Large traces, on a stack of 256 KiB: what is printed of the file, and the status.
+judged_large() { # NAME STATUS FILE ANSWER
+    (ulimit -s 256 && exec timeout 120 "$tpr" judge "$3") >"$room/printed" 2>"$room/said" </dev/null
+    status=$?
+    judge "$1" "$2" '' "$4"
+    count $?
+}
+
+# Bytes x behind a line `component a`, on standard input, so many in all.
+judged_from_pipe() { # NAME BYTES ANSWER
+    { echo component a && repeated_bytes x $(($2 - 12)); } 2>"$room/no_reader" \
+        | (ulimit -s 256 && exec timeout 120 "$tpr" judge) >"$room/printed" 2>"$room/said"
+    status=${PIPESTATUS[1]}
+    judge "$1" 2 '' "$3"
+    count $?
+}
+
+repeated_bytes() { # BYTE NUMBER
+    head -c "$2" /dev/zero | tr '\0' "$1"
+}
+
+# A message that came from a component, and was taken, so many times.
+came_and_taken() { # TIMES
+    seq 0 $(($1 - 1)) | awk '{ print "came p b " $1 " m"; print "took p b " $1 " m" }'
+}
+
+large_traces() {
+    local lawful=$room/lawful_answer refused=$room/refused_answer long
+    printf 'lawful\none run\n' >"$lawful"
+    seq 1000000 | awk '{ print "component a" $1; print "else" }' >"$room/large.trace"
+    judged_large "a million sections of one line" 0 "$room/large.trace" "$lawful"
+    { echo component a && came_and_taken 5000000; } >"$room/large.trace"
+    judged_large "a section of ten million lines" 0 "$room/large.trace" "$lawful"
+    { echo component a && seq 0 299999 | awk '{ print "sent c" $1 ".p 0 m" }' \
+        && seq 0 299999 | awk '{ print "component c" $1; print "came p a 0 m"; print "took p a 0 m" }'; } >"$room/large.trace"
+    judged_large "300,000 receivers" 0 "$room/large.trace" "$lawful"
+    seq 1000000 | awk '{ print "component a" $1; print "took p b 0 m" }' >"$room/large.trace"
+    seq 1000000 | awk '{ print "unlawful NotTop line " 2 * $1 }' >"$room/large_answer"
+    judged_large "a million unlawful lines" 2 "$room/large.trace" "$room/large_answer"
+    { echo component a && seq 300000 | awk '{ print "came p" $1 " b 0 m" }' \
+        && seq 300000 | awk '{ print "left q b " $1 " m" }'; } >"$room/large.trace"
+    { echo unlawful Left line 300002 && yes 'unlawful Left line 600001' | head -n 300000; } >"$room/large_answer"
+    judged_large "300,000 queues that aren't told, and as many lines left" 2 "$room/large.trace" "$room/large_answer"
+    long=$room/long_name
+    repeated_bytes x 1048576 >"$long"
+    { printf 'component ' && cat -- "$long" && printf '\nsent b.' && cat -- "$long" && printf ' 0 ' && cat -- "$long" \
+        && printf '\ncomponent b\ncame ' && cat -- "$long" && printf ' ' && cat -- "$long" && printf ' 0 ' \
+        && cat -- "$long" && printf '\n'; } >"$room/large.trace"
+    judged_large "names and messages of 1 MiB" 0 "$room/large.trace" "$lawful"
+    { cat -- "$room/large.trace" && printf 'took ' && cat -- "$long" && printf 'x ' && cat -- "$long" && printf ' 0 ' \
+        && cat -- "$long" && printf '\n'; } >"$room/larger.trace"
+    printf 'unlawful NotTop line 5\n' >"$room/large_answer"
+    judged_large "names of 1 MiB that differ in the last byte" 2 "$room/larger.trace" "$room/large_answer"
+    truncate -s 268435457 -- "$room/large.trace"
+    printf 'refused 15 Limit line 0\n' >"$refused"
+    judged_large "a text of 268,435,457 bytes" 2 "$room/large.trace" "$refused"
+    judged_from_pipe "a text of 268,435,457 bytes, through a pipe" 268435457 "$refused"
+    judged_from_pipe "a text without an end" 1000000000000 "$refused"
+    { echo component a && repeated_bytes x 268435444; } >"$room/large.trace"
+    set_up "the longest text has 268,435,456 bytes" has_bytes "$room/large.trace" 268435456 || return
+    printf 'refused 1 BadLine line 2\n' >"$refused"
+    judged_large "a text of 268,435,456 bytes" 2 "$room/large.trace" "$refused"
+    judged_from_pipe "a text of 268,435,456 bytes, through a pipe" 268435456 "$refused"
+    rm -f -- "$room"/large*.trace
 }
 
 # The logs of a folder of tests/titan: the trace that stands beside them, and what is said of them.
@@ -92,7 +217,7 @@ traces_of_titan() {
     logs_of made 0 x-4.log mtc.log hc.log 5.log x-3.log
     logs_of odd 5 mtc.log 3.log
     logs_of several 0 --case leaving 3.log 4.log 5.log mtc.log
-    for folder in kitchen closing clearing pairs mapped deep; do
+    for folder in kitchen closing clearing pairs mapped deep two lost; do
         logs=(tests/titan/"$folder"/*.log)
         logs_of "$folder" 0 "${logs[@]##*/}"
         counts_of_logs "$folder" 'Sent on' sent
@@ -104,13 +229,23 @@ traces_of_titan() {
     done
 }
 
-# What docs/TRACES.md says of the logs in tests/titan/closing/.
+# What docs/TRACES.md and README.md say of logs in tests/titan/.
 shown_log() {
     local answer='unlawful Lost line 7' line
     line=$(sed -n 7p tests/titan/closing/trace)
     set_up "docs/TRACES.md shows the line of what was lost" \
         grep -qF -- "The answer is \`$answer\`, and line 7 of the trace is \`$line\`." docs/TRACES.md && count 0
     set_up "that is the answer" grep -qx -- "closing => $answer" tests/titan/answers.table && count 0
+    shown_in_readme closing "of a run that Titan calls \`pass\`, it is" 'unlawful Lost line 7'
+    shown_in_readme lost 'Of the two logs `tests/titan/lost/*.log` the answer is' 'unlawful Lost line 4'
+    shown_in_readme two 'of `tests/titan/two/*.log` it is' lawful 'one run'
+}
+
+# README.md says so of these logs, and that is the answer.
+shown_in_readme() { # FOLDER WORDS ANSWER [ANSWER]
+    local shown="$2 \`$3\`${4:+ and \`$4\`}"
+    set_up "README.md shows the answer to the logs of $1" grep -qF -- "$shown" README.md && count 0
+    set_up "that is the answer to the logs of $1" grep -qx -- "$1 => $3${4:+; $4}" tests/titan/answers.table && count 0
 }
 
 # What isn't the log of a component, or isn't the only one.
@@ -171,8 +306,8 @@ traces() {
     find_runnable
     find_judge
     the_judge_of_traces
-    at_least 40 traces_of_titan
-    at_least 2 shown_log
+    at_least 56 traces_of_titan
+    at_least 8 shown_log
     at_least 10 refused_logs
     at_least 4 cases_of_logs
     at_least 1 cut_logs
@@ -181,4 +316,14 @@ traces() {
     else
         echo "left out: tpr judge beside the judge of traces, since the program has no mode judge"
     fi
+}
+
+# Free runs: each trace of `tpr trace` without its lines `came` is a report that the script may have, and it is lawful
+# and one run, by the judge in Python and by `tpr judge`.
+traces_of_runs() {
+    local runnable judge_of_traces
+    find_runnable
+    find_judge
+    told_by 160 tests/traces/runs.py "$tpr" "${runnable[@]}"
+    if has_judge; then told_by 160 tests/traces/runs.py "$tpr" "${runnable[@]}" -- "${judge_of_traces[@]}"; fi
 }

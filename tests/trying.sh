@@ -57,6 +57,8 @@ tries_what_is_not_built() {
     hands_on "standard input that comes in pieces" 0 "$answer" '' run < <(echo -n a && sleep 0.5 && echo ' text')
     hands_on "a file that is a pipe" 0 "$answer" '' run <(cat text)
     hands_on "no text at all" 0 'queue;' '' queue </dev/null
+    hands_on "a trace of a run" 0 $'trace;a text\n' '' trace text
+    hands_on "a trace to be judged" 0 $'judge;a text\n' '' judge text
     hands_on "bytes that are no text" 0 $'check;\xff\r\n\n' '' check < <(printf '\xff\r\n\n')
     ln -s -- "$PWD/a tree/tpr" try_link
     call rt ./try_link run text
@@ -70,6 +72,10 @@ tries_what_is_not_built() {
     status=$status:$(wc -c <"$room/printed")
     : >"$room/printed"
     must "a standard input without an end" 0:2097158 '' "$notice"
+    call rt "a tree/tpr" judge < <(yes)
+    status=$status:$(wc -c <"$room/printed")
+    : >"$room/printed"
+    must "a trace without an end" 0:269484038 '' "$notice"
 }
 
 hands_on_each_status() {

@@ -331,5 +331,10 @@ MAKERS: tuple[Callable[[int], Shape], ...] = (
 )
 
 
+# How many of so many components each send a thousand messages to `mtc`, which takes them meanwhile: all but itself.
+THOUSANDS = (2, 4, 9)
+
+
 def all_shapes() -> list[Shape]:
-    return [*(make(count) for make in MAKERS for count in COUNTS), system(MOST)]
+    thousands = [all_to_one(count, 1000) for count in THOUSANDS]
+    return [*(make(count) for make in MAKERS for count in COUNTS), system(MOST), *thousands]

@@ -6,7 +6,8 @@ A step is what a gate counts (docs/DECISIONS.md, "The steps that a gate counts")
 between two acts another component may act. A send on one route is an act, so is one look at the branches of
 an `alt`, and so is an operation on all ports.
 """
-import copy
+import os
+import sys
 from collections.abc import Iterable
 from dataclasses import dataclass, field
 from enum import Enum
@@ -14,6 +15,11 @@ from enum import Enum
 from bodies import Begun, Jump, TestCase, Tried, Turn
 from tree import EVERYONE, Control, Guard, Send, Setverdict, Variable
 from values import filled, matches, written
+
+sys.path.append(os.path.join(os.path.dirname(os.path.realpath(__file__)), "..", "..", "tools"))
+
+# A table alone: nothing else of tools/ is used here.
+from library.refusals import Refusal  # noqa: E402
 
 VERDICTS = ("none", "pass", "inconc", "fail", "error")
 DONE_BY = {"start": "started", "stop": "stopped", "halt": "halted", "clear": "cleared"}
@@ -72,13 +78,15 @@ class Port:
 @dataclass
 class Component:
     """How far a component has come. `place` is where its next statement stands, `sent` is on how many routes
-    that statement has sent, `steps` how many are done, `failure` the number of the fault by which it ended, or
-    0; `numbers` are those of the next message on each route, `lines` those of the history in the report."""
+    that statement has sent, `steps` how many are done, `failed` the fault of the send by which it ended;
+    `numbers` are those of the next message on each route, `lines` those of the history in the report."""
 
     ports: dict[str, Port]
     place: int = 0
     sent: int = 0
-    failure: int = 0
+    # Of each look that discarded in the statement that it is at, how many branches it tried.
+    looked: tuple[int, ...] = ()
+    failed: Refusal | None = None
     steps: int = 0
     loops: dict[str, int] = field(default_factory=dict)
     variables: dict[str, object] = field(default_factory=dict)
@@ -87,11 +95,18 @@ class Component:
     lines: list[str] = field(default_factory=list)
 
     def copy(self) -> "Component":
-        other = copy.copy(self)
+        other = alike(self)
         other.ports = {name: port.copy() for name, port in self.ports.items()}
         other.loops, other.variables = self.loops.copy(), self.variables.copy()
         other.numbers, other.lines = self.numbers.copy(), self.lines[:]
         return other
+
+
+def alike(it):
+    """An object with the same fields: `copy.copy` in a third of the time, which is much of what a search takes."""
+    other = object.__new__(type(it))
+    other.__dict__.update(it.__dict__)
+    return other
 
 
 class Run:
@@ -108,7 +123,7 @@ class Run:
 
     def copy_of(self, places: Iterable[int]) -> "Run":
         """A copy of which no more than the components at these places may be changed: it shares the others."""
-        other = copy.copy(self)
+        other = alike(self)
         other.components = self.components[:]
         for place in places:
             other.components[place] = self.components[place].copy()
@@ -122,7 +137,7 @@ class Run:
     def statement(self, who: int) -> object:
         """The component's next statement, or None where it has ended."""
         me, code = self.components[who], self.case.bodies[who].code
-        return code[me.place] if me.failure == 0 and me.place < len(code) else None
+        return code[me.place] if me.failed is None and me.place < len(code) else None
 
     def step(self, who: int) -> bool:
         """Carries out the next statement. Where it waits, as much of it as can be, and False."""
@@ -190,26 +205,26 @@ class Run:
         receiver = self.receiver(who, send.receiver)
         return [end for end in ends if end[0] == receiver]
 
-    def failure(self, who: int, send: Send) -> int:
-        """Why the send can't be carried out, the first cause that holds, or 0."""
+    def fault_of(self, who: int, send: Send) -> Refusal | None:
+        """Why the send can't be carried out, the first cause that holds."""
         me = self.components[who]
         if me.ports[send.port].status != "started":
-            return 40
+            return Refusal.NOT_SENDING
         if send.type is None and me.variables[send.message] is None:
-            return 43
+            return Refusal.UNSET_VARIABLE
         if send.receiver not in (None, EVERYONE) and self.receiver(who, send.receiver) is None:
-            return 43
+            return Refusal.UNSET_VARIABLE
         routes = self.routes(who, send)
         if not routes:
-            return 41
-        return 42 if len(routes) > 1 and send.receiver is None else 0
+            return Refusal.NO_ROUTE
+        return Refusal.NEEDS_TO if len(routes) > 1 and send.receiver is None else None
 
     def send(self, who: int, send: Send) -> Act:
         """One message on one route."""
         me = self.components[who]
-        me.failure = self.failure(who, send)
-        if me.failure != 0:
-            me.lines.append(f"failed {me.failure}")
+        me.failed = self.fault_of(who, send)
+        if me.failed is not None:
+            me.lines.append(f"failed {me.failed:d}")
             return Act.DONE
         routes = self.routes(who, send)
         component, port = routes[me.sent]
@@ -236,22 +251,23 @@ class Run:
     def look(self, who: int, tried: Tried) -> Act:
         """One look at the branches, from the top."""
         me = self.components[who]
-        for (guard, _), place in zip(tried.choice.branches, tried.places):
+        for at, ((guard, _), place) in enumerate(zip(tried.choice.branches, tried.places), 1):
             top = me.ports[guard.port].top()
             if top is None:
                 continue
             if self.wants(who, guard, top):
                 self.get(me, guard, top)
-                me.place = place
+                me.place, me.looked = place, ()
                 return Act.DONE
             if guard.how == "trigger":
                 self.note(me, "dropped", guard.port, top)
                 me.ports[guard.port].take()
+                me.looked += (at,)
                 return Act.MORE
         if tried.choice.otherwise is None:
             return Act.WAITS
         me.lines.append("else")
-        me.place = tried.places[-1]
+        me.place, me.looked = tried.places[-1], ()
         return Act.DONE
 
     def wants(self, who: int, guard: Guard, top: Message) -> bool:
@@ -285,12 +301,13 @@ class Run:
         return f"{what} {port} {self.case.names[message.sender]} {message.number} {self.text(message)}"
 
     def verdict(self, who: int) -> str:
-        return "error" if self.components[who].failure else self.components[who].verdict
+        return self.components[who].verdict if self.components[who].failed is None else "error"
 
     def end(self, who: int) -> str:
         """How the component ended. One that hasn't come to its end waits."""
-        if self.components[who].failure:
-            return f"error {self.components[who].failure}"
+        failed = self.components[who].failed
+        if failed is not None:
+            return f"error {failed:d}"
         return "done" if self.statement(who) is None else "waiting"
 
     def lines_of(self, who: int) -> list[str]:

@@ -101,7 +101,7 @@ def finish(run: Run, who: int) -> bool:
             raise Unordered(f"{run.case.names[who]} discards at two ports while it waits")
         return False
     turns = isinstance(statement, Begun) and statement.loop.first < statement.loop.bound
-    if turns or not (isinstance(statement, (Setverdict, Begun)) or me.failure):
+    if turns or not (isinstance(statement, (Setverdict, Begun)) or me.failed is not None):
         raise Unordered(f"{run.case.names[who]} ends with a step that others can see")
     return True
 

@@ -123,7 +123,8 @@ def small_history(chance: random.Random) -> list[Line]:
             waiting.remove(number)
         elif word in (b"cleared", b"started"):
             waiting = []
-        lines.append(Line(place, word) if word in OPERATIONS else Line(place, word, b"p", b"s", number, b"m"))
+        is_message = word not in OPERATIONS
+        lines.append(Line(place, word, b"p", *((b"s", number, b"m") if is_message else ())))
     return lines
 
 
@@ -135,5 +136,6 @@ def small_route(chance: random.Random) -> Route:
         lines = chance.choice(both)
         place = chance.randrange(len(lines) + 1)
         lines[place : place + chance.randrange(2)] = chance.choice(([], [(chance.randrange(5), b"x")]))
-    first, second = ([Line(n + 1, b"sent", b"p", b"a", *it) for n, it in enumerate(lines)] for lines in both)
+    ends = (b"sent", b"p", b"b"), (b"came", b"p", b"a")
+    first, second = ([Line(n + 1, *end, *it) for n, it in enumerate(lines)] for end, lines in zip(ends, both))
     return Route(first, second)

@@ -1,14 +1,16 @@
 """Which lines lie on a circle of "this one before that one"."""
+from collections.abc import Iterator
 
 
-def first_on_a_circle(behind: dict[int, list[int]]) -> int | None:
-    """The first line from which, by what must come behind it, one comes back to it.
+def firsts_of_circles(behind: dict[int, list[int]]) -> Iterator[int]:
+    """The first line of each circle, in their order: from it, by what must come behind, one comes back to it without
+    a line that stands before it. The first of these is the first line that lies on any circle.
 
     What is left over where all lines are taken off that have none before them, and then those that have none behind
     them, again and again, are the lines on circles and those between two circles.
     """
     left = without_firsts(without_firsts(set(behind), behind), turned(behind))
-    return next((line for line in sorted(left) if comes_back(line, behind, left)), None)
+    return (line for line in sorted(left) if comes_back(line, behind, {it for it in left if it > line}))
 
 
 def turned(behind: dict[int, list[int]]) -> dict[int, list[int]]:

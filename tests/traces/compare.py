@@ -5,9 +5,12 @@
     compare.py cuts TRACE.. -- COMMAND..       each trace, cut off behind each of its bytes
     compare.py bytes TRACE.. -- COMMAND..      each trace, with each of its bytes replaced by some others
     compare.py played SCRIPT.. -- COMMAND..    traces of each script, played in an order made by chance
+    compare.py chance SEED.. -- COMMAND..      small traces made by chance, lawful and with a fault; and small ports and
+                                               routes, in which mostly something is wrong
 
-COMMAND with a file behind it must print what the judge prints, and end with its status. A line `passed N WHAT` is
-printed for each trace or script, or lines that begin with `FAILED: WHAT`.
+COMMAND with a file behind it must print what the judge prints, and end with its status; where a trace has several
+circles, the first line of any of them may be told. A line `passed N WHAT` is printed for each trace, script or seed,
+or lines that begin with `FAILED: WHAT`. As many are gone through at once as there are processors.
 """
 import os
 import random
@@ -15,12 +18,14 @@ import subprocess
 import sys
 import tempfile
 from collections.abc import Iterator
+from concurrent.futures import ProcessPoolExecutor
 
+from chance import small_history, small_route, small_trace
 from planting import planted_in
 from player import play
-from referee import answer_of
+from referee import answers_of
 
-SEVERAL, PLAYED = 100, 2
+SEVERAL, PLAYED, BY_CHANCE = 100, 2, 25
 
 
 class Judge:
@@ -37,21 +42,22 @@ class Judge:
 
     def difference(self, text: bytes) -> str | None:
         """What differs, and the trace."""
-        wanted, found = answer_of(text), self.answer(text)
-        if wanted == found:
+        allowed, found = answers_of(text), self.answer(text)
+        if found in allowed:
             return None
-        return f"wanted, with status {wanted[1]}\n{wanted[0]}printed, with status {found[1]}\n{found[0]}of\n" + (
-            text.decode("latin-1")
-        )
+        wanted = "or\n".join(f"{answer}with status {status}\n" for answer, status in allowed)
+        return f"wanted\n{wanted}printed, with status {found[1]}\n{found[0]}of\n{text.decode('latin-1')}"
 
 
-def compared(what: str, texts: Iterator[tuple[str, bytes]], judge: Judge) -> str:
-    """The line, or lines, for the texts of a trace or script."""
+def compared(kind: str, what: str, command: list[str]) -> str:
+    """The line, or lines, for the texts of a trace, script or seed."""
     count = 0
-    for how, text in texts:
-        if (difference := judge.difference(text)) is not None:
-            return f"FAILED: {what}, {how}: {difference}"
-        count += 1
+    with tempfile.TemporaryDirectory() as room:
+        judge = Judge(command, os.path.join(room, "trace"))
+        for how, text in TEXTS[kind](what):
+            if (difference := judge.difference(text)) is not None:
+                return f"FAILED: {what}, {how}: {difference}"
+            count += 1
     return f"passed {count} {what}"
 
 
@@ -63,7 +69,7 @@ def planted_texts(path: str) -> Iterator[tuple[str, bytes]]:
 
 
 def texts_of_several(path: str) -> Iterator[tuple[str, bytes]]:
-    chance, text = random.Random(path), text_in(path)
+    chance, text = random.Random(os.path.basename(path)), text_in(path)
     for _ in range(SEVERAL):
         changed, edits = text, []
         for _ in range(chance.randrange(2, 5)):
@@ -91,6 +97,18 @@ def played_texts(script: str) -> Iterator[tuple[str, bytes]]:
         yield f"seed {seed}", play(script, seed).encode("latin-1")
 
 
+def texts_by_chance(seed: str) -> Iterator[tuple[str, bytes]]:
+    chance = random.Random(seed)
+    for _ in range(BY_CHANCE):
+        text = small_trace(chance)
+        yield "a trace", text
+        yield "a trace with a fault", chance.choice(list(planted_in(text))).text
+        route = small_route(chance)
+        sections = [b"component a\n", *map(bytes, route.sent)], [b"component b\n", *map(bytes, route.came)]
+        yield "a route", b"".join(line for section in chance.sample(sections, 2) for line in section)
+        yield "a port", b"".join([b"component c\n", *map(bytes, small_history(chance))])
+
+
 def text_in(path: str) -> bytes:
     with open(path, "rb") as file:
         return file.read()
@@ -102,15 +120,17 @@ TEXTS = {
     "cuts": cut_texts,
     "bytes": texts_of_bytes,
     "played": played_texts,
+    "chance": texts_by_chance,
 }
 
 
 def main() -> int:
-    kind, *paths = sys.argv[1 : sys.argv.index("--")]
-    with tempfile.TemporaryDirectory() as room:
-        judge = Judge(sys.argv[sys.argv.index("--") + 1 :], os.path.join(room, "trace"))
-        for path in paths:
-            print(compared(path, TEXTS[kind](path), judge), flush=True)
+    end = sys.argv.index("--")
+    kind, *texts = sys.argv[1:end]
+    with ProcessPoolExecutor() as pool:
+        waiting = [pool.submit(compared, kind, text, sys.argv[end + 1 :]) for text in texts]
+        for done in waiting:
+            print(done.result(), flush=True)
     return 0
 
 

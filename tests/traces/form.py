@@ -55,6 +55,17 @@ class Line:
         """What tells a message at a port from another one."""
         return self.partner, self.number, self.message
 
+    def __bytes__(self) -> bytes:
+        """As it stands in a text, with the names that small ports and routes are given."""
+        if not self.partner:
+            return b"%s %s\n" % (self.word, self.port)
+        place = self.partner + b"." + self.port if self.word == b"sent" else self.port + b" " + self.partner
+        return b"%s %s %d %s\n" % (self.word, place, self.number, self.message)
+
+    def parcel(self) -> tuple[int, bytes]:
+        """What tells a message on a route from another one."""
+        return self.number, self.message
+
 
 @dataclass
 class Section:

@@ -5,7 +5,7 @@ from collections.abc import Iterator
 from dataclasses import dataclass, field
 from typing import NamedTuple
 
-from circles import first_on_a_circle
+from circles import firsts_of_circles
 from form import TAKING, Line, Section, Trace
 
 # In this order where several stand at one line.
@@ -34,14 +34,14 @@ class Place(NamedTuple):
         return self.line, RULES.index(self.rule)
 
 
-def places_of(trace: Trace) -> list[Place]:
-    """The first place of each port, the first of each route, and the first line on a circle, by their lines."""
+def places_of(trace: Trace) -> Iterator[list[Place]]:
+    """The places that may be told, by their lines: the first of each port, that of each route, and where delivery holds
+    the first line of a circle, of any where there are several."""
     found = [place for section in trace.sections.values() for place in places_of_ports(section)]
-    for route in routes_of(trace):
-        found += sorted(places_of_route(route), key=Place.order)[:1]
-    if (line := first_on_a_circle(happens_before(trace))) is not None:
-        found.append(Place(line, "Circle"))
-    return sorted(found, key=Place.order)
+    undelivered = [place for route in routes_of(trace) if (place := place_of_route(route)) is not None]
+    circles = [] if undelivered else [Place(line, "Circle") for line in firsts_of_circles(happens_before(trace))]
+    for circle in circles or [None]:
+        yield sorted([*found, *undelivered, *([circle] if circle else [])], key=Place.order)
 
 
 # Ports (ES 201 873-1, 22.2, 22.5)
@@ -73,10 +73,10 @@ class Port:
         """The rule that a line breaks which takes, finds or drops a message."""
         if self.status == "stopped":
             return "Stopped"
-        place = self.queue.index(line.envelope()) if line.envelope() in self.queue else None
-        if place is not None and self.status == "halted" and place >= self.ahead:
-            return "Behind"
-        return None if place == 0 else "NotTop"
+        reached = self.ahead if self.status == "halted" else len(self.queue)
+        if line.envelope() in self.queue[:reached][:1]:
+            return None
+        return "Behind" if line.envelope() in self.queue[reached:] else "NotTop"
 
 
 def places_of_ports(section: Section) -> Iterator[Place]:
@@ -139,6 +139,30 @@ def routes_of(trace: Trace) -> list[Route]:
             elif line.partner in trace.sections and line.word == b"came":
                 routes.setdefault((line.partner, section.name, line.port), Route()).came.append(line)
     return list(routes.values())
+
+
+def place_of_route(route: Route) -> Place | None:
+    """What is told of the route: its first sending with a wrong number; else what is wrong at the first place of its
+    order at which what came isn't what was sent there."""
+    for place, line in enumerate(route.sent):
+        if line.number != place:
+            return Place(line.place, "Numbering")
+    for place in range(max(len(route.sent), len(route.came))):
+        sent, came = route.sent[place : place + 1], route.came[place : place + 1]
+        if [line.parcel() for line in sent] != [line.parcel() for line in came]:
+            return place_told(route, place)
+    return None
+
+
+def place_told(route: Route, place: int) -> Place:
+    """What is told of this place, at which another message came than was sent, or none did: what is wrong with what
+    came; and where that is a message that was sent later, what became of the one that was sent there."""
+    at = {told.line: told for told in places_of_route(route)}
+    came = [line.place for line in route.came[place:]]
+    if came and came[0] in at:
+        return at[came[0]]
+    sent = route.sent[place]
+    return at.get(sent.place) or next(at[it.place] for it in route.came[place:] if it.number == sent.number)
 
 
 def places_of_route(route: Route) -> Iterator[Place]:

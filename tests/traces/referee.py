@@ -8,23 +8,32 @@ refusal. The status is that of `tpr judge`.
 import sys
 
 from form import OfAnotherForm, TooLong, read_trace
-from lawful import places_of
-from one_run import first_delayed
+from lawful import Place, places_of
+from one_run import delayed_lines
 
 
-def answer_of(text: bytes) -> tuple[str, int]:
-    """What is printed, and the status."""
+def answers_of(text: bytes) -> list[tuple[str, int]]:
+    """What may be printed, with the status: several answers where there are several circles."""
     try:
         trace = read_trace(text)
     except TooLong:
-        return "refused 15 Limit line 0\n", 2
+        return [("refused 15 Limit line 0\n", 2)]
     except OfAnotherForm as fault:
-        return f"refused 1 BadLine line {fault.line}\n", 2
-    places = places_of(trace)
-    if places:
-        return "".join(f"unlawful {place.rule} line {place.line}\n" for place in places), 2
-    delayed = first_delayed(trace)
-    return ("lawful\none run\n" if delayed is None else f"lawful\ndelayed line {delayed}\n"), 0
+        return [(f"refused 1 BadLine line {fault.line}\n", 2)]
+    told = list(places_of(trace))
+    if told != [[]]:
+        return [(text_of_places(places), 2) for places in told]
+    delayed = delayed_lines(trace)
+    return [(f"lawful\ndelayed line {line}\n", 0) for line in delayed] or [("lawful\none run\n", 0)]
+
+
+def text_of_places(places: list[Place]) -> str:
+    return "".join(f"unlawful {place.rule} line {place.line}\n" for place in places)
+
+
+def answer_of(text: bytes) -> tuple[str, int]:
+    """What is printed, and the status; of several circles the one that begins first is told."""
+    return answers_of(text)[0]
 
 
 def main() -> int:

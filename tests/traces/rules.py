@@ -8,7 +8,7 @@
                                   out by hand: by the judge in referee.py, or by the command with a file behind it
     rules.py played SCRIPT..      traces of these scripts, played in orders made by chance, are lawful and one run
     rules.py tried NUMBER         of so many small traces, those are one run of which some order of their lines is a
-                                  run; of so many small graphs, the first line on a circle is found; and of so many
+                                  run; of so many small graphs, the first line of each circle is found; and of so many
                                   ports and routes, the places are found where docs/MODEL.md has them
 
 Each prints lines `passed ..`, or lines that begin with `FAILED: `.
@@ -21,12 +21,12 @@ import tempfile
 from collections.abc import Callable, Iterator
 
 from chance import small_graph, small_history, small_route, small_trace
-from circles import first_on_a_circle
+from circles import firsts_of_circles
 from compare import Judge
 from form import Line, OfAnotherForm, Section, read_trace
 from histories import first_unlawful, queued
-from lawful import place_of_port, places_of, places_of_route
-from one_run import first_delayed, is_one_run_by_trying
+from lawful import place_of_port, place_of_route, places_of, places_of_route
+from one_run import delayed_lines, is_one_run_by_trying
 from planting import plant
 from player import play
 from referee import answer_of
@@ -135,28 +135,37 @@ def tried(number: int) -> str:
     for _ in range(number):
         text = small_trace(chance)
         trace = read_trace(text)
-        if places_of(trace):
+        if list(places_of(trace)) != [[]]:
             return f"FAILED: this should be lawful\n{text.decode('latin-1')}"
-        line, is_one = first_delayed(trace), is_one_run_by_trying(trace)
-        if (line is None) is not is_one:
-            return f"FAILED: the demands say delayed line {line}, all orders {is_one}\n{text.decode('latin-1')}"
+        lines, is_one = delayed_lines(trace), is_one_run_by_trying(trace)
+        if (lines == []) is not is_one:
+            return f"FAILED: the demands say delayed lines {lines}, all orders {is_one}\n{text.decode('latin-1')}"
         one, delayed = one + is_one, delayed + (not is_one)
     return f"passed {one} one run, {delayed} delayed"
 
 
+def followed(behind: dict[int, list[int]], first: int) -> dict[int, set[int]]:
+    """What follows from each line in any number of steps, where there are only lines from the first one on."""
+    follows = {line: {it for it in others if it >= first} for line, others in behind.items() if line >= first}
+    for _ in behind:
+        follows = {line: others.union(*(follows[it] for it in others)) for line, others in follows.items()}
+    return follows
+
+
 def graphs(number: int) -> str:
-    """The first line on a circle, beside what follows from each line in as many steps as there are lines."""
-    chance, with_circle = random.Random(number), 0
+    """The first line of each circle, beside what follows from each line; and the first of these, which is the first
+    line on any circle."""
+    chance, with_several = random.Random(number), 0
     for _ in range(number):
         behind = small_graph(chance)
-        follows = {line: set(others) for line, others in behind.items()}
-        for _ in behind:
-            follows = {line: others.union(*(follows[it] for it in others)) for line, others in follows.items()}
-        wanted = min((line for line, others in follows.items() if line in others), default=None)
-        if (found := first_on_a_circle(behind)) != wanted:
-            return f"FAILED: the first on a circle of {behind} is {wanted}, and not {found}"
-        with_circle += wanted is not None
-    return f"passed {with_circle} graphs with a circle"
+        wanted = [line for line in sorted(behind) if line in followed(behind, line)[line]]
+        if (found := list(firsts_of_circles(behind))) != wanted:
+            return f"FAILED: the first lines of circles of {behind} are {wanted}, and not {found}"
+        on_circles = [line for line, others in followed(behind, 0).items() if line in others]
+        if wanted[:1] != sorted(on_circles)[:1]:
+            return f"FAILED: the first line on a circle of {behind} is {sorted(on_circles)[0]}"
+        with_several += len(wanted) > 1
+    return f"passed {with_several} graphs with several circles"
 
 
 def ports(number: int) -> str:
@@ -175,14 +184,16 @@ def ports(number: int) -> str:
 
 
 def routes(number: int) -> str:
-    """A route has a place exactly where what came isn't what was sent, or its numbers aren't 0, 1, 2 and so on."""
+    """A route has a place exactly where what came isn't what was sent, or its numbers aren't 0, 1, 2 and so on; and the
+    place that is told is one of those that it has."""
     chance, lawful = random.Random(number), 0
     for _ in range(number):
         route = small_route(chance)
         sent, came = ([(line.number, line.message) for line in lines] for lines in (route.sent, route.came))
         is_lawful = sent == came and [one for one, _ in sent] == list(range(len(sent)))
-        if is_lawful is not (list(places_of_route(route)) == []):
-            return f"FAILED: lawful {is_lawful}, and {list(places_of_route(route))} is told, of {route}"
+        places, told = list(places_of_route(route)), place_of_route(route)
+        if is_lawful is not (places == []) or (told not in places if places else told is not None):
+            return f"FAILED: lawful {is_lawful}, there are {places}, and {told} is told, of {route}"
         lawful += is_lawful
     return f"passed {lawful} lawful routes"
 

@@ -1,0 +1,89 @@
+"""Judges the traces of free runs.
+
+    runs.py PROGRAM SCRIPT.. [-- COMMAND..]
+
+`PROGRAM trace SCRIPT` is called several times, a part of them on one processor. Each trace without its lines `came`
+must be a report that the script may have, and the trace lawful and one run: by the judge in referee.py, or by the
+command with a file behind it. A line `passed N SCRIPT` is printed for each script, or lines that begin with
+`FAILED: SCRIPT`.
+"""
+import os
+import subprocess
+import sys
+import tempfile
+from collections.abc import Callable
+
+from compare import Judge
+from referee import answer_of
+
+sys.path.append(os.path.join(os.path.dirname(os.path.realpath(__file__)), "..", "orders"))
+
+from bodies import TestCase  # noqa: E402
+from judge import is_allowed  # noqa: E402
+from judged import expected_beside  # noqa: E402
+from reading import read_script  # noqa: E402
+
+RUNS, SECONDS = 6, 20
+ONE_PROCESSOR = ["taskset", "-c", "0"]
+
+Answer = Callable[[bytes], tuple[str, int]]
+
+
+class Reports:
+    """The reports that a script may have: those in the files beside it, or, where there are none, those that the
+    judge of reports allows. Each is judged once."""
+
+    def __init__(self, script: str):
+        self.case, self.known = TestCase(read_script(script)), {it: True for it in expected_beside(script)}
+        self.are_all_known = bool(self.known)
+
+    def may_have(self, report: str) -> bool:
+        if report not in self.known:
+            self.known[report] = not self.are_all_known and is_allowed(self.case, report) is True
+        return self.known[report]
+
+
+def without_arrivals(trace: str) -> str:
+    return "".join(line for line in trace.splitlines(True) if not line.startswith("came "))
+
+
+def fault_of(command: list[str], reports: Reports, answer: Answer) -> str | None:
+    """Runs the command. What is wrong with its trace, if anything is."""
+    try:
+        ended = subprocess.run(
+            command, stdin=subprocess.DEVNULL, capture_output=True, timeout=SECONDS, check=False
+        )
+    except subprocess.TimeoutExpired:
+        return f"it hasn't ended after {SECONDS} seconds"
+    trace = ended.stdout.decode("latin-1")
+    if ended.returncode != 0 or ended.stderr:
+        return f"status {ended.returncode}, and it said {ended.stderr!r}"
+    if not reports.may_have(without_arrivals(trace)):
+        return f"without the lines `came` this is no report that it may have\n{trace}"
+    if (found := answer(ended.stdout)) != ("lawful\none run\n", 0):
+        return f"with status {found[1]} it is said\n{found[0]}of\n{trace}"
+    return None
+
+
+def judged(program: str, script: str, answer: Answer) -> str:
+    """The line, or lines, for one script."""
+    reports = Reports(script)
+    for turn in range(RUNS):
+        before = ONE_PROCESSOR if turn % 3 == 2 else []
+        if (fault := fault_of([*before, program, "trace", script], reports, answer)) is not None:
+            return f"FAILED: {script}, run {turn + 1}: {fault}"
+    return f"passed {RUNS} {script}"
+
+
+def main() -> int:
+    program, *words = sys.argv[1:]
+    end = words.index("--") if "--" in words else len(words)
+    with tempfile.TemporaryDirectory() as room:
+        answer = Judge(words[end + 1 :], os.path.join(room, "trace")).answer if words[end:] else answer_of
+        for script in words[:end]:
+            print(judged(program, script, answer), flush=True)
+    return 0
+
+
+if __name__ == "__main__":
+    sys.exit(main())
