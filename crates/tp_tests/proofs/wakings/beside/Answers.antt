@@ -5,4 +5,4 @@ use Rattle.tp_inbox.proofs.Crossing.{owner_send, desk_send, sender_send}
 use Rattle.tp_tests.proofs.wakings.beside.Goals as goal
 
 pub join-requires-send-F : goal.join-requires-send-F
-join-requires-send-F g c κs low = search (sendable, crosses, owner_send, desk_send, sender_send) depth 40
+join-requires-send-F g c κs low = search (sendable, crosses, owner_send, desk_send, sender_send, c.type_bounds.sync-R) depth 40
