@@ -43,17 +43,27 @@ pub fn read_text<R: Read>(alloc: Global, reader: &mut R) -> Result<Vec<u8>, Read
     ensures taken { TakesBytes
         (R.remaining reader.old) (R.remaining reader.new) (result_err result) }
 {
-    read_within(alloc, reader, TEXT_LIMIT)
+    read_up_to(alloc, reader, TEXT_LIMIT)
 }
 
 /// Reads all that the reader has, and at most one byte more than the limit.
 ///
 /// 2 `Read`, 15 `Limit` and 50 `Memory` as [`read_text`] says, with this limit in place of its own.
-pub fn read_within<R: Read>(
-    alloc: Global,
-    reader: &mut R,
-    limit: usize,
-) -> Result<Vec<u8>, ReadFault>
+pub fn read_within<R: Read>(alloc: Global, reader: &mut R, limit: u32) -> Result<Vec<u8>, ReadFault>
+    ensures whole { IfOk result (λ text.
+        IfSome (R.remaining reader.old) (λ all. text.items ≡ all)) }
+    ensures end { OnOk result (IsAtEnd (R.remaining reader.new)) }
+    ensures short { IfOk result (λ text. length text.items ≤ limit) }
+    ensures long { result ≡ Err read_fault.Limit
+        → IfSome (R.remaining reader.old) (λ all. limit < length all) }
+    ensures taken { TakesWithin limit
+        (R.remaining reader.old) (R.remaining reader.new) (result_err result) }
+{
+    read_up_to(alloc, reader, limit as usize)
+}
+
+/// Reads all that the reader has, and at most one byte more than the limit.
+fn read_up_to<R: Read>(alloc: Global, reader: &mut R, limit: usize) -> Result<Vec<u8>, ReadFault>
     requires { limit < 2 ^ 62 }
     ensures whole { IfOk result (λ text.
         IfSome (R.remaining reader.old) (λ all. text.items ≡ all)) }

@@ -47,7 +47,7 @@ fn judge_text<R: Read>(alloc: Global, reader: &mut R) -> Result<Ruling, JudgeFau
         IfSome (R.remaining reader.old) (λ text. IsRulingOf text ruling)) }
     ensures fault { IfErr result (HasJudgeFault (R.remaining reader.old) (R.remaining reader.new)) }
 {
-    match read_within(alloc, reader, TRACE_LIMIT) {
+    match read_within(alloc, reader, TRACE_LIMIT as u32) {
         Err(fault) => Err(JudgeFault::from(fault)),
         Ok(text) => match referee(alloc, text.as_slice()) {
             Err(fault) => Err(JudgeFault::Trace(fault)),

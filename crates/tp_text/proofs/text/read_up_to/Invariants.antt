@@ -2,7 +2,7 @@
 use Rattle.std.proofs.Common.{◌+◌, ◌-◌, ◌≤◌, take, vec_len}
 use Rattle.std.specs.Io.KnownBytes.{Consumes}
 use Rattle.tp_text.specs.Reading.{IsRoom}
-use Rattle.tp_text.proofs.text.read_within.Given as goal
+use Rattle.tp_text.proofs.text.read_up_to.Given as goal
 
 abbrev pub invariant-loop-size : goal.invariant-loop-size
 invariant-loop-size g l =
