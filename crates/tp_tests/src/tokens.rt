@@ -9,9 +9,9 @@ use tp_token::word::{Word, word_of};
 
 /// The reserved words, as the notation lists them.
 const WORDS: &str = "module type record of port message component in out inout function testcase \
-    runs on system var create connect map mtc self start stop halt clear send receive trigger check \
-    to from alt else for setverdict none pass inconc fail error all done true false integer boolean \
-    charstring complement pattern infinity value sender";
+    runs on system var create connect map mtc self start stop halt clear send receive trigger \
+    check to from alt else for setverdict none pass inconc fail error all done true false integer \
+    boolean charstring complement pattern infinity value sender";
 
 /// Their tokens.
 const SHOWN_WORDS: &str = "1 Word(Module); 1 Word(Type); 1 Word(Record); 1 Word(Of); 1 Word(Port); \
@@ -53,7 +53,7 @@ fn check<R: AllocGlobal + Abort>(rt: &R, table: &[(&[u8], &str)]) {
 }
 
 #[test]
-fn tokens_of_each_kind(rt: HostRuntime) {
+fn tokens_of_words_numbers_and_texts(rt: HostRuntime) {
     check(
         &rt,
         &[
@@ -76,13 +76,25 @@ fn tokens_of_each_kind(rt: HostRuntime) {
                 "1 Text([]); 1 Text([34]); 1 Text([97, 34, 98]); 1 Text([92]); ",
             ),
             (b"\" ~\"", "1 Text([32, 126]); "),
+        ],
+    );
+}
+
+#[test]
+fn tokens_of_symbols(rt: HostRuntime) {
+    check(
+        &rt,
+        &[
             (
                 b"{}()[]",
-                "1 Symbol(LeftBrace); 1 Symbol(RightBrace); 1 Symbol(LeftParen); 1 Symbol(RightParen); 1 Symbol(LeftBracket); 1 Symbol(RightBracket); ",
+                "1 Symbol(LeftBrace); 1 Symbol(RightBrace); 1 Symbol(LeftParen); 1 Symbol(RightParen); \
+                 1 Symbol(LeftBracket); 1 Symbol(RightBracket); ",
             ),
             (
                 b",;:.?*-<+",
-                "1 Symbol(Comma); 1 Symbol(Semicolon); 1 Symbol(Colon); 1 Symbol(Dot); 1 Symbol(Question); 1 Symbol(Star); 1 Symbol(Minus); 1 Symbol(Less); 1 Symbol(Plus); ",
+                "1 Symbol(Comma); 1 Symbol(Semicolon); 1 Symbol(Colon); 1 Symbol(Dot); \
+                 1 Symbol(Question); 1 Symbol(Star); 1 Symbol(Minus); 1 Symbol(Less); \
+                 1 Symbol(Plus); ",
             ),
             (
                 b"..:=->",
@@ -90,11 +102,13 @@ fn tokens_of_each_kind(rt: HostRuntime) {
             ),
             (
                 b"... .: -- ->",
-                "1 Symbol(DotDot); 1 Symbol(Dot); 1 Symbol(Dot); 1 Symbol(Colon); 1 Symbol(Minus); 1 Symbol(Minus); 1 Symbol(Arrow); ",
+                "1 Symbol(DotDot); 1 Symbol(Dot); 1 Symbol(Dot); 1 Symbol(Colon); 1 Symbol(Minus); \
+                 1 Symbol(Minus); 1 Symbol(Arrow); ",
             ),
             (
                 b"p.send(integer:-5)",
-                "1 Name(\"p\"); 1 Symbol(Dot); 1 Word(Send); 1 Symbol(LeftParen); 1 Word(Integer); 1 Symbol(Colon); 1 Symbol(Minus); 1 Number(5); 1 Symbol(RightParen); ",
+                "1 Name(\"p\"); 1 Symbol(Dot); 1 Word(Send); 1 Symbol(LeftParen); 1 Word(Integer); \
+                 1 Symbol(Colon); 1 Symbol(Minus); 1 Number(5); 1 Symbol(RightParen); ",
             ),
         ],
     );

@@ -1,5 +1,5 @@
 //! What a line tells.
-ghost use Rattle.std.specs.Prelude.{◌≡◌, ◌∷◌, ◌++◌, ◌<◌, ◌^◌, ◌↔◌, ℕ, codes, IfSome, IsSome, IsTrue, MatchBool, MatchOption, None, Some, length};
+ghost use Rattle.std.specs.Prelude.{◌≡◌, ◌∷◌, ◌++◌, ◌<◌, ◌^◌, ◌↔◌, ℕ, codes, IfSome, IsSome, IsTrue, MatchBool, MatchOption, None, Some, false, length, true};
 ghost use Rattle.std.specs.Char.{is_ascii_graphic};
 ghost use Rattle.std.specs.List.{list_all};
 ghost use Rattle.std.specs.Str.{IsAscii};
@@ -263,6 +263,13 @@ fn message_of(fate: Fate, rest: &[u8]) -> Option<Message<'_>>
     }
 }
 
+/// The line, where what stands behind its verb is as it must be.
+fn line_where(holds: bool, line: Line<'_>) -> Option<Line<'_>>
+    ensures { MatchOption result (holds ≡ false) (λ l. (holds ≡ true) × (l ≡ line.entry)) }
+{
+    if holds { Some(line) } else { None }
+}
+
 /// The line of this verb with this behind it.
 fn line_behind(verb: Verb, rest: &[u8]) -> Option<Line<'_>>
     ensures { IsRead verb (Some rest.now) result }
@@ -272,41 +279,11 @@ fn line_behind(verb: Verb, rest: &[u8]) -> Option<Line<'_>>
             let message = message_of(fate, rest)?;
             Some(Line::Message(fate, message))
         }
-        Verb::Component => {
-            if is_word(rest) {
-                Some(Line::Component(rest))
-            } else {
-                None
-            }
-        }
-        Verb::Operation(operation) => {
-            if is_port(rest) {
-                Some(Line::Operation(operation, rest))
-            } else {
-                None
-            }
-        }
-        Verb::Note(note) => {
-            if is_note(note, rest) {
-                Some(Line::Note(note, rest))
-            } else {
-                None
-            }
-        }
-        Verb::End => {
-            if rest.is_empty() {
-                None
-            } else {
-                Some(Line::End(rest))
-            }
-        }
-        Verb::Result => {
-            if is_verdict(rest) {
-                Some(Line::Result(rest))
-            } else {
-                None
-            }
-        }
+        Verb::Component => line_where(is_word(rest), Line::Component(rest)),
+        Verb::Operation(operation) => line_where(is_port(rest), Line::Operation(operation, rest)),
+        Verb::Note(note) => line_where(is_note(note, rest), Line::Note(note, rest)),
+        Verb::End => line_where(!rest.is_empty(), Line::End(rest)),
+        Verb::Result => line_where(is_verdict(rest), Line::Result(rest)),
         Verb::Else => None,
     }
 }
