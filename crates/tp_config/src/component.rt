@@ -25,6 +25,7 @@ pub(crate) struct Component {
     pub(crate) links: Links,
 }
 
+/// The component of this number, if there is one.
 pub(crate) fn component_at(components: &[Component], comp: CompId) -> Option<&Component>
     ensures { option_copied result ≡ slice_get components.now comp.0 }
 {

@@ -1,7 +1,7 @@
 //! The bell of an inbox: how many pushes were announced, and whether the owner rests.
 //!
-//! An owner rests where nothing of its `alt` can be chosen yet (ES 201 873-1, 20.2). What sleeps and
-//! is woken stands with the inbox; here is who is to be woken, and why.
+//! An owner rests where nothing of its `alt` can be chosen yet (ES 201 873-1, 20.2). What sleeps
+//! and is woken stands with the inbox; here is who is to be woken, and why.
 ghost use Rattle.std.specs.Prelude.{◌≡◌, ◌<◌, ◌≤◌, ◌↔◌, ◌+◌, ◌%◌, ◌^◌, ℕ, true, false, None, Some};
 ghost use Rattle.std.specs.Prelude.{is_some, IfSome, IsSomeAnd, if◌then◌else◌};
 ghost use Rattle.crossbeam_utils.specs.Seq.{cell_view};
@@ -24,8 +24,8 @@ pub enum Woken {
 }
 
 /// The bell of an inbox, which is kept under the inbox's lock, seen by contracts as how many pushes
-/// were announced, whether the inbox was closed, and for how many its owner rests. It has nothing of
-/// the messages.
+/// were announced, whether the inbox was closed, and for how many its owner rests. It has nothing
+/// of the messages.
 ///
 /// Whoever announces a push or closes the inbox ends the rest of an owner for whom that is
 /// something, and is told to wake it: so nobody rests for whom there is something. Who rests has a

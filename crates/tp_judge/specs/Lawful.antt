@@ -81,8 +81,8 @@ pub record AreWithin (trace : Trace) : Type 0 where
   pub numbers : All (λ line. line.number < trace.numbers) trace.lines.items
   pub few : trace.numbers < 2 ^ 32
 
--- a line names a route with the port at the route's end, and what came to a port came to the component that it belongs to.
--- `ports` has of each route the port at its end
+-- a line names a route with the port at the route's end, and what came to a port came to the component that it
+-- belongs to. `ports` has of each route the port at its end
 abbrev pub IsRoutedAct : Trace → List ℕ → ℕ → Act → Type 0
 IsRoutedAct trace ports component (act.Sent m) = m.port ≡ slice_index ports m.route
 IsRoutedAct trace ports component (act.Came m) =

@@ -1,26 +1,26 @@
--- What makes a trace one run: whether all that its components did can have happened one after another, each message in its
--- queue at once when it was sent (ES 201 873-4). A line is known by its place in the trace.
+-- What makes a trace one run: whether all that its components did can have happened one after another, each message in
+-- its queue at once when it was sent (ES 201 873-4). A line is known by its place in the trace.
 --
 -- Four traces, each of them lawful. Before a line stands its place, and its component.
 --
---     0  a  sent b.p 0 question      One run, by the order 0 4 5 2. Where b takes the question (4), what had come to it (3)
---     1  a  came p b 0 answer        is all that was sent to it so far; so it is where a takes the answer (2), which was
---     2  a  took p b 0 answer        sent (5) before.
+--     0  a  sent b.p 0 question      One run, by the order 0 4 5 2. Where b takes the question (4), what had come to
+--     1  a  came p b 0 answer        it (3) is all that was sent to it so far; so it is where a takes the answer (2),
+--     2  a  took p b 0 answer        which was sent (5) before.
 --     3  b  came p a 0 question
 --     4  b  took p a 0 question
 --     5  b  sent a.p 0 answer
 --
 --     0  a  sent b.p 0 early         Delayed. `early` was sent (0) before `go` (1), that before c took it (3) and sent
---     1  a  sent c.p 0 go            `late` (4), and that before b took it (6). So b looked at its ports when `early` had
---     2  c  came p a 0 go            been sent, and it hadn't come (7): that asks for 6 before 0. The lines 0 1 3 4 6 are
---     3  c  took p a 0 go            a circle.
+--     1  a  sent c.p 0 go            `late` (4), and that before b took it (6). So b looked at its ports when `early`
+--     2  c  came p a 0 go            had been sent, and it hadn't come (7): that asks for 6 before 0. The lines
+--     3  c  took p a 0 go            0 1 3 4 6 are a circle.
 --     4  c  sent b.q 0 late
 --     5  b  came q c 0 late
 --     6  b  took q c 0 late
 --     7  b  came p a 0 early
 --
---     0  a  sent a.p 0 note          Delayed. The `else` (1) looked when the note had been sent, and it hadn't come (2).
---     1  a  else
+--     0  a  sent a.p 0 note          Delayed. The `else` (1) looked when the note had been sent, and it hadn't
+--     1  a  else                     come (2).
 --     2  a  came p a 0 note
 --
 --     0  b  else                     One run, by the order 0 2: the `else` looked before the call was sent.
@@ -179,7 +179,8 @@ pub record IsDemandCircle (trace : Trace) (circle : List ℕ) : Type 0 where
       → IsDemanded trace (slice_index circle i) (slice_index circle (i + 1))
   pub round : IsDemanded trace (slice_index circle (length circle - 1)) (slice_index circle 0)
 
--- the trace isn't one run, and the line of this number is the first, in the order of the text, of a circle of the demands
+-- the trace isn't one run, and the line of this number is the first, in the order of the text, of a circle of the
+-- demands
 pub record IsDelayedAt (trace : Trace) (number : ℕ) : Type 0 where
   pub none : IsOneRun trace → ⊥
   pub circle : List ℕ

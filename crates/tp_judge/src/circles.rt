@@ -28,8 +28,8 @@ pub(crate) fn least(xs: &[usize]) -> usize
     least
 }
 
-/// A line of a trace whose routes are lawful that happens before itself, if there is one: the first,
-/// in the order of the text, of the circle that is found.
+/// A line of a trace whose routes are lawful that happens before itself, if there is one: the
+/// first, in the order of the text, of the circle that is found.
 pub fn circle_place(alloc: Global, trace: &Trace) -> Result<Option<Place>, Memory>
     requires within { AreWithin trace.now }
     requires delivered { Delivered trace.now }

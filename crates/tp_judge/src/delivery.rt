@@ -19,6 +19,7 @@ pub(crate) struct RouteRows<'t> {
     pub(crate) came: Vec<Vec<&'t Line>>,
 }
 
+/// The lines of each route: those that send by it, and those that say what came by it.
 pub(crate) fn gather_routes<'t>(alloc: Global, trace: &'t Trace) -> Result<RouteRows<'t>, Memory>
     requires { AreWithin trace.now }
     ensures { IfOk result (AreRouteRows trace.now) }

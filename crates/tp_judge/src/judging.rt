@@ -56,8 +56,8 @@ fn put_in_order(places: &mut Vec<Place>) -> Result<(), Memory>
     Ok(())
 }
 
-/// The places where a trace isn't lawful, in the order of their lines: one at most for each port and
-/// each route, and one for circles, which are looked for where all routes are lawful.
+/// The places where a trace isn't lawful, in the order of their lines: one at most for each port
+/// and each route, and one for circles, which are looked for where all routes are lawful.
 pub fn judge(alloc: Global, trace: &Trace) -> Result<Vec<Place>, Memory>
     requires { AreWithin trace.now }
     ensures lawful { IfOk result (λ places. (places.items ≡ []) ↔ IsLawful trace.now) }

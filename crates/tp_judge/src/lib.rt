@@ -1,4 +1,5 @@
-//! Whether a trace obeys the rules of ports and of delivery, and nothing in it happened before itself.
+//! Whether a trace obeys the rules of ports and of delivery, and nothing in it happened before
+//! itself.
 #![tactic(auto)]
 
 pub mod circles;

@@ -27,8 +27,8 @@ fn is_queued(queue: &PortQueue<MessageId>, place: u64, mention: Mention) -> bool
     }
 }
 
-/// The number of the line at which it is told that something isn't told as left: the first that says
-/// that the component ended, or the last where none does.
+/// The number of the line at which it is told that something isn't told as left: the first that
+/// says that the component ended, or the last where none does.
 fn closer_number(closing: &[&Line]) -> u32
     requires { 0 < length closing.now }
     ensures { IsCloserNumber (seen closing.now) result }
@@ -62,8 +62,8 @@ fn closers_of(alloc: Global, closing: &[Vec<&Line>]) -> Result<Vec<Option<u32>>,
     Ok(closers)
 }
 
-/// A line where what is told as left isn't what is queued, if there is one. The section is closed by
-/// the line of this number, or open.
+/// A line where what is told as left isn't what is queued, if there is one. The section is closed
+/// by the line of this number, or open.
 fn left_place(
     queue: &PortQueue<MessageId>,
     left: &[&Line],

@@ -72,7 +72,8 @@ fn add_own(
 fn add_arrival(demands: &mut Vec<Demand>, latest: Latest, sending: usize) -> Result<Latest, Memory>
     ensures latest { IfOk result (λ now. now ≡ after_arrival latest sending) }
     ensures demands { OnOk result (demands.new.items
-        ≡ (demands.old.items ++ demand_of latest.look sending) ++ demand_of latest.sending sending) }
+        ≡ (demands.old.items ++ demand_of latest.look sending)
+        ++ demand_of latest.sending sending) }
 {
     add(demands, latest.look, sending)?;
     add(demands, latest.sending, sending)?;

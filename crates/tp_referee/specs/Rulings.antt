@@ -17,7 +17,8 @@ pub record IsUnlawful (trace : Trace) (places : List Place) : Type 0 where
   pub told : All (IsPlace trace) places
   pub in_order : AreInOrder places
 
--- **lawful exactly where the trace is**, and then one run exactly where it is one; where it isn't lawful each place is true
+-- **lawful exactly where the trace is**, and then one run exactly where it is one; where it isn't lawful each place is
+-- true
 abbrev pub IsRulingOn : Trace → Ruling → Type 0
 IsRulingOn trace (ruling.Lawful run) = IsLawful trace × IsRunAnswer trace run
 IsRulingOn trace (ruling.Unlawful places) = IsUnlawful trace places.items

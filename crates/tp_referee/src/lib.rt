@@ -1,10 +1,10 @@
 //! Whether what the text of a trace tells is lawful: its names are numbered, and judged.
 #![tactic(auto)]
 
-pub mod joining;
+mod joining;
 pub mod numbering;
-pub mod numbers;
+mod numbers;
 pub mod ruling;
-pub mod tables;
-pub mod words;
+mod tables;
+mod words;
 pub mod writing;

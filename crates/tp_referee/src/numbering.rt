@@ -2,10 +2,9 @@
 ghost use Rattle.std.specs.Prelude.{◌≡◌, ◌<◌, ◌≤◌, ◌+◌, IfOk, OnOk, length, slice_get};
 ghost use Rattle.std.specs.List.{AllZip};
 ghost use Rattle.tp_trace.specs.Tree.{IsTrace, told_of};
-ghost use Rattle.tp_judge.specs.Lawful.{AreWithin};
+ghost use Rattle.tp_judge.specs.Lawful.{AreRouted, AreWithin};
 ghost use Rattle.tp_referee.specs.Numbering.{IsLine, IsNumberingOf, stands_of};
 ghost use Rattle.tp_referee.specs.OneToOne.{IsOneToOne};
-ghost use Rattle.tp_judge.specs.Lawful.{AreRouted};
 ghost use Rattle.tp_referee.specs.Turns.{Grows, HasRoom, IsInside, IsTurn, IsWhole, size};
 
 use crate::joining::{joined_of, owners_of, sections_of};

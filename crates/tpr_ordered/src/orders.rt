@@ -77,7 +77,8 @@ fn order_of(alloc: Global, config: &Config, line: &str, number: u32) -> Result<O
 
 /// The orders that a text says, one a line: the names of components of the configuration, one for
 /// each step, with a `+` behind one that is held inside its statement; one space between two of
-/// them. Each line ends with a byte 10; the last may lack it. An empty line is the order of no step.
+/// them. Each line ends with a byte 10; the last may lack it. An empty line is the order of no
+/// step.
 ///
 /// 2 `Read` where the text isn't UTF-8; else the first of 11 `Unknown`, at the first line in which
 /// a name is that of no component, and 50, where an allocation was refused.

@@ -9,7 +9,11 @@ use std::test::Fail;
 const HALT_AND_SENDS: &str = "module M {
 type port P message { inout integer; }
 type component C { port P p; }
-function f() runs on C { p.halt; alt { [] p.receive { } [else] { } } alt { [] p.receive { } [else] { } } }
+function f() runs on C {
+p.halt;
+alt { [] p.receive { } [else] { } }
+alt { [] p.receive { } [else] { } }
+}
 function g() runs on C { p.send(integer:1); setverdict(none); }
 testcase t() runs on C {
 var C o := C.create; var C a := C.create; var C b := C.create;
