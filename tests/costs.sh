@@ -34,18 +34,26 @@ what_each_function_cost() {
     must "no count" 1 '' $'usage: tools/costs.py CRATE_FOLDER [COUNT]\n'
 }
 
-# What rt ci took: the part of each process is told by its words and its folder.
+# What rt ci took: the part of each process is told by its words and its folder. Each goes on until the table
+# says that it took time of both kinds, however seldom a busy machine lets it be looked at.
 write_ci() {
     cat >ci <<'CI'
 #!/usr/bin/env bash
-busy() { # FOLDER WORD..
-    cd -- "$1" && bash -c 'for ((n = 0; n < 400000; n += 1)); do :; done; sleep 1.2' rattle check "${@:2}"
+took() { # CRATE COLUMN
+    awk -v crate="$1" -v column="$2" '$1 == crate && $column > 0 && $(column + 1) > 0 { found = 1 } END { exit !found }' \
+        "$times" 2>/dev/null
+}
+export times=$PWD/times
+export -f took
+busy() { # FOLDER COLUMN WORD..
+    cd -- "$1" && timeout 100 bash -c 'until took "$3" "$0"; do for ((n = 0; n < 100000; n += 1)); do :; done; done' \
+        "$2" check --crate-name "${@:3}"
 }
 echo "rt: ci"
-(busy low --crate-name low src/lib.rt)
-(busy low --crate-name low src/lib.rt --test) &
-(busy rt-edit-1 --crate-name low src/lib.rt)
-(busy high --crate-name high src/lib.rt)
+(busy low 2 low src/lib.rt)
+(busy low 4 low src/lib.rt --test) &
+(busy rt-edit-1 6 low src/lib.rt)
+(busy high 2 high src/lib.rt)
 wait
 exit 3
 CI

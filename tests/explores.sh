@@ -228,9 +228,9 @@ all_explored_interrupted() {
 # The line of progress on a terminal; a component that waits for good; the order of a run that is told, run again.
 explored_as_told() {
     local script=examples/broadcast_is_overtaken_by_an_answer.ttcn again
-    make_senders 6 at "$room/explored_six.ttcn"
+    make_senders 10 at "$room/explored_ten.ttcn" # of which three seconds are no end
     observe env TPR_ORDERED="$ordered" python3 "$root/tests/tool_rules.py" terminal "$root/tools/explore" \
-        "$room/explored_six.ttcn"
+        "$room/explored_ten.ttcn" --minutes 0.05
     tool_must "a line of progress on a terminal" 0 \
         grep -q 'runs\?, [0-9]* class\(es\)\?, ways not tried yet: [1-9]' "$room/printed"
     run_explore tests/orders/all_wait_for_each_other.ttcn

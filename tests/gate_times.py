@@ -9,7 +9,7 @@ second: which crate each is for (`--crate-name`), and for what (`--test`, or a f
 a wrong body). FILE gets a line for each crate with seconds of wall time, from the first moment that
 one of its processes was seen to the last, and of processor time, as it was last seen of each: so up
 to half a second of each process is missing, and the runs of programs and tests, which are short,
-are left out.
+are left out. It is written anew at each look, whole: so a gate that is cut off leaves what was seen.
 """
 import os
 import subprocess
@@ -115,6 +115,13 @@ def table(parts):
     return [*lines, f"{'all':40}" + "".join(f" {'':8} {it:8.0f}" for it in whole.values())]
 
 
+def write(path, lines):
+    """Writes a file beside it and puts that in its place, so that nobody reads half of one."""
+    with open(f"{path}.new", "w", encoding="utf-8") as file:
+        file.write("".join(f"{line}\n" for line in lines))
+    os.replace(f"{path}.new", path)
+
+
 def main(words):
     if len(words) < 2:
         sys.exit("usage: tests/gate_times.py FILE COMMAND..")
@@ -122,9 +129,9 @@ def main(words):
     with subprocess.Popen(words[1:]) as ran:
         while ran.poll() is None:
             look(ran.pid, parts)
+            write(words[0], table(parts))
             time.sleep(EACH)
-    with open(words[0], "w", encoding="utf-8") as file:
-        file.write("".join(f"{line}\n" for line in table(parts)))
+    write(words[0], table(parts))
     return ran.returncode if ran.returncode >= 0 else 128 - ran.returncode
 
 

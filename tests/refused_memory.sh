@@ -1,5 +1,6 @@
 # Each allocation of the program refused in turn: it answers `fault 50 Memory` and nothing else, or
-# what it answers with ample memory. `refused_of_traces` is that of tests/traces.sh; `root`, `room`, `count`, `at_least` and `set_up` are those of ./test.
+# what it answers with ample memory. `refused_of_traces` is that of tests/traces.sh; `root`, `room`,
+# `count`, `at_least` and `set_up` are those of ./test.
 # The program is the built one itself, since a shell before it would be refused memory too.
 
 # Makes what is loaded before the C library to refuse a call; `with_refused` runs a command with it.

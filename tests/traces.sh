@@ -9,12 +9,6 @@ find_judge() {
     if [[ ${JUDGE-} ]]; then read -ra judge_of_traces <<<"$JUDGE"; fi
 }
 
-# Until the program has the mode.
-has_judge() {
-    observe "${judge_of_traces[@]}" /dev/null
-    [[ $status != 4 ]]
-}
-
 # Runs a part of the tests in Python, and counts its lines.
 told_by() { # LEAST WORD..
     python3 -B "${@:2}" >"$room/traces_told" 2>&1 || echo "FAILED: ${*:2}" >>"$room/traces_told"
@@ -311,11 +305,7 @@ traces() {
     at_least 10 refused_logs
     at_least 4 cases_of_logs
     at_least 1 cut_logs
-    if has_judge; then
-        judged_traces
-    else
-        echo "left out: tpr judge beside the judge of traces, since the program has no mode judge"
-    fi
+    judged_traces
 }
 
 # Free runs: each trace of `tpr trace` without its lines `came` is a report that the script may have, and it is lawful
@@ -325,5 +315,5 @@ traces_of_runs() {
     find_runnable
     find_judge
     told_by 160 tests/traces/runs.py "$tpr" "${runnable[@]}"
-    if has_judge; then told_by 160 tests/traces/runs.py "$tpr" "${runnable[@]}" -- "${judge_of_traces[@]}"; fi
+    told_by 160 tests/traces/runs.py "$tpr" "${runnable[@]}" -- "${judge_of_traces[@]}"
 }
