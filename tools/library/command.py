@@ -6,11 +6,12 @@ from __future__ import annotations
 
 import argparse
 import gc
+import os
 import sys
-from typing import Callable, NoReturn, Optional
+from typing import TYPE_CHECKING, Callable, NoReturn, Optional
 
-from .reader import read_report
-from .report import NotAReport, Report
+if TYPE_CHECKING:
+    from .report import NotAReport, Report
 
 DONE, NOT_BUILT, REFUSED, NOT_WRITTEN, WRONG_USAGE, NOT_SO = range(6)
 INTERRUPTED = 130
@@ -71,6 +72,10 @@ def read_bytes(file: Optional[str]) -> bytes:
 
 def report_in(file: Optional[str]) -> Report:
     """The report that a file holds. Its messages aren't matched yet."""
+    # Not each tool reads a report, and a third of the start of one that doesn't went into the reader.
+    from .reader import read_report
+    from .report import NotAReport
+
     try:
         return read_report(read_bytes(file))
     except NotAReport as fault:
@@ -108,8 +113,9 @@ def write_file(file: str, text: str) -> None:
         raise Stop(NOT_WRITTEN, f"{file} can't be written: {error.strerror}") from None
 
 
-def run(name: str, tool: Callable[[], int]) -> NoReturn:
-    """Ends the process with the status of the tool."""
+def run(name: str, tool: Callable[[], int], at_once: bool = False) -> NoReturn:
+    """Ends the process with the status of the tool; `at_once` where it leaves nothing to be done, and may hold so much
+    that to let go of it takes long."""
     # What the tools make has no circles, so that looking for such costs a quarter of the time for nothing.
     gc.disable()
     try:
@@ -121,6 +127,8 @@ def run(name: str, tool: Callable[[], int]) -> NoReturn:
         status = INTERRUPTED
     # What could not be written is not tried again when the interpreter ends.
     _forget_output()
+    if at_once:
+        os._exit(status)
     sys.exit(status)
 
 

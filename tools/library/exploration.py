@@ -1,22 +1,24 @@
 """What comes of a script in the orders of its steps that differ in what matters: each is run on the program."""
 from __future__ import annotations
 
-import random
 import time
 from collections import Counter
-from concurrent.futures import Future, ThreadPoolExecutor
 from dataclasses import dataclass, field
-from typing import Callable, Optional
+from typing import TYPE_CHECKING, Callable, Optional
 
-from .forced_runs import Answer, ForcedRuns, Outcome
+from .forced_runs import Answer, AnswersBeside, ForcedRuns, Outcome
 from .forced_script import ForcedScript
 from .model_of_runs import PlacedCase, Run
-from .parting import Parting, parting_of
 from .reduction import Order, Reduction
 from .run_classes import class_of, result_of
 from .touching import Place, Steps
 from .twins import left_of_twins, processes_of
 from .words import VERDICTS
+
+if TYPE_CHECKING:
+    from random import Random
+
+    from .parting import Parting
 
 AT_ONCE = 64  # orders that one process runs
 SECONDS_AT_ONCE = 0.25  # or those that were found in so long
@@ -73,11 +75,11 @@ class Exploration:
         self.steps = Steps()
         self.forced = runs
         self.bounds = bounds
-        self.chance = None if seed is None else random.Random(seed)
+        self.chance = None if seed is None else chance_of(seed)
         self.found = Found()
         self.asked: set[tuple[int, ...]] = set()
         self.waiting: list[Order] = []
-        self.under_way: Optional[tuple[list[Order], Future[list[Answer]]]] = None
+        self.under_way: Optional[tuple[list[Order], AnswersBeside]] = None
         self.began = self.sent_at = time.monotonic()
         self.shown_at = self.began
         self.show: Callable[[Exploration], None] = lambda exploration: None
@@ -86,35 +88,34 @@ class Exploration:
 
     def explore(self) -> Found:
         """Looks at all orders, as far as the bounds allow. An interrupt ends it, and what is known stays."""
-        with ThreadPoolExecutor(1) as worker:
-            try:
-                self._search_all(worker)
-            except KeyboardInterrupt:
-                self.found.interrupted = True
-                self.forced.stop()
-                self._collect()
-            except BaseException:
-                self.forced.stop()
-                raise
+        try:
+            self._search_all()
+        except KeyboardInterrupt:
+            self.found.interrupted = True
+            self.forced.stop()
+            self._collect()
+        except BaseException:
+            self.forced.stop()
+            raise
         return self.found
 
-    def _search_all(self, worker: ThreadPoolExecutor) -> None:
+    def _search_all(self) -> None:
         """Anew where twins turned out to be told apart by what is left of their messages."""
         apart: frozenset[Place] = frozenset()
-        while (more := self._search(worker, apart)) and not self.is_over():
+        while (more := self._search(apart)) and not self.is_over():
             apart |= more
-        self._send(worker)
+        self._send()
         self._collect()
         self.found.over = self.is_over() and not self.is_all
 
-    def _search(self, worker: ThreadPoolExecutor, apart: frozenset[Place]) -> frozenset[Place]:
+    def _search(self, apart: frozenset[Place]) -> frozenset[Place]:
         processes = processes_of(self.case, apart)
         self.reduction = Reduction(self.begin, processes, self.steps, self.chance, self.is_over)
         self.is_all = False
         for order in self.reduction.new_ones():
             if left := left_of_twins(order.run, processes):
                 return left
-            self._take(worker, order)
+            self._take(order)
         self.is_all = not self.reduction.nodes
         return frozenset()
 
@@ -132,20 +133,20 @@ class Exploration:
 
     # Runs
 
-    def _take(self, worker: ThreadPoolExecutor, order: Order) -> None:
+    def _take(self, order: Order) -> None:
         if order.components in self.asked:
             return
         self.asked.add(order.components)
         self.waiting.append(order)
         if len(self.waiting) >= AT_ONCE or time.monotonic() - self.sent_at > SECONDS_AT_ONCE:
-            self._send(worker)
+            self._send()
 
-    def _send(self, worker: ThreadPoolExecutor) -> None:
+    def _send(self) -> None:
         """Has the orders run that were found since, once those before them are done."""
         self._collect()
         if self.waiting:
             lines = [self.line_of(order.components) for order in self.waiting]
-            self.under_way = (self.waiting, worker.submit(self.forced.run, lines))
+            self.under_way = (self.waiting, AnswersBeside(self.forced, lines))
         self.waiting = []
         self.sent_at = time.monotonic()
 
@@ -153,8 +154,8 @@ class Exploration:
         """Takes what came of the orders that are run."""
         if self.under_way is None:
             return
-        orders, future = self.under_way
-        answers = future.result()
+        orders, beside = self.under_way
+        answers = beside.answers()
         self.under_way = None
         for order, answer in zip(orders, answers):
             self._note(order, answer)
@@ -192,12 +193,20 @@ class Exploration:
     def partings(self) -> list[tuple[str, str, tuple[int, ...], tuple[int, ...], Optional[Parting]]]:
         """For each verdict but the first, two orders near to each other, of which one gives it and the other a
         better one, and where their runs part."""
+        from .parting import parting_of  # of one verdict alone nothing parts
+
         told = []
         verdicts = self.found.verdicts()
         for place, worse in enumerate(verdicts[1:], 1):
             better, first, second = nearest(self.found.runs, verdicts[:place], worse)
             told.append((better, worse, first, second, parting_of(self.case, first, second)))
         return told
+
+
+def chance_of(seed: int) -> Random:
+    from random import Random  # which takes long to be read
+
+    return Random(seed)
 
 
 def nearest(

@@ -95,6 +95,12 @@ def _text_of_verdict(exploration: Exploration, verdict: str, script: str) -> str
     return f"A run that comes to {verdict}; again: {again}\n{_indented(shown.report)}"
 
 
+def json_of(exploration: Exploration, script: str) -> str:
+    import json  # which takes long to be read, and isn't asked for in most cases
+
+    return json.dumps(as_json(exploration, script), indent=2) + "\n"
+
+
 def as_json(exploration: Exploration, script: str) -> dict[str, object]:
     found = exploration.found
     return {

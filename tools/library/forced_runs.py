@@ -4,7 +4,7 @@ from __future__ import annotations
 import os
 import signal
 import subprocess
-import tempfile
+import threading
 from dataclasses import dataclass
 from enum import Enum
 from typing import Optional
@@ -31,14 +31,31 @@ class Answer:
     text: str
 
 
+class HandedFile:
+    """A file in memory, for the programs to which it is handed. Nothing of it is left behind, whatever ends the tool;
+    and `tempfile` takes longer to be read than many a search."""
+
+    def __init__(self, name: str):
+        self.file = open(os.memfd_create(name), "wb")
+        self.path = f"/proc/self/fd/{self.file.fileno()}"
+
+    def write(self, text: str) -> None:
+        """Writes it anew. It is read from its beginning."""
+        self.file.seek(0)
+        self.file.truncate()
+        self.file.write(text.encode("latin-1"))
+        self.file.flush()
+
+
 class ForcedRuns:
-    """The program, and a folder for the script and the orders that it reads."""
+    """The program, and the script and the orders that it reads."""
 
     def __init__(self, program: str):
         self.program = program
-        self.folder = tempfile.TemporaryDirectory(prefix="explore")
-        self.script = os.path.join(self.folder.name, "forced.ttcn")
-        self.orders = os.path.join(self.folder.name, "orders")
+        self.forced = HandedFile("forced.ttcn")
+        self.script = self.forced.path
+        self.orders = HandedFile("orders")
+        self.handed = (self.forced.file.fileno(), self.orders.file.fileno())
         self.process: Optional[subprocess.Popen[bytes]] = None
         self.stopping = False
 
@@ -48,8 +65,7 @@ class ForcedRuns:
         return None if status == 0 else (status, printed)
 
     def write_script(self, text: str) -> None:
-        with open(self.script, "w", encoding="latin-1", newline="") as file:
-            file.write(text)
+        self.forced.write(text)
 
     def run(self, orders: list[str]) -> list[Answer]:
         """An answer for each order, each of which is the names of components. An order that doesn't come to
@@ -72,13 +88,12 @@ class ForcedRuns:
 
     def _run(self, script: str, orders: list[str]) -> tuple[Optional[int], str]:
         """The status, None where there was no end, and what was printed."""
-        with open(self.orders, "w", encoding="latin-1", newline="") as file:
-            file.writelines(f"{order}\n" for order in orders)
-        command = [self.program, script, self.orders]
+        self.orders.write("".join(f"{order}\n" for order in orders))
+        command = [self.program, script, self.orders.path]
         pipes = {"stdin": subprocess.DEVNULL, "stdout": subprocess.PIPE, "stderr": subprocess.STDOUT}
         try:
             # In a session of its own, so that an interrupt in a terminal comes to the tool alone.
-            self.process = subprocess.Popen(command, start_new_session=True, **pipes)
+            self.process = subprocess.Popen(command, start_new_session=True, pass_fds=self.handed, **pipes)
         except OSError as error:
             raise Stop(NOT_BUILT, f"{self.program} can't be run: {error.strerror}") from None
         late = False
@@ -90,6 +105,30 @@ class ForcedRuns:
             late = True
         status = None if late or self.process.returncode < 0 else self.process.returncode
         return status, printed.decode("latin-1")
+
+
+class AnswersBeside:
+    """The answers to some orders, which are run in a thread beside. It is less than `concurrent.futures` is, the
+    reading of which takes longer than many a search."""
+
+    def __init__(self, runs: ForcedRuns, orders: list[str]):
+        self.found: list[Answer] = []
+        self.fault: Optional[BaseException] = None
+        self.thread = threading.Thread(target=self._run, args=(runs, orders))
+        self.thread.start()
+
+    def answers(self) -> list[Answer]:
+        """Waits for them. What ended the runs ends this too."""
+        self.thread.join()
+        if self.fault is not None:
+            raise self.fault
+        return self.found
+
+    def _run(self, runs: ForcedRuns, orders: list[str]) -> None:
+        try:
+            self.found = runs.run(orders)
+        except BaseException as fault:  # whatever it is, it is told where the answers are asked for
+            self.fault = fault
 
 
 def _answer(piece: str) -> Answer:

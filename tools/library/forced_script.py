@@ -11,10 +11,7 @@ from dataclasses import dataclass, field
 from itertools import count
 from typing import Iterator, Optional
 
-from .model_of_runs import Placed, PlacedCase
-from .script_grammar import read_module
-from .script_tokens import Text
-from .script_tree import Alt, Body, ComponentStart, Creation, Function, Loop, Send, Statement, TestCase
+from .model_of_runs import EVERYONE, Choice, Function, Loop, Placed, PlacedCase, Send, Variable, placed_tokens
 
 Edits = dict[int, tuple[int, list[str]]]  # by the place of a token: how many are taken out, and what stands there
 
@@ -40,20 +37,19 @@ class ForcedScript:
 
 def forced_script(data: bytes, split: bool = True) -> ForcedScript:
     """The script to run in the place of one that is accepted. Without `split` each send to all stays whole."""
-    writer = _Writer(Text(data))
+    writer = _Writer(placed_tokens(data))
     if split:
         writer.split_sends()
     return writer.script()
 
 
-def placed_tokens(text: Text) -> list[Placed]:
-    """The tokens of a script with their lines."""
-    tokens, line, before = [], 1, 0
-    for place, token in enumerate(text.tokens):
-        line += text.letters.count("\n", before, text.offset(place))
-        before = text.offset(place)
-        tokens.append(Placed(token, line))
-    return tokens
+@dataclass(frozen=True)
+class _Body:
+    """A function, or the test case, and the place of its first token. Its name is the next."""
+
+    start: int
+    function: Function
+    is_test_case: bool
 
 
 @dataclass(frozen=True)
@@ -71,24 +67,26 @@ class _Runner:
 class _Writer:
     """The tokens of a script, and what is put in the place of some."""
 
-    def __init__(self, text: Text):
-        self.tokens = placed_tokens(text)
-        self.definitions = read_module(text).definitions
-        self.test_case = next(it for it in self.definitions if isinstance(it, TestCase))
+    def __init__(self, tokens: list[Placed]):
+        self.tokens = tokens
         self.case = PlacedCase(self.tokens)
+        self.read = self.case.script
+        self.bodies = [self.body(it) for it in self.case.bodies_from()]
         self.edits: Edits = {}
         taken = set(self.tokens)
         self.new_names = (name for number in count(1) if (name := f"forced{number}") not in taken)
         self.turn = next(self.new_names)
 
+    def body(self, start: int) -> _Body:
+        is_test_case = self.tokens[start] == "testcase"
+        function = self.read.case if is_test_case else self.read.functions[self.tokens[start + 1]]
+        return _Body(start, function, is_test_case)
+
     def script(self) -> ForcedScript:
         """The script with a loop without a turn at the end of each body."""
-        for body in self.bodies():
+        for body in self.bodies:
             self.edits.update(self.last_step(body))
         return ForcedScript(self.written(0, len(self.tokens), self.edits))
-
-    def bodies(self) -> list[Body]:
-        return [it for it in self.definitions if isinstance(it, (Function, TestCase))]
 
     def written(self, first: int, behind: int, edits: Edits) -> list[Placed]:
         """The tokens from one place up to another, with the edits. What is new stands at the line before it."""
@@ -104,16 +102,17 @@ class _Writer:
 
     # The last step of a body
 
-    def last_step(self, body: Body) -> Edits:
+    def last_step(self, body: _Body) -> Edits:
         place = self.end_of(body)
-        if isinstance(body, TestCase) and body.has_done:
-            place = max(at for at in range(body.start, place) if self.tokens[at] == "done") - 3
+        if body.is_test_case:
+            # Nothing stands behind `all component.done`, which is no step.
+            place = next((at - 3 for at in range(place - 1, body.start, -1) if self.tokens[at] == "done"), place)
         begin = [] if self.tokens[place - 1] in ("{", "}", ";") else [";"]
         turn = self.turn
         loop = f"for ( var integer {turn} := 0 ; {turn} < 0 ; {turn} := {turn} + 1 ) {{ }}"
         return {place: (0, begin + loop.split())}
 
-    def end_of(self, body: Body) -> int:
+    def end_of(self, body: _Body) -> int:
         """The place of the bracket that closes the body."""
         place = self.tokens.index("{", body.start)
         depth = 1
@@ -127,33 +126,30 @@ class _Writer:
     def split_sends(self) -> None:
         """Writes them anew: those of the test case in their place, and those of a function in a copy of it for
         each start, since each component has connections of its own."""
-        functions = {self.tokens[it.name]: it for it in self.bodies() if isinstance(it, Function)}
-        self.edits.update(self.split(self.test_case, _Runner(0, {}, set())))
-        for start in self.test_case.starts:
-            self.split_start(functions[self.tokens[start.function]], start)
+        functions = {self.tokens[it.start + 1]: it for it in self.bodies if not it.is_test_case}
+        for body in self.bodies:
+            if body.is_test_case:
+                self.edits.update(self.split(body, _Runner(0, {}, set())))
+        for (component, function, given), place in zip(self.read.starts, self.case.started_at()):
+            self.split_start(functions[function], component, given, place)
 
-    def split_start(self, function: Function, start: ComponentStart) -> None:
-        given = [self.tokens[it] for it in start.arguments]
+    def split_start(self, body: _Body, component: str, given: tuple[str, ...], started: int) -> None:
         meant = [self.case.places["mtc" if it == "self" else it] for it in given]
-        arguments = {self.tokens[it.name]: component for it, component in zip(function.parameters, meant)}
-        runner = _Runner(self.case.places[self.tokens[start.component]], arguments, self.hidden_in(function))
-        edits = self.split(function, runner)
+        arguments = dict(zip(body.function.parameters, meant))
+        runner = _Runner(self.case.places[component], arguments, hidden_in(body.function))
+        edits = self.split(body, runner)
         if not edits:
             return
         name = next(self.new_names)
-        behind = self.end_of(function) + 1
-        copied = {**edits, **self.last_step(function), function.name: (1, [name])}
-        for component, parameter in runner.handed.items():
-            named = str(self.case.names[component])
-            self.add_one(copied, function.name, [self.type_of(named), parameter])
-            self.add_one(self.edits, start.function, [named])
+        behind = self.end_of(body) + 1
+        copied = {**edits, **self.last_step(body), body.start + 1: (1, [name])}
+        for other, parameter in runner.handed.items():
+            named = str(self.case.names[other])
+            self.add_one(copied, body.start + 1, [str(dict(self.read.created)[named]), parameter])
+            self.add_one(self.edits, started, [named])
         others = self.edits.get(behind, (0, []))[1]
-        self.edits[behind] = (0, [*others, *self.written(function.start, behind, copied)])
-        self.edits[start.function] = (1, [name])
-
-    def type_of(self, component: str) -> str:
-        created = (it for it in self.test_case.setups if isinstance(it, Creation))
-        return next(str(self.tokens[it.type]) for it in created if self.tokens[it.name] == component)
+        self.edits[behind] = (0, [*others, *self.written(body.start, behind, copied)])
+        self.edits[started] = (1, [name])
 
     def add_one(self, edits: Edits, name: int, words: list[str]) -> None:
         """Puts one parameter, or argument, more into the brackets behind the name."""
@@ -162,24 +158,25 @@ class _Writer:
         comma = [","] if new or self.tokens[place - 1] != "(" else []
         edits[place] = (0, [*new, *comma, *words])
 
-    def split(self, body: Body, runner: _Runner) -> Edits:
+    def split(self, body: _Body, runner: _Runner) -> Edits:
         edits: Edits = {}
-        for send in sends_in(body.statements):
-            if send.to is None or self.tokens[send.to] != "all":
+        for send in statements_in(body.function.block):
+            if not isinstance(send, Send) or send.receiver != EVERYONE:
                 continue
-            ends = self.case.partners.get((runner.component, self.tokens[send.port]), [])
+            ends = self.case.partners.get((runner.component, send.port), [])
             if len(ends) > 1:
+                start, behind = self.case.span(send)
                 names = [self.name_of(component, runner) for component, _ in ends]
-                edits[send.start] = (send.to + 2 - send.start, self.sends_to(send, names))
+                edits[start] = (behind - start, self.sends_to(start, behind - len(("all", "component")), names))
         return edits
 
-    def sends_to(self, send: Send, names: list[str]) -> list[str]:
+    def sends_to(self, start: int, to: int, names: list[str]) -> list[str]:
         """The same message to each of these. All stand at the line of the send."""
-        line = self.tokens[send.start].line
+        line = self.tokens[start].line
         tokens: list[str] = []
         for name in names:
             tokens += [";"] if tokens else []
-            tokens += [*self.tokens[send.start : send.to], Placed(name, line)]
+            tokens += [*self.tokens[start:to], Placed(name, line)]
         return tokens
 
     def name_of(self, component: int, runner: _Runner) -> str:
@@ -196,27 +193,21 @@ class _Writer:
             runner.handed[component] = next(self.new_names)
         return runner.handed[component]
 
-    def hidden_in(self, body: Function) -> set[str]:
-        """The names that mean something else in the body than a component of the test case."""
-        declared = [*body.variables, *body.parameters]
-        return {self.tokens[it.name] for it in declared} | {self.tokens[it.name] for it in loops_in(body.statements)}
+
+def hidden_in(function: Function) -> set[str]:
+    """The names that mean something else in the body than a component of the test case."""
+    statements = list(statements_in(function.block))
+    names = {it.name for it in statements if isinstance(it, Variable)}
+    return names.union(function.parameters, (it.variable for it in statements if isinstance(it, Loop)))
 
 
-def statements_in(statements: list[Statement]) -> Iterator[Statement]:
+def statements_in(block: tuple[object, ...]) -> Iterator[object]:
     """All statements, those of blocks too."""
-    for statement in statements:
+    for statement in block:
         yield statement
-        if isinstance(statement, Alt):
-            for branch in statement.branches:
-                yield from statements_in(branch.block)
-            yield from statements_in(statement.otherwise.block if statement.otherwise else [])
+        if isinstance(statement, Choice):
+            for _, inner in statement.branches:
+                yield from statements_in(inner)
+            yield from statements_in(statement.otherwise or ())
         if isinstance(statement, Loop):
             yield from statements_in(statement.block)
-
-
-def sends_in(statements: list[Statement]) -> Iterator[Send]:
-    return (it for it in statements_in(statements) if isinstance(it, Send))
-
-
-def loops_in(statements: list[Statement]) -> Iterator[Loop]:
-    return (it for it in statements_in(statements) if isinstance(it, Loop))

@@ -1,5 +1,5 @@
-"""The model of runs (tests/orders/), of which the gate compares each report with the program's, and the lines
-of the script at which its statements stand."""
+"""The model of runs (tests/orders/), of which the gate compares each report with the program's, and the places and
+lines of the script at which its statements stand."""
 from __future__ import annotations
 
 import os
@@ -10,12 +10,13 @@ _ROOT = os.path.dirname(os.path.dirname(os.path.dirname(os.path.realpath(__file_
 sys.path.append(os.path.join(_ROOT, "tests", "orders"))
 
 from bodies import Begun, TestCase, Tried  # noqa: E402
-from model import Act, Component, Message, Run  # noqa: E402
-from reading import Reader  # noqa: E402
-from tree import EVERYONE, Control, Guard, Send, Setverdict  # noqa: E402
+from model import Act, Component, Message, Run, alike  # noqa: E402
+from reading import TOKENS, Reader  # noqa: E402
+from tree import EVERYONE, Choice, Control, Function, Guard, Loop, Send, Setverdict, Variable  # noqa: E402
 
-__all__ = ["EVERYONE", "Act", "Begun", "Component", "Control", "Guard", "Message", "Placed", "PlacedCase", "Run"]
-__all__ += ["Send", "Setverdict", "TestCase", "Tried"]
+__all__ = ["EVERYONE", "Act", "Begun", "Choice", "Component", "Control", "Function", "Guard", "Loop", "Message"]
+__all__ += ["Placed", "PlacedCase", "Run", "Send", "Setverdict", "TestCase", "Tried", "Variable", "alike"]
+__all__ += ["placed_tokens"]
 
 
 class Placed(str):
@@ -29,18 +30,42 @@ class Placed(str):
         return token
 
 
+def placed_tokens(data: bytes) -> list[Placed]:
+    """The tokens of a script that is accepted, with their lines."""
+    text = data.decode("latin-1")
+    tokens, line, before = [], 1, 0
+    for found in TOKENS.finditer(text):
+        if found.lastgroup != "gap":
+            line += text.count("\n", before, found.start())
+            before = found.start()
+            tokens.append(Placed(found.group(), line))
+    return tokens
+
+
 class _PlacedReader(Reader):
-    """Notes where each statement and each receiving operation begins. They are told apart by what they are,
-    and not by what they say."""
+    """Notes where each body, each statement and each receiving operation begins. Statements are told apart by what
+    they are, and not by what they say."""
 
     def __init__(self, tokens: list[Placed]):
         super().__init__(tokens)
         self.lines: dict[int, int] = {}
+        self.spans: dict[int, tuple[int, int]] = {}  # of each statement its first token, and the one behind it
+        self.bodies: list[int] = []  # the word `function` or `testcase` of each
+        self.started: list[int] = []  # the name of the function in each start of a component
         self.nodes: list[object] = []  # so that no two of them have the same number
 
+    def definition(self) -> None:
+        if self.ahead() in ("function", "testcase"):
+            self.bodies.append(self.place)
+        super().definition()
+
     def statement(self) -> object:
-        line = self.ahead().line
-        return self._noted(super().statement(), line)
+        line, place, starts = self.ahead().line, self.place, len(self.script.starts)
+        node = self._noted(super().statement(), line)
+        self.spans[id(node)] = place, self.place
+        if len(self.script.starts) > starts:
+            self.started.append(place + len(("component", ".", "start", "(")))
+        return node
 
     def guard(self) -> Guard:
         line = self.ahead().line
@@ -59,6 +84,18 @@ class PlacedCase(TestCase):
         reader = _PlacedReader(tokens)
         super().__init__(reader.module())
         self._reader = reader
+
+    def bodies_from(self) -> list[int]:
+        """Where each function, and the test case, begins."""
+        return self._reader.bodies
+
+    def started_at(self) -> list[int]:
+        """Where the name of the function stands in each start of a component."""
+        return self._reader.started
+
+    def span(self, statement: object) -> tuple[int, int]:
+        """The places of the statement's first token, and of the one behind its last."""
+        return self._reader.spans[id(statement)]
 
     def line(self, node: object) -> Optional[int]:
         """Where a statement, or a receiving operation, begins."""

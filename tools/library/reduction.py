@@ -14,13 +14,16 @@ order that has nothing new comes to what an earlier one came to.
 """
 from __future__ import annotations
 
-import random
 from collections import defaultdict
 from dataclasses import dataclass, field
-from typing import Callable, Iterator, Optional
+from typing import TYPE_CHECKING, Callable, Iterator, Optional
 
 from .model_of_runs import Run
-from .touching import Known, Name, Place, Step, Steps, Touch, depends, finished
+from .search_states import State, States
+from .touching import Name, Place, Step, Steps, Touch, depends
+
+if TYPE_CHECKING:
+    from random import Random
 
 
 @dataclass
@@ -34,11 +37,9 @@ class Event:
 
 @dataclass
 class Node:
-    """A run up to some event: the steps that can come next, those to be tried, and those that need not be."""
+    """The state behind some event: of the steps that can come next those to be tried, and those that need not be."""
 
-    run: Run
-    state: int
-    steps: dict[int, Step]
+    state: State
     asleep: set[int]
     tried: list[int] = field(default_factory=list)
     next_tried: int = 0
@@ -59,11 +60,11 @@ class Index:
         self.at: dict[Place, int] = defaultdict(int)
         self.putting: dict[Name, int] = {}
 
-    def turn(self, event: int, touch: Touch) -> None:
+    def turn(self, event: int, step: Step) -> None:
         """Puts the event in, or takes it out again."""
-        for place in touch.puts | touch.open | touch.marks:
+        for place in step.places:
             self.at[place] ^= 1 << event
-        for name in touch.put:
+        for name in step.touch.put:
             self.putting[name] = event
 
     def like(self, touch: Touch) -> int:
@@ -76,11 +77,6 @@ class Index:
         return events
 
 
-def first_step(known: list[Known], process: list[int]) -> Optional[Step]:
-    """The next step of the process, by what is known of all components."""
-    return next((step for who in process if (step := known[who].step) is not None), None)
-
-
 class Reduction:
     """The search for orders. It ends early once `is_over` says so."""
 
@@ -89,36 +85,27 @@ class Reduction:
         run: Run,
         processes: list[list[int]],
         steps: Steps,
-        chance: Optional[random.Random] = None,
+        chance: Optional[Random] = None,
         is_over: Callable[[], bool] = lambda: False,
     ):
-        self.processes = processes
+        self.begin = run
         self.chance = chance
         self.is_over = is_over
         self.events: list[Event] = []
         self.last: list[list[int]] = [[] for _ in processes]  # the places of the events of each process
         self.index = Index()
         self.steps = steps
+        self.states = States(steps, run, processes)
         self.known: set[tuple[int, int]] = set()  # steps of orders, by the state before them
         self.nodes: list[Node] = []
-        self.nodes.append(self.node(run, set()))
+        self.nodes.append(self.node(self.states.begin(), set()))
 
-    def node(self, run: Run, asleep: set[int]) -> Node:
-        known = self.steps.known(run)
-        steps = {place: step for place, of in enumerate(self.processes) if (step := first_step(known, of)) is not None}
-        node = Node(run, self.steps.state(known), steps, asleep)
-        awake = [it for it in steps if it not in asleep]
+    def node(self, state: State, asleep: set[int]) -> Node:
+        node = Node(state, asleep)
+        awake = [it for it in state.steps if it not in asleep]
         if awake:
             node.tried.append(self.chosen(awake))
         return node
-
-    def step(self, run: Run, process: int) -> Optional[Step]:
-        """The next step of the process, if it can be carried out."""
-        for who in self.processes[process]:
-            step = self.steps.step(run, who)
-            if step is not None:
-                return step
-        return None
 
     def chosen(self, processes: list[int]) -> int:
         return processes[0] if self.chance is None else self.chance.choice(processes)
@@ -126,14 +113,14 @@ class Reduction:
     def new_ones(self) -> Iterator[Order]:
         """The orders that have something new."""
         for _ in self.ends():
-            steps = {(node.state, event.step.who) for node, event in zip(self.nodes, self.events)}
+            steps = {(node.state.number, event.step.who) for node, event in zip(self.nodes, self.events)}
             if not steps or not steps <= self.known:
                 self.known |= steps
                 yield self.order()
 
     def ends(self) -> Iterator[None]:
         """Comes to the end of each order that is found."""
-        if not self.nodes[0].steps:
+        if not self.nodes[0].state.steps:
             yield
         while self.nodes and not self.is_over():
             node = self.nodes[-1]
@@ -142,22 +129,27 @@ class Reduction:
                 self.leave()
                 continue
             self.enter(node, process)
-            if not self.nodes[-1].steps:
+            if not self.nodes[-1].state.steps:
                 yield
 
     def order(self) -> Order:
         """The order to which the search has come. Of a component that waits for good between two looks no gate hears
         the last of them, and nobody sees any: they come behind all others."""
-        run = self.nodes[-1].run
         components = [event.step.who for event in self.events]
+        run = self.run_of(components)
         waiting = [(who, len(it.looked)) for who, it in enumerate(run.components) if it.looked]
         if waiting:
             for who, looks in waiting:
                 components = without_last(components, who, looks)
-            run = self.nodes[0].run
-            for who in components:
-                run = self.steps.after(run, who)
-        return Order(tuple(components), finished(run))
+            run = self.run_of(components)
+        return Order(tuple(components), self.steps.finished(run))
+
+    def run_of(self, components: list[int]) -> Run:
+        """The run of this order, from its beginning."""
+        run = self.begin
+        for who in components:
+            run = self.steps.after(run, who)
+        return run
 
     def next_of(self, node: Node) -> Optional[int]:
         """The next process to be tried behind the node."""
@@ -177,20 +169,22 @@ class Reduction:
         self.nodes.pop()
         if self.events:
             event = self.events.pop()
-            self.index.turn(len(self.events), event.step.touch)
+            self.index.turn(len(self.events), event.step)
             self.last[event.process].pop()
             self.nodes[-1].asleep.add(event.process)
 
     def enter(self, node: Node, process: int) -> None:
         """Carries out the step, once what could be before it is put to be tried."""
-        step = node.steps[process]
+        step = node.state.steps[process]
         behind, races = self.behind(process, step.touch)
         for race in races:
             self.turn_round(race, process)
-        after = self.steps.after(node.run, step.who)
-        asleep = {it for it in node.asleep if self.stays_asleep(it, after, step)}
+        after = self.states.after(node.state, process)
+        # Those that can change places with the step that was carried out stay asleep.
+        steps = [(it, after.steps.get(it)) for it in node.asleep]
+        asleep = {it for it, sleeping in steps if sleeping is not None and not depends(step.touch, sleeping.touch)}
         self.last[process].append(len(self.events))
-        self.index.turn(len(self.events), step.touch)
+        self.index.turn(len(self.events), step)
         self.events.append(Event(process, step, behind))
         self.nodes.append(self.node(after, asleep))
 
@@ -211,21 +205,14 @@ class Reduction:
                 behind |= event.behind | 1 << place
         return behind, races
 
-    def stays_asleep(self, process: int, after: Run, step: Step) -> bool:
-        """Whether the sleeping process can change places with the step that was carried out."""
-        sleeping = self.step(after, process)
-        return sleeping is not None and not depends(step.touch, sleeping.touch)
-
     def turn_round(self, race: int, process: int) -> None:
         """Puts to be tried what leads to the step of the process before the event, if that can be."""
         kept = [at for at in range(race + 1, len(self.events)) if not self.events[at].behind >> race & 1]
         node = self.nodes[race]
-        run = node.run
+        state = node.state
         for at in kept:
-            step = self.step(run, self.events[at].process)
-            assert step is not None
-            run = self.steps.after(run, step.who)
-        step = self.step(run, process)
+            state = self.states.after(state, self.events[at].process)
+        step = state.steps.get(process)
         if step is None:
             return
         firsts = self.firsts(kept, process, step.touch)

@@ -1,12 +1,12 @@
 """Reports by what they come to: how each component ended, its verdict, what is left, and the result."""
 from __future__ import annotations
 
-_KEPT = ("component", "end", "verdict", "left", "result")
+_KEPT = ("component ", "end ", "verdict ", "left ", "result ")
 
 
 def class_of(report: str) -> tuple[str, ...]:
     """The lines of a report that tell its class."""
-    return tuple(line for line in report.splitlines() if line.split(" ", 1)[0] in _KEPT)
+    return tuple([line for line in report.splitlines() if line.startswith(_KEPT)])
 
 
 def result_of(report: str) -> str:

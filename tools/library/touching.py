@@ -6,10 +6,10 @@ mark behind it (22.5). All else can: a look that sees the top sees it whatever c
 """
 from __future__ import annotations
 
-from dataclasses import dataclass
+from dataclasses import dataclass, field
 from typing import Iterable, Optional
 
-from .model_of_runs import Act, Component, Control, Message, Run, Send, TestCase, Tried
+from .model_of_runs import Act, Component, Control, Message, Run, Send, TestCase, Tried, alike
 
 Place = tuple[int, str]  # a component and its port
 Name = tuple[int, str, int, int]  # of a message: where it is put, its sender and its number
@@ -33,10 +33,11 @@ NOTHING = Touch()
 
 @dataclass(frozen=True)
 class Step:
-    """The next step of a component, and what it touches."""
+    """The next step of a component, what it touches, and at which ports."""
 
     who: int
     touch: Touch
+    places: frozenset[Place]
 
 
 def depends(first: Touch, later: Touch) -> bool:
@@ -50,15 +51,34 @@ def depends(first: Touch, later: Touch) -> bool:
     )
 
 
+Put = tuple[str, Message]  # a message, and the port at which it is put
+
+
 @dataclass
 class Known:
-    """What is known of a component as it stands in some runs: the number of its state, its next step, and the
-    component behind that step, where it changes no other."""
+    """What is known of a component as it stands in some runs: the number of its state and its next step; once it was
+    carried out, the component behind the step, and what it puts at others; and the components that it becomes by what
+    others put, by their places and states. Of those in one state the first is the one of which it is found."""
 
     component: Component  # which so keeps its id
     state: int
     step: Optional[Step]
-    behind: Optional[Component] = None
+    first: Optional[Known] = None  # in this state; None where it is that itself
+    behind: Optional[Known] = None
+    puts: list[tuple[int, list[Put]]] = field(default_factory=list)
+    with_puts: dict[tuple[int, int], Known] = field(default_factory=dict)
+    finished: Optional[Component] = None  # behind all that it still can do, where its messages are left to it
+
+
+class Followed:
+    """A run, what is known of its components, and the runs behind it by who acted."""
+
+    __slots__ = ("run", "known", "behind")
+
+    def __init__(self, run: Run, known: list[Known]):
+        self.run = run
+        self.known = known
+        self.behind: dict[int, Followed] = {}
 
 
 class Steps:
@@ -71,8 +91,9 @@ class Steps:
 
     def __init__(self) -> None:
         self.components: dict[int, Known] = {}
-        self.behind: dict[int, tuple[Run, dict[int, Run]]] = {}
+        self.followed: dict[int, Followed] = {}
         self.steps: dict[tuple[int, int], Optional[Step]] = {}
+        self.firsts: dict[tuple[int, int], Known] = {}
         self.states_of_components: dict[tuple, int] = {}
         self.states: dict[tuple[int, ...], int] = {}
 
@@ -92,14 +113,30 @@ class Steps:
 
     def after(self, run: Run, who: int) -> Run:
         """The run in which the component has carried out its next step, which it has."""
-        if id(run) not in self.behind:
-            if len(self.behind) >= self.MOST_KEPT:
-                self.behind.clear()
-            self.behind[id(run)] = (run, {})
-        behind = self.behind[id(run)][1]
-        if who not in behind:
-            behind[who] = self._after(run, who)
-        return behind[who]
+        followed = self.followed.get(id(run)) or self._followed(run, self.known(run))
+        if who not in followed.behind:
+            after = run.copy_of(())
+            known = self.next(run, followed.known, who)
+            after.components = [it.component for it in known]
+            followed.behind[who] = self._followed(after, known)
+        return followed.behind[who].run
+
+    def _followed(self, run: Run, known: list[Known]) -> Followed:
+        if len(self.followed) >= self.MOST_KEPT:
+            self.followed.clear()
+        self.followed[id(run)] = followed = Followed(run, known)
+        return followed
+
+    def finished(self, run: Run) -> Run:
+        """The run behind an order: what stands in none is carried out. It touches nothing of others."""
+        last = run.copy_of(())
+        for who, known in enumerate(self.known(run)):
+            if known.finished is None:
+                alone = run.copy_of([who])
+                _finish(alone, who)
+                known.finished = alone.components[who]
+            last.components[who] = known.finished
+        return last
 
     def line_of(self, run: Run, components: Iterable[int]) -> str:
         """An order of steps as the program that forces it reads it."""
@@ -109,32 +146,94 @@ class Steps:
             run = self.after(run, who)
         return " ".join(words)
 
+    def next(self, run: Run, known: list[Known], who: int) -> list[Known]:
+        """What is known of the components once this one has carried out its next step, which it has. The step changes
+        itself, by what it has itself, and puts messages at others. `run` is any one of the test case."""
+        mine = known[who]
+        first = mine.first or mine
+        if first.behind is None:
+            self._note_step(run, who, first)
+        if mine.behind is None:
+            behind = _behind_like(mine.component, first.component, first.behind.component)
+            mine.behind = self._noted(behind, first.behind)
+        after = known[:]
+        after[who] = mine.behind
+        for place, puts in first.puts:
+            after[place] = self._with_puts(run, place, known[place], puts, (who, mine.state))
+        return after
+
+    def _note_step(self, run: Run, who: int, first: Known) -> None:
+        """Notes what the step makes of the first component in its state, and what it puts at others."""
+        before = run.copy_of(())
+        before.components[who] = first.component
+        reached = before.reached(who)
+        after = before.copy_of(reached)
+        _carry_out(after, who)
+        others = sorted(reached - {who})
+        first.puts = [(place, _puts(before.components[place], after.components[place])) for place in others]
+        first.behind = self._known(after, who)
+
+    def _with_puts(self, run: Run, who: int, known: Known, puts: list[Put], sender: tuple[int, int]) -> Known:
+        """What is known of the component with these messages at its ports, which one in this state sent."""
+        first = known.first or known
+        if sender not in first.with_puts:
+            changed = run.copy_of(())
+            changed.components[who] = _put_at(first.component, puts)
+            first.with_puts[sender] = self._known(changed, who)
+        if sender not in known.with_puts:
+            like = first.with_puts[sender]
+            known.with_puts[sender] = self._noted(_put_at(known.component, puts), like)
+        return known.with_puts[sender]
+
     def _known(self, run: Run, who: int) -> Known:
         component = run.components[who]
         known = self.components.get(id(component))
         if known is None:
-            if len(self.components) >= self.MOST_KEPT:
-                self.components.clear()
             state = self.states_of_components.setdefault(_state_of(component), len(self.states_of_components))
             if (who, state) not in self.steps:
                 touch = _touch_of_next(run, who)
-                self.steps[who, state] = None if touch is None else Step(who, touch)
-            known = self.components[id(component)] = Known(component, state, self.steps[who, state])
+                step = None if touch is None else Step(who, touch, touch.puts | touch.open | touch.marks)
+                self.steps[who, state] = step
+            known = self._note(Known(component, state, self.steps[who, state], self.firsts.get((who, state))))
+            self.firsts.setdefault((who, state), known)
         return known
 
-    def _after(self, run: Run, who: int) -> Run:
-        statement = run.statement(who)
-        if isinstance(statement, Send):
-            after = run.copy_of(run.reached(who))
-            after.step(who)
-            return after
-        known = self._known(run, who)
-        after = run.copy_of(() if known.behind else [who])
-        if known.behind is None:
-            _carry_out(after, who)
-            known.behind = after.components[who]
-        after.components[who] = known.behind
-        return after
+    def _noted(self, component: Component, like: Known) -> Known:
+        """What is known of a component in the same state as another."""
+        return self._note(Known(component, like.state, like.step, like.first or like))
+
+    def _note(self, known: Known) -> Known:
+        if len(self.components) >= self.MOST_KEPT:
+            self.components.clear()
+            self.firsts.clear()
+        self.components[id(known.component)] = known
+        return known
+
+
+def _behind_like(component: Component, first: Component, behind: Component) -> Component:
+    """The component behind its step, where this one is behind that of the first in its state. What they did before
+    is all in which they differ."""
+    other = alike(behind)
+    other.lines = component.lines + behind.lines[len(first.lines) :]
+    other.looked = component.looked + behind.looked[len(first.looked) :] if behind.looked else ()
+    other.steps = component.steps + behind.steps - first.steps
+    return other
+
+
+def _puts(before: Component, after: Component) -> list[Put]:
+    """What was put at the component's ports."""
+    lengths = {name: len(port.queue) for name, port in before.ports.items()}
+    return [(name, it) for name, port in after.ports.items() for it in port.queue[lengths[name] :]]
+
+
+def _put_at(component: Component, puts: list[Put]) -> Component:
+    """The component with these messages at its ports. It shares the rest with the one before: no step changes that."""
+    other = alike(component)
+    other.ports = component.ports.copy()
+    for name, message in puts:
+        other.ports[name] = port = other.ports[name].copy()
+        port.queue.append(message)
+    return other
 
 
 def _state_of(component: Component) -> tuple:
@@ -159,6 +258,12 @@ def goes_by_looks(statement: object) -> bool:
         return False
     guards = [guard for guard, _ in statement.choice.branches]
     return any(it.how == "trigger" for it in guards) and len({it.port for it in guards}) > 1
+
+
+def _finish(run: Run, who: int) -> None:
+    """Carries out what the component still can."""
+    while run.statement(who) is not None and run.act(who) is not Act.WAITS:
+        pass
 
 
 def words_of(run: Run, who: int) -> str:
@@ -242,15 +347,6 @@ def _touch_of_looks(run: Run, who: int, ports: tuple[str, ...]) -> Touch:
         elif port.status == "started":
             is_open.append((who, name))
     return Touch(seen=frozenset(seen), open=frozenset(is_open))
-
-
-def finished(run: Run) -> Run:
-    """The run behind an order: what stands in none is carried out. It touches nothing of others."""
-    last = run.copy()
-    for who in range(len(last.components)):
-        while last.statement(who) is not None and last.act(who) is not Act.WAITS:
-            pass
-    return last
 
 
 def components_of(case: TestCase) -> range:

@@ -30,15 +30,16 @@ RESERVED_ELSEWHERE = frozenset(
 MOST_COMPONENTS = 64
 MOST_ON_A_ROUTE = 100_000
 
-_NO_LETTER = re.compile("[^\t\n\r\x20-\ud7ff\ue000-\ufffd\U00010000-\U0010ffff]")
+# Patterns are compiled where they are used first: not each tool uses them, and the start of one is short.
+_NO_LETTER = "[^\t\n\r\x20-\ud7ff\ue000-\ufffd\U00010000-\U0010ffff]"
 
-_WORD = re.compile(r"[A-Za-z][A-Za-z0-9_]{0,63}")
+_WORD = r"[A-Za-z][A-Za-z0-9_]{0,63}"
 
 
 @functools.lru_cache(maxsize=4096)
 def is_name(word: str) -> bool:
     """Whether a script can have declared it: a port, a type, a field, a component that is created."""
-    return _WORD.fullmatch(word) is not None and word not in RESERVED
+    return re.fullmatch(_WORD, word) is not None and word not in RESERVED
 
 
 def is_component_name(word: str) -> bool:
@@ -47,15 +48,15 @@ def is_component_name(word: str) -> bool:
 
 def readable(text: str) -> str:
     """The text with what an XML file can't have replaced."""
-    return _NO_LETTER.sub("\ufffd", text)
+    return re.sub(_NO_LETTER, "\ufffd", text)
 
 
-_CONTROL = re.compile("[\x00-\x1f\x7f-\x9f]")
+_CONTROL = "[\x00-\x1f\x7f-\x9f]"
 
 
 def shown(text: str) -> str:
     """The text on one line, as a terminal can show it."""
-    return _CONTROL.sub(lambda found: f"\\x{ord(found[0]):02x}", text)
+    return re.sub(_CONTROL, lambda found: f"\\x{ord(found[0]):02x}", text)
 
 
 def worst(verdicts: list[str]) -> str:
