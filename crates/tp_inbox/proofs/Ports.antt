@@ -12,7 +12,7 @@ use Rattle.tp_queue.specs.declared.event.Event.{Event}
 use Rattle.tp_queue.specs.declared.event.Event.TheVariants as event
 use Rattle.tp_queue.specs.declared.event.Env.{Env}
 use Rattle.tp_queue.specs.History.{Lawful}
-use Rattle.tp_queue.specs.Answers.{Checks, Finds}
+use Rattle.tp_queue.specs.Answers.{Finds}
 use Rattle.tp_queue.specs.Calls.{TakesOut}
 use Rattle.tp_queue.specs.Queues.{AtHistory, QueueState, StandsFor, state_of}
 use Rattle.tp_value.specs.declared.message.Message.{Message}

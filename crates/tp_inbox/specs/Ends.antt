@@ -1,5 +1,5 @@
 -- What the fields of an inbox's ends have to do with its queue.
-use Rattle.std.specs.Prelude.{◌≡◌, ◌≢◌, ◌<◌, ◌≤◌, ◌==◌, ℕ, Option, Some, None, List, [], ◌∷◌, ◌++◌, length, map, slice_index_or, vec_capacity, All, AllPairs}
+use Rattle.std.specs.Prelude.{◌≡◌, ◌≢◌, ◌<◌, ◌≤◌, ◌==◌, ◌%◌, ◌^◌, ℕ, Option, Some, None, List, [], ◌∷◌, ◌++◌, length, map, slice_index_or, vec_capacity, All, AllPairs}
 use Rattle.std.specs.Arc.{arc_value}
 use Rattle.crossbeam_queue.specs.SegTies.{IsSegPassOf}
 use Rattle.std.specs.declared.vec.Vec.{Vec}
@@ -47,15 +47,16 @@ pub record IsSender (s : sender.Inside) : Type 0 where
   pub counts : AreTold s.places.items s.counts.items s.pass.me.view.client.put
   pub ledger : s.sent.items ≡ map (posted_of (arc_value s.hub).routes.items) s.pass.me.view.client.put
 
--- an owner's pass is of its inbox's queue; what it has taken out is what was drained, and then what is in hand; the
--- counts are those of what was drained, and each route's place among them is found; and there is room for each sender
--- that comes back, and for what is in hand
+-- an owner's pass is of its inbox's queue; what it has taken out is what was drained, and then what is in hand, and is
+-- counted as the bell counts what was announced; the counts are those of what was drained, and each route's place among
+-- them is found; and there is room for each sender that comes back, and for what is in hand
 pub record IsOwner (s : owner.Inside) : Type 0 where
   pub pass : IsSegPassOf (arc_value s.hub).line s.pass
   pub sound : Sound s.pass.me.view.client
   pub made : s.pass.me.view.client.made ≡ length (arc_value s.hub).routes.items
   pub known : s.pass.me.view.client.known ≡ []
   pub ends : EndsWith s.pass.me.view.client.taken (one_of s.hand)
+  pub taken : s.taken ≡ length s.pass.me.view.client.taken % 2 ^ 64
   pub counts : AreCounts
       (length (arc_value s.hub).routes.items)
       s.counts.items

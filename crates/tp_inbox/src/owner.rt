@@ -97,6 +97,7 @@ impl Owner {
         let Some(envelope) = take_out(rt, &self.hub.line, &mut self.pass) else {
             return false;
         };
+        // The bell counts what was announced in the same way.
         self.taken = self.taken.wrapping_add(1);
         self.hand = Some(envelope);
         true

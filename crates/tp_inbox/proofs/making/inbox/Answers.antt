@@ -20,6 +20,7 @@ invariant_of-owner c = record {
   made = search rules;
   known = search rules;
   ends = search rules;
+  taken = search rules;
   counts = grind (arith, common_steps);
   places =
       let same : c.as_slice.result.now ≡ (arc_value c.in_ok-hub.hub).routes.items = search rules in

@@ -1,5 +1,5 @@
 -- What is taken out is the top, which was copied, and the port's queue stands for the port's history with it behind.
-use Rattle.std.proofs.Common.{ap, refl, arith, sym, ◌≡◌, ◌<◌, ◌∙◌, List, length}
+use Rattle.std.proofs.Common.{ap, refl, arith, ◌≡◌, ◌<◌, ◌∙◌, List, length}
 use Rattle.std.proofs.lemmas.List.{length-set}
 use Rattle.tp_queue.specs.declared.event.Event.{Event}
 use Rattle.tp_queue.specs.declared.event.Event.TheVariants as event

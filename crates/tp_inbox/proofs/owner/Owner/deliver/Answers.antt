@@ -49,6 +49,7 @@ invariant_of-self-in-Ok c =
       made = was.made;
       known = was.known;
       ends = ends-none _ _ c.in-Some.ensures.after;
+      taken = was.taken;
       counts = counts-push _ _ _ _ c.in-Some.envelope _ c.in-Some.ensures.after h.2 was.counts h.0 h.1;
       places = was.places;
       sent = was.sent;
