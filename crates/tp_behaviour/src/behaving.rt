@@ -28,6 +28,7 @@ fn begin<G: Gate>(gate: &G, post: &Post<'_>) -> Result<State, Memory>
     let mut steps: u64 = 0;
     for _variable in post.behaviour.body.variables.as_slice() {
         gate.before(post.comp, steps);
+        // A body has fewer variables than 2^64, which needn't be shown.
         steps = steps.wrapping_add(1);
         variables.push(None)?;
     }

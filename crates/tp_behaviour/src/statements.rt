@@ -46,6 +46,7 @@ pub(crate) fn execute<R: Wait, G: Gate>(
 {
     for (place, statement) in block.statements.iter().enumerate() {
         scene.gate.before(scene.post.comp, state.steps);
+        // No run comes to 2^64 steps, so that this needn't be shown.
         state.steps = state.steps.wrapping_add(1);
         let lasting = &block.lasting[place];
         match step(scene, &mut *station, &mut *state, statement, lasting)? {

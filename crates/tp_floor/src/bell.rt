@@ -82,6 +82,7 @@ impl Bell {
             ↔ IsSomeAnd self.old.awaits (λ taken. taken < self.new.announced) }
         ensures awaits { self.new.awaits ≡ (if result then None else self.old.awaits) }
     {
+        // No run comes to 2^64 pushes, so that this needn't be shown.
         let announced = self.announced.wrapping_add(1);
         let wakes = match self.awaits {
             Some(taken) => announced > taken,

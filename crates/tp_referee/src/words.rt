@@ -54,6 +54,7 @@ impl<'t> Words<'t> {
     {
         match self.words.get_index(number) {
             Some(word) => word,
+            // Who has a number has it from this table.
             None => unreachable!(),
         }
     }

@@ -128,69 +128,73 @@ fn is_noted<R: AllocGlobal + Abort>(rt: &R, log: &[Entry], wanted: &[&str]) {
     }
 }
 
+/// Each call of a desk, with what it answers.
+const CALLS_OF_A_DESK: &[(Call, &str)] = &[
+    (Call::Arrive(0, 0), "Ok(())"),
+    (Call::Arrive(1, 1), "Ok(())"),
+    (Call::Arrive(2, 2), "Ok(())"),
+    (Call::Arrive(3, 3), "Ok(())"),
+    (Call::Receive(Some(Ty::Integer), Some(1), 0), "Ok(None)"),
+    (
+        Call::Check(Some(Ty::Integer), Some(0), 2),
+        "Ok(Some(Env { sender: 0, number: 0, \
+        msg: Message { ty: Integer, value: Int(0) } }))",
+    ),
+    (
+        Call::Receive(None, None, 1),
+        "Ok(Some(Env { sender: 0, number: 0, \
+        msg: Message { ty: Integer, value: Int(0) } }))",
+    ),
+    (
+        Call::Trigger(Some(Ty::Integer), Some(1), 3),
+        "Ok(Dropped(Env { sender: 0, number: 1, \
+        msg: Message { ty: Integer, value: Int(1) } }))",
+    ),
+    (
+        Call::Trigger(Some(Ty::Integer), Some(0), 0),
+        "Ok(Took(Env { sender: 0, number: 2, \
+        msg: Message { ty: Integer, value: Int(2) } }))",
+    ),
+    (Call::Halt, "Ok(Some(1))"),
+    (Call::Clear, "Ok(1)"),
+    (Call::Stop, "Ok(())"),
+    (Call::MaySend, "false"),
+    (Call::Start, "Ok(0)"),
+    (Call::Stamp, "Some(4)"),
+    (Call::Sent, "Ok(())"),
+    (Call::Else, "Ok(())"),
+    (Call::Verdict, "Ok(())"),
+    (Call::Failed, "Ok(())"),
+];
+
+/// What these calls are noted as.
+const LOG_OF_A_DESK: &[&str] = &[
+    "Arrive(0, Env { sender: 0, number: 0, msg: Message { ty: Integer, value: Int(0) } }, 0)",
+    "Arrive(0, Env { sender: 0, number: 1, msg: Message { ty: Integer, value: Int(1) } }, 1)",
+    "Arrive(0, Env { sender: 0, number: 2, msg: Message { ty: Integer, value: Int(2) } }, 2)",
+    "Arrive(0, Env { sender: 0, number: 3, msg: Message { ty: Integer, value: Int(3) } }, 3)",
+    "Found(0, Env { sender: 0, number: 0, msg: Message { ty: Integer, value: Int(0) } }, 2)",
+    "Took(0, Env { sender: 0, number: 0, msg: Message { ty: Integer, value: Int(0) } }, 1)",
+    "Dropped(0, Env { sender: 0, number: 1, msg: Message { ty: Integer, value: Int(1) } }, 3)",
+    "Took(0, Env { sender: 0, number: 2, msg: Message { ty: Integer, value: Int(2) } }, 0)",
+    "Halted(0)",
+    "Cleared(0)",
+    "Stopped(0)",
+    "Started(0)",
+    "Sent(RouteId { source: CompId(0), to: PortRef { comp: CompId(1), port: 0 } }, 0, \
+    Stamped { stamp: 4, message: Message { ty: Integer, value: Int(7) } })",
+    "Else",
+    "Verdict(Pass)",
+    "Failed(NotSending)",
+];
+
 /// The calls of a desk on its happy path, each made again where memory is refused: what they
 /// answer, and the history.
 #[test]
 fn refused_memory_leaves_a_desk_as_it_was(rt: HostRuntime) {
-    const CALLS: &[(Call, &str)] = &[
-        (Call::Arrive(0, 0), "Ok(())"),
-        (Call::Arrive(1, 1), "Ok(())"),
-        (Call::Arrive(2, 2), "Ok(())"),
-        (Call::Arrive(3, 3), "Ok(())"),
-        (Call::Receive(Some(Ty::Integer), Some(1), 0), "Ok(None)"),
-        (
-            Call::Check(Some(Ty::Integer), Some(0), 2),
-            "Ok(Some(Env { sender: 0, number: 0, \
-            msg: Message { ty: Integer, value: Int(0) } }))",
-        ),
-        (
-            Call::Receive(None, None, 1),
-            "Ok(Some(Env { sender: 0, number: 0, \
-            msg: Message { ty: Integer, value: Int(0) } }))",
-        ),
-        (
-            Call::Trigger(Some(Ty::Integer), Some(1), 3),
-            "Ok(Dropped(Env { sender: 0, number: 1, \
-            msg: Message { ty: Integer, value: Int(1) } }))",
-        ),
-        (
-            Call::Trigger(Some(Ty::Integer), Some(0), 0),
-            "Ok(Took(Env { sender: 0, number: 2, \
-            msg: Message { ty: Integer, value: Int(2) } }))",
-        ),
-        (Call::Halt, "Ok(Some(1))"),
-        (Call::Clear, "Ok(1)"),
-        (Call::Stop, "Ok(())"),
-        (Call::MaySend, "false"),
-        (Call::Start, "Ok(0)"),
-        (Call::Stamp, "Some(4)"),
-        (Call::Sent, "Ok(())"),
-        (Call::Else, "Ok(())"),
-        (Call::Verdict, "Ok(())"),
-        (Call::Failed, "Ok(())"),
-    ];
-    const LOG: &[&str] = &[
-        "Arrive(0, Env { sender: 0, number: 0, msg: Message { ty: Integer, value: Int(0) } }, 0)",
-        "Arrive(0, Env { sender: 0, number: 1, msg: Message { ty: Integer, value: Int(1) } }, 1)",
-        "Arrive(0, Env { sender: 0, number: 2, msg: Message { ty: Integer, value: Int(2) } }, 2)",
-        "Arrive(0, Env { sender: 0, number: 3, msg: Message { ty: Integer, value: Int(3) } }, 3)",
-        "Found(0, Env { sender: 0, number: 0, msg: Message { ty: Integer, value: Int(0) } }, 2)",
-        "Took(0, Env { sender: 0, number: 0, msg: Message { ty: Integer, value: Int(0) } }, 1)",
-        "Dropped(0, Env { sender: 0, number: 1, msg: Message { ty: Integer, value: Int(1) } }, 3)",
-        "Took(0, Env { sender: 0, number: 2, msg: Message { ty: Integer, value: Int(2) } }, 0)",
-        "Halted(0)",
-        "Cleared(0)",
-        "Stopped(0)",
-        "Started(0)",
-        "Sent(RouteId { source: CompId(0), to: PortRef { comp: CompId(1), port: 0 } }, 0, \
-        Stamped { stamp: 4, message: Message { ty: Integer, value: Int(7) } })",
-        "Else",
-        "Verdict(Pass)",
-        "Failed(NotSending)",
-    ];
     let mut desk = desk(&rt);
-    carries_out(&rt, &mut desk, CALLS);
-    is_noted(&rt, desk.log(), LOG);
+    carries_out(&rt, &mut desk, CALLS_OF_A_DESK);
+    is_noted(&rt, desk.log(), LOG_OF_A_DESK);
     drop(desk);
 }
 

@@ -36,6 +36,7 @@ const USAGE: u8 = 4;
 
 /// Prints the usage line on standard error.
 fn usage<R: Eprint>(rt: &R) -> u8 {
+    // Where standard error can't be written either, the status alone says it.
     let _ = eprintln!(rt; "usage: tpr MODE [FILE]");
     USAGE
 }

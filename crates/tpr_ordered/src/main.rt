@@ -38,6 +38,7 @@ const USAGE: u8 = 4;
 
 /// Prints the usage line on standard error.
 fn usage<R: Eprint>(rt: &R) -> u8 {
+    // Where standard error can't be written either, the status alone says it.
     let _ = eprintln!(rt; "usage: tpr_ordered SCRIPT ORDERS");
     USAGE
 }

@@ -89,6 +89,7 @@ pub fn read_orders(alloc: Global, config: &Config, text: &[u8]) -> Result<Vec<Or
     let mut orders = Vec::new(alloc);
     let mut number: u32 = 0;
     for line in text.split_terminator('\n') {
+        // A text has fewer lines than 2^32, which needn't be shown.
         number = number.wrapping_add(1);
         orders.push(order_of(alloc, config, line, number)?)?;
     }
