@@ -106,6 +106,11 @@ builds_and_fails() {
     fails_and_builds_again
 }
 
+# What the log of the build says, each time of a crate as `N seconds`.
+log_of_build() {
+    sed -E 's/ took [0-9]+ seconds / took N seconds /' "a tree/out/build.log" | sort
+}
+
 builds_at_first() {
     fails_to_build "a first build without the toolchain" without_rt \
         "tpr: the program has to be built, and the toolchain's command rt is not on PATH"
@@ -114,9 +119,10 @@ builds_at_first() {
     touch "$crates/meet"
     builds "a first build, of two crates side by side" "$first" "$log" "$low" "$side" "$last"
     rm "$crates/meet"
-    observe sort "a tree/out/build.log"
-    must "what rt was asked" 0 "$(printf 'rt was asked in %s\n' "low: lib --jobs 1" "side: lib --jobs 1" \
-        "tpr: run --jobs 2 -- queue")"$'\n' ''
+    observe log_of_build
+    must "what rt was asked, and what each crate took" 0 \
+        "$(printf 'rt was asked in %s\n' "low: lib --jobs 1" "side: lib --jobs 1" "tpr: run --jobs 2 -- queue")
+$(printf 'tpr: %s took N seconds with %s\n' low "1 job" side "1 job" tpr "2 jobs")"$'\n' ''
     observe ls "a tree/out"
     must "what a build leaves" 0 $'build.log\nbuilt\nlock\n' ''
     call rt "a tree/build" is_built
@@ -136,9 +142,10 @@ builds_the_other_program() {
     local last="crate 3 of 3, tpr_ordered; 0 minutes so far"
     call rt "a tree/build" tpr_ordered --jobs 2
     must "the program for tools/explore" 0 '' "$(printf 'tpr: %s\n' "$other" "$log" "$last")"$'\n'
-    observe cat "a tree/out/build.log"
+    observe log_of_build
     must "what rt was asked for it" 0 \
-        "rt was asked in tpr_ordered: run --jobs 2 -- $PWD/a tree/examples/login_is_answered.ttcn /dev/null"$'\n' ''
+        "rt was asked in tpr_ordered: run --jobs 2 -- $PWD/a tree/examples/login_is_answered.ttcn /dev/null
+tpr: tpr_ordered took N seconds with 2 jobs"$'\n' ''
     call rt "a tree/build" tpr_ordered --jobs 2
     must "it is built" 0 '' ''
     touch "$crates/tpr_ordered/src/lib.rt"
