@@ -60,21 +60,22 @@ def faults_of_loop(function: str, cell: str, change: str, given_up: dict[str, st
     """
     owner, its_pass = cell.split()
     load = f"let seen = {owner}.look(rt, &mut {its_pass});"
-    exchange = f"{owner}.counts.compare_exchange_as::<Together, R>(rt, &mut {its_pass}, seen, {change});"
+    exchange = f"{owner}.exchange(rt, &mut {its_pass}, seen, {change})"
     turns = "for _ in rt.forever() {"
     name = function.split("::")[1].removesuffix("_by")
     found = {
         "loads_once": {turns: f"let first = {owner}.look(rt, &mut {its_pass}); {turns}", load: "let seen = first;"},
         "loads_nothing": {load: "let seen = Counts { living: 0, resting: 0 };"},
-        "exchanges_for_the_old": {exchange: exchange.replace(f"{change});", "seen);")},
-        "exchanges_nothing": {f"let done = {exchange}": "let done: Result<Counts, Counts> = Ok(seen);"},
+        "exchanges_for_the_old": {exchange: exchange.replace(f"{change})", "seen)")},
+        "exchanges_nothing": {f"if {exchange}": "if true"},
         "exchanges_whatever_is_there": {
-            f"let done = {exchange}": "let done: Result<Counts, Counts> = Ok("
-            f"{owner}.counts.swap_as::<Together, R>(rt, &mut {its_pass}, {change}));"
+            f"if {exchange}": f"let _ = {owner}.counts.swap_as::<Together, R>(rt, &mut {its_pass}, {change}); if true"
         },
     }
     for word, answer in given_up.items():
-        found[f"gives_up{word}"] = {"if done.is_ok() {": f"if done.is_err() {{ return {answer}; }} if done.is_ok() {{"}
+        found[f"gives_up{word}"] = {
+            f"if {exchange}": f"let done = {exchange}; if !done {{ return {answer}; }} if done"
+        }
         found[f"loads_no_second_time{word}"] = {
             turns: f"let mut turns = 0u64; {turns} turns += 1; if turns > 1 {{ return {answer}; }}"
         }

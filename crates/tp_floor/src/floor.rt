@@ -1,5 +1,5 @@
 //! The floor that all behaviours of a run stand on: how many live, and how many of them rest.
-ghost use Rattle.std.specs.Prelude.{◌≡◌, ◌<◌, ◌≤◌, ◌↔◌, ◌+◌, ◌-◌, [], ◌∷◌, true, if◌then◌else◌};
+ghost use Rattle.std.specs.Prelude.{◌≡◌, ◌<◌, ◌≤◌, ◌↔◌, ◌+◌, ◌-◌, [], ◌∷◌, false, true, if◌then◌else◌};
 ghost use Rattle.std.specs.Arc.{arc_value};
 ghost use Rattle.crossbeam_utils.specs.Seq.{IsSamePass, cell_view};
 
@@ -133,6 +133,28 @@ impl Floor {
         self.counts.load_as::<Together, R>(rt, pass)
     }
 
+    /// Puts the next counts in the place of those that were seen, unless they have changed since,
+    /// and says whether it did. The place of this pass changes as the number that rests does.
+    fn exchange<R: Wait>(
+        &self,
+        rt: &R,
+        pass: &mut Pass<Counts, u64>,
+        seen: Counts,
+        next: Counts,
+    ) -> bool
+        requires here { pass.old.table_id ≡ self.now.counts.table.shared.table_id }
+        requires counted { seen.resting ≤ next.resting + cell_view pass.old }
+        ensures same { IsSamePass pass.old pass.new }
+        ensures done { result ≡ true
+            → cell_view pass.new + seen.resting ≡ cell_view pass.old + next.resting }
+        ensures stays { result ≡ false → cell_view pass.new ≡ cell_view pass.old }
+    {
+        let done = self
+            .counts
+            .compare_exchange_as::<Together, R>(rt, pass, seen, next);
+        done.is_ok()
+    }
+
     /// One behaviour has ended. True where others live and all of them rest: then nothing will wake
     /// them but their inboxes being closed. Where nobody lives it changes nothing, and answers
     /// false. Takes no memory.
@@ -148,10 +170,7 @@ impl Floor {
             let mut left = seen;
             let all_rest = left.leave();
             seam.between();
-            let done = self
-                .counts
-                .compare_exchange_as::<Together, R>(rt, &mut pass, seen, left);
-            if done.is_ok() {
+            if self.exchange(rt, &mut pass, seen, left) {
                 return all_rest;
             }
         }
@@ -204,11 +223,7 @@ impl Place {
                 return false;
             }
             seam.between();
-            let done = self
-                .floor
-                .counts
-                .compare_exchange_as::<Together, R>(rt, &mut self.pass, seen, rested);
-            if done.is_ok() {
+            if self.floor.exchange(rt, &mut self.pass, seen, rested) {
                 return true;
             }
         }
@@ -226,11 +241,7 @@ impl Place {
             let mut risen = seen;
             risen.rise();
             seam.between();
-            let done = self
-                .floor
-                .counts
-                .compare_exchange_as::<Together, R>(rt, &mut self.pass, seen, risen);
-            if done.is_ok() {
+            if self.floor.exchange(rt, &mut self.pass, seen, risen) {
                 return;
             }
         }
