@@ -31,7 +31,7 @@ pub record Correspondents (components : List CompReport) (r : RouteId) : Type 0 
   pub receiver_is : slice_get components r.to.comp.0 ≡ Some receiver
 
 -- on a route, what the sender's trace says was sent is what came to the receiver, in that order and each once, numbered
--- from 0 and with its stamp, and as much as the sender's ledger held
+-- from 0 and with its stamp, and as much as the sender counted
 pub record IsDelivered (components : List CompReport) (r : RouteId) : Type 0 where
   pub pair : Correspondents components r
   pub same : sent_on r pair.source.desk.log ≡ arrived_on r pair.receiver.desk.log

@@ -22,7 +22,7 @@ use std::vec::IntoIter;
 use tp_config::config::Config;
 use tp_config::port_type::RouteId;
 use tp_inbox::desk::Desk;
-use tp_inbox::gathered::{Settled, gather};
+use tp_inbox::gathered::{Rest, gather};
 use tp_inbox::owner::Owner;
 use tp_inbox::sender::Sender;
 use tp_queue::event::Env;
@@ -32,7 +32,7 @@ use tp_value::message::Message;
 /// Adds what was still in the inbox to the history, in its order.
 ///
 /// 50 `Memory` where an allocation was refused.
-fn append(desk: &mut Desk, rest: Vec<(u32, Env<Message>, u64)>) -> Result<(), Memory>
+fn append(desk: &mut Desk, rest: Rest) -> Result<(), Memory>
     requires { All (λ x. x.0 < desk.old.ports) rest.items }
     ensures { OnOk result (desk.new ≡ adding_all desk.old (rest_arrivals rest.items)) }
 {
@@ -47,27 +47,22 @@ fn append(desk: &mut Desk, rest: Vec<(u32, Env<Message>, u64)>) -> Result<(), Me
 /// What is still in this inbox, once its senders have ended.
 ///
 /// 50 `Memory` where an allocation was refused.
-fn settle<R: Wait>(
-    rt: &R,
-    owner: Owner,
-    desk: &Desk,
-    senders: Vec<Sender>,
-) -> Result<Settled, Memory>
+fn settle<R: Wait>(rt: &R, owner: Owner, desk: &Desk, senders: Vec<Sender>) -> Result<Rest, Memory>
     requires desk { IsDeskOf owner.inbox desk.now }
     requires arrived { arrivals desk.now.log ≡ owner.drained }
     requires senders { AreSenders owner.inbox senders.items }
     ensures are { AreRoutes owner.inbox.comp owner.inbox.ports owner.inbox.routes }
-    ensures delivered { IfOk result (λ x. AreDelivered owner.inbox.comp
-        (desk.now.log ++ rest_arrivals x.rest.items) (map put_by senders.items)) }
-    ensures numbered { IfOk result (λ x. AreNumbered owner.inbox.routes
-        (desk.now.log ++ rest_arrivals x.rest.items)) }
-    ensures routed { IfOk result (λ x. All (IsArrivalOn owner.inbox.routes)
-        (arrivals (desk.now.log ++ rest_arrivals x.rest.items))) }
-    ensures within { IfOk result (λ x. All (λ y. y.0 < desk.now.ports) x.rest.items) }
+    ensures delivered { IfOk result (λ rest. AreDelivered owner.inbox.comp
+        (desk.now.log ++ rest_arrivals rest.items) (map put_by senders.items)) }
+    ensures numbered { IfOk result (λ rest. AreNumbered owner.inbox.routes
+        (desk.now.log ++ rest_arrivals rest.items)) }
+    ensures routed { IfOk result (λ rest. All (IsArrivalOn owner.inbox.routes)
+        (arrivals (desk.now.log ++ rest_arrivals rest.items))) }
+    ensures within { IfOk result (λ rest. All (λ y. y.0 < desk.now.ports) rest.items) }
 {
     let gathered = gather(rt, owner, senders);
     match gathered.settle(rt, desk) {
-        Ok(settled) => Ok(settled),
+        Ok(rest) => Ok(rest),
         Err((memory, _)) => Err(memory),
     }
 }
@@ -125,7 +120,7 @@ fn settle_one<R: Wait>(
         mut desk,
         outcome,
     } = idle;
-    let Settled { sent: _, rest } = settle(rt, owner, &desk, senders)?;
+    let rest = settle(rt, owner, &desk, senders)?;
     append(&mut desk, rest)?;
     Ok(Ended {
         desk,

@@ -1,10 +1,9 @@
 -- What follows for each route once the senders have joined.
-use Rattle.std.proofs.Common.{◌≡◌, ℕ, suc, ◌+◌, ◌-◌, ◌≤◌, Bool, true, false, cond, Option, List, [], ◌∷◌, ◌++◌, length, map, take, sym, ap, ◌∙◌, subst, append_assoc, length-append, arith}
+use Rattle.std.proofs.Common.{◌≡◌, ℕ, suc, ◌+◌, ◌-◌, ◌≤◌, Bool, true, false, cond, Option, List, [], ◌∷◌, ◌++◌, length, map, take, refl, sym, ap, ◌∙◌, subst, append_assoc, length-append, arith}
 use Rattle.std.specs.Prelude.{slice_index_or, ◌==◌, All}
 use Rattle.std.specs.List.{AllZip, list_any}
 use Rattle.std.proofs.lemmas.List.Elements.{All-nil, All-cons}
 use Rattle.std.proofs.lemmas.Slice.Zip.{all_zipped_more}
-use Rattle.std.specs.declared.vec.Vec.{Vec}
 use Rattle.std.proofs.lemmas.List.{map-append, length-map}
 use Rattle.crossbeam_queue.specs.Fifo.{Held}
 use Rattle.tp_inbox.specs.declared.posted.Posted.{Posted}
@@ -19,7 +18,7 @@ use Rattle.tp_inbox.specs.Envelopes.{AreFronts, AreWhole, AreRouted, Begins, Led
 use Rattle.tp_inbox.specs.Rule.{owner_pass, sender_pass, Knows, Sound}
 use Rattle.tp_inbox.specs.Routed.{AreBegun, AreDelivered, AreNumbered, IsArrivalOn, arrival_of, arrivals_of, posted_of, sources_behind, with_source}
 use Rattle.tp_inbox.specs.Ledgers.{Inbox, Sending, AreSenders}
-use Rattle.tp_inbox.specs.Ends.{AreFrom, inbox_of, seen_sent}
+use Rattle.tp_inbox.specs.Ends.{AreFrom, inbox_of, sent_by}
 use Rattle.tp_inbox.specs.Gathers.{IsPutOf}
 use Rattle.tp_inbox.proofs.Owners.{take_front, sound_joined, routed_rest}
 use Rattle.tp_inbox.proofs.Arrivals.{are_on, numbered_on, arrived_in, arrived_on-append, arrived_from-append, came_in, from_places}
@@ -148,10 +147,21 @@ hand_routed n m all hand same routed ends = routed_rest n m all (before all (one
 pub move_one : {A : Type 0} (all xs : List A) (x : A) (ys : List A) → all ≡ xs ++ x ∷ [] → all ++ ys ≡ xs ++ x ∷ ys
 move_one all xs x ys is = ap (λ l. l ++ ys) is ∙ append_assoc xs (x ∷ []) ys
 
-pub seen-push : {A : Type 0} (all xs : List (CompId × Vec Posted A)) (c : CompId) (v : Vec Posted A) (s : Sent) → all ≡ xs ++ (c, v) ∷ [] → c ≡ s.0
-    → v.items ≡ s.1 → seen_sent all ≡ seen_sent xs ++ s ∷ []
-seen-push all xs c v s is source ledger =
-    ap seen_sent is ∙ map-append (λ v. (v.0, v.1.items)) xs ((c, v) ∷ []) ∙ ap (λ x. seen_sent xs ++ x ∷ []) (λ i. (source i, ledger i))
+sent_by-push : (routes : List RouteId) (cs : List CompId) (known : List Ledger) (c : CompId) (x : Ledger) → length cs ≡ length known
+    → sent_by routes (cs ++ c ∷ []) (known ++ x ∷ []) ≡ sent_by routes cs known ++ (c, map (posted_of routes) x.1) ∷ []
+sent_by-push routes [] [] c x same = refl
+sent_by-push routes [] (y ∷ known) c x same = absurd (omega (arith, same))
+sent_by-push routes (d ∷ cs) [] c x same = absurd (omega (arith, same))
+sent_by-push routes (d ∷ cs) (y ∷ known) c x same =
+    ap (λ l. (d, map (posted_of routes) y.1) ∷ l) (sent_by-push routes cs known c x (omega (arith, same)))
+
+-- one more component, with what its sender had put
+pub sent-push : (routes : List RouteId) (cs more : List CompId) (known grown : List Ledger) (c : CompId) (x : Ledger) (s : Sent)
+    → length cs ≡ length known → more ≡ cs ++ c ∷ [] → grown ≡ known ++ x ∷ [] → c ≡ s.0 → map (posted_of routes) x.1 ≡ s.1
+    → sent_by routes more grown ≡ sent_by routes cs known ++ s ∷ []
+sent-push routes cs more known grown c x s same is grows source put =
+    (λ i. sent_by routes (is i) (grows i)) ∙ sent_by-push routes cs known c x same
+    ∙ ap (λ (y : Sent). sent_by routes cs known ++ y ∷ []) (λ i. (source i, put i))
 
 -- one more is known
 pub known-push : (routes : List RouteId) (known grown : List Ledger) (sent more : List Sent) (w : View) (places : List ℕ) (put : List Envelope) (s : Sent)
@@ -181,8 +191,7 @@ few_senders inbox senders are =
     omega (arith, few, ap length are.1, length-map senders (λ (s : Sending). s.source))
 
 -- nothing is known as yet
-pub known_none : (A : Type 0) (routes : List RouteId) (known : List Ledger) (sent : List (CompId × Vec Posted A)) → known ≡ [] → sent ≡ []
-    → AllZip (IsPutOf routes) known (seen_sent sent)
-known_none A routes known sent none empty =
-    subst (λ (l : List Ledger). AllZip (IsPutOf routes) l (seen_sent sent)) (sym none)
-    (subst (λ (l : List (CompId × Vec Posted A)). AllZip (IsPutOf routes) [] (seen_sent l)) (sym empty) (tt {0}))
+pub known_none : (routes : List RouteId) (known : List Ledger) (cs : List CompId) → known ≡ [] → cs ≡ []
+    → AllZip (IsPutOf routes) known (sent_by routes cs known)
+known_none routes known cs none empty =
+    subst (λ (y : List Ledger × List CompId). AllZip (IsPutOf routes) y.0 (sent_by routes y.1 y.0)) (λ i. (sym none i, sym empty i)) (tt {0})

@@ -30,7 +30,7 @@ seen s = record {
   inbox = inbox_of (arc_value s.hub);
   source = s.source;
   routes = map (route_at (arc_value s.hub).routes.items) s.places.items;
-  ledger = s.sent.items;
+  ledger = map (posted_of (arc_value s.hub).routes.items) s.pass.me.view.client.put;
 }
 
 -- routes of which `same_route` says that they are the same
@@ -89,7 +89,7 @@ on_way s v way h is low =
     omega (arith, ap (λ (x : Sending). length x.routes) is, length-map s.places.items (route_at routes)) in
     let p = get_or s.places.items way 0 in (
       few,
-      ap (λ (x : Sending). put_on_way x way) (sym is) ∙ ap (λ l. posted_on (route_at (seen s).routes way) l) h.ledger
+      ap (λ (x : Sending). put_on_way x way) (sym is)
           ∙ ap (λ r. posted_on r (map (posted_of routes) s.pass.me.view.client.put)) (get_or-map (route_at routes) s.places.items way 0 absent_route few)
           ∙ posted_at hub.comp hub.ports routes hub.routed p (h.low way 0 few) s.pass.me.view.client.put h.routed,
     )
@@ -190,39 +190,41 @@ pass_after v w places e is put =
       more,
     )
 
-pub ledger_after : (routes : List RouteId) (sent more : List Posted) (put grown : List Envelope) (e : Envelope) (x : Posted)
-    → sent ≡ map (posted_of routes) put → more ≡ sent ++ x ∷ [] → x ≡ posted_of routes e → grown ≡ put ++ e ∷ [] → more ≡ map (posted_of routes) grown
-ledger_after routes sent more put grown e x was is same grows =
-    is ∙ ap (λ l. l ++ x ∷ []) was ∙ ap (λ y. map (posted_of routes) put ++ y ∷ []) same ∙ sym (map-append (posted_of routes) put (e ∷ []))
-    ∙ ap (map (posted_of routes)) (sym grows)
+-- the ledger of a sender that has put one more on this one of its routes
+pub ledger_after : (s : sender.Inside) (v : Sending) (w : View) (way : ℕ) (e : Envelope) → IsSender s → seen s ≡ v → way < length v.routes
+    → e.place ≡ get_or s.places.items way 0 → e.number ≡ length (put_on_way v way) → Puts s.pass.me.view.client e w
+    → map (posted_of (arc_value s.hub).routes.items) w.put
+    ≡ v.ledger ++ record { route = route_at v.routes way; number = length (put_on_way v way); stamped = e.stamped } ∷ []
+ledger_after s v w way e h is low at num put =
+    let routes = (arc_value s.hub).routes.items in
+    let k = on_way s v way h is low in
+    let on : route_at routes e.place ≡ route_at v.routes way =
+    ap (route_at routes) at ∙ sym (get_or-map (route_at routes) s.places.items way 0 absent_route k.0)
+    ∙ ap (λ (y : Sending). route_at y.routes way) is in
+    ap (map (posted_of routes)) (ap (λ (x : View). x.put) put) ∙ map-append (posted_of routes) s.pass.me.view.client.put (e ∷ [])
+    ∙ (λ i. ap (λ (y : Sending). y.ledger) is i ++ record { route = on i; number = num i; stamped = e.stamped } ∷ [])
 
 -- what holds of a sender's fields once it has put one more on this one of its routes
-pub record Grown (s : sender.Inside) (w : View) (counts : List ℕ) (sent : List Posted) : Type 0 where
+pub record Grown (s : sender.Inside) (w : View) (counts : List ℕ) : Type 0 where
   pub view : w ≡ sender_pass s.places.items w.put
   pub routed : AreRouted (length (arc_value s.hub).routes.items) w.put
   pub told : AreTold s.places.items counts w.put
-  pub ledger : sent ≡ map (posted_of (arc_value s.hub).routes.items) w.put
 
-pub grown : (s : sender.Inside) (v : Sending) (w : View) (way : ℕ) (e : Envelope) (x : Posted) (counts : List ℕ) (sent : List Posted) → IsSender s
+pub grown : (s : sender.Inside) (v : Sending) (w : View) (way : ℕ) (e : Envelope) (counts : List ℕ) → IsSender s
     → seen s ≡ v → way < length v.routes → e.place ≡ get_or s.places.items way 0 → e.number ≡ length (put_on_way v way)
-    → Puts s.pass.me.view.client e w → counts ≡ set s.counts.items way (e.number + 1) → sent ≡ s.sent.items ++ x ∷ []
-    → x.route ≡ route_at v.routes way → x.number ≡ e.number → x.stamped ≡ e.stamped → Grown s w counts sent
-grown s v w way e x counts sent h is low at num put told more route number stamped =
+    → Puts s.pass.me.view.client e w → counts ≡ set s.counts.items way (e.number + 1) → Grown s w counts
+grown s v w way e counts h is low at num put told =
     let routes = (arc_value s.hub).routes.items in
     let k = on_way s v way h is low in
     let p = pass_after s.pass.me.view.client w s.places.items e h.view put in
     let here : e.number ≡ length (of e.place s.pass.me.view.client.put) = num ∙ ap length k.1
     ∙ ap (λ q. length (of q s.pass.me.view.client.put)) (sym at) in
     let within : e.place < length routes = subst (λ q. q < length routes) (sym at) (h.low way 0 k.0) in
-    let on : x.route ≡ route_at routes e.place = route ∙ ap (λ (y : Sending). route_at y.routes way) (sym is)
-    ∙ get_or-map (route_at routes) s.places.items way 0 absent_route k.0 ∙ ap (route_at routes) (sym at) in
     record {
       view = p.0;
       routed = subst (AreRouted (length routes)) (sym p.1) (routed-append (length routes) s.pass.me.view.client.put (e ∷ []) h.routed (within, tt));
       told = subst (λ (y : List ℕ × List Envelope). AreTold s.places.items y.0 y.1) (λ i. (sym told i, sym p.1 i))
           (told_next s.places.items s.counts.items s.pass.me.view.client.put e way e.number h.counts h.apart k.0 at here);
-      ledger = ledger_after routes s.sent.items sent s.pass.me.view.client.put w.put e x h.ledger more
-          (λ i. record { route = on i; number = number i; stamped = stamped i }) p.1;
     }
 
 map_nil : {A B : Type 0} (f : A → B) (xs : List A) → map f xs ≡ [] → xs ≡ []
@@ -249,7 +251,7 @@ pub record Widened (s : sender.Inside) (w : View) (places counts : List ℕ) : T
   pub apart : AllPairs (λ p q. p ≢ q) places
   pub routed : AreRouted (length (arc_value s.hub).routes.items) w.put
   pub told : AreTold places counts w.put
-  pub ledger : s.sent.items ≡ map (posted_of (arc_value s.hub).routes.items) w.put
+  pub put : w.put ≡ s.pass.me.view.client.put
 
 pub widened : (s : sender.Inside) (v : Sending) (u w : View) (place : ℕ) (places counts : List ℕ) → IsSender s → seen s ≡ v → v.ledger ≡ []
     → u ≡ sender_pass (place ∷ []) [] → w ≡ sender_pass (s.pass.me.view.client.places ++ u.places) s.pass.me.view.client.put
@@ -259,7 +261,7 @@ widened s v u w place places counts h is fresh other join at told low apart =
     let hub = arc_value s.hub in
     let routes = hub.routes.items in
     let put = s.pass.me.view.client.put in
-    let none : put ≡ [] = map_nil (posted_of routes) put (sym h.ledger ∙ ap (λ (x : Sending). x.ledger) is ∙ fresh) in
+    let none : put ≡ [] = map_nil (posted_of routes) put (ap (λ (x : Sending). x.ledger) is ∙ fresh) in
     let same : w.put ≡ put = ap (λ (x : View). x.put) join in
     let empty : w.put ≡ [] = same ∙ none in
     let lists : v.inbox.routes ≡ routes = ap (λ (x : Sending). x.inbox.routes) (sym is) in
@@ -277,5 +279,5 @@ widened s v u w place places counts h is fresh other join at told low apart =
       routed = subst (AreRouted (length routes)) (sym empty) tt;
       told = subst (λ (x : List ℕ × List ℕ × List Envelope). AreTold x.0 x.1 x.2) (λ i. (sym at i, sym told i, sym empty i))
           (told_more s.places.items s.counts.items place (subst (AreTold s.places.items s.counts.items) none h.counts));
-      ledger = h.ledger ∙ ap (map (posted_of routes)) (sym same);
+      put = same;
     }

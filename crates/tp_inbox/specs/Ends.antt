@@ -2,7 +2,6 @@
 use Rattle.std.specs.Prelude.{◌≡◌, ◌≢◌, ◌<◌, ◌≤◌, ◌==◌, ◌%◌, ◌^◌, ℕ, Option, Some, None, List, [], ◌∷◌, ◌++◌, length, map, slice_index_or, vec_capacity, All, AllPairs}
 use Rattle.std.specs.Arc.{arc_value}
 use Rattle.crossbeam_queue.specs.SegTies.{IsSegPassOf}
-use Rattle.std.specs.declared.vec.Vec.{Vec}
 use Rattle.tp_inbox.specs.declared.posted.Posted.{Posted}
 use Rattle.tp_config.specs.declared.port_type.CompId.{CompId}
 use Rattle.tp_config.specs.declared.port_type.RouteId.{RouteId}
@@ -12,7 +11,7 @@ use Rattle.tp_inbox.specs.declared.envelope.Envelope.{Envelope}
 use Rattle.tp_inbox.specs.declared.rule.View.{View}
 use Rattle.tp_inbox.specs.declared.sender.Sender.TheInside as sender
 use Rattle.tp_inbox.specs.declared.owner.Owner.TheInside as owner
-use Rattle.tp_inbox.specs.Envelopes.{of, has, one_of, before, AreRouted, AreWhole, EndsWith, AreCounts}
+use Rattle.tp_inbox.specs.Envelopes.{of, has, one_of, before, AreRouted, AreWhole, EndsWith, AreCounts, Ledger}
 use Rattle.tp_inbox.specs.Rule.{sender_pass, Sound}
 use Rattle.tp_inbox.specs.Routed.{arrivals_of, posted_of, route_at}
 use Rattle.tp_inbox.specs.Places.{AreFiled}
@@ -22,9 +21,11 @@ use Rattle.tp_inbox.specs.Ledgers.{Inbox}
 abbrev pub inbox_of : Hub → Inbox
 inbox_of h = record { comp = h.comp; ports = h.ports; routes = h.routes.items; queue = h.line }
 
--- what senders have put, beside the components that send by them
-abbrev pub seen_sent : {A : Type 0} → List (CompId × Vec Posted A) → List (CompId × List Posted)
-seen_sent sent = map (λ v. (v.0, v.1.items)) sent
+-- what these components have put, by what the owner's pass knows of their senders
+abbrev pub sent_by : List RouteId → List CompId → List Ledger → List (CompId × List Posted)
+sent_by routes [] known = []
+sent_by routes (c ∷ cs) [] = []
+sent_by routes (c ∷ cs) (x ∷ known) = (c, map (posted_of routes) x.1) ∷ sent_by routes cs known
 
 -- of these routes, those at these places are those from this component
 abbrev pub AreFrom : CompId → List RouteId → List ℕ → Type 0
@@ -37,7 +38,7 @@ AreTold places counts es =
     × ((k : ℕ) → k < length places → slice_index_or counts k 0 ≡ length (of (slice_index_or places k 0) es))
 
 -- a sender's pass is of its inbox's queue, and knows the places of its routes, of which no two are equal, and what it
--- has put, which are the ledger's messages; the counts are those of its routes
+-- has put; the counts are those of its routes
 pub record IsSender (s : sender.Inside) : Type 0 where
   pub pass : IsSegPassOf (arc_value s.hub).line s.pass
   pub view : s.pass.me.view.client ≡ sender_pass s.places.items s.pass.me.view.client.put
@@ -45,7 +46,6 @@ pub record IsSender (s : sender.Inside) : Type 0 where
   pub apart : AllPairs (λ p q. p ≢ q) s.places.items
   pub routed : AreRouted (length (arc_value s.hub).routes.items) s.pass.me.view.client.put
   pub counts : AreTold s.places.items s.counts.items s.pass.me.view.client.put
-  pub ledger : s.sent.items ≡ map (posted_of (arc_value s.hub).routes.items) s.pass.me.view.client.put
 
 -- an owner's pass is of its inbox's queue; what it has taken out is what was drained, and then what is in hand, and is
 -- counted as the bell counts what was announced; the counts are those of what was drained, and each route's place among
@@ -62,8 +62,8 @@ pub record IsOwner (s : owner.Inside) : Type 0 where
       s.counts.items
       (before s.pass.me.view.client.taken (one_of s.hand))
   pub places : AreFiled (length (arc_value s.hub).routes.items) (arc_value s.hub).routes.items s.places
-  pub sent : s.sent.items ≡ []
-  pub sent_room : length (arc_value s.hub).routes.items ≤ vec_capacity s.sent
+  pub sources : s.sources.items ≡ []
+  pub sources_room : length (arc_value s.hub).routes.items ≤ vec_capacity s.sources
   pub rest : s.rest.items ≡ []
   pub rest_room : 1 ≤ vec_capacity s.rest
 

@@ -11,7 +11,7 @@ use Rattle.tp_inbox.specs.declared.posted.Posted.{Posted}
 use Rattle.tp_inbox.specs.Envelopes.{Ledger}
 use Rattle.tp_inbox.specs.Rule.{Sound}
 use Rattle.tp_inbox.specs.Routed.{arrivals_of, rest_arrivals, posted_of}
-use Rattle.tp_inbox.specs.Ends.{AreFrom, seen_sent}
+use Rattle.tp_inbox.specs.Ends.{AreFrom, sent_by}
 
 -- the arrivals that all make which was taken out
 abbrev pub all_arrivals : Inside → List Entry
@@ -25,10 +25,14 @@ front_of s = take (length (all_arrivals s) - length (rest_arrivals s.rest.items)
 abbrev pub IsPutOf : List RouteId → Ledger → CompId × List Posted → Type 0
 IsPutOf routes x s = AreFrom s.0 routes x.0 × (s.1 ≡ map (posted_of routes) x.1)
 
+-- what the senders that have joined had put
+abbrev pub all_sent : Inside → List (CompId × List Posted)
+all_sent s = sent_by (arc_value s.hub).routes.items s.sources.items s.pass.me.view.client.known
+
 -- its pass is of its inbox's queue; these senders have joined; what was taken out is what was drained, then the rest
 pub record IsGathered (s : Inside) : Type 0 where
   pub pass : IsSegPassOf (arc_value s.hub).line s.pass
   pub sound : Sound s.pass.me.view.client
   pub made : s.pass.me.view.client.made ≡ length (arc_value s.hub).routes.items
-  pub known : AllZip (IsPutOf (arc_value s.hub).routes.items) s.pass.me.view.client.known (seen_sent s.sent.items)
+  pub known : AllZip (IsPutOf (arc_value s.hub).routes.items) s.pass.me.view.client.known (all_sent s)
   pub ends : all_arrivals s ≡ front_of s ++ rest_arrivals s.rest.items

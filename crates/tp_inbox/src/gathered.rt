@@ -7,13 +7,11 @@ ghost use Rattle.tp_inbox.specs.Routed.{AreBegun, AreDelivered, AreNumbered, IsA
 ghost use Rattle.tp_inbox.specs.Routed.{arrivals_of, rest_arrivals};
 ghost use Rattle.tp_inbox.specs.Envelopes.{AreRouted};
 ghost use Rattle.tp_inbox.specs.Ledgers.{AreSenders, IsDeskOf, put_by};
-ghost use Rattle.tp_inbox.specs.Ends.{seen_sent};
 
 use crate::desk::Desk;
 use crate::envelope::Envelope;
 use crate::hub::Hub;
 use crate::owner::{Owner, take_out};
-use crate::posted::Posted;
 use crate::rule::{Pass, Route, Take};
 use crate::sender::Sender;
 use std::alloc::Global;
@@ -24,6 +22,9 @@ use tp_queue::event::Env;
 use tp_refusal::memory::Memory;
 use tp_value::message::Message;
 
+/// What was still in an inbox, in order: the port where it arrives, what arrives, its stamp.
+pub type Rest = Vec<(u32, Env<Message>, u64)>;
+
 /// An owner with its senders, all of them ended, seen by contracts as its inbox, the arrivals that
 /// the owner has drained, those that were taken out after that and are kept here, and what each
 /// sender has put.
@@ -31,10 +32,10 @@ use tp_value::message::Message;
 pub struct Gathered {
     hub: Arc<Hub, Global>,
     pass: Pass,
-    /// What each sender has put.
-    sent: Vec<(CompId, Vec<Posted>)>,
+    /// The components whose senders came back, in their order. What each has put the pass knows.
+    sources: Vec<CompId>,
     /// What was taken out and not drained, with the ports where it arrives, and the stamps.
-    rest: Vec<(u32, Env<Message>, u64)>,
+    rest: Rest,
 }
 
 impl Model for Gathered {
@@ -48,35 +49,21 @@ impl Model for Gathered {
     ghost coded = { Prim.hlevel (codes, value_contract.the_row.coded) };
 
     ghost use Rattle.tp_inbox.specs.Routed.{rest_arrivals};
-    ghost use Rattle.tp_inbox.specs.Gathers.{IsGathered, front_of};
-    ghost use Rattle.tp_inbox.specs.Ends.{inbox_of, seen_sent};
+    ghost use Rattle.tp_inbox.specs.Gathers.{IsGathered, all_sent, front_of};
+    ghost use Rattle.tp_inbox.specs.Ends.{inbox_of};
 
     ghost view = { λ s. record {
       inbox = inbox_of (arc_value s.hub);
       drained = front_of s;
       kept = rest_arrivals s.rest.items;
-      sent = seen_sent s.sent.items;
+      sent = all_sent s;
     } };
 
     ghost invariant = { IsGathered };
 }
 
-/// What each sender has put, and what of it was still in the inbox.
-#[derive(Drop)]
-pub struct Settled {
-    /// For each component that has routes into this one, in the order of the first of these, what
-    /// its sender has put, in its order over all routes.
-    pub sent: Vec<(CompId, Vec<Posted>)>,
-    /// What was still in the inbox, in order: the port where it arrives, what arrives, its stamp.
-    pub rest: Vec<(u32, Env<Message>, u64)>,
-}
-
 /// The envelope that was in hand, if any, as the first of the rest.
-fn with_hand(
-    hub: &Hub,
-    mut rest: Vec<(u32, Env<Message>, u64)>,
-    hand: Option<Envelope>,
-) -> Vec<(u32, Env<Message>, u64)>
+fn with_hand(hub: &Hub, mut rest: Rest, hand: Option<Envelope>) -> Rest
     requires empty { rest.items ≡ [] }
     requires room { 1 ≤ vec_capacity rest }
     requires routed { AreRouted (length hub.now.routes.items) (one_of hand) }
@@ -104,7 +91,7 @@ pub fn gather<R: Wait>(rt: &R, owner: Owner, senders: Vec<Sender>) -> Gathered
         hub,
         mut pass,
         hand,
-        mut sent,
+        mut sources,
         rest,
         taken: _,
         counts: _,
@@ -117,40 +104,36 @@ pub fn gather<R: Wait>(rt: &R, owner: Owner, senders: Vec<Sender>) -> Gathered
             source,
             places: _,
             counts: _,
-            sent: ledger,
-            alloc: _,
         } = sender;
         hub.line.absorb::<Route>(&mut pass, other);
-        sent.push_reserved((source, ledger));
+        sources.push_reserved(source);
     }
     hub.line.len_as::<Take, R>(rt, &mut pass);
     let rest = with_hand(&hub, rest, hand);
     Gathered {
         hub,
         pass,
-        sent,
+        sources,
         rest,
     }
 }
 
 impl Gathered {
-    /// What each sender has put, and what of it was still in the inbox: the arrivals from its
-    /// component in the desk, followed by those in the rest, are what it has put, in its order over
-    /// all routes; and on each route they are numbered from 0. Nothing is compared for this; it
-    /// follows from the rule of the queue.
+    /// What was still in the inbox, in order: the port where it arrives, what arrives, its stamp.
+    /// The arrivals in the desk from a component, followed by those in this rest, are what its
+    /// sender has put, in its order over all routes; and on each route they are numbered from 0.
+    /// Nothing is compared for this; it follows from the rule of the queue.
     ///
     /// 50 `Memory` where an allocation was refused: this is handed back, and may be settled again.
-    pub fn settle<R: Wait>(self, rt: &R, desk: &Desk) -> Result<Settled, (Memory, Gathered)>
+    pub fn settle<R: Wait>(self, rt: &R, desk: &Desk) -> Result<Rest, (Memory, Gathered)>
         requires desk { IsDeskOf self.inbox desk.now }
         requires arrivals { arrivals desk.now.log ≡ self.drained }
-        ensures sent { IfOk result (λ settled. seen_sent settled.sent.items ≡ self.sent) }
-        ensures delivered { IfOk result (λ settled.
-            AreDelivered self.inbox.comp
-            (desk.now.log ++ rest_arrivals settled.rest.items) self.sent) }
-        ensures numbered { IfOk result (λ settled. AreNumbered self.inbox.routes
-            (desk.now.log ++ rest_arrivals settled.rest.items)) }
-        ensures routed { IfOk result (λ settled.
-            All (IsArrivalOn self.inbox.routes) (rest_arrivals settled.rest.items)) }
+        ensures delivered { IfOk result (λ rest. AreDelivered self.inbox.comp
+            (desk.now.log ++ rest_arrivals rest.items) self.sent) }
+        ensures numbered { IfOk result (λ rest. AreNumbered self.inbox.routes
+            (desk.now.log ++ rest_arrivals rest.items)) }
+        ensures routed { IfOk result (λ rest.
+            All (IsArrivalOn self.inbox.routes) (rest_arrivals rest.items)) }
         ensures same { IfErr result (λ back.
             (back.1.inbox ≡ self.inbox)
             × (back.1.drained ≡ self.drained)
@@ -163,7 +146,7 @@ impl Gathered {
         let Gathered {
             hub,
             mut pass,
-            sent,
+            sources,
             mut rest,
         } = self;
         for _ in rt.forever() {
@@ -173,13 +156,13 @@ impl Gathered {
                     Gathered {
                         hub,
                         pass,
-                        sent,
+                        sources,
                         rest,
                     },
                 ));
             }
             match take_out(rt, &hub.line, &mut pass) {
-                None => return Ok(Settled { sent, rest }),
+                None => return Ok(rest),
                 Some(envelope) => rest.push_reserved(hub.addressed(envelope)),
             }
         }

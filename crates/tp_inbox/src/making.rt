@@ -114,10 +114,35 @@ fn split(alloc: Global, hub: &Arc<Hub, Global>, pass: &mut Pass) -> Result<Vec<S
     Ok(senders)
 }
 
+/// The owner of an inbox from which nothing was drained, with a pass from which that of each route
+/// was split off.
+fn begin_owner(alloc: Global, hub: Arc<Hub, Global>, pass: Pass) -> Result<Owner, Memory>
+    requires queue { IsSegPassOf (arc_value hub).line pass }
+    requires made { pass.me.view.client
+        ≡ owner_pass (length (arc_value hub).routes.items) [] [] }
+    ensures inbox { IfOk result (λ owner. owner.inbox ≡ inbox_of (arc_value hub)) }
+    ensures drained { IfOk result (λ owner. owner.drained ≡ []) }
+{
+    let count = hub.routes.len();
+    let counts = Vec::from_elem(alloc, 0, count)?;
+    let places = places_of(alloc, hub.routes.as_slice())?;
+    let sources = Vec::with_capacity(alloc, count)?;
+    let rest = Vec::with_capacity(alloc, 1)?;
+    Ok(Owner {
+        hub,
+        pass,
+        hand: None,
+        taken: 0,
+        counts,
+        places,
+        sources,
+        rest,
+    })
+}
+
 /// The inbox of a component of the configuration: its owner, a sender for each component that has
 /// routes into this one, in the order of the first of these in [`Config::routes_into`], and what
-/// closes it. The floor is the one
-/// that the behaviours of the run stand on.
+/// closes it. The floor is the one that the behaviours of the run stand on.
 ///
 /// 50 `Memory` where an allocation was refused.
 pub fn inbox(
@@ -137,11 +162,6 @@ pub fn inbox(
     ensures joins { IfOk result (λ r. AreSenders r.0.inbox r.1.items) }
 {
     let routes = routes_of(config, comp)?;
-    let count = routes.len();
-    let counts = Vec::from_elem(alloc, 0, count)?;
-    let places = places_of(alloc, routes.as_slice())?;
-    let sent = Vec::with_capacity(alloc, count)?;
-    let rest = Vec::with_capacity(alloc, 1)?;
     let floor = Arc::try_clone(floor)?;
     let (line, mut pass) = InboxQueue::with_rule(alloc)?;
     let hub = Hub::over(line, comp, port_count(config, comp), routes, floor);
@@ -150,15 +170,6 @@ pub fn inbox(
     let closer = Closer {
         hub: Arc::try_clone(&hub)?,
     };
-    let owner = Owner {
-        hub,
-        pass,
-        hand: None,
-        taken: 0,
-        counts,
-        places,
-        sent,
-        rest,
-    };
+    let owner = begin_owner(alloc, hub, pass)?;
     Ok((owner, senders, closer))
 }

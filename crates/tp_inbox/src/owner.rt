@@ -12,7 +12,6 @@ ghost use Rattle.tp_inbox.specs.Ledgers.{IsDeskOf, drained_on};
 use crate::desk::Desk;
 use crate::envelope::Envelope;
 use crate::hub::Hub;
-use crate::posted::Posted;
 use crate::rule::{InboxQueue, Pass, Take};
 use crate::stamped::Stamped;
 use indexmap::IndexMap;
@@ -39,8 +38,8 @@ pub struct Owner {
     pub(crate) counts: Vec<u64>,
     /// The place of each route.
     pub(crate) places: IndexMap<RouteId, usize>,
-    /// Room for what each sender has put.
-    pub(crate) sent: Vec<(CompId, Vec<Posted>)>,
+    /// Room for the components whose senders come back.
+    pub(crate) sources: Vec<CompId>,
     /// Room for what is still in the inbox at the end.
     pub(crate) rest: Vec<(u32, Env<Message>, u64)>,
 }

@@ -2,7 +2,8 @@
 use crate::stamped::Stamped;
 use tp_config::port_type::RouteId;
 
-/// A message that was put into an inbox.
+/// A message that was put into an inbox. No value of it is made: it stands in contracts alone, in
+/// what a sender has put.
 #[derive(Debug, Drop)]
 pub struct Posted {
     /// Its route.

@@ -9,7 +9,6 @@ ghost use Rattle.tp_inbox.specs.Routed.{route_at};
 
 use crate::envelope::Envelope;
 use crate::hub::Hub;
-use crate::posted::Posted;
 use crate::rule::{Pass, Put, Way};
 use crate::stamped::Stamped;
 use std::alloc::Global;
@@ -17,7 +16,6 @@ use std::marker::Model;
 use std::sync::{Arc, Wait};
 use thiserror::Error;
 use tp_config::port_type::{CompId, RouteId};
-use tp_queue::payload::Payload;
 use tp_refusal::memory::Memory;
 
 /// How many messages a route takes.
@@ -36,7 +34,8 @@ pub enum PutFault {
 
 /// The sender of one component into one inbox, on all routes from the one to the other, seen by
 /// contracts as its inbox, the component, the routes and its ledger: the list of the messages that
-/// it has put, in order, with their routes, numbers and stamps.
+/// it has put, in order, with their routes, numbers and stamps. The ledger is what its pass knows,
+/// in contracts alone: a sender keeps no more of it than how many messages there were on each route.
 ///
 /// It may be moved into a thread of its own. There is no order between what different senders put.
 #[derive(Drop)]
@@ -49,8 +48,6 @@ pub struct Sender {
     pub(crate) places: Vec<usize>,
     /// How many messages it has put on each of its routes.
     pub(crate) counts: Vec<u64>,
-    pub(crate) sent: Vec<Posted>,
-    pub(crate) alloc: Global,
 }
 
 impl Model for Sender {
@@ -64,14 +61,14 @@ impl Model for Sender {
 
     ghost coded = { Prim.hlevel (codes, value_contract.the_row.coded) };
 
-    ghost use Rattle.tp_inbox.specs.Routed.{route_at};
+    ghost use Rattle.tp_inbox.specs.Routed.{posted_of, route_at};
     ghost use Rattle.tp_inbox.specs.Ends.{inbox_of, IsSender};
 
     ghost view = { λ s. record {
       inbox = inbox_of (arc_value s.hub);
       source = s.source;
       routes = map (route_at (arc_value s.hub).routes.items) s.places.items;
-      ledger = s.sent.items;
+      ledger = map (posted_of (arc_value s.hub).routes.items) s.pass.me.view.client.put;
     } };
 
     ghost invariant = { IsSender };
@@ -104,8 +101,6 @@ impl Sender {
             source,
             places,
             counts,
-            sent: Vec::new(alloc),
-            alloc,
         })
     }
 
@@ -132,7 +127,7 @@ impl Sender {
 
     /// Puts a stamped message into the inbox on one of its routes, and answers its number there,
     /// from 0. The inbox holds it from then on, behind all that this sender has put before on any
-    /// of its routes, until the owner takes it out; the ledger keeps a copy.
+    /// of its routes, until the owner takes it out.
     ///
     /// 15 `Limit` where the route has taken [`ROUTE_LIMIT`] messages; else 50 `Memory` where an
     /// allocation was refused. Either hands the message back, and the sender and the inbox are as
@@ -156,31 +151,19 @@ impl Sender {
         if number >= ROUTE_LIMIT {
             return Err((PutFault::Limit, stamped));
         }
-        let Ok(copy) = stamped.copy(self.alloc) else {
-            return Err((PutFault::Memory, stamped));
-        };
-        if self.sent.reserve(1).is_err() {
-            return Err((PutFault::Memory, stamped));
-        }
-        let route = self.route(way);
         let envelope = Envelope {
             place: self.places[way],
             number,
-            stamped: copy,
+            stamped,
         };
         let line = &self.hub.line;
         match line.push_as::<Put, R>(rt, &mut self.pass, envelope) {
             Ok(()) => {
                 self.counts[way] = number + 1;
-                self.sent.push_reserved(Posted {
-                    route,
-                    number,
-                    stamped,
-                });
                 self.hub.announce(rt);
                 Ok(number)
             }
-            Err(_) => Err((PutFault::Memory, stamped)),
+            Err(back) => Err((PutFault::Memory, back.stamped)),
         }
     }
 

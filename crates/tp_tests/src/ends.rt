@@ -11,7 +11,7 @@ use tp_config::port_type::{CompId, RouteId};
 use tp_floor::bell::Woken;
 use tp_floor::floor::Floor;
 use tp_inbox::desk::Desk;
-use tp_inbox::gathered::{Settled, gather};
+use tp_inbox::gathered::{Rest, gather};
 use tp_inbox::making::inbox;
 use tp_inbox::owner::{Closer, Owner};
 use tp_inbox::sender::{PutFault, Sender};
@@ -217,8 +217,8 @@ impl Ends {
         }
     }
 
-    /// What was put and what is left, asked a second time where memory is refused; and the desk.
-    pub fn settle<R: Wait + Abort>(self, rt: &R) -> (Settled, Desk) {
+    /// What is left, asked a second time where memory is refused; and the desk.
+    pub fn settle<R: Wait + Abort>(self, rt: &R) -> (Rest, Desk) {
         let Ends {
             mailbox,
             senders,
@@ -226,10 +226,10 @@ impl Ends {
         } = self;
         drop(closer);
         let Mailbox { owner, desk } = mailbox;
-        let settled = match gather(rt, owner, senders).settle(rt, &desk) {
-            Ok(settled) => settled,
+        let rest = match gather(rt, owner, senders).settle(rt, &desk) {
+            Ok(rest) => rest,
             Err((Memory, again)) => again.settle(rt, &desk).ok().expect(rt, "memory"),
         };
-        (settled, desk)
+        (rest, desk)
     }
 }

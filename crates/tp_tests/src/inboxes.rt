@@ -7,7 +7,6 @@ use std::process::Abort;
 use std::sync::Wait;
 use tp_floor::bell::Woken;
 use tp_floor::floor::Floor;
-use tp_inbox::gathered::Settled;
 use tp_inbox::sender::{PutFault, ROUTE_LIMIT};
 use tp_refusal::memory::Memory;
 
@@ -60,17 +59,12 @@ fn carries_out<R: AllocGlobal + Abort + Wait>(
     }
 }
 
-/// Asserts what the desk notes in the end, what was put, and what is left of it in the inbox.
-fn settles<R: AllocGlobal + Abort + Wait>(rt: &R, ends: Ends, log: &str, sent: &str, rest: &str) {
-    let (settled, desk) = ends.settle(rt);
+/// Asserts what the desk notes in the end, and what is left in the inbox: both are what was put.
+fn settles<R: AllocGlobal + Abort + Wait>(rt: &R, ends: Ends, log: &str, rest: &str) {
+    let (left, desk) = ends.settle(rt);
     says(rt, 0, debug(rt, desk.log()), log);
     drop(desk);
-    let Settled {
-        sent: put,
-        rest: left,
-    } = settled;
-    says(rt, 1, debug(rt, put), sent);
-    says(rt, 2, debug(rt, left), rest);
+    says(rt, 1, debug(rt, left), rest);
 }
 
 /// What a sender puts on two routes comes in its order over both, each numbered by itself.
@@ -88,26 +82,12 @@ fn two_routes(rt: HostRuntime) {
         Arrive(0, Env { sender: 0, number: 0, msg: Message { ty: Integer, value: Int(4) } }, 4), \
         Arrive(1, Env { sender: 0, number: 0, msg: Message { ty: Integer, value: Int(5) } }, 5), \
         Arrive(0, Env { sender: 0, number: 1, msg: Message { ty: Integer, value: Int(6) } }, 6)]";
-    const SENT: &str = "[(CompId(0), [\
-        Posted { route: RouteId { source: CompId(0), to: PortRef { comp: CompId(1), port: 0 } }, \
-        number: 0, stamped: Stamped { stamp: 4, \
-        message: Message { ty: Integer, value: Int(4) } } }, \
-        Posted { route: RouteId { source: CompId(0), to: PortRef { comp: CompId(1), port: 1 } }, \
-        number: 0, stamped: Stamped { stamp: 5, \
-        message: Message { ty: Integer, value: Int(5) } } }, \
-        Posted { route: RouteId { source: CompId(0), to: PortRef { comp: CompId(1), port: 0 } }, \
-        number: 1, stamped: Stamped { stamp: 6, \
-        message: Message { ty: Integer, value: Int(6) } } }, \
-        Posted { route: RouteId { source: CompId(0), to: PortRef { comp: CompId(1), port: 0 } }, \
-        number: 2, stamped: Stamped { stamp: 7, \
-        message: Message { ty: Integer, value: Int(7) } } }\
-        ])]";
     const REST: &str =
         "[(0, Env { sender: 0, number: 2, msg: Message { ty: Integer, value: Int(7) } }, 7)]";
     let (mut ends, floor) = two(&rt, ["p", "q"].as_slice());
     carries_out(&rt, &mut ends, &floor, CALLS);
     drop(floor);
-    settles(&rt, ends, LOG, SENT, REST);
+    settles(&rt, ends, LOG, REST);
 }
 
 /// A sender tells its route, and the owner how many it has drained of a route: none of one into
@@ -202,17 +182,6 @@ fn refused_memory_loses_nothing(rt: HostRuntime) {
     const LOG: &str = "[\
         Arrive(0, Env { sender: 0, number: 0, msg: Message { ty: Integer, value: Int(4) } }, 4), \
         Arrive(0, Env { sender: 0, number: 1, msg: Message { ty: Integer, value: Int(5) } }, 5)]";
-    const SENT: &str = "[(CompId(0), [\
-        Posted { route: RouteId { source: CompId(0), to: PortRef { comp: CompId(1), port: 0 } }, \
-        number: 0, stamped: Stamped { stamp: 4, \
-        message: Message { ty: Integer, value: Int(4) } } }, \
-        Posted { route: RouteId { source: CompId(0), to: PortRef { comp: CompId(1), port: 0 } }, \
-        number: 1, stamped: Stamped { stamp: 5, \
-        message: Message { ty: Integer, value: Int(5) } } }, \
-        Posted { route: RouteId { source: CompId(0), to: PortRef { comp: CompId(1), port: 0 } }, \
-        number: 2, stamped: Stamped { stamp: 6, \
-        message: Message { ty: Integer, value: Int(6) } } }\
-        ])]";
     const REST: &str =
         "[(0, Env { sender: 0, number: 2, msg: Message { ty: Integer, value: Int(6) } }, 6)]";
     let (mut ends, floor) = two(&rt, ["p"].as_slice());
@@ -222,5 +191,5 @@ fn refused_memory_loses_nothing(rt: HostRuntime) {
     assert!(rt; ends.count() == 2);
     drain_again(&rt, &mut ends, 2);
     put_again(&rt, &mut ends, 6, 2);
-    settles(&rt, ends, LOG, SENT, REST);
+    settles(&rt, ends, LOG, REST);
 }

@@ -16,7 +16,7 @@ pub returns-clause-end : goal.returns-clause-end
 returns-clause-end g c =
     let d = c.args.idle.desk in
     let i = c.args.idle.owner.inbox in
-    let rest = c.in_ok-rest.field-0.rest.items in
+    let rest = c.in_ok-rest.rest.items in
     let grown : c.append.new.desk ≡ adding_all d (rest_arrivals rest) = c.in_ok-append.ensures in
     record {
       outcome = refl;
@@ -33,7 +33,7 @@ returns-clause-come g c = λ logs more h.
     let d = c.args.idle.desk in
     let i = c.args.idle.owner.inbox in
     let ss = c.in_ok-senders.senders.items in
-    let rest = c.in_ok-rest.field-0.rest.items in
+    let rest = c.in_ok-rest.rest.items in
     let grown : c.append.new.desk ≡ adding_all d (rest_arrivals rest) = c.in_ok-append.ensures in
     has_all logs i record { desk = c.append.new.desk; outcome = c.args.idle.outcome; counts = c.in_ok-senders.counts } ss
     (c.in_ok-senders.ensures.back logs more h)

@@ -11,12 +11,12 @@ use Rattle.tp_inbox.specs.Envelopes.{AreRouted, Ledger, one_of, before}
 use Rattle.tp_inbox.specs.Rule.{owner_pass}
 use Rattle.tp_inbox.specs.Routed.{AreRoutes, arrivals_of, posted_of, rest_arrivals, route_at}
 use Rattle.tp_inbox.specs.Ledgers.{Draining, Inbox, Sending, IsSenderInto, put_by}
-use Rattle.tp_inbox.specs.Ends.{inbox_of, seen_sent}
+use Rattle.tp_inbox.specs.Ends.{inbox_of, sent_by}
 use Rattle.tp_inbox.specs.Gathers.{IsPutOf}
 use Rattle.tp_inbox.proofs.Steps.{joins_as}
 use Rattle.tp_inbox.proofs.Owned.{owner_arrivals}
 use Rattle.tp_inbox.proofs.Sources.{from_routes}
-use Rattle.tp_inbox.proofs.Gathering.{Knowing, all_head, all_tail, begun_at, joined, taken_apart, hand_routed, front_and_back, move_one, seen-push, known-push, known_none, few_senders}
+use Rattle.tp_inbox.proofs.Gathering.{Knowing, all_head, all_tail, begun_at, joined, taken_apart, hand_routed, front_and_back, move_one, sent-push, known-push, known_none, few_senders}
 use Rattle.tp_inbox.proofs.gathered.gather.Goals as goal
 
 pub loop-sender-init : goal.loop-sender-init
@@ -27,14 +27,16 @@ loop-sender-init g c =
     let gives = c.into_iter-sender-iterator.ensures.into_iter_gives.0 in
     let rest = into_iter_items c.into_iter-sender-iterator.result in
     let few = few_senders c.args.owner.inbox c.args.senders.items c.requires in
-    let none : length c.owner.inside.sent.items ≡ 0 = ap length owner.sent in
+    let none : length c.owner.inside.sources.items ≡ 0 = ap length owner.sources in
+    let known = c.owner.inside.pass.me.view.client.known in
     record {
       pass = search rules;
       view = owner.sound.owner;
-      known = known_none _ hub.routes.items _ c.owner.inside.sent.items owner.known owner.sent;
+      known = known_none hub.routes.items known c.owner.inside.sources.items owner.known owner.sources;
+      as_many = none ∙ sym (ap length owner.known);
       inbox = subst (All (IsSenderInto (inbox_of hub))) (sym gives) (subst (λ (i : Inbox). All (IsSenderInto i) c.args.senders.items) (sym own) c.requires.0);
-      lists = ap (λ l. seen_sent l ++ map put_by rest) owner.sent ∙ ap (map put_by) gives;
-      room = omega (arith, none, few, ap length gives, owner.sent_room, ap (λ (i : Inbox). length i.routes) own);
+      lists = ap (λ l. sent_by hub.routes.items l known ++ map put_by rest) owner.sources ∙ ap (map put_by) gives;
+      room = omega (arith, none, few, ap length gives, owner.sources_room, ap (λ (i : Inbox). length i.routes) own);
     }
 
 pub absorb-requires-clause-rule : goal.absorb-requires-clause-rule
@@ -48,21 +50,22 @@ loop-sender-preserved g c =
     let hub = arc_value c.owner.inside.hub in
     let left = into_iter_items c.next.new.self in
     let steps = c.in-Some.ensures.steps.0 in
-    let ss = seen_sent c.loop-sender.sent.items in
+    let ss = sent_by hub.routes.items c.loop-sender.sources.items c.loop-sender.pass.me.view.client.known in
     let made = c.owner.inside.pass.me.view.client.made in
     let taken = c.owner.inside.pass.me.view.client.taken in
     let known = c.loop-sender.pass.me.view.client.known in
     let theirs = c.sender.inside.pass.me.view.client in
-    let ledger : c.sender.inside.sent.items ≡ s.ledger = ap (λ (x : Sending). x.ledger) c.sender.view_is in
     let source : c.sender.inside.source ≡ s.source = ap (λ (x : Sending). x.source) c.sender.view_is in
     let inboxes = subst (All (IsSenderInto (inbox_of hub))) steps was.inbox in
     let first : IsSenderInto (inbox_of hub) s = all_head (IsSenderInto (inbox_of hub)) s left inboxes in
     let own : inbox_of (arc_value c.sender.inside.hub) ≡ inbox_of hub = ap (λ (x : Sending). x.inbox) c.sender.view_is ∙ first.0 in
     let lists : (arc_value c.sender.inside.hub).routes.items ≡ hub.routes.items = ap (λ (i : Inbox). i.routes) own in
-    let grown = seen-push c.push_reserved.new.self.items c.loop-sender.sent.items c.sender.inside.source c.sender.inside.sent
-    (put_by s) c.push_reserved.ensures.items source ledger in
+    let put : s.ledger ≡ map (posted_of hub.routes.items) theirs.put =
+    sym (ap (λ (x : Sending). x.ledger) c.sender.view_is) ∙ ap (λ r. map (posted_of r) theirs.put) lists in
     let view = c.absorb.ensures.rule ∙ ap (λ (v : View). owner_pass v.made v.taken (v.known ++ (theirs.places, theirs.put) ∷ [])) was.view in
     let more = ap (λ (v : View). v.known) view in
+    let grown = sent-push hub.routes.items c.loop-sender.sources.items c.push_reserved.new.self.items known _ c.sender.inside.source
+    (theirs.places, theirs.put) (put_by s) was.as_many c.push_reserved.ensures.items more source (sym put) in
     record {
       pass = search rules;
       view = view ∙ ap (owner_pass made taken) (sym more);
@@ -70,11 +73,20 @@ loop-sender-preserved g c =
           (from_routes hub.comp hub.ports hub.routes.items hub.routed s.source c.sender.inside.places.items
           (subst (λ (r : List RouteId). All (λ p. p < length r) c.sender.inside.places.items) lists c.sender.invariant.low)
           (ap (λ r. map (route_at r) c.sender.inside.places.items) (sym lists) ∙ ap (λ (x : Sending). x.routes) c.sender.view_is ∙ first.1))
-          (sym ledger ∙ c.sender.invariant.ledger ∙ ap (λ r. map (posted_of r) theirs.put) lists);
+          put;
+      as_many =
+          omega (
+            arith,
+            was.as_many,
+            ap length c.push_reserved.ensures.items,
+            length-append c.loop-sender.sources.items (c.sender.inside.source ∷ []),
+            ap length more,
+            length-append known ((theirs.places, theirs.put) ∷ []),
+          );
       inbox = all_tail (IsSenderInto (inbox_of hub)) s left inboxes;
       lists = move_one _ ss (put_by s) (map put_by left) grown
           ∙ subst (λ (l : List Sending). ss ++ map put_by l ≡ map put_by c.args.senders.items) steps was.lists;
-      room = omega (arith, was.room, ap length c.push_reserved.ensures.items, length-append c.loop-sender.sent.items, ap length steps, c.push_reserved.ensures.capacity);
+      room = omega (arith, was.room, ap length c.push_reserved.ensures.items, length-append c.loop-sender.sources.items, ap length steps, c.push_reserved.ensures.capacity);
     }
 
 pub with_hand-rest-requires-clause-routed : goal.with_hand-rest-requires-clause-routed
@@ -85,25 +97,27 @@ with_hand-rest-requires-clause-routed g c =
 
 -- what the owner's pass knows, and what was taken out
 known_all : (g : _) (c : goal.After-drop-owner-inside-5 g) → Knowing (arc_value c.owner.inside.hub) c.len_as.new.pass.me.view.client
-    (seen_sent c.loop-sender.sent.items)
+    (sent_by (arc_value c.owner.inside.hub).routes.items c.loop-sender.sources.items c.len_as.new.pass.me.view.client.known)
     × (arrivals_of (arc_value c.owner.inside.hub).routes.items c.len_as.new.pass.me.view.client.taken
     ≡ arrivals_of (arc_value c.owner.inside.hub).routes.items (before c.owner.inside.pass.me.view.client.taken (one_of c.owner.inside.hand))
     ++ rest_arrivals c.with_hand-rest.result.items)
+    × (c.len_as.new.pass.me.view.client.known ≡ c.loop-sender.pass.me.view.client.known)
 known_all g c =
     let was = c.loop-sender.invariant in
     let owner = c.owner.invariant in
     let hub = arc_value c.owner.inside.hub in
-    let ss = seen_sent c.loop-sender.sent.items in
     let v = c.owner.inside.pass.me.view.client in
     let j = joined v c.loop-sender.pass.me.view.client c.len_as.new.pass.me.view.client
     c.loop-sender.pass.me.view.client.known _ owner.sound was.view c.len_as.ensures.queue.2 c.len_as.ensures.rule in (
       record {
         sound = j.0;
         made = j.1 ∙ owner.made;
-        known = subst (λ (k : List Ledger). AllZip (IsPutOf hub.routes.items) k ss) (sym j.3) was.known;
+        known =
+            subst (λ (k : List Ledger). AllZip (IsPutOf hub.routes.items) k (sent_by hub.routes.items c.loop-sender.sources.items k)) (sym j.3) was.known;
       },
       taken_apart hub.routes.items _ v.taken c.owner.inside.hand _ j.2 owner.ends
           (c.with_hand-rest.ensures ∙ ap (λ (h : Hub). arrivals_of h.routes.items (one_of c.owner.inside.hand)) c.deref-3.ensures),
+      j.3,
     )
 
 pub invariant_of-result : goal.invariant_of-result
@@ -126,5 +140,5 @@ returns-clause-routed g c = (owner_arrivals c.owner.inside _ c.owner.invariant c
 pub returns-clause-begun : goal.returns-clause-begun
 returns-clause-begun g c =
     let k = known_all g c in
-    begun_at (arc_value c.owner.inside.hub) c.len_as.new.pass.me.view.client (seen_sent c.loop-sender.sent.items) _ _ k.0
+    begun_at (arc_value c.owner.inside.hub) c.len_as.new.pass.me.view.client _ _ _ k.0
     (front_and_back _ _ (rest_arrivals c.with_hand-rest.result.items) k.1) (ap (λ (d : Draining). d.inbox.comp) c.owner.view_is)

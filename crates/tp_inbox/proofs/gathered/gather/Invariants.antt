@@ -7,7 +7,7 @@ use Rattle.std.specs.Arc.{arc_value}
 use Rattle.crossbeam_queue.specs.SegTies.{IsSegPassOf}
 use Rattle.tp_inbox.specs.Rule.{owner_pass}
 use Rattle.tp_inbox.specs.Ledgers.{IsSenderInto, put_by}
-use Rattle.tp_inbox.specs.Ends.{inbox_of, seen_sent}
+use Rattle.tp_inbox.specs.Ends.{inbox_of, sent_by}
 use Rattle.tp_inbox.specs.Gathers.{IsPutOf}
 use Rattle.tp_inbox.proofs.gathered.gather.Given as goal
 
@@ -15,11 +15,14 @@ abbrev pub invariant-loop-sender : goal.invariant-loop-sender
 invariant-loop-sender g l =
     let rest = into_iter_items l.sender-iterator in
     let was = l.initial.pass.me.view.client in
+    let ledgers = l.pass.me.view.client.known in
+    let sent = sent_by (arc_value l.hub).routes.items l.sources.items ledgers in
     record {
       pass : IsSegPassOf (arc_value l.hub).line l.pass;
-      view : l.pass.me.view.client ≡ owner_pass was.made was.taken l.pass.me.view.client.known;
-      known : AllZip (IsPutOf (arc_value l.hub).routes.items) l.pass.me.view.client.known (seen_sent l.sent.items);
+      view : l.pass.me.view.client ≡ owner_pass was.made was.taken ledgers;
+      known : AllZip (IsPutOf (arc_value l.hub).routes.items) ledgers sent;
+      as_many : length l.sources.items ≡ length ledgers;
       inbox : All (IsSenderInto (inbox_of (arc_value l.hub))) rest;
-      lists : seen_sent l.sent.items ++ map put_by rest ≡ map put_by l.fn.senders.items;
-      room : length l.sent.items + length rest ≤ vec_capacity l.sent;
+      lists : sent ++ map put_by rest ≡ map put_by l.fn.senders.items;
+      room : length l.sources.items + length rest ≤ vec_capacity l.sources;
     }

@@ -8,7 +8,7 @@ use Rattle.tp_inbox.specs.declared.hub.Hub.{Hub}
 use Rattle.tp_inbox.specs.Envelopes.{Ledger}
 use Rattle.tp_inbox.specs.Routed.{AreDelivered, AreNumbered, arrivals_of, rest_arrivals}
 use Rattle.tp_inbox.specs.Ledgers.{Gathering}
-use Rattle.tp_inbox.specs.Ends.{seen_sent}
+use Rattle.tp_inbox.specs.Ends.{sent_by}
 use Rattle.tp_inbox.specs.Gathers.{IsPutOf}
 use Rattle.tp_inbox.proofs.Owners.{routed_rest}
 use Rattle.tp_inbox.proofs.Gathering.{Knowing, Sent, begun_at, delivered_at, numbered_at, rest_at, front_and_back}
@@ -19,7 +19,7 @@ returns-then-is_err-clause-begun g c =
     let was = c.loop.invariant in
     let hub = arc_value c.self.inside.hub in
     let v = c.loop.pass.me.view.client in
-    let sent = seen_sent c.self.inside.sent.items in
+    let sent = sent_by hub.routes.items c.self.inside.sources.items v.known in
     let rest = rest_arrivals c.reserve.new.self.items in
     let taken = was.taken ∙ ap (λ l. c.args.self.drained ++ rest_arrivals l) (sym c.reserve.ensures.items) in
     let know : Knowing hub v sent = record { sound = was.sound; made = was.made; known = was.known } in
@@ -27,7 +27,7 @@ returns-then-is_err-clause-begun g c =
 
 -- what was taken out is what was drained and then the rest, and what is known of the senders
 emptied : (g : _) (c : goal.After-drop-hub g) → Knowing (arc_value c.self.inside.hub) c.take_out.new.pass.me.view.client
-    (seen_sent c.self.inside.sent.items)
+    (sent_by (arc_value c.self.inside.hub).routes.items c.self.inside.sources.items c.self.inside.pass.me.view.client.known)
     × (arrivals_of (arc_value c.self.inside.hub).routes.items c.take_out.new.pass.me.view.client.taken
     ≡ c.args.self.drained ++ rest_arrivals c.reserve.new.self.items)
 emptied g c =
@@ -38,7 +38,9 @@ emptied g c =
       record {
         sound = c.take_out.ensures.sound;
         made = same.0 ∙ was.made;
-        known = subst (λ (k : List Ledger). AllZip (IsPutOf hub.routes.items) k (seen_sent c.self.inside.sent.items)) (sym same.1) was.known;
+        known =
+            subst (λ (y : List Ledger × List Ledger). AllZip (IsPutOf hub.routes.items) y.0 (sent_by hub.routes.items c.self.inside.sources.items y.1))
+            (λ i. (sym same.1 i, was.same i)) was.known;
       },
       ap (arrivals_of hub.routes.items) found.0 ∙ was.taken ∙ ap (λ l. c.args.self.drained ++ rest_arrivals l) (sym c.reserve.ensures.items),
     )
@@ -49,7 +51,7 @@ returns-in-None-take_out-clause-delivered g c =
     let hub = arc_value c.self.inside.hub in
     let rest = rest_arrivals c.reserve.new.self.items in
     subst (λ (x : CompId × List Sent). AreDelivered x.0 (c.args.desk.now.log ++ rest) x.1) (ap (λ (x : Gathering). (x.inbox.comp, x.sent)) c.self.view_is)
-    (delivered_at hub c.take_out.new.pass.me.view.client (seen_sent c.self.inside.sent.items) c.args.self.drained rest c.args.desk.now.log e.0
+    (delivered_at hub c.take_out.new.pass.me.view.client _ c.args.self.drained rest c.args.desk.now.log e.0
     c.in-None-take_out.ensures.found.1 e.1 c.requires.arrivals)
 
 pub returns-in-None-take_out-clause-numbered : goal.returns-in-None-take_out-clause-numbered
@@ -58,7 +60,7 @@ returns-in-None-take_out-clause-numbered g c =
     let hub = arc_value c.self.inside.hub in
     let rest = rest_arrivals c.reserve.new.self.items in
     subst (λ (r : List RouteId). AreNumbered r (c.args.desk.now.log ++ rest)) (ap (λ (x : Gathering). x.inbox.routes) c.self.view_is)
-    (numbered_at hub c.take_out.new.pass.me.view.client (seen_sent c.self.inside.sent.items) c.args.self.drained rest c.args.desk.now.log e.0 e.1
+    (numbered_at hub c.take_out.new.pass.me.view.client _ c.args.self.drained rest c.args.desk.now.log e.0 e.1
     c.requires.arrivals)
 
 pub returns-in-None-take_out-clause-routed : goal.returns-in-None-take_out-clause-routed

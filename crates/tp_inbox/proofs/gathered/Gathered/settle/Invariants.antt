@@ -5,7 +5,7 @@ use Rattle.std.specs.Arc.{arc_value}
 use Rattle.crossbeam_queue.specs.SegTies.{IsSegPassOf}
 use Rattle.tp_inbox.specs.Rule.{Sound}
 use Rattle.tp_inbox.specs.Routed.{arrivals_of, rest_arrivals}
-use Rattle.tp_inbox.specs.Ends.{seen_sent}
+use Rattle.tp_inbox.specs.Ends.{sent_by}
 use Rattle.tp_inbox.specs.Gathers.{IsPutOf}
 use Rattle.tp_inbox.proofs.gathered.Gathered.settle.Given as goal
 
@@ -17,6 +17,7 @@ invariant-loop g l =
       pass : IsSegPassOf (arc_value l.hub).line l.pass;
       sound : Sound client;
       made : client.made ≡ length routes;
-      known : AllZip (IsPutOf routes) client.known (seen_sent l.sent.items);
+      same : client.known ≡ l.initial.pass.me.view.client.known;
+      known : AllZip (IsPutOf routes) client.known (sent_by routes l.sources.items client.known);
       taken : arrivals_of routes client.taken ≡ l.fn.self.drained ++ rest_arrivals l.rest.items;
     }

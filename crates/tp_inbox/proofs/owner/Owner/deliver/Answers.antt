@@ -52,8 +52,8 @@ invariant_of-self-in-Ok c =
       taken = was.taken;
       counts = counts-push _ _ _ _ c.in-Some.envelope _ c.in-Some.ensures.after h.2 was.counts h.0 h.1;
       places = was.places;
-      sent = was.sent;
-      sent_room = was.sent_room;
+      sources = was.sources;
+      sources_room = was.sources_room;
       rest = was.rest;
       rest_room = was.rest_room;
     }

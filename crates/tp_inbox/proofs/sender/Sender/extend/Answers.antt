@@ -22,5 +22,4 @@ invariant_of-self-2 c =
       apart = w.apart;
       routed = w.routed;
       counts = w.told;
-      ledger = w.ledger;
     }

@@ -7,7 +7,7 @@ use Rattle.tp_inbox.specs.Envelopes.{of, has}
 use Rattle.tp_inbox.specs.Routed.{route_at}
 use Rattle.tp_inbox.specs.Ledgers.{Sending}
 use Rattle.tp_inbox.proofs.Steps.{sends_as}
-use Rattle.tp_inbox.proofs.Putting.{on_way, has-at, grown}
+use Rattle.tp_inbox.proofs.Putting.{on_way, has-at, grown, ledger_after}
 use Rattle.tp_inbox.proofs.sender.Sender.put.Goals as goal
 
 pub push_as-requires-clause-rule : goal.push_as-requires-clause-rule
@@ -19,17 +19,15 @@ push_as-requires-clause-rule g c n =
     sends_as n _ _ s.places.items put _ c.self.invariant.view (subst (λ q. has s.places.items q ≡ true) (sym at) (has-at s.places.items c.args.way 0 k.0))
     (c.count-number.ensures ∙ ap length k.1 ∙ ap (λ q. length (of q put)) (sym at))
 
-pub invariant_of-self-in-Ok-push_as : goal.invariant_of-self-in-Ok-push_as
-invariant_of-self-in-Ok-push_as g c =
+pub invariant_of-self : goal.invariant_of-self
+invariant_of-self g c =
     let s = c.self.inside in
     let was = c.self.invariant in
     let k = on_way s _ c.args.way was c.self.view_is c.requires in
     let at : c.index.result.now ≡ get_or s.places.items c.args.way 0 = get_or_read_under s.places.items c.args.way _ _ 0 c.index.ensures k.0 refl in
-    let e : Envelope = record { place = c.index.result.now; number = c.count-number.result; stamped = c.in-Ok.copy } in
-    let x : Posted = record { route = c.route-route.result; number = c.count-number.result; stamped = c.args.stamped } in
-    let more = grown s _ c.push_as.new.pass.me.view.client c.args.way e x _ _ was c.self.view_is c.requires at c.count-number.ensures
-    c.in-Ok-push_as.ensures.rule.0 refl (search rules)
-    (c.route-route.ensures ∙ ap (λ (y : Sending). route_at y.routes c.args.way) c.self.view_is) refl (search rules) in
+    let e : Envelope = record { place = c.index.result.now; number = c.count-number.result; stamped = c.args.stamped } in
+    let more = grown s _ c.push_as.new.pass.me.view.client c.args.way e _ was c.self.view_is c.requires at c.count-number.ensures
+    c.in-Ok.ensures.rule.0 (search rules) in
     record {
       pass = search rules;
       view = more.view;
@@ -37,5 +35,14 @@ invariant_of-self-in-Ok-push_as g c =
       apart = was.apart;
       routed = more.routed;
       counts = more.told;
-      ledger = more.ledger;
     }
+
+pub returns-in-Ok-clause-ok : goal.returns-in-Ok-clause-ok
+returns-in-Ok-clause-ok g c =
+    let s = c.self.inside in
+    let k = on_way s _ c.args.way c.self.invariant c.self.view_is c.requires in
+    let at : c.index.result.now ≡ get_or s.places.items c.args.way 0 = get_or_read_under s.places.items c.args.way _ _ 0 c.index.ensures k.0 refl in
+    let e : Envelope = record { place = c.index.result.now; number = c.count-number.result; stamped = c.args.stamped } in
+    let put = ledger_after s _ c.push_as.new.pass.me.view.client c.args.way e c.self.invariant c.self.view_is c.requires at c.count-number.ensures
+    c.in-Ok.ensures.rule.0 in
+    λ i. record { inbox = (c.self.view_is i).inbox; source = (c.self.view_is i).source; routes = (c.self.view_is i).routes; ledger = put i }
