@@ -9,6 +9,7 @@ pub mod Deliveries
 pub mod Named
 pub mod Pairs
 pub mod Befores
+pub mod TextOrders
 pub mod Ranks
 pub mod SentCame
 pub mod OwnPlaces
@@ -20,3 +21,4 @@ pub mod Noting
 pub mod SendingRows
 pub mod Rounds
 pub mod Deciding
+pub mod TextRuns

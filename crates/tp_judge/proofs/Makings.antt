@@ -1,9 +1,9 @@
 -- One line more, of those whose demands are made.
 use Rattle.std.proofs.Common.{◌≡◌, inl, inr, ℕ, zero, suc, ◌+◌, ◌<◌, Bool, true, false, cond, Option, Some, None, List, [], ◌++◌, length, get_or, set, refl, ap, sym, ◌∙◌, subst, arith}
-use Rattle.std.specs.Prelude.{All, Contains}
+use Rattle.std.specs.Prelude.{All, Contains, filter}
 use Rattle.std.proofs.lemmas.Bool.{cases_eq, false≢true}
 use Rattle.std.proofs.lemmas.List.{get_or-set_same, get_or-set_other}
-use Rattle.std.proofs.lemmas.List.Elements.{All-append, All-cons, All-nil, Contains-append_left, Contains-append_right}
+use Rattle.std.proofs.lemmas.List.Elements.{All-append, All-cons, All-nil, Contains-append_left, Contains-append_right, filter-append}
 use Rattle.std.proofs.lemmas.Option.{same_Some}
 use Rattle.tp_order.specs.declared.demand.Demand.{Demand}
 use Rattle.tp_order.specs.Circle.{LeadsTo}
@@ -11,9 +11,10 @@ use Rattle.tp_judge.specs.declared.line.Mention.{Mention}
 use Rattle.tp_judge.specs.declared.line.Act.{Act}
 use Rattle.tp_judge.specs.declared.line.Line.{Line}
 use Rattle.tp_judge.specs.declared.run_demands.Latest.{Latest}
+use Rattle.tp_judge.specs.declared.run_demands.Which.{Which}
 use Rattle.tp_judge.specs.declared.trace.Trace.{Trace}
 use Rattle.tp_judge.specs.OneRun.{is_looking, is_own, ComesAt, IsDemanded, in_section, IsLineOf, IsLookAt, IsOwnAt, IsSentAt}
-use Rattle.tp_judge.specs.Latest.{after_arrival, after_own, demand_of, AreDemandsUpTo, IsAllSeen, IsLatest, IsLatestOf, IsLatestSent, Leads}
+use Rattle.tp_judge.specs.Latest.{after_arrival, after_own, demand_of, is_made, AreDemandsUpTo, IsAllSeen, IsLatest, IsLatestOf, IsLatestSent, Leads}
 use Rattle.tp_judge.proofs.Befores.{leads_on}
 use Rattle.tp_judge.proofs.OwnPlaces.{look_is_own, own_not_come}
 
@@ -164,6 +165,19 @@ leads_more demands more (suc further) x y leads = (
 -- two demands more, if there are these
 abbrev pub two_more : List Demand → Option ℕ → Option ℕ → ℕ → List Demand
 two_more demands first second after = (demands ++ demand_of first after) ++ demand_of second after
+
+-- those of them that are made
+abbrev pub two_made : Which → List Demand → Option ℕ → Option ℕ → ℕ → List Demand
+two_made these demands first second after =
+    (demands ++ filter (is_made these) (demand_of first after)) ++ filter (is_made these) (demand_of second after)
+
+pub two_made_are : (these : Which) (made all : List Demand) (first second : Option ℕ) (after : ℕ) → made ≡ filter (is_made these) all
+    → two_made these made first second after ≡ filter (is_made these) (two_more all first second after)
+two_made_are these made all first second after are =
+    let p = is_made these in
+    ap (λ l. two_made these l first second after) are
+    ∙ sym (filter-append p (all ++ demand_of first after) (demand_of second after)
+    ∙ ap (λ l. l ++ filter p (demand_of second after)) (filter-append p all (demand_of first after)))
 
 pub still_leads : (demands : List Demand) (first second : Option ℕ) (after x y : ℕ) → Leads demands x y
     → Leads (two_more demands first second after) x y

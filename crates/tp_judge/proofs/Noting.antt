@@ -11,13 +11,14 @@ use Rattle.tp_judge.specs.declared.line.Line.{Line}
 use Rattle.tp_judge.specs.declared.line.By.TheVariants as by
 use Rattle.tp_judge.specs.declared.run_demands.Latest.{Latest}
 use Rattle.tp_judge.specs.declared.run_demands.Making.{Making}
+use Rattle.tp_judge.specs.declared.run_demands.Which.{Which}
 use Rattle.tp_judge.specs.declared.trace.Trace.{Trace}
 use Rattle.tp_judge.specs.Delivered.{Delivered, IsJoined}
 use Rattle.tp_judge.specs.Lawful.{AreWithin}
 use Rattle.tp_judge.specs.Lines.{HasKeyBelow}
 use Rattle.tp_judge.specs.OneRun.{is_looking, is_own, ComesAt, IsOwnAt, IsSentAt, LineAt}
-use Rattle.tp_judge.specs.Latest.{after_arrival, after_own, AreDemandsUpTo, IsLatestOf, IsMadeUpTo, IsOwn}
-use Rattle.tp_judge.proofs.Makings.{latest_all, latest_arrival, latest_none, latest_own, two_more, IsQuiet}
+use Rattle.tp_judge.specs.Latest.{after_arrival, after_own, AreMadeUpTo, IsLatestOf, IsMadeUpTo, IsOwn}
+use Rattle.tp_judge.proofs.Makings.{latest_all, latest_arrival, latest_none, latest_own, two_made, two_made_are, two_more, IsQuiet}
 use Rattle.tp_judge.proofs.Demanding.{arrival_made, own_made, quiet_made}
 use Rattle.tp_judge.proofs.SentCame.{all_at}
 
@@ -39,9 +40,9 @@ same_act trace place line other first second = ap (λ (l : Line). l.act) (same_S
 pub made_own : (trace : Trace) (n : ℕ) (was now : Making) (line : Line) (latest : Latest) (looks : Bool) → AreWithin trace → Delivered trace
     → IsMadeUpTo trace n was → IsOwn trace n → LineAt trace n line
     → latest ≡ get_or was.latest.items line.component latest → looks ≡ is_looking line.act
-    → now.demands.items ≡ two_more was.demands.items latest.own latest.unseen n
+    → now.which ≡ was.which → now.demands.items ≡ two_made was.which was.demands.items latest.own latest.unseen n
     → now.latest.items ≡ set was.latest.items line.component (after_own latest n looks) → IsMadeUpTo trace (n + 1) now
-made_own trace n was now line latest looks within delivered made own at read looks_is demands all =
+made_own trace n was now line latest looks within delivered made own at read looks_is still demands all =
     let below = component_below trace n line within at in
     let here : IsOwnAt trace line.component n = record {
       line = line;
@@ -54,7 +55,11 @@ made_own trace n was now line latest looks within delivered made own at read loo
     let size = made.size in
     let more = latest_own trace n line.component latest looks here (sym looks_is) is in
     record {
-      demands = subst (AreDemandsUpTo trace (n + 1)) (sym demands) (own_made trace n line.component was.demands.items latest delivered made.demands is here);
+      demands = subst (λ (these : Which). AreMadeUpTo trace these (n + 1) now.demands.items) (sym still) (record {
+        all = two_more made.demands.all latest.own latest.unseen n;
+        demands = own_made trace n line.component made.demands.all latest delivered made.demands.demands is here;
+        made_are = demands ∙ two_made_are was.which was.demands.items made.demands.all latest.own latest.unseen n made.demands.made_are;
+      });
       size = ap length all ∙ length-set was.latest.items line.component (after_own latest n looks) ∙ size;
       each = λ component other low.
           subst (λ (l : List Latest). IsLatestOf trace (n + 1) component (get_or l component other)) (sym all)
@@ -65,9 +70,9 @@ made_own trace n was now line latest looks within delivered made own at read loo
 pub made_arrival : (trace : Trace) (n s : ℕ) (m : Mention) (was now : Making) (line : Line) (latest : Latest) → AreWithin trace → Delivered trace
     → IsMadeUpTo trace n was → LineAt trace n line → line.act ≡ act.Came m → IsJoined trace m.route → IsSentAt trace s m
     → latest ≡ get_or was.latest.items line.component latest
-    → now.demands.items ≡ two_more was.demands.items latest.look latest.sending s
+    → now.which ≡ was.which → now.demands.items ≡ two_made was.which was.demands.items latest.look latest.sending s
     → now.latest.items ≡ set was.latest.items line.component (after_arrival latest s) → IsMadeUpTo trace (n + 1) now
-made_arrival trace n s m was now line latest within delivered made at says joined sends read demands all =
+made_arrival trace n s m was now line latest within delivered made at says joined sends read still demands all =
     let below = component_below trace n line within at in
     let here : ComesAt trace line.component n m = record { line = line; at = at; within = refl; is = (says, joined) } in
     let is : IsLatestOf trace n line.component latest =
@@ -75,7 +80,11 @@ made_arrival trace n s m was now line latest within delivered made at says joine
     let size = made.size in
     let more = latest_arrival trace n line.component s latest m here sends is in
     record {
-      demands = subst (AreDemandsUpTo trace (n + 1)) (sym demands) (arrival_made trace n line.component s m was.demands.items latest delivered made.demands is here sends);
+      demands = subst (λ (these : Which). AreMadeUpTo trace these (n + 1) now.demands.items) (sym still) (record {
+        all = two_more made.demands.all latest.look latest.sending s;
+        demands = arrival_made trace n line.component s m made.demands.all latest delivered made.demands.demands is here sends;
+        made_are = demands ∙ two_made_are was.which was.demands.items made.demands.all latest.look latest.sending s made.demands.made_are;
+      });
       size = ap length all ∙ length-set was.latest.items line.component (after_arrival latest s) ∙ size;
       each = λ component other low.
           subst (λ (l : List Latest). IsLatestOf trace (n + 1) component (get_or l component other)) (sym all)
@@ -87,7 +96,11 @@ made_arrival trace n s m was now line latest within delivered made at says joine
 made_quiet : (trace : Trace) (n : ℕ) (was : Making) → IsMadeUpTo trace n was → ((component : ℕ) → IsQuiet trace component n)
     → IsMadeUpTo trace (n + 1) was
 made_quiet trace n was made quiet = record {
-  demands = quiet_made trace n was.demands.items made.demands quiet;
+  demands = record {
+    all = made.demands.all;
+    demands = quiet_made trace n made.demands.all made.demands.demands quiet;
+    made_are = made.demands.made_are;
+  };
   size = made.size;
   each = latest_none trace n was.latest.items quiet made.each;
 }

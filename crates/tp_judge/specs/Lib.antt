@@ -8,6 +8,7 @@ pub mod Delivered
 pub mod Routed
 pub mod RouteRows
 pub mod Before
+pub mod TextOrder
 pub mod Demands
 pub mod OneRun
 pub mod Sendings

@@ -5,9 +5,12 @@ ghost use Rattle.tp_judge.specs.Circles.{IsCirclePlace};
 ghost use Rattle.tp_judge.specs.Delivered.{Delivered};
 ghost use Rattle.tp_judge.specs.Lawful.{AreWithin};
 ghost use Rattle.tp_judge.specs.OneRun.{IsLeastOf};
+ghost use Rattle.tp_judge.specs.RouteRows.{AreRouteRows};
 
+use crate::delivery::RouteRows;
 use crate::demands::make_demands;
 use crate::place::{Place, Rule};
+use crate::text_order::stands_in_order;
 use crate::trace::Trace;
 use std::alloc::Global;
 use tp_order::answer::Answer;
@@ -30,13 +33,21 @@ pub(crate) fn least(xs: &[usize]) -> usize
 
 /// A line of a trace whose routes are lawful that happens before itself, if there is one: the
 /// first, in the order of the text, of the circle that is found.
-pub fn circle_place(alloc: Global, trace: &Trace) -> Result<Option<Place>, Memory>
+pub(crate) fn circle_place(
+    alloc: Global,
+    trace: &Trace,
+    rows: &RouteRows<'_>,
+) -> Result<Option<Place>, Memory>
     requires within { AreWithin trace.now }
     requires delivered { Delivered trace.now }
+    requires rows { AreRouteRows trace.now rows.now }
     ensures { IfOk result (λ place.
         MatchOption place (NoCircle trace.now) (IsCirclePlace trace.now)) }
 {
-    let demands = make_demands(alloc, trace)?;
+    if stands_in_order(trace, rows) {
+        return Ok(None);
+    }
+    let demands = make_demands(alloc, trace, rows)?;
     match order_or_circle(alloc, trace.numbers, &demands)? {
         Answer::Ordered(_) => Ok(None),
         Answer::Circle(circle) => Ok(Some(Place {

@@ -44,15 +44,18 @@ fn place_on(trace: &Trace, rows: &RouteRows<'_>, route: usize) -> Option<Place>
 }
 
 /// For each route that isn't lawful a line at which it isn't.
-pub fn route_places(alloc: Global, trace: &Trace) -> Result<Vec<Place>, Memory>
-    requires { AreWithin trace.now }
+pub(crate) fn route_places(
+    alloc: Global,
+    trace: &Trace,
+    rows: &RouteRows<'_>,
+) -> Result<Vec<Place>, Memory>
+    requires { AreRouteRows trace.now rows.now }
     ensures lawful { IfOk result (λ places. (places.items ≡ []) ↔ Delivered trace.now) }
     ensures told { IfOk result (λ places. All (IsRoutePlace trace.now) places.items) }
 {
-    let rows = gather_routes(alloc, trace)?;
     let mut places = Vec::new(alloc);
     for route in 0..trace.joined.len() {
-        let found = place_on(trace, &rows, route);
+        let found = place_on(trace, rows, route);
         match found {
             None => {}
             Some(place) => places.push(place)?,

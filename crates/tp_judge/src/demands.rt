@@ -5,7 +5,7 @@ ghost use Rattle.tp_judge.specs.Gathered.{AreGathered, seen};
 ghost use Rattle.tp_judge.specs.Lawful.{AreWithin};
 ghost use Rattle.tp_judge.specs.RouteRows.{AreRouteRows};
 
-use crate::delivery::{RouteRows, gather_routes};
+use crate::delivery::RouteRows;
 use crate::gathering::gather;
 use crate::line::{By, Line};
 use crate::trace::Trace;
@@ -71,14 +71,18 @@ fn sections_in_order(alloc: Global, trace: &Trace) -> Result<Vec<Demand>, Memory
 }
 
 /// All demands of a trace.
-pub(crate) fn make_demands(alloc: Global, trace: &Trace) -> Result<Vec<Demand>, Memory>
-    requires { AreWithin trace.now }
+pub(crate) fn make_demands(
+    alloc: Global,
+    trace: &Trace,
+    rows: &RouteRows<'_>,
+) -> Result<Vec<Demand>, Memory>
+    requires within { AreWithin trace.now }
+    requires rows { AreRouteRows trace.now rows.now }
     ensures { IfOk result (λ demands. demands.items ≡ demands_of trace.now) }
 {
-    let rows = gather_routes(alloc, trace)?;
     let mut demands = sections_in_order(alloc, trace)?;
     for route in 0..trace.joined.len() {
-        add_route(&mut demands, trace, &rows, route)?;
+        add_route(&mut demands, trace, rows, route)?;
     }
     Ok(demands)
 }

@@ -5,7 +5,7 @@ ghost use Rattle.tp_judge.specs.Judged.{AreInOrder, IsLawful, IsOrderly, IsOrder
 ghost use Rattle.tp_judge.specs.Lawful.{AreWithin};
 
 use crate::circles::circle_place;
-use crate::delivery::route_places;
+use crate::delivery::{gather_routes, route_places};
 use crate::place::Place;
 use crate::ports::port_places;
 use crate::trace::Trace;
@@ -33,11 +33,12 @@ fn order_places(alloc: Global, trace: &Trace) -> Result<Vec<Place>, Memory>
     ensures lawful { IfOk result (λ places. (places.items ≡ []) ↔ IsOrderly trace.now) }
     ensures told { IfOk result (λ places. All (IsOrderPlace trace.now) places.items) }
 {
-    let mut places = route_places(alloc, trace)?;
+    let rows = gather_routes(alloc, trace)?;
+    let mut places = route_places(alloc, trace, &rows)?;
     if !are_none(&places) {
         return Ok(places);
     }
-    let found = circle_place(alloc, trace)?;
+    let found = circle_place(alloc, trace, &rows)?;
     match found {
         None => Ok(places),
         Some(place) => {

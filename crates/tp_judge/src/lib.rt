@@ -15,4 +15,5 @@ pub mod replaying;
 pub mod routes;
 pub mod run_demands;
 pub mod sendings;
+pub mod text_order;
 pub mod trace;

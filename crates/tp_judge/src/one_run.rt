@@ -1,14 +1,15 @@
 //! Whether a trace is one run.
-ghost use Rattle.std.specs.Prelude.{IfOk};
+ghost use Rattle.std.specs.Prelude.{◌≡◌, ◌↔◌, [], IfOk, IsTrue};
 ghost use Rattle.tp_judge.specs.Delivered.{Delivered};
 ghost use Rattle.tp_judge.specs.Lawful.{AreRouted, AreWithin};
-ghost use Rattle.tp_judge.specs.OneRun.{IsRunAnswer};
+ghost use Rattle.tp_judge.specs.OneRun.{IsOneRun, IsRunAnswer};
 
 use crate::circles::least;
-use crate::run_demands::make_run_demands;
+use crate::run_demands::{Which, make_run_demands, make_those};
 use crate::trace::Trace;
 use std::alloc::Global;
 use tp_order::answer::Answer;
+use tp_order::demand::Demand;
 use tp_order::order::order_or_circle;
 use tp_refusal::memory::Memory;
 
@@ -23,6 +24,25 @@ pub enum OneRun {
     Delayed(u32),
 }
 
+/// Whether there are none.
+fn are_none(demands: &[Demand]) -> bool
+    ensures { IsTrue result ↔ (demands.now ≡ []) }
+{
+    matches!(demands, [])
+}
+
+/// Whether the order of the text is that of a run. To see it takes less than to look for an order,
+/// and a trace whose text has another order pays little for the look.
+fn runs_in_order(alloc: Global, trace: &Trace) -> Result<bool, Memory>
+    requires within { AreWithin trace.now }
+    requires routed { AreRouted trace.now }
+    requires delivered { Delivered trace.now }
+    ensures { IfOk result (λ runs. IsTrue runs → IsOneRun trace.now) }
+{
+    let backward = make_those(alloc, trace, Which::Backward)?;
+    Ok(are_none(&backward))
+}
+
 /// Whether a trace whose routes are lawful is one run (ES 201 873-4), in time linear in the
 /// numbers of its lines, components and routes.
 pub fn one_run(alloc: Global, trace: &Trace) -> Result<OneRun, Memory>
@@ -31,6 +51,9 @@ pub fn one_run(alloc: Global, trace: &Trace) -> Result<OneRun, Memory>
     requires delivered { Delivered trace.now }
     ensures { IfOk result (IsRunAnswer trace.now) }
 {
+    if runs_in_order(alloc, trace)? {
+        return Ok(OneRun::OneRun);
+    }
     let demands = make_run_demands(alloc, trace)?;
     match order_or_circle(alloc, trace.lines.len(), &demands)? {
         Answer::Ordered(_) => Ok(OneRun::OneRun),

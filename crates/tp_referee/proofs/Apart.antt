@@ -1,7 +1,6 @@
 -- Ports and routes of which `==` says that they are the same.
-use Rattle.std.proofs.Common.{◌≡◌, ◌≢◌, ℕ, Bool, true, List, eqb, eq-eqb, refl, ap, sym}
-use Rattle.std.specs.Prelude.{◌&&◌, AllPairs}
-use Rattle.std.specs.Bool.{Decides}
+use Rattle.std.proofs.Common.{◌≡◌, ◌≢◌, Bool, true, List, eqb, eq-eqb, ap}
+use Rattle.std.specs.Prelude.{AllPairs}
 use Rattle.std.specs.List.{IsDistinct}
 use Rattle.std.proofs.lemmas.Bool.{and_from, and_parts, eqb-true}
 use Rattle.std.proofs.lemmas.Map.Made.{AllPairs-from_IsDistinct}

@@ -1,5 +1,5 @@
 -- What is said of lines in numbers stays so when the tables grow.
-use Rattle.std.proofs.Common.{◌≡◌, ℕ, ◌+◌, ◌<◌, ◌≤◌, Some, List, length, slice_get, refl, arith, get_or, inl, inr, subst}
+use Rattle.std.proofs.Common.{◌≡◌, ℕ, ◌+◌, ◌<◌, ◌≤◌, Some, List, length, slice_get, arith, get_or, inl, inr, subst}
 use Rattle.std.specs.List.{AllZip}
 use Rattle.std.proofs.lemmas.Option.{slice_get_within, slice_get-get_or}
 use Rattle.indexmap.specs.IndexSet.{insert_key}
@@ -12,8 +12,8 @@ use Rattle.tp_judge.specs.declared.line.Line.{Line}
 use Rattle.tp_referee.specs.declared.tables.PortKey.{PortKey}
 use Rattle.tp_referee.specs.declared.tables.Tables.{Tables}
 use Rattle.tp_referee.specs.Kept.{Keeps}
-use Rattle.tp_referee.specs.Numbering.{IsAct, IsLine, IsMention, IsOperated, IsPassed, IsPort, Stand, receiver_of}
-use Rattle.tp_referee.specs.Turns.{Grows, IsWhole, size}
+use Rattle.tp_referee.specs.Numbering.{IsAct, IsLine, IsMention, IsPassed, IsPort, Stand, receiver_of}
+use Rattle.tp_referee.specs.Turns.{Grows, IsWhole}
 use Rattle.tp_referee.proofs.Apart.{port_eq}
 use Rattle.tp_referee.proofs.Keeping.{key_at}
 use Rattle.tp_referee.proofs.Zips.{zip_weaker}

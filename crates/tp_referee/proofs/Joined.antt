@@ -1,28 +1,16 @@
 -- Which routes are joined.
-use Rattle.std.proofs.Common.{◌≡◌, ℕ, ◌<◌, Bool, true, false, Option, Some, None, List, [], ◌∷◌, length, map, slice_get, Contains, refl, ap, sym, ◌∙◌, subst, arith}
-use Rattle.std.specs.Prelude.{◌↔◌, IsTrue, IsSome}
-use Rattle.std.specs.List.{AllZip}
+use Rattle.std.proofs.Common.{◌≡◌, ℕ, Bool, true, Some, List, map, slice_get, Contains, ap, sym, ◌∙◌}
+use Rattle.std.specs.Prelude.{◌↔◌, IsTrue}
 use Rattle.std.proofs.lemmas.Option.{same_Some}
 use Rattle.tp_trace.specs.Line.{Told}
-use Rattle.tp_trace.specs.Tree.{names_of, section_named}
-use Rattle.tp_trace.proofs.Places.{place_known, place_unknown}
+use Rattle.tp_trace.specs.Tree.{names_of}
 use Rattle.tp_judge.specs.declared.trace.Trace.{Trace}
 use Rattle.tp_referee.specs.declared.tables.PortKey.{PortKey}
-use Rattle.tp_referee.specs.declared.tables.RouteKey.{RouteKey}
 use Rattle.tp_referee.specs.declared.tables.Tables.{Tables}
 use Rattle.tp_referee.specs.Numbering.{AreJoined, IsComponent}
 use Rattle.tp_referee.specs.Joining.{AreJoinedBy, AreSections, IsJoinedBy}
 use Rattle.tp_referee.proofs.Keeping.{at_view}
 use Rattle.tp_referee.proofs.Zips.{zip_get}
-
--- a component has a section where its name is found among them
-pub found_section : (names : List (List ℕ)) (name : List ℕ) (o : Option ℕ) → o ≡ section_named names name → (b : Bool) → ((b ≡ true) ↔ IsSome o)
-    → (b ≡ true) ↔ Contains names name
-found_section names name (Some k) e b says = (λ _. place_known names name k e, λ _. says.1 refl)
-found_section names name None e b says = (λ t. absurd (none (says.0 t)), λ h. absurd (place_unknown names name e h))
-  where
-    none : IsSome {T = ℕ} None → ⊥
-    none h = cc
 
 module _ (tolds : List Told) (t : Tables) (trace : Trace) (sections : List Bool)
     (are : AreSections tolds t.components sections)

@@ -1,7 +1,7 @@
 -- A text has no more lines than bytes.
 use Rattle.std.proofs.Common.{◌≡◌, ℕ, ◌+◌, ◌≤◌, Bool, true, false, cond, List, [], ◌∷◌, length, refl, arith}
 use Rattle.std.specs.Prelude.{◌==◌}
-use Rattle.std.specs.List.{AllZip, onto_first}
+use Rattle.std.specs.List.{onto_first}
 use Rattle.tp_trace.specs.Line.{Told, Spells, lines_of}
 use Rattle.tp_trace.specs.Tree.{IsTraceOf}
 use Rattle.tp_referee.proofs.Zips.{zip_length}

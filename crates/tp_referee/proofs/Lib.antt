@@ -1,8 +1,10 @@
 pub mod Keeping
 pub mod Apart
+pub mod Naming
 pub mod Zips
 pub mod Growing
 pub mod Turning
+pub mod Beginning
 pub mod Within
 pub mod Joined
 pub mod Routing

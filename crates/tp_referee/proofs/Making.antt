@@ -1,5 +1,5 @@
 -- The parts of a numbering, put together.
-use Rattle.std.proofs.Common.{◌≡◌, ℕ, ◌+◌, ◌≤◌, Bool, List, length, map}
+use Rattle.std.proofs.Common.{◌≡◌, ◌+◌, ◌≤◌, Bool, List, length, map}
 use Rattle.std.specs.List.{AllZip}
 use Rattle.tp_trace.specs.Line.{Told}
 use Rattle.tp_judge.specs.declared.trace.Trace.{Trace}

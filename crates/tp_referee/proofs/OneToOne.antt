@@ -1,5 +1,5 @@
 -- Two lines have one number exactly where they name the same.
-use Rattle.std.proofs.Common.{◌≡◌, ◌≢◌, ◌⊎◌, inl, inr, ℕ, ◌<◌, Option, Some, None, List, length, slice_get, refl, ap, sym, ◌∙◌, subst, arith}
+use Rattle.std.proofs.Common.{◌≡◌, ◌≢◌, inl, inr, ℕ, Option, Some, None, List, slice_get, refl, ap, sym, ◌∙◌, subst, arith}
 use Rattle.std.specs.Prelude.{◌↔◌, AllPairs}
 use Rattle.std.proofs.lemmas.Bool.{cases_lt}
 use Rattle.std.proofs.lemmas.Option.{same_Some, slice_get_within, get_or_from_slice_get}
@@ -11,16 +11,15 @@ use Rattle.tp_trace.specs.Line.{Letter, Told, begins, passed, operated, otherwis
 use Rattle.tp_judge.specs.declared.line.Act.{Act}
 use Rattle.tp_judge.specs.declared.line.Mention.{Mention}
 use Rattle.tp_judge.specs.declared.line.Line.{Line}
-use Rattle.tp_judge.specs.declared.trace.Trace.{Trace}
 use Rattle.tp_referee.specs.declared.tables.PortKey.{PortKey}
 use Rattle.tp_referee.specs.declared.tables.RouteKey.{RouteKey}
 use Rattle.tp_referee.specs.declared.tables.Tables.{Tables}
-use Rattle.tp_referee.specs.Numbering.{AreDistinct, IsAct, IsComponent, IsLine, IsMention, IsNumberingOf, IsPort, Stand, act_of, operation_act, receiver_of, sender_of, stands_of}
-use Rattle.tp_referee.specs.OneToOne.{AreAlike, IsOneToOne, PortName, RouteName, mention_of, message_of, port_in, port_of, route_between, route_in, route_of, text_in}
+use Rattle.tp_referee.specs.Numbering.{AreDistinct, IsAct, IsComponent, IsLine, IsMention, IsPort, Stand, act_of, operation_act, receiver_of, sender_of, stands_of}
+use Rattle.tp_referee.specs.OneToOne.{AreAlike, IsOneToOne, PortName, RouteName, mention_of, message_of, port_in, port_of, route_in, route_of, text_in}
 use Rattle.tp_referee.proofs.Zips.{zip_get}
 
 -- what stands twice stands at one place
-once : {X : Type 0} (xs : List X) → AllPairs (λ a b. a ≢ b) xs → (j k : ℕ) (x : X) → slice_get xs j ≡ Some x → slice_get xs k ≡ Some x → j ≡ k
+pub once : {X : Type 0} (xs : List X) → AllPairs (λ a b. a ≢ b) xs → (j k : ℕ) (x : X) → slice_get xs j ≡ Some x → slice_get xs k ≡ Some x → j ≡ k
 once xs apart j k x e f =
     elim (cases_lt j k) [
       | inl low ↦

@@ -1,9 +1,7 @@
 -- The ports at the ends of routes are those that the lines name.
-use Rattle.std.proofs.Common.{◌≡◌, ℕ, ◌<◌, Some, List, [], length, map, slice_get, get_or, All, refl, ap, sym, ◌∙◌, subst, arith}
+use Rattle.std.proofs.Common.{◌≡◌, ℕ, List, map, slice_get, ap, sym, ◌∙◌, subst}
 use Rattle.std.specs.Prelude.{slice_index}
-use Rattle.std.specs.List.{AllZip}
 use Rattle.std.proofs.lemmas.Option.{get_or_from_slice_get}
-use Rattle.std.proofs.lemmas.List.Elements.{All-weaker}
 use Rattle.tp_queue.specs.declared.operation.PortOperation.{PortOperation}
 use Rattle.tp_queue.specs.declared.operation.PortOperation.TheVariants as operation
 use Rattle.tp_trace.specs.declared.line.Fate.{Fate}
@@ -11,12 +9,10 @@ use Rattle.tp_trace.specs.declared.line.Fate.TheVariants as fate
 use Rattle.tp_trace.specs.Line.{Letter, Told, begins, passed, operated, otherwise, noted, ended, resulted}
 use Rattle.tp_judge.specs.declared.line.Mention.{Mention}
 use Rattle.tp_judge.specs.declared.line.Act.{Act}
-use Rattle.tp_judge.specs.declared.line.Line.{Line}
 use Rattle.tp_judge.specs.declared.trace.Trace.{Trace}
 use Rattle.tp_referee.specs.declared.tables.PortKey.{PortKey}
 use Rattle.tp_referee.specs.declared.tables.RouteKey.{RouteKey}
-use Rattle.tp_referee.specs.declared.tables.Tables.{Tables}
-use Rattle.tp_referee.specs.Numbering.{IsAct, IsLine, IsMention, IsNumberingOf, IsPassed, Stand, act_of, operation_act, receiver_of, sender_of, stands_of}
+use Rattle.tp_referee.specs.Numbering.{IsAct, IsMention, IsNumberingOf, act_of, operation_act, receiver_of, sender_of}
 use Rattle.tp_judge.specs.Lawful.{AreRouted, IsRouted, IsRoutedAct}
 use Rattle.tp_referee.proofs.Keeping.{at_view}
 use Rattle.tp_referee.proofs.Within.{each_line}

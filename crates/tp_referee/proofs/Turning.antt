@@ -1,16 +1,16 @@
 -- Line by line, the sections are numbered.
-use Rattle.std.proofs.Common.{◌≡◌, ℕ, zero, suc, ◌<◌, ◌≤◌, ◌+◌, ◌*◌, true, Some, List, [], ◌∷◌, ◌++◌, length, take, drop, slice_get, refl, ap, sym, ◌∙◌, subst, arith, append_assoc, append-nil, add-one}
+use Rattle.std.proofs.Common.{◌≡◌, ℕ, zero, suc, ◌<◌, ◌≤◌, ◌+◌, ◌*◌, true, Some, List, [], ◌∷◌, ◌++◌, length, take, drop, slice_get, refl, ap, sym, ◌∙◌, subst, arith, append_assoc, append-nil}
 use Rattle.std.specs.List.{AllZip}
 use Rattle.std.proofs.lemmas.List.Sums.{fold_push}
-use Rattle.std.proofs.lemmas.Option.{same_Some, slice_get_within, slice_get-get_or}
-use Rattle.tp_trace.specs.declared.form.Place.{Place}
+use Rattle.std.proofs.lemmas.Option.{slice_get_within}
 use Rattle.tp_trace.specs.declared.form.Place.TheVariants as stand
 use Rattle.tp_trace.specs.Line.{Told, begins, passed, operated, otherwise, noted, ended, resulted}
-use Rattle.tp_trace.specs.Tree.{IsTrace, MayStand, StandsAt, may_stand, place_behind, place_of}
+use Rattle.tp_trace.specs.Tree.{IsTrace, may_stand, names_of, place_behind, place_of}
 use Rattle.tp_judge.specs.declared.line.Line.{Line}
 use Rattle.tp_referee.specs.declared.tables.Tables.{Tables}
+use Rattle.tp_referee.specs.Kept.{Keeps}
 use Rattle.tp_referee.specs.Numbering.{IsComponent, IsLine, Stand, stands_from, stands_of}
-use Rattle.tp_referee.specs.Turns.{Grows, IsAdded, IsInside, IsTurn, IsWhole, size}
+use Rattle.tp_referee.specs.Turns.{Grows, IsAdded, IsInside, IsTurn, size}
 use Rattle.tp_referee.proofs.Growing.{lines_grow}
 use Rattle.tp_referee.proofs.Zips.{drop_here, take_next, zip_push}
 
@@ -21,7 +21,8 @@ pub record Numbered (tolds : List Told) (place : ℕ) (t : Tables) (here : ℕ) 
   pub cut : stands_of tolds ≡ done ++ stands_from name (place + 1) (drop place tolds)
   pub zipped : AllZip (IsLine t) done lines
   pub section : (told : Told) → slice_get tolds place ≡ Some told → IsInside told → IsComponent t here name
-  pub few : size t ≤ 5 * place
+  pub sections : Keeps (names_of tolds) t.components
+  pub few : size t ≤ length tolds + 5 * place
 
 not_in_front : (told : Told) → may_stand stand.Front told ≡ true → IsInside told → ⊥
 not_in_front (begins name) m h = h
@@ -32,15 +33,26 @@ not_in_front (noted n word) m h = absurd (cc)
 not_in_front (ended words) m h = absurd (cc)
 not_in_front (resulted word) m h = h
 
-pub Numbered-first : (tolds : List Told) (t : Tables) (here : ℕ) (lines : List Line) → IsTrace tolds → size t ≡ 0 → lines ≡ []
-    → Numbered tolds 0 t here lines
-Numbered-first tolds t here lines trace none empty = record {
+names_few : (tolds : List Told) → length (names_of tolds) ≤ length tolds
+names_few [] = omega arith
+names_few (begins name ∷ tolds) = let few = names_few tolds in omega arith
+names_few (passed fate letter ∷ tolds) = let few = names_few tolds in omega arith
+names_few (operated o port ∷ tolds) = let few = names_few tolds in omega arith
+names_few (otherwise ∷ tolds) = let few = names_few tolds in omega arith
+names_few (noted n word ∷ tolds) = let few = names_few tolds in omega arith
+names_few (ended words ∷ tolds) = let few = names_few tolds in omega arith
+names_few (resulted word ∷ tolds) = let few = names_few tolds in omega arith
+
+pub Numbered-first : (tolds : List Told) (t : Tables) (here : ℕ) (lines : List Line) → IsTrace tolds → t.components ≡ names_of tolds
+    → size t ≡ length (names_of tolds) → lines ≡ [] → Numbered tolds 0 t here lines
+Numbered-first tolds t here lines trace same none empty = record {
   done = [];
   name = [];
   cut = refl;
   zipped = subst (λ (l : List Line). AllZip (IsLine t) [] l) (sym empty) tt;
   section = λ told e inside. absurd (not_in_front told (trace 0 told e).fits inside);
-  few = omega (arith, none);
+  sections = subst (Keeps (names_of tolds)) (sym same) (λ k x e. e);
+  few = let most = names_few tolds in omega (arith, none);
 }
 
 -- behind the result stands nothing
@@ -54,8 +66,11 @@ nothing_behind tolds place word trace at told e =
 
 module _ (tolds : List Told) (place : ℕ) (old new : Tables) (here after : ℕ) (lines more : List Line) (trace : IsTrace tolds) (g : Grows 5 old new)
     (was : Numbered tolds place old here lines) where
-  few_more : size new ≤ 5 * (place + 1)
+  few_more : size new ≤ length tolds + 5 * (place + 1)
   few_more = omega (arith, g.few, was.few)
+
+  still_sections : Keeps (names_of tolds) new.components
+  still_sections = λ k x e. g.components k x (was.sections k x e)
 
   begun : (name : List ℕ) → slice_get tolds place ≡ Some (begins name) → IsComponent new after name → more ≡ lines → Numbered tolds (place + 1) new after more
   begun name at here_is same = record {
@@ -64,6 +79,7 @@ module _ (tolds : List Told) (place : ℕ) (old new : Tables) (here after : ℕ)
     cut = was.cut ∙ ap (λ l. was.done ++ stands_from was.name (place + 1) l) (drop_here tolds place (begins name) at);
     zipped = subst (λ (l : List Line). AllZip (IsLine new) was.done l) (sym same) (lines_grow 5 old new g was.done lines was.zipped);
     section = λ told e inside. here_is;
+    sections = still_sections;
     few = few_more;
   }
 
@@ -74,6 +90,7 @@ module _ (tolds : List Told) (place : ℕ) (old new : Tables) (here after : ℕ)
     cut = was.cut ∙ ap (λ l. was.done ++ stands_from was.name (place + 1) l) (drop_here tolds place (resulted word) at);
     zipped = subst (λ (l : List Line). AllZip (IsLine new) was.done l) (sym same) (lines_grow 5 old new g was.done lines was.zipped);
     section = λ told e inside. absurd (nothing_behind tolds place word trace at told e);
+    sections = still_sections;
     few = few_more;
   }
 
@@ -94,6 +111,7 @@ module _ (tolds : List Told) (place : ℕ) (old new : Tables) (here after : ℕ)
             (zip_push (IsLine new) was.done lines s (record { number = place + 1; component = here; act = added.act })
             (lines_grow 5 old new g was.done lines was.zipped) (record { number = refl; section = known; says = added.says }));
         section = λ next e in'. subst (λ n. IsComponent new n was.name) (sym added.stays) known;
+        sections = still_sections;
         few = few_more;
       }
 

@@ -1,10 +1,10 @@
 -- The numbers of the lines are within the counts.
-use Rattle.std.proofs.Common.{◌≡◌, ℕ, ◌<◌, ◌≤◌, ◌+◌, ◌^◌, Option, Some, None, List, [], ◌∷◌, length, map, get_or, slice_get, All, refl, ap, sym, ◌∙◌, subst, arith}
+use Rattle.std.proofs.Common.{◌≡◌, ℕ, ◌<◌, ◌≤◌, ◌+◌, Option, List, [], ◌∷◌, length, map, get_or, All, ap, sym, ◌∙◌, subst, arith}
 use Rattle.std.specs.Prelude.{IfSome}
 use Rattle.std.specs.List.{AllZip}
 use Rattle.std.proofs.lemmas.List.{length-map}
 use Rattle.std.proofs.lemmas.Option.{slice_get_within, slice_get-get_or}
-use Rattle.std.proofs.lemmas.List.Elements.{All-nil, All-cons, All-map, All-weaker}
+use Rattle.std.proofs.lemmas.List.Elements.{All-nil, All-cons, All-map}
 use Rattle.tp_queue.specs.declared.operation.PortOperation.{PortOperation}
 use Rattle.tp_queue.specs.declared.operation.PortOperation.TheVariants as operation
 use Rattle.tp_trace.specs.declared.line.Fate.{Fate}
@@ -13,7 +13,6 @@ use Rattle.tp_trace.specs.Line.{Told, begins, passed, operated, otherwise, noted
 use Rattle.tp_judge.specs.declared.line.Mention.{Mention}
 use Rattle.tp_judge.specs.declared.line.Act.{Act}
 use Rattle.tp_judge.specs.declared.line.Act.TheVariants as act
-use Rattle.tp_judge.specs.declared.line.By.{By}
 use Rattle.tp_judge.specs.declared.line.By.TheVariants as by
 use Rattle.tp_judge.specs.declared.line.Line.{Line}
 use Rattle.tp_judge.specs.declared.trace.Trace.{Trace}
@@ -21,7 +20,7 @@ use Rattle.tp_judge.specs.Lawful.{AreWithin}
 use Rattle.tp_judge.specs.Lines.{HasKeyBelow, came_route, closed_by, event_port, left_port, sent_route}
 use Rattle.tp_referee.specs.declared.tables.PortKey.{PortKey}
 use Rattle.tp_referee.specs.declared.tables.Tables.{Tables}
-use Rattle.tp_referee.specs.Numbering.{IsAct, IsLine, IsMention, IsNumberingOf, IsOperated, IsPassed, Stand, act_of, operation_act, stands_from, stands_of}
+use Rattle.tp_referee.specs.Numbering.{IsAct, IsLine, IsNumberingOf, Stand, act_of, operation_act, stands_from, stands_of}
 use Rattle.tp_referee.specs.Turns.{IsWhole}
 use Rattle.tp_referee.proofs.Zips.{zip_all}
 

@@ -1,11 +1,11 @@
 -- A trace in numbers, and what they stand for.
-use Rattle.std.specs.Prelude.{◌≡◌, ◌≢◌, ◌+◌, ◌<◌, ◌↔◌, ℕ, Some, List, [], ◌∷◌, Contains, length, map, slice_get, AllPairs}
+use Rattle.std.specs.Prelude.{◌≡◌, ◌≢◌, ◌+◌, ◌↔◌, ℕ, Some, List, [], ◌∷◌, Contains, length, map, slice_get, AllPairs}
 use Rattle.std.specs.List.{AllZip}
 use Rattle.tp_queue.specs.declared.operation.PortOperation.{PortOperation}
 use Rattle.tp_queue.specs.declared.operation.PortOperation.TheVariants as operation
 use Rattle.tp_trace.specs.declared.line.Fate.{Fate}
 use Rattle.tp_trace.specs.declared.line.Fate.TheVariants as fate
-use Rattle.tp_trace.specs.Line.{Letter, Told, begins, passed, operated, otherwise, noted, ended, resulted}
+use Rattle.tp_trace.specs.Line.{Letter, Told, begins, passed, operated, otherwise, ended, resulted}
 use Rattle.tp_trace.specs.Tree.{names_of}
 use Rattle.tp_judge.specs.declared.line.Mention.{Mention}
 use Rattle.tp_judge.specs.declared.line.Act.{Act}

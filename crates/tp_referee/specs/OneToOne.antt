@@ -2,7 +2,7 @@
 use Rattle.std.specs.Prelude.{◌≡◌, ◌↔◌, ℕ, Option, Some, None, List, slice_get}
 use Rattle.tp_trace.specs.declared.line.Fate.{Fate}
 use Rattle.tp_trace.specs.declared.line.Fate.TheVariants as fate
-use Rattle.tp_trace.specs.Line.{Letter, Told, begins, passed, operated, otherwise, noted, ended, resulted}
+use Rattle.tp_trace.specs.Line.{Letter, Told, passed, operated}
 use Rattle.tp_judge.specs.declared.line.Act.{Act}
 use Rattle.tp_judge.specs.declared.line.Act.TheVariants as act
 use Rattle.tp_judge.specs.declared.line.Mention.{Mention}

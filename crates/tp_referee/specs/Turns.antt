@@ -1,10 +1,9 @@
 -- How the tables grow, line by line.
-use Rattle.std.specs.Prelude.{◌≡◌, ◌+◌, ◌<◌, ◌≤◌, ◌↔◌, ℕ, Some, true, List, [], ◌∷◌, ◌++◌, length, slice_get, ⊤}
-use Rattle.tp_trace.specs.Line.{Told, begins, passed, operated, otherwise, noted, ended, resulted}
+use Rattle.std.specs.Prelude.{◌≡◌, ◌+◌, ◌<◌, ◌≤◌, ℕ, Some, Bool, true, false, List, [], ◌∷◌, ◌++◌, length, slice_get, ⊤}
+use Rattle.tp_trace.specs.Line.{Told, begins, resulted}
 use Rattle.tp_judge.specs.declared.line.Act.{Act}
 use Rattle.tp_judge.specs.declared.line.Line.{Line}
 use Rattle.tp_referee.specs.declared.tables.PortKey.{PortKey}
-use Rattle.tp_referee.specs.declared.tables.RouteKey.{RouteKey}
 use Rattle.tp_referee.specs.declared.tables.Tables.{Tables}
 use Rattle.tp_referee.specs.Kept.{Keeps}
 use Rattle.tp_referee.specs.Numbering.{IsAct, IsComponent}
@@ -35,6 +34,16 @@ abbrev pub IsInside : Told → Type 0
 IsInside (begins name) = ⊥
 IsInside (resulted word) = ⊥
 IsInside _ = ⊤
+
+-- the line begins a section
+abbrev pub is_beginning : Told → Bool
+is_beginning (begins name) = true
+is_beginning _ = false
+
+-- where the line begins a section, that of a component whose name is so
+abbrev pub IsBegunBy : Told → (List ℕ → Type 0) → Type 0
+IsBegunBy (begins name) P = P name
+IsBegunBy _ P = ⊤
 
 -- one line more, which stands in a section
 pub record IsAdded (t : Tables) (here number : ℕ) (told : Told) (after : ℕ) (lines more : List Line) : Type 0 where

@@ -1,26 +1,30 @@
 //! Which routes have a section at both ends.
-ghost use Rattle.std.specs.Prelude.{◌≡◌, ◌↔◌, ◌<◌, ℕ, Contains, IfOk, IsTrue, Some, List, length, map, slice_get, true};
+ghost use Rattle.std.specs.Prelude.{◌≡◌, ◌↔◌, ◌<◌, ◌^◌, ℕ, Contains, IfOk, IsTrue, Some, List, length, map, slice_get, true};
 ghost use Rattle.tp_trace.specs.Tree.{names_of};
+ghost use Rattle.tp_referee.specs.Kept.{Keeps};
 ghost use Rattle.tp_referee.specs.Joining.{AreSections, AreJoinedBy, IsJoinedBy};
 
+use crate::components::Components;
 use crate::tables::{PortKey, RouteKey};
-use crate::words::Words;
 use std::alloc::Global;
 use tp_refusal::memory::Memory;
 use tp_trace::tree::Trace;
 
-/// Of each component whether it has a section.
+/// Of each component whether it has a section: those that do stand first.
 pub fn sections_of(
     alloc: Global,
     trace: &Trace<'_>,
-    components: &Words<'_>,
+    components: &Components<'_>,
 ) -> Result<Vec<bool>, Memory>
+    requires small { length components.now < 2 ^ 64 }
+    requires kept { Keeps (names_of trace.now) components.now }
     ensures { IfOk result (λ sections. AreSections trace.now components.now sections.items) }
 {
-    let mut sections = Vec::with_capacity(alloc, components.len())?;
-    for number in 0..components.len() {
-        let section = trace.section_of(components.word(number));
-        sections.push(section.is_some())?;
+    let count = trace.section_count();
+    let total = components.len();
+    let mut sections = Vec::with_capacity(alloc, total)?;
+    for number in 0..total {
+        sections.push(number < count)?;
     }
     Ok(sections)
 }

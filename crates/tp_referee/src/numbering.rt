@@ -1,11 +1,12 @@
 //! The lines of a trace, with numbers in place of names and messages.
 ghost use Rattle.std.specs.Prelude.{◌≡◌, ◌<◌, ◌≤◌, ◌+◌, IfOk, OnOk, length, slice_get};
 ghost use Rattle.std.specs.List.{AllZip};
-ghost use Rattle.tp_trace.specs.Tree.{IsTrace, told_of};
+ghost use Rattle.tp_trace.specs.Tree.{IsTrace, names_of, told_of};
 ghost use Rattle.tp_judge.specs.Lawful.{AreRouted, AreWithin};
-ghost use Rattle.tp_referee.specs.Numbering.{IsLine, IsNumberingOf, stands_of};
+ghost use Rattle.tp_referee.specs.Kept.{Keeps};
+ghost use Rattle.tp_referee.specs.Numbering.{IsComponent, IsLine, IsNumberingOf, stands_of};
 ghost use Rattle.tp_referee.specs.OneToOne.{IsOneToOne};
-ghost use Rattle.tp_referee.specs.Turns.{Grows, HasRoom, IsInside, IsTurn, IsWhole, size};
+ghost use Rattle.tp_referee.specs.Turns.{Grows, HasRoom, IsBegunBy, IsInside, IsTurn, IsWhole, is_beginning, size};
 
 use crate::joining::{joined_of, owners_of, sections_of};
 use crate::tables::Tables;
@@ -16,28 +17,36 @@ use tp_refusal::memory::Memory;
 use tp_trace::line::Line;
 use tp_trace::tree::Trace;
 
-/// Takes a line of this number, in the section of the component of that number, and answers the
-/// number of the component in whose section the next line stands if it begins none.
+/// Whether the line begins a section.
+fn is_beginning(line: &Line<'_>) -> bool
+    ensures { result ≡ is_beginning (told_of line.now) }
+{
+    matches!(line, Line::Component(_))
+}
+
+/// Takes a line of this number, in the section of the component of that number, behind the
+/// beginnings of so many sections, and answers the number of the component in whose section the
+/// next line stands if it begins none.
 fn step<'t>(
     tables: &mut Tables<'t>,
     lines: &mut Vec<NumberedLine>,
     here: u32,
+    begun: u32,
     number: u32,
     line: &Line<'t>,
 ) -> Result<u32, Memory>
     requires room { HasRoom 5 tables.old }
     requires whole { IsWhole tables.old }
     requires here { IsInside (told_of line.now) → here < length tables.old.components }
+    requires begun { IsBegunBy (told_of line.now) (IsComponent tables.old begun) }
     ensures turn { IfOk result (λ after.
         IsTurn tables.new here number (told_of line.now) after lines.old.items lines.new.items) }
     ensures grows { OnOk result (Grows 5 tables.old tables.new) }
     ensures whole { OnOk result (IsWhole tables.new) }
 {
     match line {
-        Line::Component(name) => {
-            let after = tables.component(name)?;
-            Ok(after)
-        }
+        // The components of the sections have the numbers of these.
+        Line::Component(_) => Ok(begun),
         Line::Result(_) => Ok(here),
         _ => {
             let act = tables.act(here, line)?;
@@ -58,17 +67,24 @@ fn number_lines<'t>(
     tables: &mut Tables<'t>,
 ) -> Result<Vec<NumberedLine>, Memory>
     requires few { length trace.now ≤ 268435456 }
-    requires size { size tables.old ≡ 0 }
+    requires components { tables.old.components ≡ names_of trace.now }
+    requires size { size tables.old ≡ length (names_of trace.now) }
     requires whole { IsWhole tables.old }
     ensures lines { IfOk result (λ lines.
         AllZip (IsLine tables.new) (stands_of trace.now) lines.items) }
     ensures whole { OnOk result (IsWhole tables.new) }
+    ensures sections { OnOk result (Keeps (names_of trace.now) tables.new.components) }
+    ensures room { OnOk result (HasRoom 0 tables.new) }
 {
     let mut lines = Vec::with_capacity(alloc, trace.line_count())?;
     let mut here = 0;
+    let mut begun = 0;
     for place in 0..trace.line_count() {
         let line = trace.line(place);
-        here = step(tables, &mut lines, here, place as u32 + 1, &line)?;
+        here = step(tables, &mut lines, here, begun, place as u32 + 1, &line)?;
+        if is_beginning(&line) {
+            begun += 1;
+        }
     }
     Ok(lines)
 }
@@ -83,7 +99,7 @@ pub fn number_trace(alloc: Global, trace: &Trace<'_>) -> Result<NumberedTrace, M
     ensures within { IfOk result AreWithin }
     ensures routed { IfOk result AreRouted }
 {
-    let mut tables = Tables::new(alloc);
+    let mut tables = Tables::new(alloc, trace)?;
     let lines = number_lines(alloc, trace, &mut tables)?;
     tables.know_distinct();
     let sections = sections_of(alloc, trace, &tables.components)?;

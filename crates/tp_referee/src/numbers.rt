@@ -1,5 +1,5 @@
 //! Keys, each with a number.
-ghost use Rattle.std.specs.Prelude.{◌≡◌, ◌<◌, true, IfOk, OnOk, Some, length, slice_get};
+ghost use Rattle.std.specs.Prelude.{◌≡◌, ◌<◌, true, IfOk, OnErr, OnOk, Some, length, slice_get};
 ghost use Rattle.indexmap.specs.IndexSet.{insert_key};
 
 use indexmap::IndexSet;
@@ -12,6 +12,7 @@ pub fn number_of<K: Eq + Hash + Drop>(keys: &mut IndexSet<K>, key: K) -> Result<
     ensures there { IfOk result (λ number. (found : K)
         × (slice_get keys.new.keys number ≡ Some found) × (K.eq key found ≡ true)) }
     ensures keys { OnOk result (keys.new.keys ≡ insert_key K.eq keys.old.keys key) }
+    ensures err { OnErr result (keys.new.keys ≡ keys.old.keys) }
 {
     let (number, _) = keys.insert_full(key)?;
     Ok(number as u32)

@@ -1,9 +1,10 @@
 //! What the numbers of a trace stand for.
 ghost use Rattle.std.specs.Prelude.{◌≡◌, ◌<◌, ◌≤◌, [], IfOk, OnOk, Some, length, slice_get};
-ghost use Rattle.tp_trace.specs.Tree.{letter_of, told_of};
+ghost use Rattle.tp_trace.specs.Tree.{letter_of, names_of, told_of};
 ghost use Rattle.tp_referee.specs.Numbering.{AreDistinct, IsAct, IsComponent, IsMention, IsOperated, IsPassed, IsPort, act_of, operation_act, receiver_of, sender_of};
 ghost use Rattle.tp_referee.specs.Turns.{Grows, HasRoom, IsWhole, size};
 
+use crate::components::Components;
 use crate::numbers::number_of;
 use crate::words::Words;
 use indexmap::IndexSet;
@@ -12,6 +13,7 @@ use tp_judge::line::{Act, Mention, MessageId, Parcel};
 use tp_queue::operation::PortOperation;
 use tp_refusal::memory::Memory;
 use tp_trace::line::{Fate, Line, Message};
+use tp_trace::tree::Trace;
 
 /// A port: the number of its component, and that of its name among the names of ports.
 #[derive(Clone, Copy, Debug, PartialEq, Eq, Hash)]
@@ -31,7 +33,7 @@ pub struct RouteKey {
 #[derive(Drop)]
 pub struct Tables<'t> {
     /// The components, by their names.
-    pub components: Words<'t>,
+    pub components: Components<'t>,
     /// The names of ports.
     pub names: Words<'t>,
     pub ports: IndexSet<PortKey>,
@@ -78,22 +80,28 @@ fn operation_act(operation: PortOperation, port: u32) -> Act
 }
 
 impl<'t> Tables<'t> {
-    /// Nothing has a number.
-    pub fn new(alloc: Global) -> Tables<'t>
-        ensures size { size result ≡ 0 }
-        ensures whole { IsWhole result }
+    /// Nothing has a number but the components of the sections.
+    pub fn new(alloc: Global, trace: &'t Trace<'t>) -> Result<Tables<'t>, Memory>
+        ensures components { IfOk result (λ t. t.components ≡ names_of trace.now) }
+        ensures size { IfOk result (λ t. size t ≡ length (names_of trace.now)) }
+        ensures whole { IfOk result IsWhole }
     {
-        Tables {
-            components: Words::new(alloc),
+        // Most components have a port and a route or more, and a table that grows is hashed anew.
+        let count = trace.section_count();
+        let ports = IndexSet::with_capacity(alloc, count)?;
+        let routes = IndexSet::with_capacity(alloc, count)?;
+        Ok(Tables {
+            components: Components::new(alloc, trace),
             names: Words::new(alloc),
-            ports: IndexSet::new(alloc),
-            routes: IndexSet::new(alloc),
+            ports,
+            routes,
             messages: Words::new(alloc),
-        }
+        })
     }
 
     /// Named for the sake of its clause, that nothing has two numbers.
     pub fn know_distinct(&self)
+        requires { HasRoom 0 self.now }
         ensures { AreDistinct self.now }
     {
         let _ = self.components.len();

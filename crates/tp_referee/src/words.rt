@@ -1,6 +1,6 @@
 //! Words of a text, each with a number.
-ghost use Rattle.std.specs.Prelude.{◌≡◌, ◌≢◌, ◌+◌, ◌<◌, ◌≤◌, [], AllPairs, IfOk, OnOk, Some, length, slice_get};
-ghost use Rattle.tp_referee.specs.Kept.{Keeps};
+ghost use Rattle.std.specs.Prelude.{◌≡◌, ◌≢◌, ◌+◌, ◌<◌, ◌≤◌, [], AllPairs, IfOk, OnErr, OnOk, Some, length, slice_get};
+ghost use Rattle.tp_referee.specs.Kept.{AddsOnly, Keeps};
 
 use crate::numbers::number_of;
 use indexmap::IndexSet;
@@ -47,24 +47,14 @@ impl<'t> Words<'t> {
         self.words.len()
     }
 
-    /// The word of this number.
-    pub fn word(&self, number: usize) -> &'t [u8]
-        requires { number < length self.now }
-        ensures { slice_get self.now number ≡ Some result.now }
-    {
-        match self.words.get_index(number) {
-            Some(word) => word,
-            // Who has a number has it from this table.
-            None => unreachable!(),
-        }
-    }
-
     /// The number of a word, which is there from now on.
     pub fn number(&mut self, word: &'t [u8]) -> Result<u32, Memory>
         requires { length self.old < 4294967296 }
         ensures there { IfOk result (λ number. slice_get self.new number ≡ Some word.now) }
         ensures kept { OnOk result (Keeps self.old self.new) }
         ensures few { OnOk result (length self.new ≤ length self.old + 1) }
+        ensures others { OnOk result (AddsOnly self.old word.now self.new) }
+        ensures err { OnErr result (self.new ≡ self.old) }
     {
         let number = number_of(&mut self.words, word)?;
         Ok(number)

@@ -3,4 +3,5 @@ pub mod Cuts
 pub mod Messages
 pub mod Telling
 pub mod Places
+pub mod Pieces
 pub mod Standing

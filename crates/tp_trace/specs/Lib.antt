@@ -1,4 +1,5 @@
 pub mod Line
 pub mod Tree
+pub mod Spans
 pub mod Read
 pub mod Faults

@@ -2,6 +2,7 @@
 ghost use Rattle.std.specs.Prelude.{◌≡◌, ◌∷◌, ◌++◌, ◌<◌, ◌==◌, MatchOption, length, position, true};
 ghost use Rattle.std.specs.Option.{option_copied};
 ghost use Rattle.tp_trace.specs.Line.{behind, lacks, lines_of};
+ghost use Rattle.tp_trace.specs.Spans.{IsFrontOf, IsLeftOf};
 
 /// The place of the first byte that is this one.
 fn find_byte(separator: u8, text: &[u8]) -> Option<usize>
@@ -15,6 +16,8 @@ pub fn first_line(text: &[u8]) -> (&[u8], &[u8])
     requires { 0 < length text.now }
     ensures lines { lines_of text.now ≡ result.0.now ∷ lines_of result.1.now }
     ensures shorter { length result.1.now < length text.now }
+    ensures front { IsFrontOf text.now result.0.now }
+    ensures left { IsLeftOf text.now result.1.now }
 {
     match find_byte(b'\n', text) {
         Some(place) => (&text[..place], &text[place + 1..]),

@@ -1,5 +1,5 @@
 //! The names of the components whose sections there are.
-ghost use Rattle.std.specs.Prelude.{◌≡◌, ◌∷◌, ◌++◌, ◌↔◌, [], Contains, IfOk, IsSome, length, MatchBool, OnErr};
+ghost use Rattle.std.specs.Prelude.{◌≡◌, ◌≢◌, ◌∷◌, ◌++◌, ◌↔◌, [], AllPairs, Contains, IfOk, IsSome, length, MatchBool, OnErr};
 
 use indexmap::IndexSet;
 use std::alloc::Global;
@@ -41,7 +41,8 @@ impl<'t> Names<'t> {
 
     /// How many names there are.
     pub fn len(&self) -> usize
-        ensures { result ≡ length self.now }
+        ensures count { result ≡ length self.now }
+        ensures distinct { AllPairs (λ a b. a ≢ b) self.now }
     {
         self.names.len()
     }
@@ -64,12 +65,9 @@ impl<'t> Names<'t> {
             (Contains self.old name.now)) }
         ensures err { OnErr result (self.new ≡ self.old) }
     {
-        if self.find(name).is_some() {
-            return Ok(false);
-        }
-        let Ok(_) = self.names.insert(name) else {
+        let Ok((_, added)) = self.names.insert_full(name) else {
             return Err(Memory);
         };
-        Ok(true)
+        Ok(added)
     }
 }

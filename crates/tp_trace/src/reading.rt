@@ -2,6 +2,7 @@
 ghost use Rattle.std.specs.Prelude.{◌≡◌, ◌+◌, ◌<◌, ◌≤◌, ◌==◌, ◌↔◌, IsErrOf, IfErr, IfOk, MatchOption, length, count_by};
 ghost use Rattle.tp_trace.specs.Line.{Told, Spells};
 ghost use Rattle.tp_trace.specs.Tree.{BadLinesStayBad, IsTraceOf, SaysOneAtMost, StandsAt, told_of};
+ghost use Rattle.tp_trace.specs.Spans.{IsFrontOf, IsLeftOf, IsSpanOf, piece};
 ghost use Rattle.tp_trace.specs.Faults.{IsFaultOf, Notes, TakesPlace};
 
 use crate::cut::first_line;
@@ -9,7 +10,7 @@ use crate::form::{Place, may_stand, place_behind};
 use crate::line::Line;
 use crate::names::Names;
 use crate::read::line_of;
-use crate::tree::Trace;
+use crate::tree::{Span, Trace};
 use std::alloc::{AllocError, AllocFailed, Global};
 use thiserror::Error;
 use tp_refusal::memory::Memory;
@@ -72,6 +73,21 @@ fn room_for(text: &[u8]) -> usize
     text.iter().filter(|byte| **byte == b'\n').count() + 1
 }
 
+/// Where a line lies in a text, with which the rest of the text begins.
+fn span_of(text: &[u8], rest: &[u8], line: &[u8]) -> Span
+    requires size { length text.now ≤ 268435456 }
+    requires left { IsLeftOf text.now rest.now }
+    requires front { IsFrontOf rest.now line.now }
+    ensures piece { piece text.now result ≡ line.now }
+    ensures within { IsSpanOf (length text.now) result }
+{
+    let start = text.len() - rest.len();
+    Span {
+        start: start as u32,
+        end: (start + line.len()) as u32,
+    }
+}
+
 /// Whether the section of a component, where the line begins one, is the first of its name, which
 /// is then noted.
 fn is_new<'t>(names: &mut Names<'t>, line: &Line<'t>) -> Result<bool, Memory>
@@ -115,21 +131,21 @@ pub fn read_trace<'t>(alloc: Global, text: &'t [u8]) -> Result<Trace<'t>, TraceF
     if text.len() > TRACE_LIMIT {
         return Err(TraceFault::Limit);
     }
-    let mut lines = Vec::with_capacity(alloc, room_for(text))?;
+    let mut spans = Vec::with_capacity(alloc, room_for(text))?;
     let mut names = Names::new(alloc);
     let mut place = Place::Front;
     let mut rest = text;
     while !rest.is_empty() {
         let (bytes, next) = first_line(rest);
-        let number = lines.len() as u64 + 1;
+        let number = spans.len() as u64 + 1;
         match step(&mut names, place, bytes)? {
             Some(after) => place = after,
             None => return Err(TraceFault::BadLine(number)),
         }
-        lines.push(bytes)?;
+        spans.push(span_of(text, rest, bytes))?;
         rest = next;
     }
-    Ok(Trace::of(lines, names))
+    Ok(Trace::of(text, spans, names))
 }
 
 /// A text tells one list of lines at most, so that it is one trace: a law, and no work.

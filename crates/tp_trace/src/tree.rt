@@ -1,5 +1,6 @@
 //! A trace: a text that has the form of one, cut into its lines.
-ghost use Rattle.std.specs.Prelude.{◌≡◌, map};
+ghost use Rattle.std.specs.Prelude.{◌≡◌, All, length, map};
+ghost use Rattle.tp_trace.specs.Spans.{IsSpanOf, pieces};
 ghost use Rattle.tp_trace.specs.Tree.{HoldsTrace, told_in};
 
 use crate::line::Line;
@@ -7,12 +8,23 @@ use crate::names::Names;
 use crate::read::line_of;
 use std::marker::Model;
 
+/// Where a line lies in a text.
+#[derive(Clone, Copy)]
+pub struct Span {
+    /// Where it begins.
+    pub start: u32,
+    /// Where it ends.
+    pub end: u32,
+}
+
 /// A trace. Contracts see what its lines tell, in order: the line of number L in the text stands at
-/// the place L - 1. Its words lie in the text; it takes 16 bytes for each line, and a table of the
+/// the place L - 1. Its words lie in the text; it takes 8 bytes for each line, and a table of the
 /// names of its sections.
 #[derive(Drop)]
 pub struct Trace<'t> {
-    lines: Vec<&'t [u8]>,
+    text: &'t [u8],
+    /// Where the lines lie in the text: half of what slices would take.
+    spans: Vec<Span>,
     /// The components of the sections, in order.
     names: Names<'t>,
 }
@@ -20,25 +32,27 @@ pub struct Trace<'t> {
 impl<'t> Model for Trace<'t> {
     ghost use Rattle.std.specs.Prelude.{List, map};
     ghost use Rattle.tp_trace.specs.Line.{Told};
-    ghost use Rattle.tp_trace.specs.Tree.{HoldsTrace, told_in};
+    ghost use Rattle.tp_trace.specs.Spans.{HoldsSpans, pieces};
+    ghost use Rattle.tp_trace.specs.Tree.{told_in};
 
     ghost Value = { List Told };
 
-    ghost view = { λ t. map told_in (map (λ line. line.now) t.lines.items) };
+    ghost view = { λ t. map told_in (pieces t.text.now t.spans.items) };
 
-    ghost invariant = { λ t. HoldsTrace (map (λ line. line.now) t.lines.items) t.names };
+    ghost invariant = { λ t. HoldsSpans t.text.now t.spans.items t.names };
 }
 
 impl<'t> Trace<'t> {
-    ghost use Rattle.std.specs.Prelude.{◌≡◌, ◌<◌, length, slice_get, Some};
+    ghost use Rattle.std.specs.Prelude.{◌≡◌, ◌≢◌, ◌<◌, AllPairs, length, slice_get, Some};
     ghost use Rattle.tp_trace.specs.Tree.{IsTrace, names_of, section_named, told_of};
 
-    /// The trace of these lines, whose sections have these names.
-    pub(crate) fn of(lines: Vec<&'t [u8]>, names: Names<'t>) -> Trace<'t>
-        requires { HoldsTrace (map (λ line. line.now) lines.items) names }
-        ensures { result ≡ map told_in (map (λ line. line.now) lines.entry.items) }
+    /// The trace of the lines that lie there in the text, whose sections have these names.
+    pub(crate) fn of(text: &'t [u8], spans: Vec<Span>, names: Names<'t>) -> Trace<'t>
+        requires holds { HoldsTrace (pieces text.now spans.items) names }
+        requires within { All (IsSpanOf (length text.now)) spans.items }
+        ensures { result ≡ map told_in (pieces text.now spans.items) }
     {
-        Trace { lines, names }
+        Trace { text, spans, names }
     }
 
     /// How many lines there are.
@@ -46,7 +60,7 @@ impl<'t> Trace<'t> {
         ensures count { result ≡ length self.now }
         ensures trace { IsTrace self.now }
     {
-        self.lines.len()
+        self.spans.len()
     }
 
     /// What the line at this place tells: places are numbered from 0, lines from 1.
@@ -54,7 +68,8 @@ impl<'t> Trace<'t> {
         requires { place < length self.now }
         ensures { slice_get self.now place ≡ Some (told_of result) }
     {
-        match line_of(self.lines[place]) {
+        let span = self.spans[place];
+        match line_of(&self.text[span.start as usize..span.end as usize]) {
             Some(line) => line,
             None => unreachable!(),
         }
@@ -62,7 +77,8 @@ impl<'t> Trace<'t> {
 
     /// How many sections there are.
     pub fn section_count(&self) -> usize
-        ensures { result ≡ length (names_of self.now) }
+        ensures count { result ≡ length (names_of self.now) }
+        ensures distinct { AllPairs (λ a b. a ≢ b) (names_of self.now) }
     {
         self.names.len()
     }

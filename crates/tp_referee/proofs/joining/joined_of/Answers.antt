@@ -1,5 +1,5 @@
 -- One route more, and in the end all.
-use Rattle.std.proofs.Common.{refl, ◌≡◌, ◌+◌, ◌≤◌, length, subst, sym, take, arith}
+use Rattle.std.proofs.Common.{◌+◌, subst, sym, take, arith}
 use Rattle.std.specs.Prelude.{◌↔◌, IsTrue}
 use Rattle.std.proofs.lemmas.List.{take_all}
 use Rattle.std.proofs.lemmas.Option.{slice_get-get_or}

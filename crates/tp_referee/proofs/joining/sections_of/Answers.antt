@@ -1,10 +1,11 @@
--- One component more, which has a section where its name is found.
-use Rattle.std.proofs.Common.{◌≡◌, ◌+◌, ◌∙◌, ◌≤◌, true, length, subst, sym, take, arith}
+-- One component more, which has a section where its number is below how many there are.
+use Rattle.std.proofs.Common.{◌+◌, ℕ, [], get_or, nat_lt, subst, sym, take, arith}
 use Rattle.std.specs.Prelude.{◌↔◌, Contains, IsTrue}
 use Rattle.std.proofs.lemmas.List.{take_all}
+use Rattle.std.proofs.lemmas.Option.{slice_get-get_or}
 use Rattle.tp_trace.specs.Tree.{names_of}
 use Rattle.tp_referee.specs.Joining.{AreSections}
-use Rattle.tp_referee.proofs.Joined.{found_section}
+use Rattle.tp_referee.proofs.Naming.{section_below}
 use Rattle.tp_referee.proofs.Zips.{zip_next}
 use Rattle.tp_referee.proofs.joining.sections_of.Goals as goal
 
@@ -14,12 +15,15 @@ loop-number-init c = subst (AreSections c.args.trace.now (take 0 c.args.componen
 pub loop-number-preserved : goal.loop-number-preserved
 loop-number-preserved c =
     let n = c.loop-number.number in
-    let name = c.word.result.now in
-    subst (AreSections c.args.trace.now (take (n + 1) c.args.components.now)) (sym c.in_ok-push.ensures.items)
-    (zip_next (λ m flag. IsTrue flag ↔ Contains (names_of c.args.trace.now) m) c.args.components.now c.loop-number.sections.items n name c.is_some.result
-    c.word.ensures c.loop-number.invariant
-    (found_section (names_of c.args.trace.now) name c.section_of-section.result c.section_of-section.ensures c.is_some.result
-    (λ e. sym c.is_some.ensures ∙ e, λ h. c.is_some.ensures ∙ h)))
+    let components = c.args.components.now in
+    let names = names_of c.args.trace.now in
+    let name = get_or components n [] in
+    let at = slice_get-get_or components n [] (omega arith) in
+    subst (AreSections c.args.trace.now (take (n + 1) components)) (sym c.in_ok-push.ensures.items)
+    (zip_next (λ m flag. IsTrue flag ↔ Contains names m) components c.loop-number.sections.items n name
+    (nat_lt n c.section_count-count.result) at c.loop-number.invariant
+    (subst (λ (k : ℕ). IsTrue (nat_lt n k) ↔ Contains names name) (sym c.section_count-count.ensures.count)
+    (section_below names components n name c.requires.kept c.len-total.ensures.distinct at)))
 
 pub returns : goal.returns
 returns c =

@@ -1,5 +1,7 @@
 -- The lines so far are numbered, by tables that are whole.
+use Rattle.std.proofs.Common.{◌≡◌, ◌≤◌, take}
 use Rattle.tp_referee.specs.Turns.{IsWhole}
+use Rattle.tp_referee.proofs.Beginning.{begun_by}
 use Rattle.tp_referee.proofs.Turning.{Numbered}
 use Rattle.tp_referee.proofs.numbering.number_lines.Given as goal
 
@@ -7,4 +9,6 @@ abbrev pub invariant-loop-place : goal.invariant-loop-place
 invariant-loop-place l = record {
   numbered : Numbered l.trace l.place l.tables l.here l.lines.items;
   whole : IsWhole l.tables;
+  begun : l.begun ≡ begun_by (take l.place l.trace);
+  few : l.begun ≤ l.place;
 }

@@ -1,5 +1,5 @@
 -- The parts are those of a numbering.
-use Rattle.std.proofs.Common.{◌≡◌, ◌+◌, ◌∙◌, Bool, List, ℕ, ap, map, subst}
+use Rattle.std.proofs.Common.{◌+◌, ◌∙◌, Bool, List, ℕ, ap, map, subst}
 use Rattle.tp_judge.specs.declared.trace.Trace.{Trace}
 use Rattle.tp_referee.specs.declared.tables.PortKey.{PortKey}
 use Rattle.tp_referee.specs.declared.tables.RouteKey.{RouteKey}

@@ -1,14 +1,18 @@
 -- The lines so far were taken, and the rest is left.
-use Rattle.std.proofs.Common.{◌≡◌, ◌+◌, ◌≤◌, length, map, vec_len}
+use Rattle.std.proofs.Common.{◌≡◌, ◌+◌, ◌≤◌, length, vec_len}
+use Rattle.std.specs.Prelude.{All}
+use Rattle.tp_trace.specs.Spans.{IsLeftOf, IsSpanOf, pieces}
 use Rattle.tp_trace.proofs.Standing.{Taken}
 use Rattle.tp_trace.proofs.reading.read_trace.Given as goal
 
 abbrev pub invariant-loop-rest : goal.invariant-loop-rest
 invariant-loop-rest l =
     record {
-      fits : vec_len l.lines + length l.rest ≤ length l.text;
-      counted : length (map (λ line. line.now) l.lines.items) ≡ vec_len l.lines;
-      taken : Taken l.text l.rest (map (λ line. line.now) l.lines.items) l.names l.place;
+      fits : vec_len l.spans + length l.rest ≤ length l.text;
+      counted : length (pieces l.text l.spans.items) ≡ vec_len l.spans;
+      taken : Taken l.text l.rest (pieces l.text l.spans.items) l.names l.place;
+      within : All (IsSpanOf (length l.text)) l.spans.items;
+      left : IsLeftOf l.text l.rest;
     }
 
 abbrev pub decreases-loop-rest : goal.decreases-loop-rest

@@ -1,10 +1,10 @@
 -- The word that is found is the one that was looked for, and the others stay at their places.
-use Rattle.std.proofs.Common.{◌≡◌, ◌∙◌, Some, ap, map, subst, sym, length, arith}
+use Rattle.std.proofs.Common.{◌∙◌, Some, ap, map, subst, sym, length, arith}
 use Rattle.std.specs.Str.{bytes_eq}
 use Rattle.std.proofs.lemmas.List.{length-map}
 use Rattle.std.proofs.lemmas.Slice.Eq.{bytes_eq-Decides}
-use Rattle.tp_referee.specs.Kept.{Keeps}
-use Rattle.tp_referee.proofs.Keeping.{at_view, few_key, kept_key, kept_views}
+use Rattle.tp_referee.specs.Kept.{AddsOnly, Keeps}
+use Rattle.tp_referee.proofs.Keeping.{adds_views, at_view, few_key, kept_key, kept_views}
 use Rattle.tp_referee.proofs.words.Words.number.Goals as goal
 
 pub returns-clause-there : goal.returns-clause-there
@@ -30,3 +30,9 @@ returns-clause-few c =
       length-map c.self.inside.words.keys (λ w. w.now),
       ap length c.self.view_is,
     )
+
+pub returns-clause-others : goal.returns-clause-others
+returns-clause-others c =
+    subst (λ l. AddsOnly l c.args.word.now (map (λ w. w.now) c.number_of.new.keys.keys)) c.self.view_is
+    (subst (λ l. AddsOnly (map (λ w. w.now) c.self.inside.words.keys) c.args.word.now (map (λ w. w.now) l)) (sym c.in_ok-number.ensures.keys)
+    (adds_views (λ w. w.now) (λ v w. bytes_eq v.now w.now) c.self.inside.words.keys c.args.word))

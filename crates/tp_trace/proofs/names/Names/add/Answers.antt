@@ -1,14 +1,12 @@
 -- A name that is not there goes behind the others.
-use Rattle.std.proofs.Common.{◌++◌, ◌∷◌, [], ◌∙◌, Contains, ap, map, subst, sym, true≢false}
-use Rattle.tp_trace.proofs.Places.{key_added}
+use Rattle.std.proofs.Common.{◌≡◌, ◌++◌, ◌∷◌, [], Contains, map, subst}
+use Rattle.std.specs.Bool.{MatchBool}
+use Rattle.tp_trace.proofs.Places.{name_inserted}
 use Rattle.tp_trace.proofs.names.Names.add.Goals as goal
 
 pub returns-clause-added : goal.returns-clause-added
 returns-clause-added c =
-    let new : Contains (map (λ n. n.now) c.self.inside.names.keys) c.args.name.now → ⊥ = λ h.
-    true≢false (sym (c.find.ensures.known.1 (subst (λ l. Contains l c.args.name.now) c.self.view_is h)) ∙ sym c.is_some.ensures ∙ c.if-is_some.false) in (
-      λ h. true≢false (sym (c.find.ensures.known.1 h) ∙ sym c.is_some.ensures ∙ c.if-is_some.false),
-      ap (map (λ n. n.now)) c.in-Ok.ensures.keys
-          ∙ key_added (λ n. n.now) c.self.inside.names.keys c.args.name new
-          ∙ ap (λ l. l ++ c.args.name.now ∷ []) c.self.view_is,
-    )
+    let news = map (λ n. n.now) c.insert_full.new.self.keys in
+    let name = c.args.name.now in
+    subst (λ l. MatchBool c.in-Ok.added ((Contains l name → ⊥) × (news ≡ l ++ name ∷ [])) (Contains l name)) c.self.view_is
+    (name_inserted (λ n. n.now) c.self.inside.names.keys c.insert_full.new.self.keys c.args.name c.in-Ok.added c.in-Ok.ensures.added c.in-Ok.ensures.keys)
