@@ -54,7 +54,7 @@ from reading import read_script  # noqa: E402
 
 Classes = set[tuple[str, ...]]
 MOST_STATES = 4_000
-MOST_SECONDS = 1.0
+MOST_SECONDS = 1.0  # of the processor, so that beside other work no less is looked at
 
 
 def classes_of_steps(case: TestCase) -> tuple[int, Classes]:
@@ -221,9 +221,9 @@ def wrong_by_chance(path: str) -> Optional[str]:
     if wanted is None:
         return ""
     script = forced_script(bytes_of(path))
-    end = time.monotonic() + MOST_SECONDS
-    found = classes_in_model(script, lambda: time.monotonic() > end)[1]
-    if time.monotonic() > end:
+    end = time.process_time() + MOST_SECONDS
+    found = classes_in_model(script, lambda: time.process_time() > end)[1]
+    if time.process_time() > end:
         return "" if found <= wanted else difference("orders of acts", found, wanted)
     return difference("orders of acts", found, wanted)
 

@@ -89,19 +89,21 @@ def untold(fault: Fault, program: str, ordered: str) -> Optional[str]:
         elif not change(f"{tree}/{fault.file}", fault.sed):
             return f"{fault.sed} changes nothing in {fault.file}"
         programs = {"TPR": program, **({"TPR_ORDERED": ordered} if os.access(ordered, os.X_OK) else {})}
-        done = subprocess.run(
+        # Not by subprocess.run, which kills where it is interrupted: ./test ends what it has started.
+        done = subprocess.Popen(
             [f"{tree}/test", "part", fault.part],
             env={**os.environ, **programs},
             stdin=subprocess.DEVNULL,
-            capture_output=True,
-            check=False,
+            stdout=subprocess.PIPE,
+            stderr=subprocess.PIPE,
         )
-    lines = done.stdout.decode("utf-8", "replace").splitlines()
+        printed, said = done.communicate()
+    lines = printed.decode("utf-8", "replace").splitlines()
     told = [line for line in lines if line.startswith("FAILED: ")]
     if done.returncode == 1 and told and lines[-1].startswith("examples: "):
         print(f"told of {fault.part}: {len(told)} times, first {told[0][len('FAILED: '):][:200]}")
         return None
-    return f"status {done.returncode}, and it said {(lines or ['nothing'])[-1]} {done.stderr[-300:]!r}"
+    return f"status {done.returncode}, and it said {(lines or ['nothing'])[-1]} {said[-300:]!r}"
 
 
 def why_left_out(fault: Fault, ordered: str) -> Optional[str]:

@@ -1,6 +1,6 @@
 # What the program answers where something outside it fails: where its answer goes, memory, threads, files, signals,
-# calls that are interrupted or cut short (tests/from_outside.py). `tpr`, `room`, `at_least` and `count` are those of
-# ./test, `compile_refusals` that of tests/refused_memory.sh, `count_told` that of tests/orders.sh.
+# calls that are interrupted or cut short (tests/from_outside.py). `tpr`, `room`, `room_of_all` and `at_least`
+# are those of ./test, `compile_refusals` that of tests/refused_memory.sh, `count_told` that of tests/orders.sh.
 
 # A program that is a script would be refused its shell's calls: its cases of that kind are left out.
 is_script() { # PROGRAM
@@ -9,7 +9,7 @@ is_script() { # PROGRAM
 
 cases_from_outside() {
     local refused=()
-    if [[ -e $room/refused.so ]] && ! is_script "$tpr"; then refused=("$room/refused.so"); fi
+    if [[ -e $room_of_all/refused.so ]] && ! is_script "$tpr"; then refused=("$room_of_all/refused.so"); fi
     mkdir -- "$room/from_outside"
     python3 -B tests/from_outside.py "$tpr" "$room/from_outside" "${refused[@]}" >"$room/told_from_outside"
     count_told "$room/told_from_outside"

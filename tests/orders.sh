@@ -10,8 +10,8 @@ least_orders=31000
 
 # Builds tpr_ordered where TPR_ORDERED names none: rt runs what it has built, here on one order of one script. Not
 # where `rt ci` has built it in this run: it keeps nothing by which `rt run` would know, and every crate would be
-# proved once more.
-ordered_is_built() {
+# proved once more. It is done once, before the first of the parts that need it.
+build_ordered() {
     local script=$root/tests/orders/all_wait_for_each_other.ttcn
     if [[ -z ${TPR_ORDERED-} ]] && ! built_by_gate "$ordered"; then
         echo >"$room/no_step"
@@ -54,7 +54,7 @@ orders_of_each() {
 }
 
 every_order() {
-    set_up "crates/tpr_ordered can be built" ordered_is_built || return
+    set_up "tpr_ordered is built" [ -x "$ordered" ] || return
     at_least "$least_scripts" orders_of_each
     set_up "$least_orders orders are compared" [ "$ordered_reports" -ge "$least_orders" ]
     set_up "$least_waiting scripts wait in some order" [ "$waiting_scripts" -ge "$least_waiting" ]

@@ -1,14 +1,13 @@
 # Charts as pages (tools/chart --html), in a real browser: tests/pages.py tells each case by a line. `count`,
-# `room`, `root` and `at_least` are those of ./test. Where there is no browser they are left out, and said so.
-
-pages_left_out=''
+# `room`, `root` and `at_least` are those of ./test, `leave_out` that of tests/listed_parts.sh: where
+# there is no browser they are left out, and said so.
 
 pages() {
     mkdir -- "$room/pages"
     python3 "$root/tests/pages.py" "$room/pages" >"$room/printed" 2>"$room/said"
     status=$?
     if ((status == 3)); then
-        pages_left_out="left out: charts as pages, since there is no chromium"
+        leave_out "charts as pages, since there is no chromium"
         return
     fi
     at_least 50 cases_of_pages

@@ -1,11 +1,11 @@
 # Each allocation of the program refused in turn: it answers `fault 50 Memory` and nothing else, or
-# what it answers with ample memory. `refused_of_traces` is that of tests/traces.sh; `root`, `room`,
+# what it answers with ample memory. `refused_of_traces` is that of tests/traces.sh; `root`, `room`, `room_of_all`,
 # `count`, `at_least` and `set_up` are those of ./test.
 # The program is the built one itself, since a shell before it would be refused memory too.
 
-# Makes what is loaded before the C library to refuse a call; `with_refused` runs a command with it.
+# Makes what is loaded before the C library to refuse a call, once for all parts; `with_refused` runs a command with it.
 compile_refusals() {
-    ${CC:-cc} -O1 -shared -fPIC -o "$room/refused.so" "$root/tests/refused.c"
+    ${CC:-cc} -O1 -shared -fPIC -o "$room_of_all/refused.so" "$root/tests/refused.c"
 }
 
 # Runs a command with one call of a kind refused, several kinds if so many are given, and within 20
@@ -19,8 +19,8 @@ with_refused() { # KIND=NUMBER.. -- COMMAND..
     shift
     rm -rf -- "$room/marks"
     mkdir -- "$room/marks"
-    env "${refusals[@]}" REFUSED_MARKS="$room/marks" LD_PRELOAD="$room/refused.so" timeout 20 "$@" \
-        >"$room/printed" 2>"$room/said" </dev/null
+    env "${refusals[@]}" REFUSED_MARKS="$room/marks" LD_PRELOAD="$room_of_all/refused.so" timeout 20 \
+        "$@" >"$room/printed" 2>"$room/said" </dev/null
     status=$?
     if is_refused '*'; then ((refused_of_all += 1)); fi
 }

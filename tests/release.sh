@@ -1,9 +1,8 @@
 # What is handed out: what a gate leaves for tools/release where it passes, and the archive and the package that
 # tools/release makes, looked at, installed into an empty root, and used there. `root`, `room`, `tpr`, `observe`,
 # `count`, `at_least` and `set_up` are those of ./test, `tool_must`, `says_nothing`, `prints`, `prints_nothing` and
-# `says_alone` those of tests/tools.sh. What a machine can't try is left out, and said so.
-
-release_left_out=()
+# `says_alone` those of tests/tools.sh, `leave_out` that of tests/listed_parts.sh, by which what a machine can't try is
+# left out and said.
 
 # The commit of the work tree, and nothing where that isn't just as committed.
 clean_commit() {
@@ -361,7 +360,7 @@ manual_page() {
         tool_must "the manual page" 0 says_nothing
         set_up "the manual page tells the modes" grep -q 'tpr check | run | trace | queue | judge \[file\]' "$room/printed" && count 0
     else
-        release_left_out+=("the manual page, since there is no man")
+        leave_out "the manual page, since there is no man"
     fi
     if command -v mandoc >/dev/null; then
         observe mandoc -T lint tree/docs/tpr.1
@@ -377,20 +376,20 @@ package_by_lintian() {
 
 of_the_package() {
     if ! command -v dpkg-deb >/dev/null || [[ ! -x /usr/bin/python3 ]]; then
-        release_left_out+=("the package, since there is no dpkg-deb, or no /usr/bin/python3")
+        leave_out "the package, since there is no dpkg-deb, or no /usr/bin/python3"
         return
     fi
     at_least 16 package_is_installed
     if command -v lintian >/dev/null; then
         at_least 1 package_by_lintian
     else
-        release_left_out+=("the package by lintian, since there is none")
+        leave_out "the package by lintian, since there is none"
     fi
 }
 
 release() {
     if ! command -v git >/dev/null || [[ $(head -c 4 -- "$tpr") != $'\x7fELF' ]]; then
-        release_left_out+=("what tools/release makes, since there is no git, or TPR names no program of the machine")
+        leave_out "what tools/release makes, since there is no git, or TPR names no program of the machine"
         return
     fi
     mkdir "$room/release" && cd -- "$room/release" || exit 1

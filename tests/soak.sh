@@ -1,6 +1,6 @@
 # Scripts made by chance for three minutes (tests/soak), with a seed that is said: each report judged by the model of
 # runs. A script whose report is wrong stays in out/soak, and the same seed makes it again. `root`, `room`, `tpr`,
-# `ordered`, `count` and `set_up` are those of ./test, `ordered_is_built` that of tests/orders.sh.
+# `ordered`, `count` and `set_up` are those of ./test.
 
 minutes_of_soak=3
 # How many scripts are tried in that time at least, and how many with many components, on however slow a machine.
@@ -13,7 +13,7 @@ soaked() { # PLACE
 }
 
 soak() {
-    set_up "crates/tpr_ordered can be built" ordered_is_built || return
+    set_up "tpr_ordered is built" [ -x "$ordered" ] || return
     TPR=$tpr TPR_ORDERED=$ordered python3 -B tests/soak "$minutes_of_soak" >"$room/soak" 2>&1
     count $?
     cat -- "$room/soak"

@@ -1,0 +1,185 @@
+# How ./test runs its parts (tests/side_by_side.sh, tests/listed_parts.sh): a small gate of two processors, whose parts
+# fail, end early, are killed, try too little, are beside each other, or hang while the gate is interrupted. `root`,
+# `room`, `observe`, `count`, `at_least` and `set_up` are those of ./test, `must` is that of tests/command_line.sh,
+# `has_begun` that of tests/trying.sh, `is_gone` that of tests/suites.sh.
+
+# Its word is the file of its parts: functions, their calls, and, behind `#:`, the lines of the list.
+write_gate() {
+    cat >gate <<'GATE'
+#!/usr/bin/env bash
+source "$TESTS/listed_parts.sh"
+source "$TESTS/side_by_side.sh"
+make_room_of_all
+room=$room_of_all passed=0 failed=0 runs_of_all=0 refused_of_all=0 chosen=()
+declare -A left_out=()
+count() { if (($1 == 0)); then ((passed += 1)); else ((failed += 1)); fi; }
+nproc() { echo 2; }
+parts_list=list
+sed -n 's/^#: //p' "$1" >list
+source "$1"
+await_all_parts
+all_parts_were_tried
+times_of_parts
+cat "$room/left_out" 2>/dev/null
+echo "examples: $passed passed, $failed failed; $runs_of_all and $refused_of_all"
+GATE
+    chmod +x gate && mkdir rooms
+}
+
+# Runs the gate. Its parts take no time, and those that are killed are told by bash too.
+run_gate() { # FILE OF PARTS
+    TMPDIR=$PWD/rooms TESTS=$root/tests observe ./gate "$1"
+    sed -i -E 's/, [0-9]+ seconds$//; s/^(\S+ +[0-9]+ +[0-9]+) +[0-9]+$/\1/; s/  +/ /g' -- "$room/printed"
+    find rooms -mindepth 1 >"$room/said"
+}
+
+# One for each way of ending.
+write_parts_that_end() {
+    cat >ends <<'PARTS'
+is_right() { count 0; runs_of_all=5; count 0; refused_of_all=7; leave_out "a thing"; }
+fails() { echo "FAILED: a case"; count 1; count 0; }
+leaves() { count 0; exit 7; }
+is_killed() { echo "it began"; kill -KILL "$BASHPID"; }
+tries_little() { count 0; }
+part unlisted is_right
+part tries_little tries_little
+part is_killed is_killed
+part leaves leaves
+part fails fails
+part is_right is_right
+#: is_right 2
+#: fails 2
+#: leaves 1
+#: is_killed 1
+#: missing 1
+#: tries_little 2
+PARTS
+}
+
+parts_that_end() {
+    write_parts_that_end
+    run_gate ends
+    cp -- "$room/printed" ended
+    sed -n '/^the built program/,$p' ended >"$room/printed"
+    must "the last lines of a gate whose parts end in each way" 0 "the built program, by parts: cases failed seconds
+is_right 2 0
+fails 2 1
+leaves 1 1
+is_killed 1 1
+tries_little 1 0
+unlisted 2 0
+left out: a thing
+left out: a thing
+examples: 6 passed, 6 failed; 10 and 14"$'\n' ''
+    sed '/^the built program/,$d' ended | LC_ALL=C sort >"$room/printed"
+    must "what is told of its parts" 0 "FAILED: a case
+FAILED: the part is_killed ended early, with status 137
+FAILED: the part leaves ended early, with status 7
+FAILED: the part missing of list was tried 0 times
+FAILED: the part tries_little tried 1 cases, and there are 2 at least
+FAILED: the part unlisted isn't in list
+it began
+part fails: 2 cases, 1 failed
+part is_killed: 1 cases, 1 failed
+part is_right: 2 cases, 0 failed
+part leaves: 1 cases, 1 failed
+part tries_little: 1 cases, 0 failed
+part unlisted: 2 cases, 0 failed"$'\n' ''
+}
+
+# Two that wait for each other, one for which there is no processor yet, and one that is alone.
+write_parts_beside_each_other() {
+    cat >beside <<'PARTS'
+meets() { # NAME OTHER
+    local turn
+    echo "$1 is here" | tee "here.$1"
+    for ((turn = 0; turn < 200; turn += 1)); do
+        if [[ -e here.$2 ]]; then break; fi
+        sleep 0.1
+    done
+    echo "$1 is here" && [[ -e here.$2 ]]
+    count $?
+}
+logs() { # NAME COMMAND..
+    echo "begins $1" >>log
+    "${@:2}"
+    sleep 0.5
+    echo "ends $1" >>log
+}
+part one logs one meets one two
+part two logs two meets two one
+part three logs three count 0
+part_alone alone logs alone count 0
+part last logs last count 0
+#: one 1
+#: two 1
+#: three 1
+#: alone 1
+#: last 1
+PARTS
+}
+
+parts_beside_each_other() {
+    write_parts_beside_each_other
+    run_gate beside
+    grep -e ' is here$' -e '^examples' -- "$room/printed" | uniq | LC_ALL=C sort >shown
+    mv -- shown "$room/printed"
+    must "two parts that wait for each other" 0 $'examples: 5 passed, 0 failed; 0 and 0\none is here\ntwo is here\n' ''
+    observe awk '{ at += $1 == "begins" ? 1 : -1; if (at > most) most = at }
+        $2 == "alone" { beside += at - ($1 == "begins") }
+        END { print most " at most, and " beside " beside the one that is alone" }' log
+    must "how many are at work at once" 0 $'2 at most, and 0 beside the one that is alone\n' ''
+}
+
+# Starts the gate so that it takes an interrupt, which what is started in the background ignores.
+start_gate() { # FILE OF PARTS
+    local undo='import os, signal, sys; signal.signal(signal.SIGINT, signal.SIG_DFL)'
+    TMPDIR=$PWD/rooms TESTS=$root/tests python3 -c "$undo; os.execv('./gate', ['gate', sys.argv[1]])" "$1" \
+        >"$room/printed" 2>&1 &
+    started=$!
+}
+
+# What its parts have started ends with it: what is in the part's group, in another one, and in another session.
+interrupted_gate() { # SIGNAL STATUS
+    local name
+    start_gate hangs
+    for name in part group session; do
+        set_up "a part hangs: $name" has_begun "$name" || return
+    done
+    kill "-$1" "$started"
+    { wait "$started"; } 2>/dev/null
+    status=$?
+    find rooms -mindepth 1 >"$room/said"
+    : >"$room/printed"
+    must "no folder is left, $1" "$2" '' ''
+    for name in part group session; do
+        observe is_gone "$name"
+        must "no process is left, $1: $name" 0 '' ''
+        rm -- "$name"
+    done
+}
+
+parts_that_are_interrupted() {
+    cat >hangs <<'PARTS'
+hangs() {
+    echo "$BASHPID" >part
+    timeout 60 sh -c 'echo $$ >group; sleep 60' &
+    setsid sh -c 'echo $$ >session; sleep 60' &
+    for turn in {1..60}; do sleep 1; done
+}
+part hangs hangs
+PARTS
+    interrupted_gate INT 130
+    interrupted_gate TERM 143
+}
+
+small_gate() {
+    local started
+    mkdir "$room/small_gate" && cd -- "$room/small_gate" || exit 1
+    if set_up "there is a gate" write_gate; then
+        at_least 2 parts_that_end
+        at_least 2 parts_beside_each_other
+        at_least 8 parts_that_are_interrupted
+    fi
+    cd -- "$root" || exit 1
+}
