@@ -10,7 +10,6 @@ use Rattle.crossbeam_queue.proofs.seg_queue.Ends.TheSendSync.{the_send as ends_s
 use Rattle.atomic_blocks.proofs.web.Seat.TheSendSync.{the_send as seat_send}
 use Rattle.tp_floor.proofs.Crossing.{bell_send}
 use Rattle.tp_inbox.specs.contracts.stamped.Stamped as stamped
-use Rattle.tp_inbox.specs.contracts.posted.Posted as posted
 use Rattle.tp_inbox.specs.contracts.envelope.Envelope as envelope
 use Rattle.tp_inbox.specs.contracts.entry.Entry as entry
 use Rattle.tp_inbox.specs.contracts.hub.Hub as hub
@@ -45,9 +44,6 @@ stamped_field_send = search (sendable, crosses, message_field_send) depth 20
 pub stamped_field_sync : IsSync (stamped.the_field).row
 stamped_field_sync = search (sendable, crosses, message_field_sync) depth 20
 
-pub posted_send : IsSend posted.the_row
-posted_send = search (sendable, crosses, stamped_field_send) depth 20
-
 pub envelope_send : IsSend envelope.the_row
 envelope_send = search (sendable, crosses, stamped_field_send) depth 20
 
@@ -61,14 +57,13 @@ pub hub_sync : IsSync hub.the_row
 hub_sync = search (sendable, crosses, envelope_send, bell_send, chained_sync, ends_sync) depth 30
 
 owner_inside_send : IsSend owner_inside.the_row
-owner_inside_send = search (sendable, crosses, knot, message_send, stamped_field_send, envelope_send, hub_send, hub_sync, seat_send, route_send) depth 40 fits
-    20000
+owner_inside_send = search (sendable, crosses, knot, message_send, envelope_send, hub_send, hub_sync, seat_send, route_send) depth 40 fits 20000
 
 pub owner_send : IsSend owner.the_row
 owner_send = search (sendable, crosses, owner_inside_send) depth 40
 
 sender_inside_send : IsSend sender_inside.the_row
-sender_inside_send = search (sendable, crosses, posted_send, envelope_send, hub_send, hub_sync, seat_send) depth 40 fits 20000
+sender_inside_send = search (sendable, crosses, envelope_send, hub_send, hub_sync, seat_send) depth 40 fits 20000
 
 pub sender_send : IsSend sender.the_row
 sender_send = search (sendable, crosses, sender_inside_send) depth 40

@@ -35,7 +35,7 @@ pub enum PutFault {
 /// The sender of one component into one inbox, on all routes from the one to the other, seen by
 /// contracts as its inbox, the component, the routes and its ledger: the list of the messages that
 /// it has put, in order, with their routes, numbers and stamps. The ledger is what its pass knows,
-/// in contracts alone: a sender keeps no more of it than how many messages there were on each route.
+/// in contracts alone: a sender keeps no more of it than how many there were on each route.
 ///
 /// It may be moved into a thread of its own. There is no order between what different senders put.
 #[derive(Drop)]

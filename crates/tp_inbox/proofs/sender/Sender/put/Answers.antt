@@ -2,10 +2,7 @@
 use Rattle.std.proofs.Common.{◌≡◌, true, rules, length, get_or, refl, sym, ap, ◌∙◌, subst}
 use Rattle.std.proofs.lemmas.List.{get_or_read_under}
 use Rattle.tp_inbox.specs.declared.envelope.Envelope.{Envelope}
-use Rattle.tp_inbox.specs.declared.posted.Posted.{Posted}
 use Rattle.tp_inbox.specs.Envelopes.{of, has}
-use Rattle.tp_inbox.specs.Routed.{route_at}
-use Rattle.tp_inbox.specs.Ledgers.{Sending}
 use Rattle.tp_inbox.proofs.Steps.{sends_as}
 use Rattle.tp_inbox.proofs.Putting.{on_way, has-at, grown, ledger_after}
 use Rattle.tp_inbox.proofs.sender.Sender.put.Goals as goal
