@@ -12,23 +12,23 @@ pub fn are_equal(left: &Value, right: &Value) -> bool
     match left {
         Value::Int(number) => match right {
             Value::Int(other) => *number == *other,
-            Value::Bool(_) | Value::Text(_) | Value::Record(_) | Value::List(_) => false,
+            _ => false,
         },
         Value::Bool(truth) => match right {
             Value::Bool(other) => *truth == *other,
-            Value::Int(_) | Value::Text(_) | Value::Record(_) | Value::List(_) => false,
+            _ => false,
         },
         Value::Text(text) => match right {
             Value::Text(other) => text.as_slice() == other.as_slice(),
-            Value::Int(_) | Value::Bool(_) | Value::Record(_) | Value::List(_) => false,
+            _ => false,
         },
         Value::Record(fields) => match right {
             Value::Record(others) => all_equal(fields.as_slice(), others.as_slice()),
-            Value::Int(_) | Value::Bool(_) | Value::Text(_) | Value::List(_) => false,
+            _ => false,
         },
         Value::List(elements) => match right {
             Value::List(others) => all_equal(elements.as_slice(), others.as_slice()),
-            Value::Int(_) | Value::Bool(_) | Value::Text(_) | Value::Record(_) => false,
+            _ => false,
         },
     }
 }
