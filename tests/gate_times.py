@@ -1,15 +1,16 @@
 #!/usr/bin/env python3
-"""Runs `rt ci`, and writes what each crate took there: its proof, its tests, its wrong bodies.
+"""Runs the first half of ./test, and writes what each crate took: its proof, its tests, its wrong bodies.
 
     tests/gate_times.py FILE COMMAND..
 
 The command's output and status are its own. rt says when a crate is proved, and neither when that
 began nor when its wrong bodies were done. So the processes below the command are looked at twice a
-second: which crate each is for (`--crate-name`), and for what (`--test`, or a folder rt-edit-.. for
-a wrong body). FILE gets a line for each crate with seconds of wall time, from the first moment that
-one of its processes was seen to the last, and of processor time, as it was last seen of each: so up
-to half a second of each process is missing, and the runs of programs and tests, which are short,
-are left out. It is written anew at each look, whole: so a gate that is cut off leaves what was seen.
+second: which crate each is for (`--crate-name`), and for what (`--test`, or a folder rt-edit-.. or
+wrong-bodies-.. for a wrong body). FILE gets a line for each crate with seconds of wall time, from
+the first moment that one of its processes was seen to the last, and of processor time, as it was
+last seen of each: so up to half a second of each process is missing, and the runs of programs and
+tests, which are short, are left out. It is written anew at each look, whole: so a gate that is cut
+off leaves what was seen.
 """
 import os
 import subprocess
@@ -63,7 +64,7 @@ def part_of(pid):
     if "--crate-name" not in words[:-1]:
         return None
     crate = words[words.index("--crate-name") + 1]
-    if os.path.basename(folder).startswith("rt-edit-"):
+    if os.path.basename(folder).startswith(("rt-edit-", "wrong-bodies-")):
         return crate, "wrong bodies"
     return crate, "tests" if "--test" in words else "proof"
 
@@ -105,7 +106,7 @@ def cell(seen):
 def table(parts):
     """The table of what was seen, in the order in which the crates were first seen."""
     crates = [*dict.fromkeys(crate for crate, _ in parts)]
-    lines = ["rt ci, in seconds: wall and processor   " + "".join(f"{kind:>18}" for kind in KINDS)]
+    lines = [f"{'the first half, seconds: wall and used':40}" + "".join(f"{kind:>18}" for kind in KINDS)]
     for crate in crates:
         cells = [cell(parts.get((crate, kind))) for kind in KINDS]
         lines.append(f"{crate:40}" + "".join(f" {it}" for it in cells))

@@ -48,10 +48,10 @@ REFUSED, UNTOLD, LEFT = "refused", "NOT TOLD, since its shape is changed", "NOT 
 printing = threading.Lock()
 
 
-def check(folder, paths):
+def check(folder, paths, words=("rt", "check", "--jobs", "1")):
     """What a check says of these functions, or of the whole crate where there are none, and whether
     the prover refused."""
-    words = ["rt", "check", "--jobs", "1", *[word for path in paths for word in ("--only", path)]]
+    words = [*words, *[word for path in paths for word in ("--only", path)]]
     how = {"stdin": subprocess.DEVNULL, "capture_output": True, "text": True, "errors": "replace"}
     ran = subprocess.run(words, cwd=folder, **how)
     lines = (ran.stdout + ran.stderr).split("\n")
@@ -72,13 +72,13 @@ def batches(edits):
     return made
 
 
-def try_them(folder, edits, proved):
+def try_them(folder, edits, proved, ask=check):
     """Applies the edits, checks the functions, all where none is named, and takes the edits back.
     Returns what became of each, and the function in which it was refused."""
     files = {file: read(f"{folder}/{file}") for edit in edits for file, _, _ in edit.pairs}
     for edit in edits:
         edit.apply(folder)
-    lines, is_refused = check(folder, [path for edit in edits for path in edit.paths(proved)])
+    lines, is_refused = ask(folder, [path for edit in edits for path in edit.paths(proved)])
     for file, text in files.items():
         write(f"{folder}/{file}", text)
     all_told = [line for line in lines if TOLD.match(line)]

@@ -189,3 +189,17 @@ def files_of(crate):
         for name in sorted(os.listdir(shelf)) if os.path.isdir(shelf) else []:
             found.setdefault(name.removesuffix(".edit"), []).append(f"{shelf}/{name}")
     return found
+
+
+def of_each_run():
+    """The edits of the second shelf that each run of the gate tries, as CRATE/NAME, each with the
+    function that it edits; and the lines of their list that are none."""
+    found, wrong = {}, []
+    there = {crate: files_of(crate) for crate in crates()}
+    for line in read(f"{ROOT}/tests/wrong_bodies/each_run").splitlines():
+        it = re.fullmatch(r"(\w+)/([\w.-]+) (\w+(?:::\w+)*)", line)
+        if it and it[2] in there.get(it[1], ()):
+            found[f"{it[1]}/{it[2]}"] = it[3]
+        else:
+            wrong.append(line)
+    return found, wrong

@@ -8,11 +8,12 @@ function in which it was refused, or `crate` where only a check of the whole cra
 hash is of the edit's text and of what tests/wrong_body_basis.py says. A line whose hash is no
 longer that is stale, and shows nothing.
 
-Prints how many edits there are, how many of them are for `rt ci` (with --tried: it has passed),
-how many are recorded, stale and never recorded, and the command that tries what is wanting. The
+Prints how many edits there are, how many of them each run of the gate tries (with --tried: this one
+has), how many are recorded, stale and never recorded, and the command that tries what is wanting. The
 status is 1, with a line that begins with FAILED for each fault, where an edit can't be applied or
-can't be found by `./test wrong_bodies`, and where a line of the record has another form, stands
-twice or out of its order, or names no edit. A stale or missing line is no fault.
+can't be found by `./test wrong_bodies`, where a crate has edits and each run tries none of them, and
+where a line of the record has another form, stands twice or out of its order, or names no edit. A
+stale or missing line is no fault.
 """
 import fcntl
 import os
@@ -22,7 +23,9 @@ import sys
 sys.dont_write_bytecode = True
 
 from wrong_body_basis import basis, sum_of, toolchain  # noqa: E402
-from wrong_body_edits import ROOT, Edit, Unfit, crates, files_of, read, shelves, write  # noqa: E402
+from wrong_body_edits import (  # noqa: E402
+    ROOT, Edit, Unfit, crates, files_of, of_each_run, read, shelves, write,
+)
 
 RECORD = f"{ROOT}/tests/wrong_bodies/record"
 LINE = re.compile(r"(\w+/[\w.-]+) ([0-9a-f]{32}) (\S+)")
@@ -86,7 +89,7 @@ def lost_edits():
     wrong = []
     shelf = f"{ROOT}/tests/wrong_bodies"
     for name in sorted(os.listdir(shelf)):
-        if name != "record" and name not in crates():
+        if name not in ("record", "each_run", *crates()):
             wrong.append(f"tests/wrong_bodies/{name} belongs to no crate")
     for name, files in sorted(all_edits().items()):
         if len(files) > 1:
@@ -122,13 +125,29 @@ def wanting():
     return [name for name, state in states(read_record()[0])[0].items() if state != "current"]
 
 
+def tried_by_each_run():
+    """The edits that each run of the gate tries, those of `rt ci` among them."""
+    first = {shelves(crate)[0] for crate in crates()}
+    of_rt = [it for it, files in all_edits().items() if os.path.dirname(files[0]) in first]
+    return [*of_rt, *of_each_run()[0]]
+
+
+def faults_of_the_list():
+    """What is wrong with the list of the edits that each run tries, and which crates lack one."""
+    tried = {name.partition("/")[0] for name in tried_by_each_run()}
+    wrong = [f"tests/wrong_bodies/each_run: {it} is no edit and its function" for it in of_each_run()[1]]
+    lacking = [crate for crate in crates() if files_of(crate) and crate not in tried]
+    return wrong + [f"no run of the gate would try a wrong body of {crate}" for crate in lacking]
+
+
 def faults():
     """What is wrong with the record and with the edits, and what the record says of each edit."""
     lines, wrong = read_record()
     found, more = states(lines)
     there = all_edits()
     gone = [f"{name} is no edit" for name in sorted(lines) if name not in there]
-    return [f"tests/wrong_bodies/record: {it}" for it in wrong + gone] + more, found
+    of_record = [f"tests/wrong_bodies/record: {it}" for it in wrong + gone]
+    return of_record + faults_of_the_list() + more, found
 
 
 def main(words):
@@ -139,11 +158,9 @@ def main(words):
         print(f"FAILED: {it}")
     of_each = [*found.values()]
     current, stale, missing = (of_each.count(it) for it in ("current", "stale", "missing"))
-    shelf = [shelves(crate)[0] for crate in crates()]
-    first = sum(len(os.listdir(it)) for it in shelf if os.path.isdir(it))
-    tried = "tried by rt ci" if words else "for rt ci, which has not passed in this run"
+    tried = "tried in this run" if words else "for a whole run of the gate"
     recorded = f"{current} current, {stale} stale, {missing} never"
-    print(f"wrong bodies: {len(all_edits())}, {first} {tried}; recorded: {recorded}")
+    print(f"wrong bodies: {len(all_edits())}, {len(tried_by_each_run())} {tried}; recorded: {recorded}")
     if not toolchain():
         print("no line counts as current without the command rt, which says what toolchain this is")
     elif stale + missing:

@@ -1,19 +1,24 @@
-# The record of wrong bodies: what makes a line stale and what doesn't, what is a fault, and what a trial
-# writes; in a tree of two crates, with an `rt` that refuses what has the word `wrong`. `observe`, `count`,
-# `at_least` and `set_up` are those of ./test, `must` is that of tests/command_line.sh.
+# The record of wrong bodies: what makes a line stale and what doesn't, what is a fault, what a trial
+# writes, and what each run of the gate tries; in a tree of two crates, with an `rt` that refuses what has the
+# word `wrong`. `observe`, `count`, `at_least` and `set_up` are those of ./test, `must` is that of
+# tests/command_line.sh.
 
 # The toolchain's command of these tests: for each line of the sources with the word `wrong` it says that
-# the function there isn't proved, and `unproved` beside the crates stands for a crate that isn't.
-write_prover() { # FILE
-    cat >"$1" <<'RT'
+# the function there isn't proved, and `unproved` beside the crates stands for a crate that isn't. `rattle`, which
+# stands in bin/ beside the first page, says so too, and keeps its words.
+write_prover() { # FOLDER
+    mkdir -p "$1/bin" || return
+    printf '#!/bin/sh\necho "$*" >>"${0%%/bin/*}/words"\nexec "${0%%/bin/*}/rt"\n' >"$1/bin/rattle"
+    cat >"$1/rt" <<'RT'
 #!/bin/sh
 if [ "$1" = version ]; then echo "${KIT:-kit 1}"; exit; fi
+if [ "$1" = doc ]; then echo "${0%/*}/FIRST.md"; exit; fi
 printf "fn ${PWD##*/}::room::%s: proved\n" Room::get hidden RoomFromu8::from RoomFromu16::from
 told=$(grep -n wrong src/room.rt | sed 's/^\([0-9]*\):.*/note: .\/src\/room.rt:\1:5: it is not proved/')
 if [ -e ../unproved ] || [ "$told" ]; then echo "$told"; echo logic=not-proved; exit 1; fi
 echo logic=proved
 RT
-    chmod +x "$1"
+    chmod +x "$1/rt" "$1/bin/rattle"
 }
 
 write_sources() { # CRATE
@@ -68,11 +73,11 @@ write_edit() { # FILE OLD NEW
 }
 
 # `high` stands on `low`, and cites the proof of one of its functions. Each has an edit on the second shelf
-# by which `get` is wrong, and `high` one on the first.
+# by which `get` is wrong, which each run tries of `low`, and `high` one on the first.
 make_record_tree() {
     local crate
-    mkdir -p tree/tests/wrong_bodies/{low,high} tree/crates/high/must-fail prover || return
-    cp -- "$root"/tests/wrong_bod*.py tree/tests/ && write_prover prover/rt || return
+    mkdir -p tree/tests/wrong_bodies/{low,high} tree/crates/high/must-fail || return
+    cp -- "$root"/tests/wrong_bod*.py tree/tests/ && write_prover prover || return
     printf 'high: low # the upper\nlow: thiserror\n' >tree/crates.txt
     echo 'Handles allowed: none.' >tree/HANDLES
     for crate in low high; do
@@ -80,6 +85,7 @@ make_record_tree() {
         write_sources tree/crates/$crate || return
         write_edit tree/tests/wrong_bodies/$crate/gets_more.edit 'self.size + 0' 'self.size + 1 /* wrong */' || return
     done
+    echo 'low/gets_more room::Room::get' >tree/tests/wrong_bodies/each_run
     echo 'use Rattle.low.proofs.hidden.Answers.{returns}' >>tree/crates/high/proofs/Lib.antt
     write_edit tree/crates/high/must-fail/gives_another.edit 'x * 1' 'x * 2 /* wrong */'
 }
@@ -93,7 +99,7 @@ in_tree() { # FILE WORD..
 record_says() { # NAME CURRENT STALE NEVER [FAULT..]
     local said='' wanted=0 count=$(($2 + $3 + $4))
     if (($# > 4)); then wanted=1 && printf -v said 'FAILED: %s\n' "${@:5}"; fi
-    said+="wrong bodies: ${edits:-3}, 1 for rt ci, which has not passed in this run; recorded: $2 current, $3 stale, $4 never"$'\n'
+    said+="wrong bodies: ${edits:-3}, 2 for a whole run of the gate; recorded: $2 current, $3 stale, $4 never"$'\n'
     if (($3 + $4 > 0)); then
         said+="$(($3 + $4)) wrong bodies have no current line: ./test wrong_bodies stale tries them and writes their lines"$'\n'
     fi
@@ -178,11 +184,17 @@ what_is_a_fault() {
         "$record: line 1 is no line of the record: $(sed -n '1s/room::Room::get/room get/p' tree/$record)"
     cp tree/tests/wrong_bodies/high/gets_more.edit tree/crates/high/must-fail/
     in_tree wrong_body_record.py
-    must "an edit on both shelves" 1 "FAILED: high/gets_more stands on both shelves"$'\n'"wrong bodies: 3, 2 for rt ci, which has not passed in this run; recorded: 3 current, 0 stale, 0 never"$'\n' ''
+    must "an edit on both shelves" 1 "FAILED: high/gets_more stands on both shelves"$'\n'"wrong bodies: 3, 3 for a whole run of the gate; recorded: 3 current, 0 stale, 0 never"$'\n' ''
     rm tree/crates/high/must-fail/gets_more.edit
     mkdir tree/tests/wrong_bodies/gone
     record_says "edits of no crate" 3 0 0 "tests/wrong_bodies/gone belongs to no crate"
     rmdir tree/tests/wrong_bodies/gone
+    echo 'high/gets_more room::Room::get' >tree/tests/wrong_bodies/each_run
+    record_says "a crate of which no run tries any" 3 0 0 "no run of the gate would try a wrong body of low"
+    printf '%s\n' 'low/gets_more room::Room::get' 'low/gets_none room::Room::get' >tree/tests/wrong_bodies/each_run
+    record_says "an edit for each run that isn't there" 3 0 0 \
+        "tests/wrong_bodies/each_run: low/gets_none room::Room::get is no edit and its function"
+    echo 'low/gets_more room::Room::get' >tree/tests/wrong_bodies/each_run
 }
 
 what_a_trial_writes() {
@@ -220,6 +232,47 @@ what_a_trial_writes() {
         $'wrong_bodies: tests/wrong_bodies/record: line 3 is no line of the record: none\n'
 }
 
+# What each run of the gate says of these lines of its list.
+run_says() { # NAME STATUS PRINTED LINE..
+    printf '%s\n' "${@:4}" >tree/tests/wrong_bodies/each_run
+    rm -f -- prover/words
+    in_tree wrong_bodies_of_a_run.py
+    must "$1" "$2" "$3" ''
+}
+
+# `high` is tried over the library of `low`, if that is of the sources that are there.
+what_each_run_tries() {
+    local low='low/gets_more room::Room::get' high='high/gets_more room::Room::get'
+    local both=$'low/gets_more: refused in room::Room::get\nhigh/gets_more: refused in room::Room::get\n'
+    local -a kept=("wrong bodies of each run: 2 refused, 0 failed" "$PWD/tree/crates/low/out/rlib" "$PWD/prover")
+    mkdir -p tree/crates/low/out/rlib && : >tree/crates/low/out/rlib/low.rlib
+    run_says "one of each crate" 0 "$both${kept[0]}"$'\n' "$low" "$high"
+    observe sed -n '$p' prover/words
+    must "the words for a check of one" 0 "check --jobs 1 --crate-name high src/lib.rt --extern low=${kept[1]}/low.rlib\
+ --extern std=${kept[2]}/rlibs/std.rlib -L dependency=${kept[2]}/rlibs -L dependency=${kept[1]}\
+ --antt-project ${kept[2]}/rattle/logic/antt-project.json --logic-built ${kept[2]}/logic_built\
+ --only high::room::Room::get"$'\n' ''
+    observe sed 's/ .*crate-name / /; s/ src.*only / /' prover/words
+    must "what was checked" 0 $'check low low::room::Room::get\ncheck high high::room::Room::get\n' ''
+    touch -d '1 minute' tree/crates/low/specs/Lib.antt
+    run_says "a library of older sources" 1 "FAILED: high/gets_more can't be tried: low has no library of these sources
+wrong bodies of each run: 0 refused, 1 failed"$'\n' "$high"
+    in_tree wrong_bodies_of_a_run.py stale_libraries
+    must "it is taken away" 0 '' ''
+    observe ls tree/crates/low/out
+    must "it is gone" 0 '' ''
+    sed -i 's/wrong/right/' tree/tests/wrong_bodies/low/gets_more.edit
+    run_says "one isn't refused" 1 $'FAILED: low/gets_more is not refused in its function
+wrong bodies of each run: 0 refused, 1 failed\n' "$low"
+    write_edit tree/tests/wrong_bodies/low/gets_more.edit 'x * 1' 'x * 1 /* wrong */'
+    write_edit tree/tests/wrong_bodies/low/gets_less.edit 'self.size + 0' 'self.size + 0 + 0'
+    run_says "one that another function is refused for" 1 $'low/gets_more: refused in room::hidden
+FAILED: low/gets_less is not refused in its function\nwrong bodies of each run: 1 refused, 1 failed\n' \
+        'low/gets_more room::hidden' 'low/gets_less room::Room::get'
+    in_tree wrong_bodies_of_a_run.py --jobs
+    must "other words" 1 '' $'usage: tests/wrong_bodies_of_a_run.py [--jobs N] | stale_libraries\n'
+}
+
 record_of_wrong_bodies() {
     mkdir "$room/record" && cd -- "$room/record" || exit 1
     if set_up "there is a tree of two crates with edits" make_record_tree; then
@@ -227,9 +280,11 @@ record_of_wrong_bodies() {
         cp -R tree kept_tree
         in_tree wrong_bodies.py
         at_least 28 what_makes_a_line_stale
-        at_least 10 what_is_a_fault
-        rm -r tree && mv kept_tree tree
+        at_least 12 what_is_a_fault
+        rm -r tree && cp -R kept_tree tree
         at_least 17 what_a_trial_writes
+        rm -r tree && mv kept_tree tree
+        at_least 9 what_each_run_tries
     fi
     cd -- "$root" || exit 1
 }
