@@ -59,7 +59,8 @@ fn number_text(alloc: Global, text: &[u8]) -> Result<Trace, TraceFault>
 ///
 /// Refused are 15 `Limit` a text of more than 268,435,456 bytes, 1 `BadLine` the first line of
 /// another form than a trace has, and 50 `Memory` where an allocation was refused. The time is
-/// linear in the text, but for the sorting of the places.
+/// linear in the text, but for the sorting of the places, unless its names were made to collide in
+/// a table: the seed of the hashes is fixed.
 pub fn referee(alloc: Global, text: &[u8]) -> Result<Ruling, TraceFault>
     ensures ruling { IfOk result (IsRulingOf text.now) }
     ensures fault { IfErr result (IsFaultOf text.now) }
