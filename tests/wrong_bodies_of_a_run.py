@@ -89,11 +89,11 @@ def copy(crate, room):
             shutil.copytree(f"{ROOT}/crates/{crate}/{part}", f"{room}/{part}")
 
 
-def failure(outcome, told):
+def failure(outcome):
     """Why an edit that came to this failed, if it did."""
     if outcome == UNTOLD:
         return "is refused only for its shape"
-    return None if outcome == REFUSED and told else "is not refused in its function"
+    return None if outcome == REFUSED else "is not refused in its function"
 
 
 def try_crate(crate, functions):
@@ -107,8 +107,8 @@ def try_crate(crate, functions):
         copy(crate, room)
         known = [*dict.fromkeys(f"{crate}::{it}" for it in functions.values())]
         for batch in batches(edits_of(crate, [*functions], room)):
-            for edit, (outcome, told) in zip(batch, try_them(room, batch, known, ask)):
-                found[edit.name] = failure(outcome, edit.told(told))
+            for edit, (outcome, _) in zip(batch, try_them(room, batch, known, ask)):
+                found[edit.name] = failure(outcome)
     return found
 
 

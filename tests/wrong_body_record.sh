@@ -4,8 +4,8 @@
 # tests/command_line.sh.
 
 # The toolchain's command of these tests: for each line of the sources with the word `wrong` it says that
-# the function there isn't proved, and `unproved` beside the crates stands for a crate that isn't. `rattle`, which
-# stands in bin/ beside the first page, says so too, and keeps its words.
+# the function there isn't proved, with `shape` behind it that its proof names what isn't there, and `unproved` beside
+# the crates stands for a crate that isn't. `rattle`, in bin/ beside the first page, says so too, and keeps its words.
 write_prover() { # FOLDER
     mkdir -p "$1/bin" || return
     printf '#!/bin/sh\necho "$*" >>"${0%%/bin/*}/words"\nexec "${0%%/bin/*}/rt"\n' >"$1/bin/rattle"
@@ -14,7 +14,8 @@ write_prover() { # FOLDER
 if [ "$1" = version ]; then echo "${KIT:-kit 1}"; exit; fi
 if [ "$1" = doc ]; then echo "${0%/*}/FIRST.md"; exit; fi
 printf "fn ${PWD##*/}::room::%s: proved\n" Room::get hidden RoomFromu8::from RoomFromu16::from
-told=$(grep -n wrong src/room.rt | sed 's/^\([0-9]*\):.*/note: .\/src\/room.rt:\1:5: it is not proved/')
+told=$(grep -n wrong src/room.rt | sed 's/^\([0-9]*\):.*shape.*/note: .\/src\/room.rt:\1:5: it is not proved: it has no field x/
+s/^\([0-9]*\):.*/note: .\/src\/room.rt:\1:5: it is not proved/')
 if [ -e ../unproved ] || [ "$told" ]; then echo "$told"; echo logic=not-proved; exit 1; fi
 echo logic=proved
 RT
@@ -264,6 +265,9 @@ wrong bodies of each run: 0 refused, 1 failed"$'\n' "$high"
     sed -i 's/wrong/right/' tree/tests/wrong_bodies/low/gets_more.edit
     run_says "one isn't refused" 1 $'FAILED: low/gets_more is not refused in its function
 wrong bodies of each run: 0 refused, 1 failed\n' "$low"
+    write_edit tree/tests/wrong_bodies/low/gets_more.edit 'self.size + 0' 'self.size + 1 /* wrong shape */'
+    run_says "one is refused for its shape" 1 $'FAILED: low/gets_more is refused only for its shape
+wrong bodies of each run: 0 refused, 1 failed\n' "$low"
     write_edit tree/tests/wrong_bodies/low/gets_more.edit 'x * 1' 'x * 1 /* wrong */'
     write_edit tree/tests/wrong_bodies/low/gets_less.edit 'self.size + 0' 'self.size + 0 + 0'
     run_says "one that another function is refused for" 1 $'low/gets_more: refused in room::hidden
@@ -284,7 +288,7 @@ record_of_wrong_bodies() {
         rm -r tree && cp -R kept_tree tree
         at_least 17 what_a_trial_writes
         rm -r tree && mv kept_tree tree
-        at_least 9 what_each_run_tries
+        at_least 10 what_each_run_tries
     fi
     cd -- "$root" || exit 1
 }
