@@ -113,11 +113,12 @@ def try_crate(crate, functions):
 
 
 def by_crates(listed):
-    """The functions of the edits, by crates and names."""
-    found = {}
+    """The functions of the edits, by crates and names. Those crates come first that stand on most,
+    since a check takes longest where it has most to read."""
+    found, uses = {}, crates()
     for name, function in listed.items():
         found.setdefault(name.partition("/")[0], {})[name.partition("/")[2]] = function
-    return found
+    return dict(sorted(found.items(), key=lambda it: -len(below(it[0], uses))))
 
 
 def say(crate, functions, found):

@@ -244,17 +244,17 @@ run_says() { # NAME STATUS PRINTED LINE..
 # `high` is tried over the library of `low`, if that is of the sources that are there.
 what_each_run_tries() {
     local low='low/gets_more room::Room::get' high='high/gets_more room::Room::get'
-    local both=$'low/gets_more: refused in room::Room::get\nhigh/gets_more: refused in room::Room::get\n'
+    local both=$'high/gets_more: refused in room::Room::get\nlow/gets_more: refused in room::Room::get\n'
     local -a kept=("wrong bodies of each run: 2 refused, 0 failed" "$PWD/tree/crates/low/out/rlib" "$PWD/prover")
     mkdir -p tree/crates/low/out/rlib && : >tree/crates/low/out/rlib/low.rlib
     run_says "one of each crate" 0 "$both${kept[0]}"$'\n' "$low" "$high"
-    observe sed -n '$p' prover/words
+    observe sed -n 1p prover/words
     must "the words for a check of one" 0 "check --jobs 1 --crate-name high src/lib.rt --extern low=${kept[1]}/low.rlib\
  --extern std=${kept[2]}/rlibs/std.rlib -L dependency=${kept[2]}/rlibs -L dependency=${kept[1]}\
  --antt-project ${kept[2]}/rattle/logic/antt-project.json --logic-built ${kept[2]}/logic_built\
  --only high::room::Room::get"$'\n' ''
     observe sed 's/ .*crate-name / /; s/ src.*only / /' prover/words
-    must "what was checked" 0 $'check low low::room::Room::get\ncheck high high::room::Room::get\n' ''
+    must "what was checked" 0 $'check high high::room::Room::get\ncheck low low::room::Room::get\n' ''
     touch -d '1 minute' tree/crates/low/specs/Lib.antt
     run_says "a library of older sources" 1 "FAILED: high/gets_more can't be tried: low has no library of these sources
 wrong bodies of each run: 0 refused, 1 failed"$'\n' "$high"
