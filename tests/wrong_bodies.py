@@ -4,8 +4,8 @@
     ./test wrong_bodies [--jobs N] [stale | CRATE | CRATE/NAME ..]
 
 The edits are those of crates/CRATE/must-fail, which the gate tries too, and those of
-tests/wrong_bodies/CRATE, of which it takes the record's word (tests/wrong_body_record.py), since
-there is no time for them. Without words all are tried; with `stale`, those that have no current
+tests/wrong_bodies/CRATE, of which it tries some (tests/wrong_bodies_of_a_run.py) and takes the
+record's word for the rest (tests/wrong_body_record.py), since there is no time for them. Without words all are tried; with `stale`, those that have no current
 line in the record. Whatever is tried, its line is written there if it was refused and taken away if
 it was not, as soon as that is known: so a run that is interrupted keeps what it has done. With
 --jobs N, so many crates are tried at once, each by a check with one job, in 1 to 3 GB.
