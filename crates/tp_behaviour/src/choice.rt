@@ -13,7 +13,7 @@ use tp_refusal::memory::Memory;
 use tp_value::message::{Message, MsgTemplate};
 
 /// A receiving operation once loop variables and references have their values.
-#[derive(Debug, Drop)]
+#[derive(Drop)]
 pub struct Guard {
     /// The port, by its place in the component type.
     pub port: u32,

@@ -3,7 +3,7 @@ use tp_config::port_type::CompId;
 use tp_value::message::Message;
 
 /// What a variable of a behaviour holds once it is set (ES 201 873-1, 11.1).
-#[derive(Debug, Drop)]
+#[derive(Drop)]
 pub enum Held {
     /// A value, with its type.
     Value(Message),

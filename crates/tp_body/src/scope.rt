@@ -6,7 +6,7 @@ use tp_value::items::Items;
 use tp_value::types::Types;
 
 /// Whose body it is.
-#[derive(Clone, Copy, Debug, PartialEq, Eq)]
+#[derive(Clone, Copy)]
 pub enum BehaviourKind {
     /// The test case's own, that of `mtc`. A name in it may not be that of a component variable.
     TestCase,

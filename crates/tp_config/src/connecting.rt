@@ -13,7 +13,7 @@ use thiserror::Error;
 use tp_refusal::refusal::Refusal;
 
 /// Why two ports were not connected, in the order in which the causes are looked at.
-#[derive(Clone, Copy, Debug, PartialEq, Eq, Hash, Error)]
+#[derive(Clone, Copy, Debug, PartialEq, Eq, Error)]
 pub enum ConnectFault {
     /// 25 SystemPort: one of them is a port of the test system interface.
     #[error("one is a port of the system interface")]

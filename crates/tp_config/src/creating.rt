@@ -15,7 +15,7 @@ use thiserror::Error;
 use tp_refusal::refusal::Refusal;
 
 /// Why a component was not created.
-#[derive(Clone, Copy, Debug, PartialEq, Eq, Hash, Error)]
+#[derive(Clone, Copy, Debug, PartialEq, Eq, Error)]
 pub enum CreateFault {
     /// 12 Duplicate: a component has the name, or it would be a second test system interface.
     #[error("the component is there")]

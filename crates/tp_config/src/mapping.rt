@@ -13,7 +13,7 @@ use thiserror::Error;
 use tp_refusal::refusal::Refusal;
 
 /// Why two ports were not mapped, in the order in which the causes are looked at.
-#[derive(Clone, Copy, Debug, PartialEq, Eq, Hash, Error)]
+#[derive(Clone, Copy, Debug, PartialEq, Eq, Error)]
 pub enum MapFault {
     /// 28 NotSystem: none of them is a port of the test system interface, or both are.
     #[error("not exactly one is a port of the system interface")]

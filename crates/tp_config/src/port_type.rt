@@ -14,7 +14,7 @@ pub const PORT_LIMIT: usize = 64;
 
 /// A type of message ports (ES 201 873-1, 6.2.9). A message type listed as `inout` stands in both
 /// lists.
-#[derive(Debug, Drop)]
+#[derive(Drop)]
 pub struct PortType {
     /// The message types that a port of this type receives.
     pub ins: TypeList,
@@ -61,7 +61,7 @@ pub struct RouteId {
 }
 
 /// What a component is.
-#[derive(Clone, Copy, Debug, PartialEq, Eq, Hash)]
+#[derive(Clone, Copy, Debug)]
 pub enum Role {
     /// The main test component, or one that it created.
     Test,

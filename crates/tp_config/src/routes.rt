@@ -13,7 +13,7 @@ use tp_refusal::memory::Memory;
 use tp_refusal::refusal::Refusal;
 
 /// Why there is no route for a send.
-#[derive(Clone, Copy, Debug, PartialEq, Eq, Hash, Error)]
+#[derive(Clone, Copy, Debug, PartialEq, Eq, Error)]
 pub enum RouteFault {
     /// 41 NoRoute: the port has no route, or none to the component named.
     #[error("there is no route")]

@@ -13,7 +13,7 @@ use tp_value::types::Ty;
 
 /// Message types in their order, with the set of them, so that one is looked for without a look at
 /// each.
-#[derive(Debug, Drop)]
+#[derive(Drop)]
 struct Listed {
     items: Items<Ty>,
     known: IndexSet<Ty>,
@@ -69,7 +69,7 @@ impl Listed {
 /// The message types that a port type receives or sends, in the order in which it lists them
 /// (ES 201 873-1, 6.2.9). Contracts see the list. It never changes, and several port types may
 /// share one list: each then holds a handle of its own, and the types stand in memory once.
-#[derive(Debug, Drop)]
+#[derive(Drop)]
 pub struct TypeList {
     listed: Arc<Listed>,
 }

@@ -10,7 +10,7 @@ use tp_refusal::refusal::Refusal;
 
 /// Why a run has no report. Where several hold, the first of this order is answered; but a run that
 /// is restless says so where memory is refused for its report alone.
-#[derive(Clone, Copy, Debug, PartialEq, Eq, Hash, Error)]
+#[derive(Clone, Copy, Debug, Error)]
 pub enum RunFault {
     /// 51 NoThread: the starting of a thread was refused.
     #[error("no thread")]

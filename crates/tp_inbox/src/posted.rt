@@ -4,7 +4,7 @@ use tp_config::port_type::RouteId;
 
 /// A message that was put into an inbox. No value of it is made: it stands in contracts alone, in
 /// what a sender has put.
-#[derive(Debug, Drop)]
+#[derive(Drop)]
 pub struct Posted {
     /// Its route.
     pub route: RouteId,

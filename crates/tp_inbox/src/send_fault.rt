@@ -7,7 +7,7 @@ use tp_refusal::refusal::Refusal;
 
 /// Why a send can't be carried out, which ends the behaviour (ES 201 873-1, 22.2.1, 24.1): the
 /// first of these causes that holds, in this order.
-#[derive(Clone, Copy, Debug, PartialEq, Eq)]
+#[derive(Clone, Copy, Debug)]
 pub enum SendFault {
     /// 40 NotSending: the port isn't started.
     NotSending,

@@ -22,7 +22,7 @@ use tp_refusal::memory::Memory;
 pub const ROUTE_LIMIT: u64 = 100_000;
 
 /// Why a message was not put.
-#[derive(Clone, Copy, Debug, PartialEq, Eq, Hash, Error)]
+#[derive(Clone, Copy, Debug, Error)]
 pub enum PutFault {
     /// 15 Limit: the route has taken [`ROUTE_LIMIT`] messages.
     #[error("too many messages on one route")]

@@ -8,7 +8,7 @@ use tp_queue::payload::Payload;
 use tp_refusal::memory::Memory;
 
 /// A message, by its number: two messages have one number exactly where their bytes are the same.
-#[derive(Clone, Copy, Debug, PartialEq, Eq)]
+#[derive(Clone, Copy, PartialEq, Eq)]
 pub struct MessageId(pub u32);
 
 /// A number is copied without memory.
@@ -19,7 +19,7 @@ impl Payload for MessageId {
 }
 
 /// A message on its route: its number there, and what it is.
-#[derive(Clone, Copy, Debug, PartialEq, Eq)]
+#[derive(Clone, Copy, PartialEq, Eq)]
 pub struct Parcel {
     pub number: u64,
     pub message: MessageId,
@@ -27,7 +27,7 @@ pub struct Parcel {
 
 /// A parcel that a line names, with its route and the port at the route's end. A route is a sender
 /// and a port, so at one port a route stands for its sender.
-#[derive(Clone, Copy, Debug, PartialEq, Eq)]
+#[derive(Clone, Copy)]
 pub struct Mention {
     pub port: u32,
     pub route: u32,
@@ -35,7 +35,7 @@ pub struct Mention {
 }
 
 /// What a line says. A port is a number among the ports of all components.
-#[derive(Clone, Copy, Debug, PartialEq, Eq)]
+#[derive(Clone, Copy)]
 pub enum Act {
     /// The component sent it.
     Sent(Mention),
@@ -66,7 +66,7 @@ pub enum Act {
 }
 
 /// A line of a section.
-#[derive(Clone, Copy, Debug, PartialEq, Eq)]
+#[derive(Clone, Copy)]
 pub struct Line {
     /// Its number in the text.
     pub number: u32,
@@ -76,7 +76,7 @@ pub struct Line {
 }
 
 /// By what lines are gathered.
-#[derive(Clone, Copy, Debug, PartialEq, Eq)]
+#[derive(Clone, Copy)]
 pub enum By {
     /// The sendings, by their route.
     Sent,

@@ -15,7 +15,7 @@ use tp_refusal::memory::Memory;
 
 /// Whether all that the components did can have happened one after another, each message in its
 /// queue at once when it was sent.
-#[derive(Clone, Copy, Debug, PartialEq, Eq)]
+#[derive(Clone, Copy)]
 pub enum OneRun {
     /// It can.
     OneRun,

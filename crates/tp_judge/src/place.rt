@@ -1,7 +1,7 @@
 //! Where a trace breaks a rule.
 
 /// A rule that a line breaks.
-#[derive(Clone, Copy, Debug, PartialEq, Eq)]
+#[derive(Clone, Copy)]
 pub enum Rule {
     /// A message was taken, found or discarded at a stopped port.
     Stopped,
@@ -28,7 +28,7 @@ pub enum Rule {
 }
 
 /// A line that breaks a rule.
-#[derive(Clone, Copy, Debug, PartialEq, Eq)]
+#[derive(Clone, Copy)]
 pub struct Place {
     /// The line's number in the text.
     pub line: u32,

@@ -11,7 +11,7 @@ use tp_refusal::refusal::Refusal;
 use tp_token::fault::ScriptFault;
 
 /// Why a name was not added.
-#[derive(Clone, Copy, Debug, PartialEq, Eq, Error)]
+#[derive(Clone, Copy, Debug, Error)]
 pub enum NameFault {
     /// 12 Duplicate: the name is there.
     #[error("the name is there")]

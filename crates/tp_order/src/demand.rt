@@ -3,7 +3,7 @@ ghost use Rattle.std.specs.Prelude.{◌↔◌, All, IsTrue};
 ghost use Rattle.tp_order.specs.Order.{IsBelow};
 
 /// Of two numbers, which has to come before which.
-#[derive(Clone, Copy, Debug, PartialEq, Eq)]
+#[derive(Clone, Copy)]
 pub struct Demand {
     /// The one that has to come first.
     pub before: usize,

@@ -7,7 +7,7 @@ use tp_value::types::Ty;
 use tp_value::verdict::Verdict;
 
 /// A value to be sent, in which a loop variable may stand for an integer (ES 201 873-1, 22.2.1).
-#[derive(Debug, Drop)]
+#[derive(Drop)]
 pub enum SendValue {
     /// An integer.
     Int(i64),
@@ -24,7 +24,7 @@ pub enum SendValue {
 }
 
 /// A message to be sent, in which loop variables may stand for integers.
-#[derive(Debug, Drop)]
+#[derive(Drop)]
 pub struct SendMsg {
     /// The type under which it is sent.
     pub ty: Ty,
@@ -33,7 +33,7 @@ pub struct SendMsg {
 }
 
 /// A template in which a loop variable may stand for an integer (ES 201 873-1, 15 and Annex B).
-#[derive(Debug, Drop)]
+#[derive(Drop)]
 pub enum RecvTemplate {
     /// A specific value.
     Exact(SendValue),
@@ -56,7 +56,7 @@ pub enum RecvTemplate {
 }
 
 /// What a receiving operation wants, where loop variables may stand for integers.
-#[derive(Debug, Drop)]
+#[derive(Drop)]
 pub enum RecvMsg {
     /// No template: every message.
     Any,
@@ -65,7 +65,7 @@ pub enum RecvMsg {
 }
 
 /// What is sent.
-#[derive(Debug, Drop)]
+#[derive(Drop)]
 pub enum Sent {
     /// A message that is written out.
     Written(SendMsg),
@@ -74,7 +74,7 @@ pub enum Sent {
 }
 
 /// To whom a message is sent.
-#[derive(Clone, Copy, Debug, PartialEq, Eq)]
+#[derive(Clone, Copy)]
 pub enum Receiver {
     /// Nobody is named.
     Nobody,
@@ -87,7 +87,7 @@ pub enum Receiver {
 }
 
 /// A send (ES 201 873-1, 22.2.1).
-#[derive(Debug, Drop)]
+#[derive(Drop)]
 pub struct SendOperation {
     /// The port, by its place in the component type.
     pub port: u32,
@@ -98,7 +98,7 @@ pub struct SendOperation {
 }
 
 /// A receiving operation (ES 201 873-1, 22.2.2 to 22.2.4).
-#[derive(Debug, Drop)]
+#[derive(Drop)]
 pub struct Receiving {
     /// The port, by its place in the component type.
     pub port: u32,
@@ -115,7 +115,7 @@ pub struct Receiving {
 }
 
 /// A statement (ES 201 873-1, 19 to 24).
-#[derive(Debug, Drop)]
+#[derive(Drop)]
 #[cycle(body)]
 pub enum Statement {
     /// A send.
@@ -135,7 +135,7 @@ pub enum Statement {
 }
 
 /// A branch of an `alt` behind a receiving operation (ES 201 873-1, 20.2).
-#[derive(Debug, Drop)]
+#[derive(Drop)]
 #[cycle(body)]
 pub struct Branch {
     /// The operation.
@@ -145,7 +145,7 @@ pub struct Branch {
 }
 
 /// What a variable of a body holds (ES 201 873-1, 11.1).
-#[derive(Clone, Copy, Debug, PartialEq, Eq)]
+#[derive(Clone, Copy)]
 pub enum VariableType {
     /// A value of this type.
     Message(Ty),
@@ -154,7 +154,6 @@ pub enum VariableType {
 }
 
 /// A body: the types of its variables, in the order of the text, and its statements.
-#[derive(Debug)]
 pub struct Body {
     /// The variables, each without a value at first.
     pub variables: Items<VariableType>,

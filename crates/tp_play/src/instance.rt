@@ -2,7 +2,7 @@
 use tp_config::port_type::CompId;
 
 /// Which body.
-#[derive(Clone, Copy, Debug, PartialEq, Eq)]
+#[derive(Clone, Copy)]
 pub enum Source {
     /// The test case's own.
     TestCase,

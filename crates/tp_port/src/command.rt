@@ -17,7 +17,7 @@ use std::str;
 pub const NAME_LIMIT: usize = 20;
 
 /// The first word of a line: its name in small letters.
-#[derive(Clone, Copy, Debug, PartialEq, Eq, Hash)]
+#[derive(Clone, Copy)]
 pub enum Verb {
     /// `arrive`
     Arrive,
@@ -38,7 +38,7 @@ pub enum Verb {
 }
 
 /// What a receiving operation asks of a message: its matching criteria (ES 201 873-1, 22.2.2).
-#[derive(Clone, Copy, Debug)]
+#[derive(Clone, Copy)]
 pub struct Criteria<'t> {
     /// The wanted value.
     pub value: Pattern,
@@ -47,7 +47,7 @@ pub struct Criteria<'t> {
 }
 
 /// A line of a queue file. Its names lie in the text.
-#[derive(Clone, Copy, Debug)]
+#[derive(Clone, Copy)]
 pub enum Command<'t> {
     /// `arrive NAME INT`: a message comes from this sender.
     Arrive(&'t str, i64),

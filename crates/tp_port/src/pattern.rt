@@ -2,7 +2,7 @@
 use tp_queue::payload::Wanted;
 
 /// Which integers are wanted.
-#[derive(Clone, Copy, Debug, PartialEq, Eq, Hash)]
+#[derive(Clone, Copy)]
 pub enum Pattern {
     /// `?`: every integer.
     Any,

@@ -14,7 +14,7 @@ use tp_refusal::limit::TEXT_LIMIT;
 use tp_text::text::{ReadFault, read_text};
 
 /// Why a queue file was not replayed.
-#[derive(Clone, Copy, Debug, PartialEq, Eq, Hash, Error)]
+#[derive(Clone, Copy, Debug, PartialEq, Eq, Error)]
 pub enum QueueFault {
     /// 1 BadLine: the line of this number, from 1, is the first that no queue file has.
     #[error("line {0} is no line of a queue file")]

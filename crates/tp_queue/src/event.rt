@@ -4,7 +4,7 @@
 ///
 /// The core calls its parts the sender of a message and the message itself (ES 201 873-1, 22.2.1);
 /// the number is this project's own and lets a reader tell two equal messages apart.
-#[derive(Debug, PartialEq, Eq, Drop)]
+#[derive(Debug, Drop)]
 pub struct Env<M> {
     /// Who sent it: a component, numbered by the user of the queue. `from` compares this number.
     pub sender: u32,
@@ -15,7 +15,7 @@ pub struct Env<M> {
 }
 
 /// Whether a port is started, halted or stopped (ES 201 873-1, 22.5).
-#[derive(Clone, Copy, Debug, PartialEq, Eq, Hash)]
+#[derive(Clone, Copy, Debug)]
 pub enum Status {
     /// It sends, and every queued message can be received.
     Started,
@@ -27,7 +27,7 @@ pub enum Status {
 
 /// One thing that happened at a port. The history of a port is the list of its events, the oldest
 /// first.
-#[derive(Debug, PartialEq, Eq, Drop)]
+#[derive(Debug, Drop)]
 pub enum Event<M> {
     /// A message came, and went to the end of the queue, whatever the port's status.
     Arrive(Env<M>),
@@ -48,7 +48,7 @@ pub enum Event<M> {
 }
 
 /// What a `trigger` did (ES 201 873-1, 22.2.3).
-#[derive(Debug, PartialEq, Eq, Drop)]
+#[derive(Debug, Drop)]
 pub enum TriggerAnswer<M> {
     /// The top message satisfied the criteria, and was taken out.
     Took(Env<M>),

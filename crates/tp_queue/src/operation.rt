@@ -1,7 +1,7 @@
 //! What a test case does at a port.
 
 /// What a receiving operation does with a message (ES 201 873-1, 22.2.2 to 22.2.4).
-#[derive(Clone, Copy, Debug, PartialEq, Eq)]
+#[derive(Clone, Copy)]
 pub enum ReceiveKind {
     /// `receive`: takes the message that matches.
     Receive,
@@ -12,7 +12,7 @@ pub enum ReceiveKind {
 }
 
 /// An operation on a port (ES 201 873-1, 22.5).
-#[derive(Clone, Copy, Debug, PartialEq, Eq)]
+#[derive(Clone, Copy)]
 pub enum PortOperation {
     /// `start`
     Start,

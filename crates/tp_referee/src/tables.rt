@@ -16,14 +16,14 @@ use tp_trace::line::{Fate, Line, Message};
 use tp_trace::tree::Trace;
 
 /// A port: the number of its component, and that of its name among the names of ports.
-#[derive(Clone, Copy, Debug, PartialEq, Eq, Hash)]
+#[derive(Clone, Copy, PartialEq, Eq, Hash)]
 pub struct PortKey {
     pub component: u32,
     pub name: u32,
 }
 
 /// A route: the number of its sender, a component, and that of the port at its end.
-#[derive(Clone, Copy, Debug, PartialEq, Eq, Hash)]
+#[derive(Clone, Copy, PartialEq, Eq, Hash)]
 pub struct RouteKey {
     pub sender: u32,
     pub port: u32,

@@ -5,7 +5,7 @@ ghost use Rattle.tp_refusal.specs.Label.{label};
 use std::fmt;
 
 /// Why something was refused, or what went wrong: each number and name of the product, once.
-#[derive(Clone, Copy, Debug, PartialEq, Eq, Hash)]
+#[derive(Clone, Copy, Debug, PartialEq, Eq)]
 pub enum Refusal {
     /// A line that no queue file has.
     BadLine,

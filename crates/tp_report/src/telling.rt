@@ -1,7 +1,7 @@
 //! Which lines are written of a report.
 
 /// Which lines are written of a report.
-#[derive(Clone, Copy, Debug, PartialEq, Eq)]
+#[derive(Clone, Copy)]
 pub enum Telling {
     /// Those of a report, which has none for an arrival.
     Report,

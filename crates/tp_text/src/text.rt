@@ -14,7 +14,7 @@ use tp_refusal::limit::TEXT_LIMIT;
 const FIRST_READ: usize = 8_192;
 
 /// Why a text was not read.
-#[derive(Clone, Copy, Debug, PartialEq, Eq, Hash, Error)]
+#[derive(Clone, Copy, Debug, PartialEq, Eq, Error)]
 pub enum ReadFault {
     /// 2 Read: the reader answered an error.
     #[error("the text could not be read")]

@@ -3,7 +3,7 @@ ghost use Rattle.std.specs.Prelude.{◌≡◌};
 ghost use Rattle.tp_token.specs.Byte.{kind_of, is_word_byte, is_digit, is_printable};
 
 /// What a byte can be part of, outside texts and comments.
-#[derive(Clone, Copy, PartialEq, Eq, Debug)]
+#[derive(Clone, Copy)]
 pub enum Kind {
     /// `a` to `z` and `A` to `Z`: it begins a name or a reserved word.
     Letter,

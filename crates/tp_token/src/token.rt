@@ -4,7 +4,7 @@ ghost use Rattle.std.specs.Prelude.{◌≡◌, ◌↔◌, IsTrue};
 use crate::word::Word;
 
 /// A symbol of one or two characters.
-#[derive(Clone, Copy, PartialEq, Eq, Debug)]
+#[derive(Clone, Copy, Debug)]
 pub enum Symbol {
     /// `{`
     LeftBrace,
@@ -71,7 +71,7 @@ pub enum Token<'t> {
 }
 
 /// A token and the line where it begins.
-#[derive(Debug, Drop)]
+#[derive(Drop)]
 pub struct Placed<'t> {
     /// The token.
     pub token: Token<'t>,

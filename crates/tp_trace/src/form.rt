@@ -5,7 +5,7 @@ ghost use Rattle.tp_trace.specs.Tree.{may_stand, place_of, told_of};
 use crate::line::{Fate, Line};
 
 /// Where a line stands, by the line before it.
-#[derive(Clone, Copy, Debug, PartialEq, Eq)]
+#[derive(Clone, Copy)]
 pub enum Place {
     /// In front of all: no line is before it.
     Front,

@@ -3,7 +3,7 @@
 use tp_queue::operation::PortOperation;
 
 /// What a line says of a message.
-#[derive(Clone, Copy, Debug, PartialEq, Eq)]
+#[derive(Clone, Copy)]
 pub enum Fate {
     /// `sent`: the component sent it.
     Sent,
@@ -20,7 +20,7 @@ pub enum Fate {
 }
 
 /// The first word of a line of a report on which no rule of ports bears.
-#[derive(Clone, Copy, Debug, PartialEq, Eq)]
+#[derive(Clone, Copy)]
 pub enum Note {
     /// `set VERDICT`
     Set,
@@ -31,7 +31,7 @@ pub enum Note {
 }
 
 /// A message, as a line tells of it. Its parts lie in the text.
-#[derive(Clone, Copy, Debug)]
+#[derive(Clone, Copy)]
 pub struct Message<'t> {
     /// The component at the other end: that it was sent to in a line `sent`, and that sent it in
     /// any other.
@@ -45,7 +45,7 @@ pub struct Message<'t> {
 }
 
 /// What a line tells. Its words lie in the text.
-#[derive(Clone, Copy, Debug)]
+#[derive(Clone, Copy)]
 pub enum Line<'t> {
     /// `component NAME`: the section of this component begins.
     Component(&'t [u8]),
@@ -64,7 +64,7 @@ pub enum Line<'t> {
 }
 
 /// The first word of a line.
-#[derive(Clone, Copy, Debug, PartialEq, Eq)]
+#[derive(Clone, Copy)]
 pub enum Verb {
     /// `component`
     Component,

@@ -19,7 +19,7 @@ use tp_refusal::memory::Memory;
 pub const TRACE_LIMIT: usize = 268_435_456;
 
 /// Why a text was not read as a trace.
-#[derive(Clone, Copy, Debug, PartialEq, Eq, Error)]
+#[derive(Clone, Copy, Debug, Error)]
 pub enum TraceFault {
     /// 1 BadLine: the line of this number, from 1, is the first of another form than a trace has.
     #[error("line {0} is no line of a trace")]

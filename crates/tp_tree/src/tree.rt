@@ -90,7 +90,7 @@ pub struct Control {
 }
 
 /// A verdict, as `setverdict` names it (ES 201 873-1, 24.2).
-#[derive(Clone, Copy, Debug, PartialEq, Eq)]
+#[derive(Clone, Copy)]
 pub enum VerdictName {
     /// `none`
     NoVerdict,
@@ -234,7 +234,7 @@ pub struct ListType {
 }
 
 /// Which way messages go through a port.
-#[derive(Clone, Copy, Debug, PartialEq, Eq)]
+#[derive(Clone, Copy)]
 pub enum Way {
     /// `in`
     In,
@@ -379,7 +379,7 @@ pub struct ComponentStart {
 }
 
 /// `all component.done` at the end of a test case (ES 201 873-1, 21.3.7).
-#[derive(Clone, Copy, Debug, PartialEq, Eq)]
+#[derive(Clone, Copy)]
 pub struct AllDone {
     /// Whether a `;` follows.
     pub has_semicolon: bool,

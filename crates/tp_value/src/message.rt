@@ -28,7 +28,7 @@ impl Payload for Message {
 }
 
 /// The wanted part of a receiving operation (ES 201 873-1, 22.2.2).
-#[derive(Debug, Drop)]
+#[derive(Drop)]
 pub enum MsgTemplate {
     /// No type and no template: every message.
     Any,

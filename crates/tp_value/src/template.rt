@@ -7,7 +7,7 @@ use std::alloc::Global;
 use tp_refusal::memory::Memory;
 
 /// A part of a pattern (ES 201 873-1, B.1.5).
-#[derive(Clone, Copy, Debug, PartialEq, Eq, Hash)]
+#[derive(Clone, Copy, Debug)]
 pub enum PatternPart {
     /// This one character.
     Literal(u8),

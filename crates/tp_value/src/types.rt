@@ -22,7 +22,7 @@ pub enum Ty {
 }
 
 /// A field of a record type (6.2.1).
-#[derive(Debug, Drop)]
+#[derive(Drop)]
 pub struct Field {
     /// Its name, the bytes as they are written.
     pub name: Items<u8>,
@@ -31,7 +31,7 @@ pub struct Field {
 }
 
 /// The definition of a named type.
-#[derive(Debug, Drop)]
+#[derive(Drop)]
 pub enum TypeDef {
     /// `record`: these fields, in declared order (6.2.1).
     Record(Items<Field>),
@@ -40,7 +40,7 @@ pub enum TypeDef {
 }
 
 /// Why a type was not added.
-#[derive(Clone, Copy, Debug, PartialEq, Eq, Hash, Error)]
+#[derive(Clone, Copy, Debug, PartialEq, Eq, Error)]
 pub enum AddFault {
     /// 12 Duplicate: the name is there.
     #[error("the name is there")]

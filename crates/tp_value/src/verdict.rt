@@ -3,7 +3,7 @@ ghost use Rattle.std.specs.Prelude.{◌≡◌, ◌≢◌};
 ghost use Rattle.tp_value.specs.Verdicts.{worse};
 
 /// What a test has come to (ES 201 873-1, 24.1), each worse than the one before.
-#[derive(Clone, Copy, Debug, PartialEq, Eq, Hash)]
+#[derive(Clone, Copy, Debug)]
 pub enum Verdict {
     /// Nothing was said yet.
     None,

@@ -12,7 +12,7 @@ use std::io::Write;
 use thiserror::Error;
 
 /// 3 Write: the writer answered an error, or took no byte.
-#[derive(Clone, Copy, Debug, PartialEq, Eq, Hash, Error)]
+#[derive(Clone, Copy, Debug, Error)]
 #[error("the text could not be written")]
 pub struct WriteFault;
 

@@ -17,7 +17,7 @@ use tp_text::text::{ReadFault, read_text};
 use tp_token::fault::ScriptFault;
 
 /// Why a script isn't accepted.
-#[derive(Clone, Copy, Debug, PartialEq, Eq)]
+#[derive(Clone, Copy)]
 pub enum CheckFault {
     /// 2 Read: the reader answered an error.
     Read,

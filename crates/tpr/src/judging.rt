@@ -18,7 +18,7 @@ use tp_text::text::{ReadFault, read_within};
 use tp_trace::reading::{TRACE_LIMIT, TraceFault};
 
 /// Why a text isn't judged.
-#[derive(Clone, Copy, Debug, PartialEq, Eq)]
+#[derive(Clone, Copy)]
 pub enum JudgeFault {
     /// 2 Read: the reader answered an error.
     Read,

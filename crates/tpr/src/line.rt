@@ -4,7 +4,7 @@ ghost use Rattle.std.specs.Option.{option_copied};
 ghost use Rattle.tpr.specs.Line.{Asks, mode_text};
 
 /// What the program does.
-#[derive(Clone, Copy, Debug, PartialEq, Eq, Hash)]
+#[derive(Clone, Copy)]
 pub enum Mode {
     /// Replays a queue file.
     Queue,

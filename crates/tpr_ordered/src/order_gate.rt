@@ -10,7 +10,7 @@ use tp_exec::gate::Gate;
 pub const PATIENCE: u32 = 10_000_000;
 
 /// A step of one component, and where it stands in the order.
-#[derive(Clone, Copy, Debug)]
+#[derive(Clone, Copy)]
 struct Place {
     /// How many steps stand before it.
     number: u64,

@@ -5,7 +5,7 @@ use tp_config::config::Config;
 use tp_config::port_type::CompId;
 
 /// Where an order holds a component.
-#[derive(Clone, Copy, Debug, PartialEq, Eq)]
+#[derive(Clone, Copy)]
 pub enum Hold {
     /// Before its next statement.
     Before,
@@ -15,7 +15,7 @@ pub enum Hold {
 }
 
 /// A step of an order: a component is held until its turn has come, and goes on.
-#[derive(Clone, Copy, Debug, PartialEq, Eq)]
+#[derive(Clone, Copy)]
 pub struct Step {
     /// The component.
     pub who: CompId,
