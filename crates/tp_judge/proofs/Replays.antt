@@ -1,10 +1,15 @@
 -- One line more of a port, and what a broken rule means for its history.
-use Rattle.std.proofs.Common.{◌≡◌, ℕ, ◌+◌, ◌<◌, Some, List, [], ◌∷◌, ◌++◌, length, get_or, take, refl, ap, sym, ◌∙◌, subst, Bor}
+use Rattle.std.proofs.Common.{◌≡◌, ℕ, ◌+◌, ◌<◌, Bool, Option, Some, None, List, [], ◌∷◌, ◌++◌, length, get_or, take, refl, ap, sym, ◌∙◌, subst, Bor}
 use Rattle.std.specs.Prelude.{slice_get}
 use Rattle.std.specs.Option.{option_to_list}
+use Rattle.std.proofs.lemmas.Option.{none-some, same_Some}
+use Rattle.tp_queue.specs.declared.event.Env.{Env}
 use Rattle.tp_queue.specs.declared.event.Event.{Event}
 use Rattle.tp_queue.specs.declared.event.Event.TheVariants as event
-use Rattle.tp_queue.specs.History.{Lawful, MayFollow}
+use Rattle.tp_queue.specs.History.{Lawful, MayFollow, top}
+use Rattle.tp_queue.specs.Answers.{removal}
+use Rattle.tp_queue.specs.Calls.{TakesOut}
+use Rattle.tp_queue.specs.Queues.{QueueState, StandsFor}
 use Rattle.tp_judge.specs.declared.line.MessageId.{MessageId}
 use Rattle.tp_judge.specs.declared.line.Act.{Act}
 use Rattle.tp_judge.specs.declared.line.Act.TheVariants as act
@@ -16,24 +21,32 @@ use Rattle.tp_judge.specs.Lines.{envelope, event_of}
 use Rattle.tp_judge.specs.Rules.{history_of, Breaks, IsBroken}
 use Rattle.tp_judge.proofs.Stepping.{at_seam, filter_map-more, seen_at, seen-take, split_line}
 
-pub replayed_more : (events : List (Bor Line)) (i : ℕ) (d : Bor Line) (old new : List (Event MessageId)) → i < length events
-    → old ≡ history_of (seen (take i events)) → new ≡ old ++ option_to_list (event_of (get_or events i d).now.act)
-    → new ≡ history_of (seen (take (i + 1) events))
-replayed_more events i d old new within was grown =
-    grown ∙ ap (λ h. h ++ option_to_list (event_of (get_or events i d).now.act)) was
-    ∙ sym (filter_map-more (λ line. event_of line.act) events i d within)
+pub replayed_more : (events : List (Bor Line)) (i : ℕ) (d : Bor Line) (q : QueueState MessageId) → i < length events
+    → StandsFor q (history_of (seen (take i events)) ++ option_to_list (event_of (get_or events i d).now.act))
+    → StandsFor q (history_of (seen (take (i + 1) events)))
+replayed_more events i d q within stands =
+    subst (λ (h : List (Event MessageId)). StandsFor q h)
+    (sym (filter_map-more (λ line. event_of line.act) events i d within)) stands
 
-pub broken_here : (events : List (Bor Line)) (i : ℕ) (d : Bor Line) (rule : Rule) (old : List (Event MessageId)) → i < length events
-    → old ≡ history_of (seen (take i events)) → Breaks rule old (get_or events i d).now.act
+pub broken_here : (events : List (Bor Line)) (i : ℕ) (d : Bor Line) (rule : Rule) → i < length events
+    → Breaks rule (history_of (seen (take i events))) (get_or events i d).now.act
     → IsBroken (seen events) (record { line = (get_or events i d).now.number; rule = rule })
-broken_here events i d rule old within was breaks = record {
+broken_here events i d rule within breaks = record {
   before = i;
   line = (get_or events i d).now;
   stands = seen_at events i d within;
   told = refl;
   breaks = subst (λ (h : List (Event MessageId)). Breaks rule h (get_or events i d).now.act)
-      (was ∙ ap history_of (sym (seen-take i events))) breaks;
+      (ap history_of (sym (seen-take i events))) breaks;
 }
+
+-- where this is the top, it is what was taken out
+pub taken_out : (h : List (Event MessageId)) (e : Env MessageId) (r : Option (Env MessageId)) (after : QueueState MessageId) (received : Bool)
+    → top h ≡ Some e → TakesOut h r after → StandsFor after (h ++ removal received e ∷ [])
+taken_out h e None after received there out = absurd (none-some e (sym out.0 ∙ there))
+taken_out h e (Some x) after received there out =
+    subst (λ (y : Env MessageId). StandsFor after (h ++ removal received y ∷ []))
+    (same_Some x e (sym out.0 ∙ there)) (out.1 received)
 
 take_seam : (h rest : List (Event MessageId)) → take (length h) (h ++ rest) ≡ h
 take_seam [] rest = refl

@@ -6,6 +6,7 @@ use Rattle.tp_queue.specs.declared.event.Env.{Env}
 use Rattle.tp_queue.specs.declared.event.Event.{Event}
 use Rattle.tp_queue.specs.declared.event.Status.TheVariants as status
 use Rattle.tp_queue.specs.History.{queued, status_of, top, limit, gone}
+use Rattle.tp_queue.specs.Queues.{QueueState, StandsFor}
 use Rattle.tp_judge.specs.declared.line.MessageId.{MessageId}
 use Rattle.tp_judge.specs.declared.line.Act.{Act}
 use Rattle.tp_judge.specs.declared.line.Act.TheVariants as act
@@ -46,9 +47,9 @@ IsOperation (act.Found m) = ⊥
 IsOperation (act.Dropped m) = ⊥
 IsOperation _ = ⊤
 
--- one line more: it happens, or it breaks a rule
-abbrev pub Replays : List (Event MessageId) → Act → List (Event MessageId) → Option Rule → Type 0
-Replays h a after None = after ≡ h ++ option_to_list (event_of a)
+-- one line more behind this history: it happens, and this is the queue after it; or it breaks a rule
+abbrev pub Replays : List (Event MessageId) → Act → QueueState MessageId → Option Rule → Type 0
+Replays h a after None = StandsFor after (h ++ option_to_list (event_of a))
 Replays h a after (Some broken) = Breaks broken h a
 
 -- one of the port's lines breaks the rule, behind those that stand before it

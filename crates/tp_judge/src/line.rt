@@ -3,20 +3,9 @@ ghost use Rattle.std.specs.Prelude.{◌≡◌};
 ghost use Rattle.tp_judge.specs.OneRun.{is_looking};
 ghost use Rattle.tp_judge.specs.Lines.{came_route, event_port, key_of, left_port, parcel_of, sent_route};
 
-use std::alloc::Global;
-use tp_queue::payload::Payload;
-use tp_refusal::memory::Memory;
-
 /// A message, by its number: two messages have one number exactly where their bytes are the same.
 #[derive(Clone, Copy, PartialEq, Eq)]
 pub struct MessageId(pub u32);
-
-/// A number is copied without memory.
-impl Payload for MessageId {
-    fn copy(&self, _alloc: Global) -> Result<MessageId, Memory> {
-        Ok(*self)
-    }
-}
 
 /// A message on its route: its number there, and what it is.
 #[derive(Clone, Copy, PartialEq, Eq)]

@@ -1,6 +1,6 @@
 //! The rule on ports.
 ghost use Rattle.std.specs.Prelude.{◌≡◌, ◌↔◌, ◌<◌, [], All, IfOk, IsTrue, MatchOption, Some, length, slice_get};
-ghost use Rattle.tp_queue.specs.History.{queued};
+ghost use Rattle.tp_queue.specs.Queues.{AtHistory};
 ghost use Rattle.tp_judge.specs.Gathered.{seen};
 ghost use Rattle.tp_judge.specs.Lawful.{AreWithin, IsCloserNumber, IsCloserOf, IsLawfulAt, IsLawfulPort, IsLeftBroken};
 ghost use Rattle.tp_judge.specs.Lawful.{IsPortPlace, IsToldLeft, IsUnlawfulAt, IsUnlawfulPort};
@@ -14,12 +14,12 @@ use crate::place::{Place, Rule};
 use crate::replaying::{Replayed, is_env, replay};
 use crate::trace::Trace;
 use std::alloc::Global;
-use tp_queue::port_queue::PortQueue;
+use tp_queue::queue::Queue;
 use tp_refusal::memory::Memory;
 
 /// Whether this is queued at this place.
-fn is_queued(queue: &PortQueue<MessageId>, place: u64, mention: Mention) -> bool
-    ensures { IsTrue result ↔ (slice_get (queued queue.now) place ≡ Some (envelope mention)) }
+fn is_queued(queue: &Queue<MessageId>, place: u64, mention: Mention) -> bool
+    ensures { IsTrue result ↔ (slice_get queue.now.entries place ≡ Some (envelope mention)) }
 {
     match queue.queued_at(place) {
         None => false,
@@ -65,15 +65,15 @@ fn closers_of(alloc: Global, closing: &[Vec<&Line>]) -> Result<Vec<Option<u32>>,
 /// A line where what is told as left isn't what is queued, if there is one. The section is closed
 /// by the line of this number, or open.
 fn left_place(
-    queue: &PortQueue<MessageId>,
+    queue: &Queue<MessageId>,
     left: &[&Line],
     closing: &[&Line],
     closer: Option<u32>,
 ) -> Option<Place>
     requires { IsCloserOf (seen closing.now) closer }
-    ensures { MatchOption result
-        (IsToldLeft queue.now (seen left.now) (seen closing.now))
-        (IsLeftBroken queue.now (seen left.now) (seen closing.now)) }
+    ensures { AtHistory queue.now (λ h. MatchOption result
+        (IsToldLeft h (seen left.now) (seen closing.now))
+        (IsLeftBroken h (seen left.now) (seen closing.now))) }
 {
     // Of an open section nothing is asked.
     let Some(closer) = closer else {

@@ -3,6 +3,7 @@ ghost use Rattle.std.specs.Prelude.{◌≡◌, ◌++◌, ◌∷◌, [], ◌↔�
 ghost use Rattle.std.specs.Option.{option_to_list};
 ghost use Rattle.tp_queue.specs.declared.event.Event.TheVariants as event;
 ghost use Rattle.tp_queue.specs.History.{top};
+ghost use Rattle.tp_queue.specs.Queues.{AtHistory, StandsFor};
 ghost use Rattle.tp_judge.specs.Gathered.{seen};
 ghost use Rattle.tp_judge.specs.Lines.{envelope, event_of};
 ghost use Rattle.tp_judge.specs.Replayed.{IsReplay};
@@ -13,31 +14,14 @@ use crate::line::{Act, Line, Mention, MessageId};
 use crate::place::{Place, Rule};
 use std::alloc::Global;
 use tp_queue::event::{Env, Status};
-use tp_queue::payload::Wanted;
-use tp_queue::port_queue::PortQueue;
+use tp_queue::queue::Queue;
 use tp_refusal::memory::Memory;
-
-/// Every message is wanted, or none.
-#[derive(Clone, Copy)]
-struct Wants {
-    all: bool,
-}
-
-impl Wanted<MessageId> for Wants {
-    ghost use Rattle.std.specs.Prelude.{IsTrue};
-
-    ghost admits = { λ w _. IsTrue w.all };
-
-    fn admits(&self, _msg: &MessageId) -> bool {
-        self.all
-    }
-}
 
 /// What a replay comes to.
 #[derive(Drop)]
 pub(crate) enum Replayed {
     /// All lines are lawful, and this is the queue behind them.
-    Lawful(PortQueue<MessageId>),
+    Lawful(Queue<MessageId>),
     /// The first that isn't.
     Unlawful(Place),
 }
@@ -63,8 +47,8 @@ pub(crate) fn is_env(env: &Env<MessageId>, mention: Mention) -> bool
 }
 
 /// Whether this is the top.
-fn is_top(queue: &PortQueue<MessageId>, mention: Mention) -> bool
-    ensures { IsTrue result ↔ (top queue.now ≡ Some (envelope mention)) }
+fn is_top(queue: &Queue<MessageId>, mention: Mention) -> bool
+    ensures { AtHistory queue.now (λ h. IsTrue result ↔ (top h ≡ Some (envelope mention))) }
 {
     match queue.top() {
         None => false,
@@ -73,8 +57,8 @@ fn is_top(queue: &PortQueue<MessageId>, mention: Mention) -> bool
 }
 
 /// Whether this stands behind the mark.
-fn is_behind(queue: &PortQueue<MessageId>, mention: Mention) -> bool
-    ensures { IsTrue result → IsBehind queue.now (envelope mention) }
+fn is_behind(queue: &Queue<MessageId>, mention: Mention) -> bool
+    ensures { AtHistory queue.now (λ h. IsTrue result → IsBehind h (envelope mention)) }
 {
     for place in queue.ahead()..queue.queued_len() {
         match queue.queued_at(place) {
@@ -90,8 +74,8 @@ fn is_behind(queue: &PortQueue<MessageId>, mention: Mention) -> bool
 }
 
 /// Why this can't be taken, found or discarded, since it isn't the top.
-fn reason(queue: &PortQueue<MessageId>, mention: Mention) -> Rule
-    ensures { IsReason result queue.now (envelope mention) }
+fn reason(queue: &Queue<MessageId>, mention: Mention) -> Rule
+    ensures { AtHistory queue.now (λ h. IsReason result h (envelope mention)) }
 {
     match queue.status() {
         Status::Stopped => Rule::Stopped,
@@ -101,8 +85,9 @@ fn reason(queue: &PortQueue<MessageId>, mention: Mention) -> Rule
 }
 
 /// It comes.
-fn arrive(queue: &mut PortQueue<MessageId>, mention: Mention) -> Result<(), Memory>
-    ensures { OnOk result (queue.new ≡ queue.old ++ event.Arrive (envelope mention) ∷ []) }
+fn arrive(queue: &mut Queue<MessageId>, mention: Mention) -> Result<(), Memory>
+    ensures { OnOk result (AtHistory queue.old (λ h.
+        StandsFor queue.new (h ++ event.Arrive (envelope mention) ∷ []))) }
 {
     match queue.arrive(wrapped(mention)) {
         Ok(()) => Ok(()),
@@ -110,70 +95,57 @@ fn arrive(queue: &mut PortQueue<MessageId>, mention: Mention) -> Result<(), Memo
     }
 }
 
-/// It is taken, where it is the top.
-fn take(queue: &mut PortQueue<MessageId>, mention: Mention) -> Result<Option<Rule>, Memory>
-    ensures { IfOk result (Replays queue.old (acts.Took mention) queue.new) }
+/// It is taken or discarded, where it is the top: either way it is out of the queue.
+fn take_out(queue: &mut Queue<MessageId>, mention: Mention) -> Option<Rule>
+    ensures took { AtHistory queue.old (λ h. Replays h (acts.Took mention) queue.new result) }
+    ensures dropped { AtHistory queue.old (λ h. Replays h (acts.Dropped mention) queue.new result) }
 {
     if !is_top(queue, mention) {
-        return Ok(Some(reason(queue, mention)));
+        return Some(reason(queue, mention));
     }
-    queue.receive(&Wants { all: true }, None)?;
-    Ok(None)
+    queue.take_top();
+    None
 }
 
-/// It is found, where it is the top.
-fn find(queue: &mut PortQueue<MessageId>, mention: Mention) -> Result<Option<Rule>, Memory>
-    ensures { IfOk result (Replays queue.old (acts.Found mention) queue.new) }
+/// It is found, where it is the top, and stays there.
+fn find(queue: &Queue<MessageId>, mention: Mention) -> Option<Rule>
+    ensures { AtHistory queue.now (λ h. Replays h (acts.Found mention) queue.now result) }
 {
     if !is_top(queue, mention) {
-        return Ok(Some(reason(queue, mention)));
+        return Some(reason(queue, mention));
     }
-    queue.check(&Wants { all: true }, None)?;
-    Ok(None)
-}
-
-/// It is discarded, where it is the top.
-fn discard(queue: &mut PortQueue<MessageId>, mention: Mention) -> Result<Option<Rule>, Memory>
-    ensures { IfOk result (Replays queue.old (acts.Dropped mention) queue.new) }
-{
-    if !is_top(queue, mention) {
-        return Ok(Some(reason(queue, mention)));
-    }
-    queue.trigger(&Wants { all: false }, None)?;
-    Ok(None)
+    None
 }
 
 /// The port operation of the line, if it is one.
-fn operate(queue: &mut PortQueue<MessageId>, act: Act) -> Result<(), Memory>
+fn operate(queue: &mut Queue<MessageId>, act: Act)
     requires { IsOperation act }
-    ensures { OnOk result (queue.new ≡ queue.old ++ option_to_list (event_of act)) }
+    ensures { AtHistory queue.old (λ h. StandsFor queue.new (h ++ option_to_list (event_of act))) }
 {
     match act {
         Act::Cleared(_) => {
-            queue.clear()?;
+            queue.clear();
         }
         Act::Started(_) => {
-            queue.start()?;
+            queue.start();
         }
-        Act::Stopped(_) => queue.stop()?,
+        Act::Stopped(_) => queue.stop(),
         Act::Halted(_) => {
-            queue.halt()?;
+            queue.halt();
         }
         _ => {}
     }
-    Ok(())
 }
 
 /// What the line says happens at the queue, or the rule is answered that it breaks.
-fn step(queue: &mut PortQueue<MessageId>, act: Act) -> Result<Option<Rule>, Memory>
-    ensures { IfOk result (Replays queue.old act queue.new) }
+fn step(queue: &mut Queue<MessageId>, act: Act) -> Result<Option<Rule>, Memory>
+    ensures { IfOk result (λ broken. AtHistory queue.old (λ h. Replays h act queue.new broken)) }
 {
     match act {
         Act::Came(mention) => arrive(queue, mention)?,
-        Act::Took(mention) => return take(queue, mention),
-        Act::Found(mention) => return find(queue, mention),
-        Act::Dropped(mention) => return discard(queue, mention),
-        _ => operate(queue, act)?,
+        Act::Took(mention) | Act::Dropped(mention) => return Ok(take_out(queue, mention)),
+        Act::Found(mention) => return Ok(find(queue, mention)),
+        _ => operate(queue, act),
     }
     Ok(None)
 }
@@ -182,7 +154,7 @@ fn step(queue: &mut PortQueue<MessageId>, act: Act) -> Result<Option<Rule>, Memo
 pub(crate) fn replay(alloc: Global, events: &[&Line]) -> Result<Replayed, Memory>
     ensures { IfOk result (IsReplay (seen events.now)) }
 {
-    let mut queue = PortQueue::new(alloc);
+    let mut queue = Queue::new(alloc);
     for line in events {
         match step(&mut queue, line.act)? {
             None => {}
@@ -194,7 +166,5 @@ pub(crate) fn replay(alloc: Global, events: &[&Line]) -> Result<Replayed, Memory
             }
         }
     }
-    // Named for the sake of its clause, that the history is lawful.
-    let _ = queue.events();
     Ok(Replayed::Lawful(queue))
 }

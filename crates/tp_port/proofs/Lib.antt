@@ -7,3 +7,4 @@ pub mod Meeting
 pub mod Carrying
 pub mod Judging
 pub mod Unique
+pub mod Checked

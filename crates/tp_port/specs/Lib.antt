@@ -4,3 +4,4 @@ pub mod Command
 pub mod Replay
 pub mod Carried
 pub mod Faults
+pub mod Lending

@@ -1,4 +1,4 @@
-//! The queue of one message port, and the file that replays what happens there.
+//! The queue file, which replays what happens at a message port; and a queue with its history.
 #![tactic(auto)]
 
 mod answers;
@@ -6,5 +6,6 @@ pub mod command;
 mod cut;
 mod engine;
 pub mod pattern;
+pub mod port_queue;
 pub mod replay;
 mod senders;

@@ -4,4 +4,3 @@ pub mod Kept
 pub mod Moves
 pub mod Queues
 pub mod Calls
-pub mod Checked

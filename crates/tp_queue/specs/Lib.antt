@@ -2,4 +2,3 @@ pub mod History
 pub mod Answers
 pub mod Queues
 pub mod Calls
-pub mod Lending

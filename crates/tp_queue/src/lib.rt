@@ -1,9 +1,7 @@
-//! The queue of one message port: its events, what is queued, and what can be received. With its
-//! history or without it.
+//! The queue of one message port: its events, what is queued, and what can be received.
 #![tactic(auto)]
 
 pub mod event;
 pub mod operation;
 pub mod payload;
-pub mod port_queue;
 pub mod queue;

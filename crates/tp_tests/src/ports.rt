@@ -6,9 +6,9 @@ use std::io;
 use std::io::{ErrorKind, Read};
 use std::process::Abort;
 use tp_port::pattern::Pattern;
+use tp_port::port_queue::PortQueue;
 use tp_port::replay::{QueueFault, replay, replay_text};
 use tp_queue::event::{Env, Event};
-use tp_queue::port_queue::PortQueue;
 use tp_refusal::limit::TEXT_LIMIT;
 use tp_text::text::{ReadFault, read_text};
 

@@ -3,8 +3,8 @@
 use crate::writers::Short;
 use std::alloc::Global;
 use std::process::Abort;
+use tp_port::port_queue::PortQueue;
 use tp_queue::event::{Env, TriggerAnswer};
-use tp_queue::port_queue::PortQueue;
 use tp_refusal::memory::Memory;
 use tp_value::equal::are_equal;
 use tp_value::items::Items;

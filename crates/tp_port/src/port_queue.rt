@@ -5,14 +5,14 @@ ghost use Rattle.tp_queue.specs.declared.event.Event.TheVariants as event;
 ghost use Rattle.tp_queue.specs.declared.event.Status.TheVariants as status;
 ghost use Rattle.tp_queue.specs.History.{Lawful, gone, limit, queued, status_of, top};
 ghost use Rattle.std.specs.Borrow.{sem};
-ghost use Rattle.tp_queue.specs.Lending.{ends_checked};
+ghost use Rattle.tp_port.specs.Lending.{ends_checked};
 ghost use Rattle.tp_queue.specs.Answers.{Checks, Receives, Triggers, halted_count};
 
-use crate::event::{Env, Event, Status, TriggerAnswer};
-use crate::payload::{Payload, Wanted};
-use crate::queue::Queue;
 use std::alloc::Global;
 use std::marker::Model;
+use tp_queue::event::{Env, Event, Status, TriggerAnswer};
+use tp_queue::payload::{Payload, Wanted};
+use tp_queue::queue::Queue;
 use tp_refusal::memory::Memory;
 
 /// A queue with its history (ES 201 873-1, 9.1; ES 201 873-4, port states), seen by contracts as

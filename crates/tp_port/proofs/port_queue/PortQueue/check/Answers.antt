@@ -4,8 +4,8 @@ use Rattle.std.specs.Option.{option_copied}
 use Rattle.tp_queue.specs.declared.event.Event.{Event}
 use Rattle.tp_queue.specs.History.{Lawful}
 use Rattle.tp_queue.specs.Answers.{Checks, checked}
-use Rattle.tp_queue.proofs.Checked.{check_done}
-use Rattle.tp_queue.proofs.port_queue.PortQueue.check.Goals as goal
+use Rattle.tp_port.proofs.Checked.{check_done}
+use Rattle.tp_port.proofs.port_queue.PortQueue.check.Goals as goal
 
 pub returns : goal.returns
 returns g c =

@@ -7,7 +7,7 @@ use Rattle.tp_queue.specs.declared.event.Env.{Env}
 use Rattle.tp_queue.specs.declared.event.Event.{Event}
 use Rattle.tp_queue.specs.History.{Lawful}
 use Rattle.tp_queue.specs.Answers.{checked}
-use Rattle.tp_queue.specs.contracts.port_queue.PortQueue.{the_row}
+use Rattle.tp_port.specs.contracts.port_queue.PortQueue.{the_row}
 
 -- the queue ends with the history after a `check` that answered r, which is lawful
 abbrev pub ends_checked : (M : RattleType) {E : Type 0} → MutBor (List (Event M.Denot))
