@@ -13,7 +13,7 @@ use Rattle.tp_queue.specs.History.{accepted, arrival, top}
 use Rattle.tp_port.specs.Line.{Line, Wish, arrive, receive, check, trigger}
 use Rattle.tp_port.specs.Replay.{Progress, seen_in, seen_if, seen, sighted, answer, events_of, found, meets, triggered, from_of, sender_number, envelope_or_no, triggered_text, envelope}
 use Rattle.tp_queue.specs.Queues.{AtHistory, StandsFor}
-use Rattle.tp_port.specs.Carried.{CarriesLine, HasReached, HasCounted}
+use Rattle.tp_port.specs.Carried.{CarriesLine, HasReached}
 use Rattle.tp_queue.proofs.Words.{accepted_more}
 
 accepted_quiet : (h es : List (Event ℤ)) → accepted es ≡ [] → accepted (h ++ es) ≡ accepted h

@@ -1,6 +1,6 @@
 -- The lines of a queue file: what each one says, and how it is spelled.
-use Rattle.std.specs.Prelude.{◌≡◌, ℕ, ℤ, ◌-◌, ◌<◌, ◌==◌, ◌≤◌, Bool, true, false, Option, Some, None, List, [], ◌∷◌, length, take, slice_get, codes, IfSome, All, cond, FitsSigned}
-use Rattle.std.specs.Int.{w64}
+use Rattle.std.specs.Prelude.{◌≡◌, ◌⊎◌, ℕ, ℤ, ◌-◌, ◌<◌, ◌==◌, ◌≤◌, Bool, true, false, Option, Some, None, List, [], ◌∷◌, length, take, slice_get, get_or, codes, IfSome, All, cond, FitsSigned}
+use Rattle.std.specs.Int.{IsInRange, w64}
 use Rattle.std.specs.List.{onto_first, slice_split, list_all, AllZip}
 use Rattle.std.specs.Char.{is_ascii_alphabetic, is_ascii_alphanumeric}
 use Rattle.std.specs.Fmt.{signed_decimal}
@@ -72,6 +72,11 @@ verb_of clear = verb.Clear
 verb_of start = verb.Start
 verb_of stop = verb.Stop
 verb_of halt = verb.Halt
+
+-- the word begins as an integer in decimal does, with a digit from 1 to 9, before which a `-` may stand; or is `0`
+abbrev pub BeginsAsInteger : List ℕ → Type 0
+BeginsAsInteger word =
+    (word ≡ codes "0") ⊎ IsInRange 49 57 (get_or word 0 0) ⊎ ((get_or word 0 0 ≡ 45) × IsInRange 49 57 (get_or word 1 0))
 
 abbrev pub pattern_text : Pattern → List ℕ
 pattern_text pattern.Any = codes "?"

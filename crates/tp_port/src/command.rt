@@ -5,12 +5,11 @@ ghost use Rattle.std.specs.List.{list_all};
 ghost use Rattle.std.specs.Str.{IsAscii};
 ghost use Rattle.std.specs.Char.{is_ascii_alphanumeric};
 ghost use Rattle.std.specs.Fmt.{signed_decimal};
-ghost use Rattle.tp_port.specs.Line.{IsArrival, IsGood, SaysOneAtMost, IsName, IsWish, PatternFits, Spells, arrival_words, operands, pattern_text, verb_of, verb_text, wish_words, words_of};
+ghost use Rattle.tp_port.specs.Line.{BeginsAsInteger, IsArrival, IsGood, SaysOneAtMost, IsName, IsWish, PatternFits, Spells, arrival_words, operands, pattern_text, verb_of, verb_text, wish_words, words_of};
 ghost use Rattle.tp_port.specs.Command.{IsRead, line_of, wish_of, words_left};
 
 use crate::cut::first_word;
 use crate::pattern::Pattern;
-use itoa::Buffer;
 use std::str;
 
 /// The most letters and digits that a name has.
@@ -68,29 +67,22 @@ pub enum Command<'t> {
 }
 
 /// The verb that a word is.
+#[inline(always)]
 fn verb_in(word: &[u8]) -> Option<Verb>
     ensures { MatchOption result
         ((verb : _) → word.now ≡ verb_text verb → ⊥)
         (λ verb. word.now ≡ verb_text verb) }
 {
-    if word == b"arrive".as_slice() {
-        Some(Verb::Arrive)
-    } else if word == b"receive".as_slice() {
-        Some(Verb::Receive)
-    } else if word == b"check".as_slice() {
-        Some(Verb::Check)
-    } else if word == b"trigger".as_slice() {
-        Some(Verb::Trigger)
-    } else if word == b"clear".as_slice() {
-        Some(Verb::Clear)
-    } else if word == b"start".as_slice() {
-        Some(Verb::Start)
-    } else if word == b"stop".as_slice() {
-        Some(Verb::Stop)
-    } else if word == b"halt".as_slice() {
-        Some(Verb::Halt)
-    } else {
-        None
+    match word {
+        b"arrive" => Some(Verb::Arrive),
+        b"receive" => Some(Verb::Receive),
+        b"check" => Some(Verb::Check),
+        b"trigger" => Some(Verb::Trigger),
+        b"clear" => Some(Verb::Clear),
+        b"start" => Some(Verb::Start),
+        b"stop" => Some(Verb::Stop),
+        b"halt" => Some(Verb::Halt),
+        _ => None,
     }
 }
 
@@ -133,9 +125,21 @@ fn name_of(word: &[u8]) -> Option<&str>
     if is_name(word) { text_of(word) } else { None }
 }
 
+/// Whether a word begins as an integer in decimal does, with a digit from 1 to 9, before which a
+/// `-` may stand; or is `0`.
+fn begins_as_integer(word: &[u8]) -> bool
+    ensures { IsTrue result ↔ BeginsAsInteger word.now }
+{
+    match word {
+        b"0" | [b'1'..=b'9', ..] | [b'-', b'1'..=b'9', ..] => true,
+        _ => false,
+    }
+}
+
 /// The integer that a word can be read as, in whatever form.
 fn parse_integer(word: &[u8]) -> Option<i64>
-    ensures { (n : ℤ) → FitsSigned w64 n → word.now ≡ signed_decimal n → result ≡ Some n }
+    ensures every { (n : ℤ) → FitsSigned w64 n → word.now ≡ signed_decimal n → result ≡ Some n }
+    ensures decimal { IfSome result (λ n. BeginsAsInteger word.now → word.now ≡ signed_decimal n) }
 {
     let text = text_of(word)?;
     text.parse::<i64>().ok()
@@ -147,10 +151,8 @@ fn integer_of(word: &[u8]) -> Option<i64>
         ((n : ℤ) → FitsSigned w64 n → word.now ≡ signed_decimal n → ⊥)
         (λ n. word.now ≡ signed_decimal n) }
 {
-    let value = parse_integer(word)?;
-    let mut buffer = Buffer::new();
-    if buffer.format(value).as_bytes() == word {
-        Some(value)
+    if begins_as_integer(word) {
+        parse_integer(word)
     } else {
         None
     }
@@ -241,6 +243,7 @@ fn alone<'t>(command: Command<'t>, words: Option<&[u8]>) -> Option<Command<'t>>
 }
 
 /// The command that this verb and the words after it are.
+#[inline(always)]
 fn command_with(verb: Verb, words: Option<&[u8]>) -> Option<Command<'_>>
     ensures { IsRead verb (words_left words.entry) result }
 {
@@ -262,11 +265,17 @@ fn command_with(verb: Verb, words: Option<&[u8]>) -> Option<Command<'_>>
 /// The command that a line is, its end left out: one space between words and none elsewhere, names
 /// of 1 to 20 letters and digits with a letter first, integers of 64 signed bits in decimal without
 /// a leading zero or a `+`. `None` for any other line, an empty one too. Takes no memory.
+// Inlined, as what tells the verb is: a call hands a command's seven words back through memory.
+#[inline(always)]
 pub fn command_of(line: &[u8]) -> Option<Command<'_>>
     ensures { MatchOption result
         (¬ IsGood line.now)
         (λ command. Spells line.now (line_of command)) }
 {
+    // A line that is a verb has no space, so none is looked for.
+    if let Some(verb) = verb_in(line) {
+        return command_with(verb, None);
+    }
     let (word, rest) = first_word(line);
     let verb = verb_in(word)?;
     command_with(verb, rest)
