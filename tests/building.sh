@@ -100,7 +100,7 @@ builds_and_fails() {
     local last="crate 3 of 3, tpr; 0 minutes so far"
     local asked_low="rt was asked in low: lib --jobs 2" asked_last="rt was asked in tpr: run --jobs 2 -- queue"
     local ended="tpr: the build failed; all that it said is in $PWD/a tree/out/build.log"
-    local crates="a tree/crates" usage=$'usage: ./build [tpr_ordered] [--jobs N] | ./build is_built\n'
+    local crates="a tree/crates" usage=$'usage: ./build [tpr_ordered] [--jobs N] | ./build is_built | ./build lanes\n'
     builds_at_first
     builds_what_is_newer
     fails_and_builds_again
@@ -112,6 +112,7 @@ log_of_build() {
 }
 
 builds_at_first() {
+    local lanes
     fails_to_build "a first build without the toolchain" without_rt \
         "tpr: the program has to be built, and the toolchain's command rt is not on PATH"
     call rt "a tree/build" is_built
@@ -133,6 +134,9 @@ $(printf 'tpr: %s took N seconds with %s\n' low "1 job" side "1 job" tpr "2 jobs
     must "on no processor" 4 '' "$usage"
     call rt "a tree/build" tpr_ordered is_built
     must "only tpr can be asked for" 4 '' "$usage"
+    lanes=$("a tree/build" lanes)
+    observe test "$lanes" -ge 1 -a "$lanes" -le "$(nproc)"
+    must "how many checks there may be at one time: at most as many as processors" 0 '' ''
     builds_the_other_program
 }
 
