@@ -1,6 +1,6 @@
 # What the program makes of its command line, of what it reads and of where it prints, called as users call
 # it: by ./tpr, where no other program is tested. `called`, `observe`, `judge`, `count`, `at_least`, `set_up` and
-# `has_bytes` are those of ./test.
+# `has_bytes` are those of ./test, `is_another_entry` is that of tests/listed_parts.sh.
 
 # The last run is one case. What it must print is a text.
 must() { # NAME STATUS PRINTED SAID
@@ -26,8 +26,11 @@ command_lines() {
     refuses_command_line "an unknown word" replay
     refuses_command_line "an empty word" ''
     refuses_command_line "a mode in capitals" QUEUE
+    refuses_command_line "a mode that begins with a capital" Queue
+    refuses_command_line "another mode that begins with a capital" Run
     refuses_command_line "a mode with a space" 'queue '
     refuses_command_line "three words" queue text text
+    refuses_command_line "three words, the last of which is a mode" queue text check
     refuses_command_line "--help alone" --help
     refuses_command_line "a mode that is no text" "$no_text"
     refuses_command_line "a file name that is no text" queue "$no_text"
@@ -86,6 +89,47 @@ reading() {
     must "a trace that comes in pieces and is one" 0 $'lawful\none run\n' ''
     observe ./program queue text </dev/null
     must "the program through a link" 0 "$answer" ''
+}
+
+# A text has its answer in a mode on standard input, and in a file, where standard input has another text.
+answers() { # NAME MODE STATUS TEXT ANSWER
+    printf '%s\n%s' "$2" "$4" >mode_and_text
+    is_another_entry "$1" mode_and_text
+    printf %s "$4" >given
+    observe "$tpr" "$2" <given
+    must "$1, on standard input" "$3" "$5" ''
+    observe "$tpr" "$2" given < <(echo 'no line of any')
+    must "$1, in a file" "$3" "$5" ''
+}
+
+sends_twice='module M { type port P message { inout integer; } type component C { port P p, q; }
+    testcase t() runs on C { connect(self:p, self:q); p.send(integer:4); p.send(integer:5); q.receive(integer:4); } }'
+
+# A component of which this happened first sent twice to itself.
+what_sends_twice_does() { # LINE..
+    printf '%s\n' 'component mtc' 'sent mtc.q 0 integer:4' 'sent mtc.q 1 integer:5' "$@" \
+        'took q mtc 0 integer:4' 'end done' 'verdict none' 'left q mtc 1 integer:5' 'result none' .
+}
+
+texts() {
+    local report trace
+    report=$(what_sends_twice_does)
+    trace=$(what_sends_twice_does 'came q mtc 0 integer:4' 'came q mtc 1 integer:5')
+    answers "a queue file without a line" queue 0 '' $'left 0\n'
+    answers "a message before a halt, and one behind it" queue 0 \
+        $'arrive a 1\nhalt\narrive a 2\nreceive ?\nreceive ?\n' $'queued\nhalted 1\nqueued\ntook a 1\nno\nleft 1\na 2\n'
+    answers "an integer too large, in a line without its end" queue 2 \
+        'arrive a 9223372036854775808' $'refused 1 BadLine line 1\n'
+    answers "an empty line" queue 2 $'halt\n\nhalt\n' $'refused 1 BadLine line 2\n'
+    answers "a trace without a line" judge 0 '' $'lawful\none run\n'
+    answers "a message that came, and was taken" judge 0 \
+        $'component a\nsent b.p 0 m\ncomponent b\ncame p a 0 m\ntook p a 0 m\nend done\n' $'lawful\none run\n'
+    answers "a message that was taken, and never came" judge 2 \
+        $'component a\nsent b.p 0 m\ncomponent b\ntook p a 0 m\n' $'unlawful Lost line 2\nunlawful NotTop line 4\n'
+    answers "a line of a trace that ends early" judge 2 $'component a\nsent' $'refused 1 BadLine line 2\n'
+    answers "a script that is right" check 0 "$sends_twice" $'accepted\n'
+    answers "its report" run 0 "$sends_twice" "${report%.}"
+    answers "its trace, with what came where it came" trace 0 "$sends_twice" "${trace%.}"
 }
 
 # A text may have 1,048,576 bytes.
@@ -159,8 +203,9 @@ command_line() {
     local tpr=$called
     mkdir "$room/here"
     cd -- "$room/here" || exit 1
-    at_least 9 command_lines
+    at_least 12 command_lines
     at_least 47 reading
+    at_least 22 texts
     at_least 7 limits
     at_least 15 writing
     cd -- "$root" || exit 1

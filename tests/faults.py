@@ -27,7 +27,7 @@ ROOT = os.path.dirname(os.path.dirname(os.path.realpath(__file__)))
 LIST = f"{ROOT}/tests/parts_of_the_gate"
 # What these try must be built: TPR names no other program to them.
 OF_THE_BUILT = ("refused_memory", "refused_in_tests", "refused_in_runs", "filled_templates")
-OF_ORDERED = ("orders", "exploring", "soak")
+OF_ORDERED = ("orders", "forced_orders", "exploring", "soak")
 ITSELF = "planted_faults"
 MOST_SECONDS_OF_SOME = 30
 

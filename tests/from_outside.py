@@ -18,7 +18,7 @@ import sys
 import tempfile
 import termios
 import time
-from collections.abc import Callable, Iterator
+from collections.abc import Callable, Iterable, Iterator
 from typing import NamedTuple, Optional
 
 MOST_SECONDS = 20
@@ -123,14 +123,15 @@ class Program:
             raise Wrong(f"no end after {MOST_SECONDS} seconds") from None
         return Ended(done.returncode, done.stdout or b"", done.stderr or b"")
 
-    def run_with(self, kind: str, number: int, *words: str, **files: object) -> tuple[Ended, bool]:
-        """Runs it with one call of the kind refused. Whether it came to that call."""
+    def run_with(self, refusals: dict[str, int], *words: str, **files: object) -> tuple[Ended, set[str]]:
+        """Runs it with the call of this number refused, of each kind. To which kinds it came."""
         if self.refused is None:
             raise LeftOut("there is no library that refuses calls")
         with tempfile.TemporaryDirectory() as marks:
-            more = {f"REFUSED_{kind}": str(number), "REFUSED_MARKS": marks, "LD_PRELOAD": self.refused}
+            more = {f"REFUSED_{kind}": str(number) for kind, number in refusals.items()}
+            more |= {"REFUSED_MARKS": marks, "LD_PRELOAD": self.refused}
             ended = self.run(*words, env={**os.environ, **more}, **files)
-            return ended, bool(os.listdir(marks))
+            return ended, {mark.upper() for mark in os.listdir(marks)}
 
     def must_be_cut(self, mode: str, printed: bytes) -> None:
         """What was printed is the beginning of the answer, and doesn't look whole."""
@@ -226,7 +227,7 @@ def small_disk(program: Program, mode: str) -> None:
 
 def no_threads(program: Program, mode: str) -> None:
     """No thread can be started at all."""
-    ended, refused = program.run_with("THREADS_FROM", 1, mode, program.file(mode))
+    ended, refused = program.run_with({"THREADS_FROM": 1}, mode, program.file(mode))
     must(refused, "no thread was asked for")
     ended.must_be(3, NO_THREAD)
 
@@ -277,7 +278,7 @@ def limit_on_memory(program: Program, mode: str) -> None:
 def no_file_more(program: Program, mode: str) -> None:
     """The opening of a file is refused, since so many are open: nothing can be read."""
     for number in range(1, 20):
-        ended, refused = program.run_with("OPEN", number, mode, program.file(mode))
+        ended, refused = program.run_with({"OPEN": number}, mode, program.file(mode))
         if not refused:
             must(number > 1, "nothing was opened")
             return ended.must_be(0, program.answers[mode])
@@ -298,7 +299,7 @@ def each_call(kind: str) -> Callable[[Program, str], None]:
     def each(program: Program, mode: str) -> None:
         for number in range(1, 1000):
             with open(program.file(mode), "rb") as file:
-                ended, came = program.run_with(kind, number, mode, stdin=file)
+                ended, came = program.run_with({kind: number}, mode, stdin=file)
             ended.must_be(0, program.answers[mode])
             if not came:
                 return must(number > 1, "there is no such call")
@@ -400,7 +401,10 @@ def signal_that_is_ignored(program: Program, mode: str) -> None:
     os.close(reader)
 
 
-def cases() -> Iterator[tuple[str, str, Callable[[Program, str], None]]]:
+Case = tuple[str, str, Callable[[Program, str], None]]
+
+
+def cases() -> Iterator[Case]:
     """Each case: its name, its mode, and what is tried."""
     all_modes, long_modes = ("queue", "check", "run", "judge"), ("queue", "run")
     for mode in all_modes:
@@ -428,11 +432,12 @@ def cases() -> Iterator[tuple[str, str, Callable[[Program, str], None]]]:
         yield f"{number.name} in a run in which one waits", "run", signal_while_running(number)
 
 
-def main() -> None:
+def try_each(tried: Iterable[Case]) -> None:
+    """Tries each case on the program of the command line, and prints what came of it."""
     program = Program(sys.argv[1], sys.argv[2], sys.argv[3] if len(sys.argv) > 3 else None)
-    for name, mode, tried in cases():
+    for name, mode, attempt in tried:
         try:
-            tried(program, mode)
+            attempt(program, mode)
             print(f"passed {name}, mode {mode}", flush=True)
         except LeftOut as why:
             print(f"left out {name}, mode {mode}: {why}", flush=True)
@@ -441,4 +446,4 @@ def main() -> None:
 
 
 if __name__ == "__main__":
-    main()
+    try_each(cases())

@@ -1,12 +1,13 @@
-/* Loaded before the C library by tests/refused_memory.sh, tests/runs.sh and tests/from_outside.py: refuses one call
- * of a kind, as the system may.
+/* Loaded before the C library by tests/refused_memory.sh, tests/runs.sh, tests/from_outside.py and
+ * tests/failed_calls.py: refuses one call of a kind, as the system may.
  *
  * REFUSED_MEMORY is the allocation, REFUSED_THREAD the start of a thread, REFUSED_OPEN the opening of a file,
  * REFUSED_READ the read and REFUSED_WRITE the write that is refused, each counted from 1 over all threads;
- * REFUSED_THREADS_FROM the first start of a thread from which on each is. REFUSED_INTERRUPTED_READ and
- * REFUSED_INTERRUPTED_WRITE are those that a signal interrupts before anything is read or written, and
- * REFUSED_SHORT_READ and REFUSED_SHORT_WRITE those that move one byte alone. Where it came to that, a file of the
- * kind's name is made in the folder REFUSED_MARKS.
+ * REFUSED_THREADS_FROM and REFUSED_WRITES_FROM the first start of a thread, or write, from which on each is.
+ * REFUSED_INTERRUPTED_READ and REFUSED_INTERRUPTED_WRITE are those that a signal interrupts before anything is read or
+ * written, REFUSED_SHORT_READ and REFUSED_SHORT_WRITE those that move one byte alone, and REFUSED_SHORT_READS_FROM and
+ * REFUSED_SHORT_WRITES_FROM the first from which on each does. Where it came to that, a file of the kind's name is made
+ * in the folder REFUSED_MARKS.
  */
 #define _GNU_SOURCE
 #include <dlfcn.h>
@@ -33,9 +34,12 @@ static struct kind opens = {"REFUSED_OPEN", "open", 0, 0};
 static struct kind reads = {"REFUSED_READ", "read", 0, 0};
 static struct kind interrupted_reads = {"REFUSED_INTERRUPTED_READ", "interrupted_read", 0, 0};
 static struct kind short_reads = {"REFUSED_SHORT_READ", "short_read", 0, 0};
+static struct kind short_reads_from = {"REFUSED_SHORT_READS_FROM", "short_reads_from", 1, 0};
 static struct kind writes = {"REFUSED_WRITE", "write", 0, 0};
+static struct kind writes_from = {"REFUSED_WRITES_FROM", "writes_from", 1, 0};
 static struct kind interrupted_writes = {"REFUSED_INTERRUPTED_WRITE", "interrupted_write", 0, 0};
 static struct kind short_writes = {"REFUSED_SHORT_WRITE", "short_write", 0, 0};
+static struct kind short_writes_from = {"REFUSED_SHORT_WRITES_FROM", "short_writes_from", 1, 0};
 
 static void mark(const struct kind *kind)
 {
@@ -111,20 +115,26 @@ int open64(const char *path, int how, ...)
     return file;
 }
 
+/* How many bytes of these one call moves. */
+static size_t moved(size_t count, struct kind *one, struct kind *all_from)
+{
+    return count > 1 && (is_refused(one, 0) || is_refused(all_from, 0)) ? 1 : count;
+}
+
 ssize_t read(int file, void *bytes, size_t count)
 {
     ssize_t (*next)(int, void *, size_t) = (ssize_t(*)(int, void *, size_t))dlsym(RTLD_NEXT, "read");
     if (is_refused(&reads, EIO) || is_refused(&interrupted_reads, EINTR))
         return -1;
-    return next(file, bytes, count > 1 && is_refused(&short_reads, 0) ? 1 : count);
+    return next(file, bytes, moved(count, &short_reads, &short_reads_from));
 }
 
 ssize_t write(int file, const void *bytes, size_t count)
 {
     ssize_t (*next)(int, const void *, size_t) = (ssize_t(*)(int, const void *, size_t))dlsym(RTLD_NEXT, "write");
-    if (is_refused(&writes, ENOSPC) || is_refused(&interrupted_writes, EINTR))
+    if (is_refused(&writes, ENOSPC) || is_refused(&writes_from, ENOSPC) || is_refused(&interrupted_writes, EINTR))
         return -1;
-    return next(file, bytes, count > 1 && is_refused(&short_writes, 0) ? 1 : count);
+    return next(file, bytes, moved(count, &short_writes, &short_writes_from));
 }
 
 /* The C library's second name for it. */

@@ -12,8 +12,6 @@ mod judging;
 mod line;
 mod modes;
 mod running;
-#[cfg(test)]
-mod tests;
 
 use checking::answer_check;
 use judging::answer_judge;

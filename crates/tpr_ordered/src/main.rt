@@ -6,8 +6,6 @@ mod fault;
 mod order_gate;
 mod ordering;
 mod orders;
-#[cfg(test)]
-mod tests;
 
 use fault::FileFault;
 use order_gate::PATIENCE;
