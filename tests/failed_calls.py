@@ -40,16 +40,21 @@ def read_that_fails(taken: int) -> Callable[[Program, str], None]:
     return fails
 
 
-def write_that_fails(program: Program, mode: str) -> None:
-    """From each write of a long answer on, in turn. What went before is the beginning of the answer."""
-    for number in range(1, 1000):
-        ended, came = program.run_with({"WRITES_FROM": number}, mode, program.file(mode))
-        if not came:
-            must(number > (2 if mode in IN_PIECES else 1), f"there are {number - 1} writes")
-            return ended.must_be(0, program.answers[mode])
-        must((ended.status, ended.said) == (3, b""), f"write {number}: status {ended.status}, said {ended.said!r}")
-        program.must_be_cut(mode, ended.printed)
-    raise Wrong("there are 1,000 writes")
+def write_that_fails(kind: str) -> Callable[[Program, str], None]:
+    """Each write of a long answer in turn, alone or with all behind it. What went before is the beginning of the
+    answer, and nothing is written behind it: what is kept of the answer isn't tried once more."""
+
+    def fails(program: Program, mode: str) -> None:
+        for number in range(1, 1000):
+            ended, came = program.run_with({kind: number}, mode, program.file(mode))
+            if not came:
+                must(number > (2 if mode in IN_PIECES else 1), f"there are {number - 1} writes")
+                return ended.must_be(0, program.answers[mode])
+            must((ended.status, ended.said) == (3, b""), f"write {number}: status {ended.status}, said {ended.said!r}")
+            program.must_be_cut(mode, ended.printed)
+        raise Wrong("there are 1,000 writes")
+
+    return fails
 
 
 class Short(NamedTuple):
@@ -68,9 +73,8 @@ class Short(NamedTuple):
         return program.run_with(refusals, self.mode, path)
 
     def flush_that_fails(self, program: Program, _mode: str) -> None:
-        """It is the one write that there is, and nothing was written before. The writes behind it fail too: else the
-        buffer, which tries again when it is dropped, would write the whole answer."""
-        ended, came = self.run_with(program, {"WRITES_FROM": 1})
+        """It is the one write that there is, nothing was written before, and it isn't tried once more."""
+        ended, came = self.run_with(program, {"WRITE": 1})
         must(came, "nothing was written")
         ended.must_be(3, b"")
         ended, came = self.run_with(program, {"WRITE": 2})
@@ -107,7 +111,8 @@ SHORT = (
 def cases() -> Iterator[Case]:
     """Each case: its name, its mode, and what is tried."""
     for mode in ("queue", "check", "run", "trace", "judge"):
-        yield "a write that fails, each in turn", mode, write_that_fails
+        yield "a write that fails, each in turn", mode, write_that_fails("WRITE")
+        yield "the writes from each on", mode, write_that_fails("WRITES_FROM")
         for taken in range(5):
             yield f"a read that fails behind {taken} bytes", mode, read_that_fails(taken)
     for short in SHORT:

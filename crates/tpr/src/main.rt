@@ -25,7 +25,7 @@ use std::process::ExitCode;
 use std::rt::Files;
 use std::sync::Wait;
 use std::thread::Threads;
-use std::{env, io};
+use std::{env, io, mem};
 use tp_exec::gate::OpenGate;
 use tp_port::replay::QueueFault;
 
@@ -67,7 +67,7 @@ fn answer<T: AllocGlobal + Threads + Wait + Sync, R: Read, W: Write>(
 }
 
 /// Answers the text of this file, or of standard input where no file is named. `None` where the
-/// writer failed.
+/// writer failed; nothing is written behind that.
 fn answer_file<T>(rt: &T, mode: Mode, file: Option<&str>) -> Option<u8>
 where
     T: AllocGlobal + Files + Input + Print + Threads + Wait + Sync,
@@ -75,13 +75,18 @@ where
     let Ok(mut writer) = BufWriter::new(rt.alloc(), io::writer(rt)) else {
         return answer_fault(&mut io::writer(rt), QueueFault::Memory);
     };
-    match file {
+    let status = match file {
         None => answer(rt, mode, &mut rt.reader(), &mut writer),
         Some(path) => match File::open(rt, path) {
             Ok(mut reader) => answer(rt, mode, &mut reader, &mut writer),
             Err(_) => answer_fault(&mut writer, QueueFault::Read),
         },
+    };
+    if status.is_none() {
+        // A writer that is dropped tries once more to write what it holds.
+        mem::forget(writer);
     }
+    status
 }
 
 /// The words after the program's name.

@@ -18,7 +18,7 @@ use std::process::ExitCode;
 use std::rt::Files;
 use std::sync::Wait;
 use std::thread::Threads;
-use std::{env, io};
+use std::{env, io, mem};
 use tp_play::test_case::TestCase;
 use tp_refusal::memory::Memory;
 use tp_script::reading::read_script;
@@ -106,7 +106,11 @@ where
     };
     match write_orders(&trial, orders, &mut writer) {
         Ok(()) => ANSWERED,
-        Err(_) => FAULTED,
+        Err(_) => {
+            // A writer that is dropped tries once more to write what it holds.
+            mem::forget(writer);
+            FAULTED
+        }
     }
 }
 
