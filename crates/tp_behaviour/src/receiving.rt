@@ -150,6 +150,8 @@ pub(crate) fn fill_guards(
 }
 
 /// Puts this into the variable at this place, if one is named.
+// Most operations name none: inlined, it is a test, and nothing is made for them.
+#[inline(always)]
 fn keep(variables: &mut Vec<Option<Held>>, place: Option<usize>, held: Held)
     requires { IfSome place (λ k. k < length variables.old.items) }
     ensures { variables.new.items ≡ set_to place held variables.old.items }

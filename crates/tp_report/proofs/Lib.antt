@@ -3,3 +3,4 @@ mod Naming
 mod Deciding
 mod Pieces
 mod Known
+mod Spaced

@@ -1,5 +1,5 @@
 -- What is written piece by piece.
-use Rattle.std.proofs.Common.{◌≡◌, ℕ, zero, suc, ◌+◌, ◌<◌, ◌≤◌, true, false, cond, List, [], ◌∷◌, ◌++◌, Option, Some, None, Result, Ok, Err, OnOk, take, length, get_or, codes, refl, ap, sym, ◌∙◌, subst, arith, add-one, inl, inr}
+use Rattle.std.proofs.Common.{◌≡◌, ℕ, zero, suc, ◌+◌, ◌<◌, ◌≤◌, true, false, cond, List, [], ◌∷◌, ◌++◌, Option, Some, None, Result, Ok, Err, OnOk, take, length, get_or, codes, refl, ap, sym, ◌∙◌, subst, arith, add-one, append_assoc, inl, inr}
 use Rattle.std.specs.Prelude.{slice_get}
 use Rattle.std.specs.List.{flat_map}
 use Rattle.std.specs.Io.KnownBytes.{Appends}
@@ -29,10 +29,12 @@ pub then : {T E : Type 0} (r : Result T E) (a b c : Option (List ℕ)) (x y : Li
 then (Err e) a b c x y p q = tt
 then (Ok v) a b c x y p q = appends_both a b c x y p q
 
-pub typed_text : (types : Types) (m : Message) → is_typed types m.ty m.value ≡ true → type_name types m.ty ++ (codes ":" ++ value_text types m.ty m.value)
+pub typed_text : (types : Types) (m : Message) → is_typed types m.ty m.value ≡ true → (type_name types m.ty ++ codes ":") ++ value_text types m.ty m.value
     ≡ message_text types m
 unfolding message_text
-typed_text types m e = sym (ap (λ b. cond b (type_name types m.ty ++ (codes ":" ++ value_text types m.ty m.value)) (codes "-")) e)
+typed_text types m e =
+    append_assoc (type_name types m.ty) (codes ":") (value_text types m.ty m.value)
+    ∙ sym (ap (λ b. cond b (type_name types m.ty ++ (codes ":" ++ value_text types m.ty m.value)) (codes "-")) e)
 
 pub untyped_text : (types : Types) (m : Message) → is_typed types m.ty m.value ≡ false → codes "-" ≡ message_text types m
 unfolding message_text

@@ -38,7 +38,7 @@ fn write_arrival<W: Write>(
 {
     match telling {
         Telling::Report => Ok(()),
-        Telling::Trace => write_envelope(test_case, b"came", port, env, out),
+        Telling::Trace => write_envelope(test_case, b"came ", port, env, out),
     }
 }
 
@@ -62,24 +62,24 @@ fn write_entry<W: Write>(
             &stamped.message,
             out,
         ),
-        Entry::Took(port, env, _) => write_envelope(test_case, b"took", at(comp, *port), env, out),
+        Entry::Took(port, env, _) => write_envelope(test_case, b"took ", at(comp, *port), env, out),
         Entry::Found(port, env, _) => write_envelope(
             test_case,
-            b"found",
+            b"found ",
             at(comp, *port),
             env,
             out,
         ),
         Entry::Dropped(port, env, _) => {
-            write_envelope(test_case, b"dropped", at(comp, *port), env, out)
+            write_envelope(test_case, b"dropped ", at(comp, *port), env, out)
         }
-        Entry::Cleared(port) => write_port(test_case, b"cleared", at(comp, *port), out),
-        Entry::Started(port) => write_port(test_case, b"started", at(comp, *port), out),
-        Entry::Stopped(port) => write_port(test_case, b"stopped", at(comp, *port), out),
-        Entry::Halted(port) => write_port(test_case, b"halted", at(comp, *port), out),
+        Entry::Cleared(port) => write_port(test_case, b"cleared ", at(comp, *port), out),
+        Entry::Started(port) => write_port(test_case, b"started ", at(comp, *port), out),
+        Entry::Stopped(port) => write_port(test_case, b"stopped ", at(comp, *port), out),
+        Entry::Halted(port) => write_port(test_case, b"halted ", at(comp, *port), out),
         Entry::Else => write_bytes(b"else\n", out),
-        Entry::Verdict(verdict) => write_verdict(b"set", *verdict, out),
-        Entry::Failed(fault) => write_failure(b"failed", *fault, out),
+        Entry::Verdict(verdict) => write_verdict(b"set ", *verdict, out),
+        Entry::Failed(fault) => write_failure(b"failed ", *fault, out),
         Entry::Arrive(port, env, _) => {
             write_arrival(test_case, telling, at(comp, *port), env, out)
         }

@@ -30,7 +30,7 @@ fn write_queued<W: Write>(
 {
     for place in 0..queue.queued_len() {
         if let Some(env) = queue.queued_at(place) {
-            write_envelope(test_case, b"left", port, env, out)?;
+            write_envelope(test_case, b"left ", port, env, out)?;
         }
     }
     Ok(())

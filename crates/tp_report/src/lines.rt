@@ -1,14 +1,16 @@
 //! The lines of a report, kind by kind.
-ghost use Rattle.std.specs.Prelude.{◌∷◌, [], OnOk};
+ghost use Rattle.std.specs.Prelude.{◌∷◌, ◌++◌, [], OnOk};
 ghost use Rattle.std.specs.Fmt.{decimal};
 ghost use Rattle.std.specs.Io.KnownBytes.{Appends};
+ghost use Rattle.tp_refusal.specs.Label.{label};
 ghost use Rattle.tp_config.specs.Setup.{IsComponent, IsPort};
-ghost use Rattle.tp_report.specs.Words.{message_text, rest_of_line};
-ghost use Rattle.tp_report.specs.Lines.{end_text, envelope_line, failure_line, heading, port_line, sender_of, sent_line, verdict_line};
+ghost use Rattle.tp_inbox.specs.Faults.{send_refusal};
+ghost use Rattle.tp_report.specs.Words.{component_name, line, message_text, port_name, rest_of_line, verdict_word};
+ghost use Rattle.tp_report.specs.Lines.{end_text, heading, sender_of, sent_line};
 
 use crate::words::{
     verdict_word, write_component_name, write_full_name, write_message, write_number,
-    write_port_name,
+    write_port_name, write_spaced,
 };
 use std::io::Write;
 use tp_config::port_type::{CompId, PortRef, RouteId};
@@ -36,24 +38,22 @@ pub fn write_heading<W: Write>(
     write_bytes(b"\n", out)
 }
 
-/// Writes a word and a verdict.
+/// Writes a word, with the space behind it, and a verdict.
 pub fn write_verdict<W: Write>(word: &[u8], verdict: Verdict, out: &mut W) -> Result<(), WriteFault>
     ensures { OnOk result (Appends (W.contents out.old) (W.contents out.new)
-        (verdict_line word.now verdict)) }
+        (word.now ++ line (verdict_word verdict ∷ []))) }
 {
     write_bytes(word, out)?;
-    write_bytes(b" ", out)?;
     write_bytes(verdict_word(verdict), out)?;
     write_bytes(b"\n", out)
 }
 
-/// Writes a word and the number of the refusal by which a send failed.
+/// Writes a word, with the space behind it, and the number of the refusal by which a send failed.
 pub fn write_failure<W: Write>(word: &[u8], fault: SendFault, out: &mut W) -> Result<(), WriteFault>
     ensures { OnOk result (Appends (W.contents out.old) (W.contents out.new)
-        (failure_line word.now fault)) }
+        (word.now ++ line (decimal (label (send_refusal fault)).0 ∷ []))) }
 {
     write_bytes(word, out)?;
-    write_bytes(b" ", out)?;
     write_number(fault.refusal().label().0 as u64, out)?;
     write_bytes(b"\n", out)
 }
@@ -64,12 +64,12 @@ pub fn write_end<W: Write>(ending: End, out: &mut W) -> Result<(), WriteFault>
 {
     match ending {
         End::Done => write_bytes(b"end done\n", out),
-        End::Error(fault) => write_failure(b"end error", fault, out),
+        End::Error(fault) => write_failure(b"end error ", fault, out),
         End::Waiting => write_bytes(b"end waiting\n", out),
     }
 }
 
-/// Writes a word and a port.
+/// Writes a word, with the space behind it, and a port.
 pub fn write_port<W: Write>(
     test_case: &TestCase,
     word: &[u8],
@@ -78,10 +78,9 @@ pub fn write_port<W: Write>(
 ) -> Result<(), WriteFault>
     requires { IsPort test_case.now.config port }
     ensures { OnOk result (Appends (W.contents out.old) (W.contents out.new)
-        (port_line test_case.now word.now port)) }
+        (word.now ++ line (port_name test_case.now.config port ∷ []))) }
 {
     write_bytes(word, out)?;
-    write_bytes(b" ", out)?;
     write_port_name(test_case.config(), port, out)?;
     write_bytes(b"\n", out)
 }
@@ -96,14 +95,12 @@ fn write_rest<W: Write>(
     ensures { OnOk result (Appends (W.contents out.old) (W.contents out.new)
         (rest_of_line (decimal number ∷ message_text types.now message.now ∷ []))) }
 {
-    write_bytes(b" ", out)?;
-    write_number(number, out)?;
-    write_bytes(b" ", out)?;
+    write_spaced(number, out)?;
     write_message(types, message, out)?;
     write_bytes(b"\n", out)
 }
 
-/// Writes a word, a port and a message there.
+/// Writes a word, with the space behind it, a port and a message there.
 pub fn write_envelope<W: Write>(
     test_case: &TestCase,
     word: &[u8],
@@ -114,10 +111,11 @@ pub fn write_envelope<W: Write>(
     requires port { IsPort test_case.now.config port }
     requires sender { IsComponent test_case.now.config (sender_of env.now) }
     ensures { OnOk result (Appends (W.contents out.old) (W.contents out.new)
-        (envelope_line test_case.now word.now port env.now)) }
+        (word.now ++ line (port_name test_case.now.config port
+        ∷ component_name test_case.now.config (sender_of env.now)
+        ∷ decimal env.now.number ∷ message_text test_case.now.types env.now.msg ∷ []))) }
 {
     write_bytes(word, out)?;
-    write_bytes(b" ", out)?;
     write_port_name(test_case.config(), port, out)?;
     write_bytes(b" ", out)?;
     write_component_name(test_case.config(), CompId(env.sender), out)?;

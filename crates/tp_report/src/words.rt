@@ -1,12 +1,13 @@
 //! The words of a report's lines.
-ghost use Rattle.std.specs.Prelude.{◌≡◌, OnOk};
+ghost use Rattle.std.specs.Prelude.{◌≡◌, ◌++◌, OnOk, codes};
 ghost use Rattle.std.specs.Fmt.{decimal};
 ghost use Rattle.std.specs.Io.KnownBytes.{Appends};
+ghost use Rattle.tp_value.specs.declared.types.Ty.TheVariants as ty;
 ghost use Rattle.tp_config.specs.Setup.{IsComponent, IsPort};
 ghost use Rattle.tp_report.specs.Typed.{is_typed};
 ghost use Rattle.tp_report.specs.Words.{component_name, full_name, message_text, port_name, type_name, verdict_word};
 
-use itoa::Buffer;
+use itoa::{Buffer, write_digits};
 use std::io::Write;
 use tp_config::config::Config;
 use tp_config::port_type::{CompId, PortRef};
@@ -22,6 +23,17 @@ pub fn write_number<W: Write>(number: u64, out: &mut W) -> Result<(), WriteFault
 {
     let mut buffer = Buffer::new();
     write_bytes(buffer.format(number).as_bytes(), out)
+}
+
+/// Writes a number between two spaces, in one piece.
+pub fn write_spaced<W: Write>(number: u64, out: &mut W) -> Result<(), WriteFault>
+    ensures { OnOk result (Appends (W.contents out.old) (W.contents out.new)
+        (codes " " ++ (decimal number ++ codes " "))) }
+{
+    // A number has 20 digits at most.
+    let mut text = [b' '; 22];
+    let start = write_digits(number, &mut text, 21);
+    write_bytes(&text[start - 1..], out)
 }
 
 /// Writes the name of a component.
@@ -80,18 +92,29 @@ pub fn write_full_name<W: Write>(
     write_port_name(config, port, out)
 }
 
-/// The name of a type.
-fn type_name(types: &Types, ty: Ty) -> &[u8]
-    ensures { result.now ≡ type_name types.now ty }
+/// The name of the named type of this number; nothing where there is none.
+fn named_type(types: &Types, number: u32) -> &[u8]
+    ensures { result.now ≡ type_name types.now (ty.Named number) }
+{
+    match types.name(number) {
+        Some(name) => name.as_bytes(),
+        None => &[],
+    }
+}
+
+/// Writes the name of a type, and a colon.
+fn write_type<W: Write>(types: &Types, ty: Ty, out: &mut W) -> Result<(), WriteFault>
+    ensures { OnOk result (Appends (W.contents out.old) (W.contents out.new)
+        (type_name types.now ty ++ codes ":")) }
 {
     match ty {
-        Ty::Integer => b"integer",
-        Ty::Boolean => b"boolean",
-        Ty::Charstring => b"charstring",
-        Ty::Named(number) => match types.name(number) {
-            Some(name) => name.as_bytes(),
-            None => &[],
-        },
+        Ty::Integer => write_bytes(b"integer:", out),
+        Ty::Boolean => write_bytes(b"boolean:", out),
+        Ty::Charstring => write_bytes(b"charstring:", out),
+        Ty::Named(number) => {
+            write_bytes(named_type(types, number), out)?;
+            write_bytes(b":", out)
+        }
     }
 }
 
@@ -114,8 +137,7 @@ pub fn write_message<W: Write>(
     if !is_typed(types, message) {
         return write_bytes(b"-", out);
     }
-    write_bytes(type_name(types, message.ty), out)?;
-    write_bytes(b":", out)?;
+    write_type(types, message.ty, out)?;
     write_value(types, message.ty, &message.value, out)
 }
 

@@ -28,7 +28,7 @@ fn write_component<W: Write>(
     write_heading(test_case, comp, out)?;
     write_entries(test_case, telling, comp, component.desk.log(), out)?;
     write_end(component.ending, out)?;
-    write_verdict(b"verdict", component.verdict, out)?;
+    write_verdict(b"verdict ", component.verdict, out)?;
     write_left(test_case, &component.desk, out)
 }
 
@@ -68,5 +68,5 @@ pub fn write_report<W: Write>(
         (told_text telling test_case.now report.now)) }
 {
     write_components(test_case, telling, report.components.as_slice(), out)?;
-    write_verdict(b"result", report.result, out)
+    write_verdict(b"result ", report.result, out)
 }

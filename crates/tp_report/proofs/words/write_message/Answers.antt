@@ -15,5 +15,4 @@ returns g c =
     let e = sym c.is_typed.ensures ∙ c.if-not-is_typed.false in
     subst (λ (text : List ℕ). OnOk c.write_value.result (Appends (g.W.Write.contents c.args.out.now) (g.W.Write.contents c.write_value.new.out) text))
     (typed_text c.args.types.now c.args.message.now e)
-    (then c.write_value.result _ _ _ _ _ (subst (Appends _ _) c.type_name.ensures c.in_ok-write_bytes.ensures)
-    (then c.write_value.result _ _ _ _ _ c.in_ok-write_bytes-2.ensures c.write_value.ensures))
+    (then c.write_value.result _ _ _ _ _ c.in_ok-write_type.ensures c.write_value.ensures)
