@@ -30,7 +30,6 @@ pub struct RouteKey {
 }
 
 /// What the numbers stand for: the place of each in its table.
-#[derive(Drop)]
 pub struct Tables<'t> {
     /// The components, by their names.
     pub components: Components<'t>,
@@ -40,6 +39,24 @@ pub struct Tables<'t> {
     pub routes: IndexSet<RouteKey>,
     /// The messages, by their bytes.
     pub messages: Words<'t>,
+}
+
+impl Drop for Tables<'_> {
+    // Written out, so that what owns one calls this, and proves no drop of what is inside.
+    fn drop(self) {
+        let Tables {
+            components,
+            names,
+            ports,
+            routes,
+            messages,
+        } = self;
+        drop(components);
+        drop(names);
+        drop(ports);
+        drop(routes);
+        drop(messages);
+    }
 }
 
 /// What became of a message.
