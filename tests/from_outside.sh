@@ -29,5 +29,5 @@ each_failed_call() {
 }
 
 failed_calls() {
-    at_least 300 each_failed_call
+    at_least 305 each_failed_call
 }
