@@ -1,6 +1,7 @@
 # tpr_ordered: orders that it keeps, refuses or can't hold, among them those in which components must be inside their
-# operations at once; and runs that end by themselves (tests/forced.py). `room`, `tpr`, `ordered`, `at_least` and
-# `set_up` are those of ./test, `count_told` that of tests/orders.sh, `is_another_entry` that of tests/listed_parts.sh.
+# operations at once; runs that end by themselves (tests/forced.py); and calls that fail (tests/failed_orders.py).
+# `room`, `room_of_all`, `tpr`, `ordered`, `at_least`, `set_up` and `leave_out` are those of ./test, `count_told` that of
+# tests/orders.sh, `is_script` that of tests/from_outside.sh, `is_another_entry` that of tests/listed_parts.sh.
 
 forced_of_each() {
     local script
@@ -10,7 +11,17 @@ forced_of_each() {
     count_told "$room/told_of_forced"
 }
 
+failed_of_each() {
+    python3 -B tests/failed_orders.py "$ordered" "$room/forced" "$room_of_all/refused.so" >"$room/told_of_failed"
+    count_told "$room/told_of_failed"
+}
+
 forced_orders() {
     set_up "tpr_ordered is built" [ -x "$ordered" ] || return
     at_least 60 forced_of_each
+    if is_script "$ordered"; then
+        leave_out "calls that fail in tpr_ordered, since TPR_ORDERED names a script"
+    else
+        at_least 7 failed_of_each
+    fi
 }

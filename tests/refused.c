@@ -1,5 +1,5 @@
-/* Loaded before the C library by tests/refused_memory.sh, tests/runs.sh, tests/from_outside.py and
- * tests/failed_calls.py: refuses one call of a kind, as the system may.
+/* Loaded before the C library by tests/refused_memory.sh, tests/runs.sh, tests/from_outside.py, tests/failed_calls.py
+ * and tests/failed_orders.py: refuses one call of a kind, as the system may.
  *
  * REFUSED_MEMORY is the allocation, REFUSED_THREAD the start of a thread, REFUSED_OPEN the opening of a file,
  * REFUSED_READ the read and REFUSED_WRITE the write that is refused, each counted from 1 over all threads;
