@@ -3,7 +3,7 @@ use Rattle.std.proofs.Common.{◌≡◌, inl, inr, ℕ, zero, suc, ◌<◌, Bool
 use Rattle.std.specs.Prelude.{slice_set, ◌&&◌, ◌≢◌, ◌⊎◌, ◌≤◌, All, Result, Ok, Err, IfErr, OnErr, OnOk}
 use Rattle.std.proofs.lemmas.List.{length-set}
 use Rattle.std.proofs.lemmas.List.Elements.{All-nil, All-cons, All-contains, All-head, All-push, All-set, All-tail, Contains-append_cases, Contains-append_left, Contains-push}
-use Rattle.indexmap.specs.IndexMap.{IndexMap, get}
+use Rattle.indexmap.specs.IndexMap.{IndexMap}
 use Rattle.std.proofs.lemmas.Bool.{and_parts, and_from, eqb-true}
 use Rattle.std.proofs.lemmas.Option.{same_Some}
 use Rattle.tp_config.specs.declared.port_type.CompId.{CompId}
@@ -11,7 +11,7 @@ use Rattle.tp_config.specs.declared.port_type.RouteId.{RouteId}
 use Rattle.tp_inbox.specs.declared.stamped.Stamped.{Stamped}
 use Rattle.tp_inbox.specs.declared.entry.Entry.TheVariants as entry
 use Rattle.tp_inbox.specs.Desks.{Journal, adding}
-use Rattle.tp_inbox.specs.History.{same_route, posted_on}
+use Rattle.tp_inbox.specs.History.{posted_on}
 use Rattle.tp_inbox.specs.Ledgers.{Inbox, Sending, end_of, posting, put_on_way, putting}
 use Rattle.tp_inbox.specs.Places.{KeepsOtherRoutes, route_eq}
 use Rattle.tp_inbox.specs.Routed.{route_at}

@@ -1,5 +1,5 @@
 -- With each turn one route more is filed.
-use Rattle.std.proofs.Common.{◌≡◌, ◌<◌, Some, arith, length, refl, subst}
+use Rattle.std.proofs.Common.{◌<◌, Some, arith, length, subst}
 use Rattle.indexmap.specs.IndexMap.{Updates}
 use Rattle.tp_config.specs.declared.port_type.RouteId.{RouteId}
 use Rattle.tp_inbox.specs.Places.{route_eq}

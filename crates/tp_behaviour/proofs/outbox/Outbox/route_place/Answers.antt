@@ -1,8 +1,6 @@
 -- A route that a sender has stands in the table, with the places of the two.
-use Rattle.std.proofs.Common.{◌≡◌, ◌∙◌, ◌<◌, sym, subst, Some, arith, length, slice_get}
+use Rattle.std.proofs.Common.{◌≡◌, ◌∙◌, sym, subst, Some, slice_get}
 use Rattle.std.proofs.lemmas.Option.{same_Some}
-use Rattle.indexmap.specs.IndexMap.{get_by}
-use Rattle.tp_inbox.specs.Places.{route_eq}
 use Rattle.tp_behaviour.specs.declared.outbox.RoutePlace.{RoutePlace}
 use Rattle.tp_behaviour.proofs.Outboxes.{below_length, standing}
 use Rattle.tp_behaviour.proofs.outbox.Outbox.route_place.Goals as goal
