@@ -98,7 +98,7 @@ builds_and_fails() {
     local again="a source is newer than the last build of the program, which is built again"
     local low="crate 1 of 3, low; 0 minutes so far" side="crate 2 of 3, side; 0 minutes so far"
     local last="crate 3 of 3, tpr; 0 minutes so far"
-    local asked_low="rt was asked in low: lib --jobs 2" asked_last="rt was asked in tpr: run --jobs 2 -- queue"
+    local asked_low="rt was asked in low: lib --jobs 2" asked_last="rt was asked in tpr: run --jobs 1 -- queue"
     local ended="tpr: the build failed; all that it said is in $PWD/a tree/out/build.log"
     local crates="a tree/crates" usage=$'usage: ./build [tpr_ordered] [--jobs N] | ./build is_built | ./build lanes\n'
     builds_at_first
@@ -122,8 +122,8 @@ builds_at_first() {
     rm "$crates/meet"
     observe log_of_build
     must "what rt was asked, and what each crate took" 0 \
-        "$(printf 'rt was asked in %s\n' "low: lib --jobs 1" "side: lib --jobs 1" "tpr: run --jobs 2 -- queue")
-$(printf 'tpr: %s took N seconds with %s\n' low "1 job" side "1 job" tpr "2 jobs")"$'\n' ''
+        "$(printf 'rt was asked in %s\n' "low: lib --jobs 1" "side: lib --jobs 1" "tpr: run --jobs 1 -- queue")
+$(printf 'tpr: %s took N seconds with %s\n' low "1 job" side "1 job" tpr "1 job")"$'\n' ''
     observe ls "a tree/out"
     must "what a build leaves" 0 $'build.log\nbuilt\nlock\n' ''
     call rt "a tree/build" is_built
@@ -148,8 +148,8 @@ builds_the_other_program() {
     must "the program for tools/explore" 0 '' "$(printf 'tpr: %s\n' "$other" "$log" "$last")"$'\n'
     observe log_of_build
     must "what rt was asked for it" 0 \
-        "rt was asked in tpr_ordered: run --jobs 2 -- $PWD/a tree/examples/login_is_answered.ttcn /dev/null
-tpr: tpr_ordered took N seconds with 2 jobs"$'\n' ''
+        "rt was asked in tpr_ordered: run --jobs 1 -- $PWD/a tree/examples/login_is_answered.ttcn /dev/null
+tpr: tpr_ordered took N seconds with 1 job"$'\n' ''
     call rt "a tree/build" tpr_ordered --jobs 2
     must "it is built" 0 '' ''
     touch "$crates/tpr_ordered/src/lib.rt"
