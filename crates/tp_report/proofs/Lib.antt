@@ -4,3 +4,5 @@ mod Deciding
 mod Pieces
 mod Known
 mod Spaced
+mod Behind
+mod Integers

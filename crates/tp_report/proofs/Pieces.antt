@@ -1,6 +1,6 @@
 -- What is written piece by piece.
 use Rattle.std.proofs.Common.{◌≡◌, ℕ, zero, suc, ◌+◌, ◌<◌, ◌≤◌, true, false, cond, List, [], ◌∷◌, ◌++◌, Option, Some, None, Result, Ok, Err, OnOk, take, length, get_or, codes, refl, ap, sym, ◌∙◌, subst, arith, add-one, append_assoc, inl, inr}
-use Rattle.std.specs.Prelude.{slice_get}
+use Rattle.std.specs.Prelude.{All, slice_get}
 use Rattle.std.specs.List.{flat_map}
 use Rattle.std.specs.Io.KnownBytes.{Appends}
 use Rattle.std.proofs.lemmas.Grind.{flat_map-append}
@@ -71,6 +71,10 @@ none_yet a = nothing_written a [] refl
 -- where a list has an element
 there : {X : Type 0} (xs : List X) (i : ℕ) (x : X) → slice_get xs i ≡ Some x → i < length xs
 there xs i x e = elim ((slice_get_cases xs i).1) [ inl w ↦ w.1 | inr w ↦ absurd (cc) ]
+
+-- what holds of each element holds of that at a place
+pub all_at : {X : Type 0} (P : X → Type 0) (xs : List X) (i : ℕ) (x : X) → All P xs → slice_get xs i ≡ Some x → P x
+all_at P xs i x all e = subst P (get_or_from_slice_get xs i x x e) (all i x (there xs i x e))
 
 pub one_more_at : {X : Type 0} (text : X → List ℕ) (xs : List X) (i : ℕ) (x : X) → slice_get xs i ≡ Some x
     → (start here now : Option (List ℕ)) → Appends start here (flat_map text (take i xs)) → Appends here now (text x)

@@ -4,9 +4,11 @@ ghost use Rattle.std.specs.List.{flat_map};
 ghost use Rattle.std.specs.Io.KnownBytes.{Appends};
 ghost use Rattle.tp_config.specs.Setup.{IsComponent, IsPort};
 ghost use Rattle.tp_report.specs.Lines.{arrival_text, entry_text, component_port, sender_of};
+ghost use Rattle.tp_report.specs.LineOpenings.{HasItsText};
 ghost use Rattle.tp_report.specs.Reports.{IsKnown};
 
 use crate::lines::{write_envelope, write_failure, write_port, write_sent, write_verdict};
+use crate::opening::{Fate, KeptOpening, KeptOpenings};
 use crate::telling::Telling;
 use std::io::Write;
 use tp_config::port_type::{CompId, PortRef};
@@ -29,16 +31,19 @@ fn write_arrival<W: Write>(
     telling: Telling,
     port: PortRef,
     env: &Env<Message>,
+    kept: &mut KeptOpening,
     out: &mut W,
 ) -> Result<(), WriteFault>
     requires port { IsPort test_case.now.config port }
     requires sender { IsComponent test_case.now.config (sender_of env.now) }
-    ensures { OnOk result (Appends (W.contents out.old) (W.contents out.new)
+    requires kept { HasItsText test_case.now.config kept.old }
+    ensures written { OnOk result (Appends (W.contents out.old) (W.contents out.new)
         (arrival_text telling test_case.now port env.now)) }
+    ensures kept { HasItsText test_case.now.config kept.new }
 {
     match telling {
         Telling::Report => Ok(()),
-        Telling::Trace => write_envelope(test_case, b"came ", port, env, out),
+        Telling::Trace => write_envelope(test_case, Fate::Came, port, env, kept, out),
     }
 }
 
@@ -48,30 +53,38 @@ fn write_entry<W: Write>(
     telling: Telling,
     comp: CompId,
     entry: &Entry,
+    kept: &mut KeptOpenings,
     out: &mut W,
 ) -> Result<(), WriteFault>
-    requires { IsKnown test_case.now.config comp entry.now }
-    ensures { OnOk result (Appends (W.contents out.old) (W.contents out.new)
+    requires known { IsKnown test_case.now.config comp entry.now }
+    requires sent { HasItsText test_case.now.config kept.old.sent }
+    requires received { HasItsText test_case.now.config kept.old.received }
+    ensures written { OnOk result (Appends (W.contents out.old) (W.contents out.new)
         (entry_text telling test_case.now comp entry.now)) }
+    ensures sent { HasItsText test_case.now.config kept.new.sent }
+    ensures received { HasItsText test_case.now.config kept.new.received }
 {
+    let sent = &mut kept.sent;
+    let received = &mut kept.received;
     match entry {
-        Entry::Sent(route, number, stamped) => write_sent(
-            test_case,
-            *route,
-            *number,
-            &stamped.message,
-            out,
-        ),
-        Entry::Took(port, env, _) => write_envelope(test_case, b"took ", at(comp, *port), env, out),
-        Entry::Found(port, env, _) => write_envelope(
-            test_case,
-            b"found ",
-            at(comp, *port),
-            env,
-            out,
-        ),
+        Entry::Sent(route, number, stamped) => {
+            write_sent(test_case, *route, *number, &stamped.message, sent, out)
+        }
+        Entry::Took(port, env, _) => {
+            write_envelope(test_case, Fate::Took, at(comp, *port), env, received, out)
+        }
+        Entry::Found(port, env, _) => {
+            write_envelope(test_case, Fate::Found, at(comp, *port), env, received, out)
+        }
         Entry::Dropped(port, env, _) => {
-            write_envelope(test_case, b"dropped ", at(comp, *port), env, out)
+            write_envelope(
+                test_case,
+                Fate::Dropped,
+                at(comp, *port),
+                env,
+                received,
+                out,
+            )
         }
         Entry::Cleared(port) => write_port(test_case, b"cleared ", at(comp, *port), out),
         Entry::Started(port) => write_port(test_case, b"started ", at(comp, *port), out),
@@ -81,7 +94,7 @@ fn write_entry<W: Write>(
         Entry::Verdict(verdict) => write_verdict(b"set ", *verdict, out),
         Entry::Failed(fault) => write_failure(b"failed ", *fault, out),
         Entry::Arrive(port, env, _) => {
-            write_arrival(test_case, telling, at(comp, *port), env, out)
+            write_arrival(test_case, telling, at(comp, *port), env, received, out)
         }
     }
 }
@@ -98,8 +111,9 @@ pub fn write_entries<W: Write>(
     ensures { OnOk result (Appends (W.contents out.old) (W.contents out.new)
         (flat_map (entry_text telling test_case.now comp) entries.now)) }
 {
+    let mut kept = KeptOpenings::new();
     for entry in entries {
-        write_entry(test_case, telling, comp, entry, out)?;
+        write_entry(test_case, telling, comp, entry, &mut kept, out)?;
     }
     Ok(())
 }

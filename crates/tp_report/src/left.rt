@@ -7,6 +7,7 @@ ghost use Rattle.tp_report.specs.Lines.{envelope_line, left_below, sender_of};
 ghost use Rattle.tp_report.specs.Reports.{IsDeskIn};
 
 use crate::lines::write_envelope;
+use crate::opening::{Fate, KeptOpening};
 use std::io::Write;
 use tp_config::port_type::PortRef;
 use tp_inbox::desk::Desk;
@@ -28,9 +29,10 @@ fn write_queued<W: Write>(
     ensures { OnOk result (Appends (W.contents out.old) (W.contents out.new)
         (flat_map (envelope_line test_case.now (codes "left") port) queue.now.entries)) }
 {
+    let mut kept = KeptOpening::new();
     for place in 0..queue.queued_len() {
         if let Some(env) = queue.queued_at(place) {
-            write_envelope(test_case, b"left ", port, env, out)?;
+            write_envelope(test_case, Fate::Left, port, env, &mut kept, out)?;
         }
     }
     Ok(())

@@ -5,13 +5,13 @@ ghost use Rattle.std.specs.Io.KnownBytes.{Appends};
 ghost use Rattle.tp_refusal.specs.Label.{label};
 ghost use Rattle.tp_config.specs.Setup.{IsComponent, IsPort};
 ghost use Rattle.tp_inbox.specs.Faults.{send_refusal};
-ghost use Rattle.tp_report.specs.Words.{component_name, line, message_text, port_name, rest_of_line, verdict_word};
+ghost use Rattle.tp_report.specs.Words.{component_name, line, message_text, port_name, verdict_word};
+ghost use Rattle.tp_report.specs.LineOpenings.{HasItsText, fate_word};
 ghost use Rattle.tp_report.specs.Lines.{end_text, heading, sender_of, sent_line};
 
-use crate::words::{
-    verdict_word, write_component_name, write_full_name, write_message, write_number,
-    write_port_name, write_spaced,
-};
+use crate::opening::{Fate, KeptOpening, Opening};
+use crate::rest::write_rest;
+use crate::words::{verdict_word, write_component_name, write_number, write_port_name};
 use std::io::Write;
 use tp_config::port_type::{CompId, PortRef, RouteId};
 use tp_inbox::ending::End;
@@ -19,7 +19,6 @@ use tp_inbox::send_fault::SendFault;
 use tp_play::test_case::TestCase;
 use tp_queue::event::Env;
 use tp_value::message::Message;
-use tp_value::types::Types;
 use tp_value::verdict::Verdict;
 use tp_value::writing::{WriteFault, write_bytes};
 
@@ -85,40 +84,26 @@ pub fn write_port<W: Write>(
     write_bytes(b"\n", out)
 }
 
-/// Writes the rest of a line on a message: its number and the message.
-fn write_rest<W: Write>(
-    types: &Types,
-    number: u64,
-    message: &Message,
-    out: &mut W,
-) -> Result<(), WriteFault>
-    ensures { OnOk result (Appends (W.contents out.old) (W.contents out.new)
-        (rest_of_line (decimal number ∷ message_text types.now message.now ∷ []))) }
-{
-    write_spaced(number, out)?;
-    write_message(types, message, out)?;
-    write_bytes(b"\n", out)
-}
-
-/// Writes a word, with the space behind it, a port and a message there.
+/// Writes what happened to a message at a port.
 pub fn write_envelope<W: Write>(
     test_case: &TestCase,
-    word: &[u8],
+    fate: Fate,
     port: PortRef,
     env: &Env<Message>,
+    kept: &mut KeptOpening,
     out: &mut W,
 ) -> Result<(), WriteFault>
     requires port { IsPort test_case.now.config port }
     requires sender { IsComponent test_case.now.config (sender_of env.now) }
-    ensures { OnOk result (Appends (W.contents out.old) (W.contents out.new)
-        (word.now ++ line (port_name test_case.now.config port
+    requires kept { HasItsText test_case.now.config kept.old }
+    ensures written { OnOk result (Appends (W.contents out.old) (W.contents out.new)
+        (fate_word fate ++ line (port_name test_case.now.config port
         ∷ component_name test_case.now.config (sender_of env.now)
         ∷ decimal env.now.number ∷ message_text test_case.now.types env.now.msg ∷ []))) }
+    ensures kept { HasItsText test_case.now.config kept.new }
 {
-    write_bytes(word, out)?;
-    write_port_name(test_case.config(), port, out)?;
-    write_bytes(b" ", out)?;
-    write_component_name(test_case.config(), CompId(env.sender), out)?;
+    let opening = Opening::At(fate, port, CompId(env.sender));
+    kept.write(test_case.config(), opening, out)?;
     write_rest(test_case.types(), env.number, &env.msg, out)
 }
 
@@ -128,13 +113,15 @@ pub fn write_sent<W: Write>(
     route: RouteId,
     number: u64,
     message: &Message,
+    kept: &mut KeptOpening,
     out: &mut W,
 ) -> Result<(), WriteFault>
-    requires { IsPort test_case.now.config route.to }
-    ensures { OnOk result (Appends (W.contents out.old) (W.contents out.new)
+    requires port { IsPort test_case.now.config route.to }
+    requires kept { HasItsText test_case.now.config kept.old }
+    ensures written { OnOk result (Appends (W.contents out.old) (W.contents out.new)
         (sent_line test_case.now route number message.now)) }
+    ensures kept { HasItsText test_case.now.config kept.new }
 {
-    write_bytes(b"sent ", out)?;
-    write_full_name(test_case.config(), route.to, out)?;
+    kept.write(test_case.config(), Opening::Sent(route.to), out)?;
     write_rest(test_case.types(), number, message, out)
 }

@@ -5,7 +5,7 @@ ghost use Rattle.std.specs.Io.KnownBytes.{Appends};
 ghost use Rattle.tp_value.specs.declared.types.Ty.TheVariants as ty;
 ghost use Rattle.tp_config.specs.Setup.{IsComponent, IsPort};
 ghost use Rattle.tp_report.specs.Typed.{is_typed};
-ghost use Rattle.tp_report.specs.Words.{component_name, full_name, message_text, port_name, type_name, verdict_word};
+ghost use Rattle.tp_report.specs.Words.{component_name, message_text, port_name, type_name, verdict_word};
 
 use itoa::{Buffer, write_digits};
 use std::io::Write;
@@ -36,6 +36,14 @@ pub fn write_spaced<W: Write>(number: u64, out: &mut W) -> Result<(), WriteFault
     write_bytes(&text[start - 1..], out)
 }
 
+/// The name of a component.
+pub fn component_name(config: &Config, comp: CompId) -> &[u8]
+    requires { IsComponent config.now comp }
+    ensures { result.now ≡ component_name config.now comp }
+{
+    config.name(comp).as_bytes()
+}
+
 /// Writes the name of a component.
 pub fn write_component_name<W: Write>(
     config: &Config,
@@ -46,11 +54,11 @@ pub fn write_component_name<W: Write>(
     ensures { OnOk result (Appends (W.contents out.old) (W.contents out.new)
         (component_name config.now comp)) }
 {
-    write_bytes(config.name(comp).as_bytes(), out)
+    write_bytes(component_name(config, comp), out)
 }
 
 /// The name of a port.
-fn port_name(config: &Config, port: PortRef) -> &[u8]
+pub fn port_name(config: &Config, port: PortRef) -> &[u8]
     requires { IsPort config.now port }
     ensures { result.now ≡ port_name config.now port }
 {
@@ -75,21 +83,6 @@ pub fn write_port_name<W: Write>(
         (port_name config.now port)) }
 {
     write_bytes(port_name(config, port), out)
-}
-
-/// Writes the names of a component and of a port of it.
-pub fn write_full_name<W: Write>(
-    config: &Config,
-    port: PortRef,
-    out: &mut W,
-) -> Result<(), WriteFault>
-    requires { IsPort config.now port }
-    ensures { OnOk result (Appends (W.contents out.old) (W.contents out.new)
-        (full_name config.now port)) }
-{
-    write_component_name(config, port.comp, out)?;
-    write_bytes(b".", out)?;
-    write_port_name(config, port, out)
 }
 
 /// The name of the named type of this number; nothing where there is none.

@@ -1,0 +1,37 @@
+-- How the lines on messages begin.
+use Rattle.std.specs.Prelude.{◌≡◌, ◌≤◌, ℕ, List, ◌++◌, Some, codes, drop}
+use Rattle.tp_config.specs.Setup.{Setup, IsComponent, IsPort}
+use Rattle.tp_report.specs.declared.opening.Fate.{Fate}
+use Rattle.tp_report.specs.declared.opening.Fate.TheVariants as fate
+use Rattle.tp_report.specs.declared.opening.Opening.{Opening}
+use Rattle.tp_report.specs.declared.opening.Opening.TheVariants as opening
+use Rattle.tp_report.specs.declared.opening.OpeningPieces.{OpeningPieces}
+use Rattle.tp_report.specs.declared.opening.KeptOpening.{KeptOpening}
+use Rattle.tp_report.specs.Words.{component_name, full_name, port_name}
+
+-- the word for what happened to a message, with the space behind it
+abbrev pub fate_word : Fate → List ℕ
+fate_word fate.Came = codes "came "
+fate_word fate.Took = codes "took "
+fate_word fate.Found = codes "found "
+fate_word fate.Dropped = codes "dropped "
+fate_word fate.Left = codes "left "
+
+-- what a line on a message begins with
+abbrev pub opening_text : Setup → Opening → List ℕ
+opening_text s (opening.Sent to) = codes "sent " ++ full_name s to
+opening_text s (opening.At happened port sender) = fate_word happened ++ (port_name s port ++ (codes " " ++ component_name s sender))
+
+-- the pieces, one behind the other
+abbrev pub pieces_text : OpeningPieces → List ℕ
+pieces_text p = p.word.now ++ (p.front.now ++ (p.between.now ++ p.back.now))
+
+-- the ports and the component that it names are of the configuration
+abbrev pub NamesKnown : Setup → Opening → Type 0
+NamesKnown s (opening.Sent to) = IsPort s to
+NamesKnown s (opening.At happened port sender) = IsPort s port × IsComponent s sender
+
+-- the text that is kept, if any, is that of the opening it is kept of
+pub record HasItsText (s : Setup) (b : KeptOpening) : Type 0 where
+  pub within : b.start ≤ 128
+  pub same : (o : Opening) → b.of ≡ Some o → drop b.start b.text ≡ opening_text s o

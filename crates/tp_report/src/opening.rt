@@ -1,0 +1,241 @@
+//! How the lines on messages begin. Most begin as the last one of their kind did, so that is kept.
+ghost use Rattle.std.specs.Prelude.{◌≡◌, ◌≤◌, ◌++◌, ◌↔◌, IfSome, IsTrue, OnOk, drop, length};
+ghost use Rattle.std.specs.Io.KnownBytes.{Appends};
+ghost use Rattle.tp_config.specs.Setup.{Setup};
+ghost use Rattle.tp_report.specs.LineOpenings.{HasItsText, NamesKnown, opening_text, pieces_text, fate_word};
+
+use crate::backward::put_bytes;
+use crate::words::{component_name, port_name};
+use std::io::Write;
+use tp_config::config::Config;
+use tp_config::port_type::{CompId, PortRef};
+use tp_value::writing::{WriteFault, write_bytes};
+
+/// Room for an opening's text that is kept. A longer one is written piece by piece.
+const ROOM: usize = 128;
+
+/// What a line says of a message at a port of the component itself.
+#[derive(Clone, Copy, PartialEq, Eq)]
+pub enum Fate {
+    /// It came into the queue of the port.
+    Came,
+    /// It was taken.
+    Took,
+    /// A `check` found it.
+    Found,
+    /// A `trigger` discarded it.
+    Dropped,
+    /// It was still queued in the end.
+    Left,
+}
+
+/// What a line on a message begins with.
+#[derive(Clone, Copy)]
+pub enum Opening {
+    /// The port that the message was sent to.
+    Sent(PortRef),
+    /// What happened to the message, at which port, and who sent it.
+    At(Fate, PortRef, CompId),
+}
+
+/// The pieces of an opening, in their order: a word, and two names with what stands between them.
+#[derive(Clone, Copy)]
+struct OpeningPieces<'a> {
+    word: &'a [u8],
+    front: &'a [u8],
+    between: &'a [u8],
+    back: &'a [u8],
+}
+
+impl Fate {
+    /// The word for it, with the space behind it.
+    fn word(self) -> &'static [u8]
+        ensures { result.now ≡ fate_word self }
+    {
+        match self {
+            Fate::Came => b"came ",
+            Fate::Took => b"took ",
+            Fate::Found => b"found ",
+            Fate::Dropped => b"dropped ",
+            Fate::Left => b"left ",
+        }
+    }
+
+    /// Whether it is this one.
+    fn is(self, other: Fate) -> bool
+        ensures { IsTrue result ↔ (self ≡ other) }
+    {
+        self == other
+    }
+}
+
+impl Opening {
+    /// Whether it is this one.
+    fn is(self, other: Opening) -> bool
+        ensures { IsTrue result ↔ (self ≡ other) }
+    {
+        match self {
+            Opening::Sent(to) => match other {
+                Opening::Sent(other_to) => to.is(other_to),
+                Opening::At(_, _, _) => false,
+            },
+            Opening::At(fate, port, sender) => match other {
+                Opening::Sent(_) => false,
+                Opening::At(other_fate, other_port, other_sender) => {
+                    fate.is(other_fate) && port.is(other_port) && sender.0 == other_sender.0
+                }
+            },
+        }
+    }
+
+    /// Its pieces.
+    fn pieces(self, config: &Config) -> OpeningPieces<'_>
+        requires { NamesKnown config.now self }
+        ensures { pieces_text result ≡ opening_text config.now self }
+    {
+        match self {
+            Opening::Sent(to) => OpeningPieces {
+                word: b"sent ",
+                front: component_name(config, to.comp),
+                between: b".",
+                back: port_name(config, to),
+            },
+            Opening::At(fate, port, sender) => OpeningPieces {
+                word: fate.word(),
+                front: port_name(config, port),
+                between: b" ",
+                back: component_name(config, sender),
+            },
+        }
+    }
+}
+
+/// Does the same where there is room before this place, and else answers nothing.
+fn try_put(bytes: &[u8], text: &mut [u8], end: usize) -> Option<usize>
+    requires { end ≤ length text.old }
+    ensures { IfSome result (λ start. (start ≤ end)
+        × (drop start text.new ≡ bytes.now ++ drop end text.old)) }
+{
+    if bytes.len() > end {
+        return None;
+    }
+    Some(put_bytes(bytes, text, end))
+}
+
+/// Puts the pieces before the end, and answers where they begin; nothing where there is no room.
+fn put_pieces(pieces: OpeningPieces<'_>, text: &mut [u8; ROOM]) -> Option<usize>
+    ensures { IfSome result (λ start. (start ≤ 128) × (drop start text.new
+        ≡ pieces_text pieces.entry)) }
+{
+    let back = try_put(pieces.back, text, ROOM)?;
+    let between = try_put(pieces.between, text, back)?;
+    let front = try_put(pieces.front, text, between)?;
+    try_put(pieces.word, text, front)
+}
+
+/// Writes the pieces.
+fn write_pieces<W: Write>(pieces: OpeningPieces<'_>, out: &mut W) -> Result<(), WriteFault>
+    ensures { OnOk result (Appends (W.contents out.old) (W.contents out.new)
+        (pieces_text pieces.entry)) }
+{
+    write_bytes(pieces.word, out)?;
+    write_bytes(pieces.front, out)?;
+    write_bytes(pieces.between, out)?;
+    write_bytes(pieces.back, out)
+}
+
+/// The opening whose text was put together last, and that text.
+#[derive(Drop)]
+pub struct KeptOpening {
+    /// The opening: nothing before the first one, and where the last had no room.
+    of: Option<Opening>,
+    /// Its text, which ends with the array.
+    text: [u8; ROOM],
+    /// Where its text begins.
+    start: usize,
+}
+
+impl KeptOpening {
+    ghost use Rattle.tp_report.specs.LineOpenings.{HasItsText};
+
+    /// One that keeps nothing yet.
+    pub fn new() -> KeptOpening
+        ensures { (setup : Setup) → HasItsText setup result }
+    {
+        KeptOpening {
+            of: None,
+            text: [0; ROOM],
+            start: ROOM,
+        }
+    }
+
+    /// Whether it is that of this opening.
+    fn is_of(&self, opening: Opening) -> bool
+        ensures { IsTrue result → self.now.of ≡ Some opening }
+    {
+        match self.of {
+            Some(kept) => kept.is(opening),
+            None => false,
+        }
+    }
+
+    /// Keeps that of this opening, and answers whether there is room for it.
+    fn keep(&mut self, config: &Config, opening: Opening) -> bool
+        requires { NamesKnown config.now opening }
+        ensures kept { HasItsText config.now self.new }
+        ensures of { IsTrue result → self.new.of ≡ Some opening }
+    {
+        self.of = None;
+        self.start = ROOM;
+        match put_pieces(opening.pieces(config), &mut self.text) {
+            Some(start) => {
+                self.start = start;
+                self.of = Some(opening);
+                true
+            }
+            None => false,
+        }
+    }
+
+    /// Writes an opening: in one piece where it is kept or there is room for it.
+    pub fn write<W: Write>(
+        &mut self,
+        config: &Config,
+        opening: Opening,
+        out: &mut W,
+    ) -> Result<(), WriteFault>
+        requires named { NamesKnown config.now opening }
+        requires kept { HasItsText config.now self.old }
+        ensures written { OnOk result (Appends (W.contents out.old) (W.contents out.new)
+            (opening_text config.now opening)) }
+        ensures kept { HasItsText config.now self.new }
+    {
+        if self.is_of(opening) || self.keep(config, opening) {
+            return write_bytes(&self.text[self.start..], out);
+        }
+        write_pieces(opening.pieces(config), out)
+    }
+}
+
+/// What is kept while a history is written: what was sent has its own, since lines on what was sent
+/// and on what was received are often in turn.
+#[derive(Drop)]
+pub struct KeptOpenings {
+    /// That of the last line on what was sent.
+    pub sent: KeptOpening,
+    /// That of the last line on a message at a port of the component itself.
+    pub received: KeptOpening,
+}
+
+impl KeptOpenings {
+    /// Nothing is kept yet.
+    pub fn new() -> KeptOpenings
+        ensures sent { (setup : Setup) → HasItsText setup result.sent }
+        ensures received { (setup : Setup) → HasItsText setup result.received }
+    {
+        KeptOpenings {
+            sent: KeptOpening::new(),
+            received: KeptOpening::new(),
+        }
+    }
+}
