@@ -2,8 +2,8 @@
 
 That is, in this order:
 
-- which toolchain it is (`rt version`), and HANDLES;
-- of the crate, its line of crates.txt and every file of its src/, specs/ and proofs/, whole;
+- which logic the toolchain has (`rt version`), not which kit it is; and HANDLES;
+- of the crate, what its line of crates.txt uses, and every file of its src/, specs/ and proofs/, whole;
 - of each crate below it the same, but of src/ what `reached` leaves, and of proofs/ not the proofs
   of single functions, unless a text that is taken names one of them.
 
@@ -39,6 +39,8 @@ BEHIND_A_BODY = re.compile(
     r"|(pub|fn|const|static|struct|enum|trait|impl|mod|use|type|ghost|unsafe|extern)\b)"
 )
 CITED = re.compile(r"\bRattle(?:\.[\w«»-]+)*")
+# How many functions of a crate may wait, and what its tests may do: no check goes by it.
+COUNT = re.compile(r" (?:may_wait|tests_may)=[^ :]*")
 
 
 class Unclear(Exception):
@@ -194,9 +196,9 @@ def below(crate, uses):
 
 
 def lines_of(root):
-    """The lines of crates.txt, without comments, by their crates."""
+    """The lines of crates.txt, without comments and counts, by their crates."""
     lines = [line.partition("#")[0].split() for line in text_of(f"{root}/crates.txt").split("\n")]
-    texts = [" ".join(line) for line in lines if line]
+    texts = [COUNT.sub("", " ".join(line)) for line in lines if line]
     return {re.split("[ :]", text)[0]: text for text in texts if ":" in text}
 
 
@@ -210,6 +212,11 @@ def toolchain():
     return ran.stdout.strip() if ran.returncode == 0 else ""
 
 
+def logic_of(kit):
+    """The logic that the toolchain's line names, or the whole line where it names none."""
+    return kit[kit.index("logic ") :] if "logic " in kit else kit
+
+
 def basis(root, crate, uses, kit):
     """The hash of all that an edit of the crate is tried on, but of the edit itself."""
     folder = f"{root}/crates/{crate}"
@@ -221,7 +228,7 @@ def basis(root, crate, uses, kit):
         proofs.update(its_proofs)
     lines = [lines_of(root)[it] for it in [crate, *below(crate, uses)]]
     handles = text_of(f"{root}/HANDLES") if os.path.exists(f"{root}/HANDLES") else ""
-    return sum_of([kit, handles, lines, sorted(with_cited(taken, proofs).items())])
+    return sum_of([logic_of(kit), handles, lines, sorted(with_cited(taken, proofs).items())])
 
 
 def sum_of(parts):

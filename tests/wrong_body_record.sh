@@ -11,7 +11,7 @@ write_prover() { # FOLDER
     printf '#!/bin/sh\necho "$*" >>"${0%%/bin/*}/words"\nexec "${0%%/bin/*}/rt"\n' >"$1/bin/rattle"
     cat >"$1/rt" <<'RT'
 #!/bin/sh
-if [ "$1" = version ]; then echo "${KIT:-kit 1}"; exit; fi
+if [ "$1" = version ]; then echo "${KIT:-kit 1 logic 7}"; exit; fi
 if [ "$1" = doc ]; then echo "${0%/*}/FIRST.md"; exit; fi
 printf "fn ${PWD##*/}::room::%s: proved\n" Room::get hidden RoomFromu8::from RoomFromu16::from
 told=$(grep -n wrong src/room.rt | sed 's/^\([0-9]*\):.*shape.*/note: .\/src\/room.rt:\1:5: it is not proved: it has no field x/
@@ -151,12 +151,15 @@ what_makes_a_line_stale() {
     edited_says "a lemma below" crates/low/proofs/Lib.antt '≡ 2' '≡ 3' 0 3 0
     edited_says "what the crate below uses" crates.txt thiserror itoa 0 3 0
     edited_says "a comment in the list of crates" crates.txt upper lower 3 0 0
+    edited_says "a count in the list of crates" crates.txt low: 'low may_wait=2 tests_may=Wait:' 3 0 0
     edited_says "what a crate may do" HANDLES none Wait 0 3 0
     edited_says "the edit" tests/wrong_bodies/high/gets_more.edit '+ 1' '+ 2' 2 1 0
     touch tree/crates/low/src/more.rt
     record_says "a source more below" 0 3 0
     rm tree/crates/low/src/more.rt
-    KIT='kit 2' record_says "another toolchain" 0 3 0
+    KIT='kit 1 logic 8' record_says "another logic" 0 3 0
+    KIT='kit 2 logic 7' record_says "another kit of the same logic" 3 0 0
+    KIT='kit 2' record_says "a toolchain that names no logic" 0 3 0
     touch tree/crates/*/src/* && cp -R tree elsewhere && mv tree first && mv elsewhere tree
     LC_ALL=C record_says "another folder, another time" 3 0 0
     rm -r tree && mv first tree
@@ -283,7 +286,7 @@ record_of_wrong_bodies() {
         record_says "nothing is recorded" 0 0 3
         cp -R tree kept_tree
         in_tree wrong_bodies.py
-        at_least 28 what_makes_a_line_stale
+        at_least 31 what_makes_a_line_stale
         at_least 12 what_is_a_fault
         rm -r tree && cp -R kept_tree tree
         at_least 17 what_a_trial_writes
