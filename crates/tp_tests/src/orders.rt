@@ -18,8 +18,8 @@ fn is_the_order<R: AllocGlobal + Abort>(
     }
 }
 
-/// Asserts that there is no order of the numbers below the count, and that the circle that is told is
-/// of these two.
+/// Asserts that there is no order of the numbers below the count, and that the circle which is told
+/// is of these two.
 fn is_a_circle_of_two<R: AllocGlobal + Abort>(
     rt: &R,
     count: usize,
