@@ -15,4 +15,5 @@ pub mod Made
 pub mod RouteLaws
 pub mod Named
 pub mod Listing
+pub mod Among
 pub mod Routing

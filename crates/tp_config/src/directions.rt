@@ -3,17 +3,17 @@ ghost use Rattle.std.specs.Prelude.{◌≡◌};
 ghost use Rattle.std.specs.Option.{option_copied};
 ghost use Rattle.std.specs.List.{list_any};
 ghost use Rattle.tp_config.specs.Tests.{are_among};
-ghost use Rattle.tp_config.specs.Types.{listed_types, same_type};
+ghost use Rattle.tp_config.specs.Types.{HaveSame, listed_types, same_type};
 
 use crate::type_list::TypeList;
 use tp_value::types::Ty;
 
-/// The types of the list, and none where there is no list.
+/// The types of the list, each once, and none where there is no list.
 fn types_of(list: Option<&TypeList>) -> &[Ty]
-    ensures { result.now ≡ listed_types (option_copied list.entry) }
+    ensures { HaveSame result.now (listed_types (option_copied list.entry)) }
 {
     match list {
-        Some(list) => list.as_slice(),
+        Some(list) => list.distinct(),
         None => &[],
     }
 }
@@ -37,7 +37,8 @@ fn are_all_among(these: &[Ty], those: Option<&TypeList>) -> bool
     these.iter().all(|ty| is_among(*ty, those))
 }
 
-/// Whether each type of `these` is among `those`. It looks once at each type of `these`.
+/// Whether each type of `these` is among `those`. It looks once at each type of `these`, however
+/// often the list has it.
 pub(crate) fn are_among(these: Option<&TypeList>, those: Option<&TypeList>) -> bool
     ensures { result
         ≡ are_among (listed_types (option_copied these.entry))

@@ -80,9 +80,9 @@ pub(crate) fn map_fault(
     if is_mapped(components, p) || is_mapped(components, q) {
         return Some(MapFault::NotOneToOne);
     }
-    let to_second = map_directed(types, components, p, q);
-    let to_first = map_directed(types, components, q, p);
-    if (!second || to_second) && (!first || to_first) {
+    // Exactly one of the two is of the test system interface.
+    let (other, system) = if second { (p, q) } else { (q, p) };
+    if map_directed(types, components, other, system) {
         None
     } else {
         Some(MapFault::MapDirections)

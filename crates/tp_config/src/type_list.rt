@@ -1,6 +1,6 @@
 //! Lists of message types, which several port types share.
 ghost use Rattle.std.specs.Prelude.{◌≡◌, IfOk};
-ghost use Rattle.std.specs.List.{list_any};
+ghost use Rattle.std.specs.List.{IsDistinct, list_any};
 ghost use Rattle.tp_config.specs.Types.{HaveSame, same_type};
 
 use indexmap::IndexSet;
@@ -12,7 +12,7 @@ use tp_value::items::Items;
 use tp_value::types::Ty;
 
 /// Message types in their order, with the set of them, so that one is looked for without a look at
-/// each.
+/// each, and who goes through them meets each once.
 #[derive(Drop)]
 struct Listed {
     items: Items<Ty>,
@@ -56,6 +56,14 @@ impl Listed {
         ensures { result.now ≡ self.now }
     {
         self.items.as_slice()
+    }
+
+    /// The types, each once.
+    fn distinct(&self) -> &[Ty]
+        ensures same { HaveSame result.now self.now }
+        ensures once { IsDistinct same_type result.now }
+    {
+        self.known.as_slice()
     }
 
     /// Whether the type is one of these.
@@ -107,6 +115,14 @@ impl TypeList {
         ensures { result.now ≡ self.now }
     {
         self.listed.as_slice()
+    }
+
+    /// The types, each once, however often the list has it. Takes no memory.
+    pub fn distinct(&self) -> &[Ty]
+        ensures same { HaveSame result.now self.now }
+        ensures once { IsDistinct same_type result.now }
+    {
+        self.listed.distinct()
     }
 
     /// Whether the type is one of these, found without a look at each. Takes no memory.
