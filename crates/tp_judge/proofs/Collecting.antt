@@ -1,43 +1,40 @@
 -- Places are collected, number by number, where something doesn't hold.
-use Rattle.std.proofs.Common.{◌≡◌, ◌⊎◌, inl, inr, ℕ, ◌+◌, ◌<◌, List, [], ◌∷◌, ◌++◌, refl, sym, subst, ⊎_elim, arith}
+use Rattle.std.proofs.Common.{◌≡◌, ◌⊎◌, inl, inr, ℕ, ◌<◌, ◌≤◌, List, [], ◌∷◌, ◌++◌, refl, sym, subst, ⊎_elim, arith}
 use Rattle.std.specs.Prelude.{All, ◌↔◌}
-use Rattle.std.proofs.lemmas.List.Elements.{All-push, All-head}
+use Rattle.std.proofs.lemmas.List.Elements.{All-head, All-nil, All-push}
 use native.Mathlib.Decide.{ℕ_discrete}
 use Rattle.tp_judge.specs.declared.place.Place.{Place}
+use Rattle.tp_judge.specs.ToldOf.{OneForEach, of_none, next_lawful, next_unlawful}
 
 -- a place was found for some number below the count
 abbrev pub IsFound : ℕ → (ℕ → Place → Type 0) → Place → Type 0
 IsFound count Q place = (k : ℕ) × (k < count) × Q k place
 
--- P holds of the numbers below n, unless there are places, and each of these was found
-pub record Collects (P : ℕ → Type 0) (Q : ℕ → Place → Type 0) (count n : ℕ) (places : List Place) : Type 0 where
-  pub told : All (IsFound count Q) places
-  pub lawful : places ≡ [] → (k : ℕ) → k < n → P k
-
 either : {A : Type 0} → Dec A → A ⊎ (¬ A)
 either (yes e) = inl e
 either (no n) = inr n
 
-pub collects_none : (P : ℕ → Type 0) (Q : ℕ → Place → Type 0) (count n : ℕ) (places : List Place)
-    → Collects P Q count n places → P n → Collects P Q count (n + 1) places
-collects_none P Q count n places was here = record {
-  told = was.told;
-  lawful = λ none k below. ⊎_elim
-      (λ (e : k ≡ n). subst P (sym e) here)
-      (λ (d : k ≡ n → ⊥). was.lawful none k (omega arith))
-      (either (ℕ_discrete k n));
-}
+-- each was found
+pub each_found : (P : ℕ → Type 0) (Q : ℕ → Place → Type 0) (count n : ℕ) (places : List Place) → OneForEach P Q n places
+    → n ≤ count → All (IsFound count Q) places
+each_found P Q count n places of_none below = All-nil (IsFound count Q)
+each_found P Q count n places (next_lawful m _ rest here) below = each_found P Q count m places rest (omega arith)
+each_found P Q count n places (next_unlawful m others place rest here) below =
+    All-push (IsFound count Q) others place (each_found P Q count m others rest (omega arith)) (m, omega arith, here)
 
 not_empty : (places : List Place) (place : Place) → places ++ place ∷ [] ≡ [] → ⊥
 not_empty [] place e = cc
 not_empty (x ∷ places) place e = cc
 
-pub collects_some : (P : ℕ → Type 0) (Q : ℕ → Place → Type 0) (count n : ℕ) (places : List Place) (place : Place)
-    → Collects P Q count n places → n < count → Q n place → Collects P Q count (n + 1) (places ++ place ∷ [])
-collects_some P Q count n places place was below here = record {
-  told = All-push (IsFound count Q) places place was.told (n, below, here);
-  lawful = λ none k low. absurd (not_empty places place none);
-}
+-- where there is no place P holds of all
+none_missing : (P : ℕ → Type 0) (Q : ℕ → Place → Type 0) (n : ℕ) (places : List Place) → OneForEach P Q n places → places ≡ []
+    → (k : ℕ) → k < n → P k
+none_missing P Q n places of_none none k below = absurd (omega arith)
+none_missing P Q n places (next_lawful m _ rest here) none k below = ⊎_elim
+    (λ (e : k ≡ m). subst P (sym e) here)
+    (λ (d : k ≡ m → ⊥). none_missing P Q m places rest none k (omega arith))
+    (either (ℕ_discrete k m))
+none_missing P Q n places (next_unlawful m others place rest here) none k below = absurd (not_empty others place none)
 
 no_place : (P : ℕ → Type 0) (Q : ℕ → Place → Type 0) (count : ℕ) (places : List Place)
     → ((k : ℕ) (place : Place) → Q k place → P k → ⊥) → All (IsFound count Q) places
@@ -48,10 +45,10 @@ no_place P Q count (place ∷ places) apart told lawful =
     absurd (apart found.0 place found.2 (lawful found.0 found.1))
 
 -- there are no places exactly where P holds of all
-pub collects_all : (P : ℕ → Type 0) (Q : ℕ → Place → Type 0) (count n : ℕ) (places : List Place)
-    → ((k : ℕ) (place : Place) → Q k place → P k → ⊥) → count ≡ n → Collects P Q count n places
-    → (places ≡ []) ↔ ((k : ℕ) → k < count → P k)
-collects_all P Q count n places apart all was = (
-  λ none k below. was.lawful none k (omega arith),
-  no_place P Q count places apart was.told,
+pub none_exactly : (P : ℕ → Type 0) (Q : ℕ → Place → Type 0) (n : ℕ) (places : List Place)
+    → ((k : ℕ) (place : Place) → Q k place → P k → ⊥) → OneForEach P Q n places
+    → (places ≡ []) ↔ ((k : ℕ) → k < n → P k)
+none_exactly P Q n places apart each = (
+  none_missing P Q n places each,
+  no_place P Q n places apart (each_found P Q n n places each (omega arith)),
 )

@@ -15,3 +15,4 @@ pub mod Sendings
 pub mod Latest
 pub mod Circles
 pub mod Judged
+pub mod ToldOf

@@ -3,6 +3,7 @@ ghost use Rattle.std.specs.Prelude.{◌≡◌, ◌↔◌, ◌<◌, [], All, IfOk
 ghost use Rattle.tp_judge.specs.Delivered.{Delivered, IsDeliveredAt, IsRoutePlace, IsUnlawfulOn};
 ghost use Rattle.tp_judge.specs.Lawful.{AreWithin};
 ghost use Rattle.tp_judge.specs.RouteRows.{AreRouteRows};
+ghost use Rattle.tp_judge.specs.ToldOf.{AreToldOfRoutes};
 
 use crate::gathering::gather;
 use crate::line::{By, Line};
@@ -52,6 +53,7 @@ pub(crate) fn route_places(
     requires { AreRouteRows trace.now rows.now }
     ensures lawful { IfOk result (λ places. (places.items ≡ []) ↔ Delivered trace.now) }
     ensures told { IfOk result (λ places. All (IsRoutePlace trace.now) places.items) }
+    ensures all { IfOk result (λ places. AreToldOfRoutes trace.now places.items) }
 {
     let mut places = Vec::new(alloc);
     for route in 0..trace.joined.len() {

@@ -3,6 +3,7 @@ ghost use Rattle.std.specs.Prelude.{◌≡◌, ◌↔◌, ◌++◌, [], All, IfO
 ghost use Rattle.std.specs.List.Sorted.{IsPermutation};
 ghost use Rattle.tp_judge.specs.Judged.{AreInOrder, IsLawful, IsOrderly, IsOrderPlace, IsPlace};
 ghost use Rattle.tp_judge.specs.Lawful.{AreWithin};
+ghost use Rattle.tp_judge.specs.ToldOf.{AreToldOf, AreToldOfOrder};
 
 use crate::circles::circle_place;
 use crate::delivery::{gather_routes, route_places};
@@ -32,6 +33,7 @@ fn order_places(alloc: Global, trace: &Trace) -> Result<Vec<Place>, Memory>
     requires { AreWithin trace.now }
     ensures lawful { IfOk result (λ places. (places.items ≡ []) ↔ IsOrderly trace.now) }
     ensures told { IfOk result (λ places. All (IsOrderPlace trace.now) places.items) }
+    ensures all { IfOk result (λ places. AreToldOfOrder trace.now places.items) }
 {
     let rows = gather_routes(alloc, trace)?;
     let mut places = route_places(alloc, trace, &rows)?;
@@ -57,12 +59,13 @@ fn put_in_order(places: &mut Vec<Place>) -> Result<(), Memory>
     Ok(())
 }
 
-/// The places where a trace isn't lawful, in the order of their lines: one at most for each port
-/// and each route, and one for circles, which are looked for where all routes are lawful.
+/// The places where a trace isn't lawful, in the order of their lines: one for each port and each
+/// route that isn't, and where all routes are lawful one of a circle, if there is any.
 pub fn judge(alloc: Global, trace: &Trace) -> Result<Vec<Place>, Memory>
     requires { AreWithin trace.now }
     ensures lawful { IfOk result (λ places. (places.items ≡ []) ↔ IsLawful trace.now) }
     ensures told { IfOk result (λ places. All (IsPlace trace.now) places.items) }
+    ensures all { IfOk result (λ places. AreToldOf trace.now places.items) }
     ensures sorted { IfOk result (λ places. AreInOrder places.items) }
 {
     let mut places = port_places(alloc, trace)?;

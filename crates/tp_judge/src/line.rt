@@ -10,7 +10,9 @@ pub struct MessageId(pub u32);
 /// A message on its route: its number there, and what it is.
 #[derive(Clone, Copy, PartialEq, Eq)]
 pub struct Parcel {
+    /// Its number on the route, from 0.
     pub number: u64,
+    /// The message.
     pub message: MessageId,
 }
 
@@ -18,8 +20,11 @@ pub struct Parcel {
 /// and a port, so at one port a route stands for its sender.
 #[derive(Clone, Copy)]
 pub struct Mention {
+    /// The port, by its number.
     pub port: u32,
+    /// The route, by its number.
     pub route: u32,
+    /// The message on it.
     pub parcel: Parcel,
 }
 
@@ -61,6 +66,7 @@ pub struct Line {
     pub number: u32,
     /// The component whose section it is in. A component has one section at most.
     pub component: u32,
+    /// What it says.
     pub act: Act,
 }
 

@@ -32,5 +32,6 @@ pub enum Rule {
 pub struct Place {
     /// The line's number in the text.
     pub line: u32,
+    /// The rule that it breaks.
     pub rule: Rule,
 }

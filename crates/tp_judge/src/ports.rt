@@ -7,6 +7,7 @@ ghost use Rattle.tp_judge.specs.Lawful.{IsPortPlace, IsToldLeft, IsUnlawfulAt, I
 ghost use Rattle.tp_judge.specs.Lawful.{LawfulPorts};
 ghost use Rattle.tp_judge.specs.PortRows.{AreClosers, ArePortRows};
 ghost use Rattle.tp_judge.specs.Lines.{envelope};
+ghost use Rattle.tp_judge.specs.ToldOf.{AreToldOfPorts};
 
 use crate::gathering::gather;
 use crate::line::{Act, By, Line, Mention, MessageId};
@@ -177,6 +178,7 @@ pub fn port_places(alloc: Global, trace: &Trace) -> Result<Vec<Place>, Memory>
     requires { AreWithin trace.now }
     ensures lawful { IfOk result (λ places. (places.items ≡ []) ↔ LawfulPorts trace.now) }
     ensures told { IfOk result (λ places. All (IsPortPlace trace.now) places.items) }
+    ensures all { IfOk result (λ places. AreToldOfPorts trace.now places.items) }
 {
     let rows = gather_ports(alloc, trace)?;
     let mut places = Vec::new(alloc);

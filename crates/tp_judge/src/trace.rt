@@ -4,6 +4,7 @@ use crate::line::Line;
 /// The lines of all sections, in the order of the text, and what their numbers stand for.
 #[derive(Drop)]
 pub struct Trace {
+    /// The lines.
     pub lines: Vec<Line>,
     /// Of each port the component that it belongs to.
     pub owners: Vec<u32>,

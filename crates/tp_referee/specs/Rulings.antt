@@ -6,19 +6,22 @@ use Rattle.tp_judge.specs.declared.place.Place.{Place}
 use Rattle.tp_judge.specs.declared.trace.Trace.{Trace}
 use Rattle.tp_judge.specs.Judged.{AreInOrder, IsLawful, IsPlace}
 use Rattle.tp_judge.specs.OneRun.{IsRunAnswer}
+use Rattle.tp_judge.specs.ToldOf.{AreToldOf}
 use Rattle.tp_referee.specs.declared.ruling.Ruling.{Ruling}
 use Rattle.tp_referee.specs.declared.ruling.Ruling.TheVariants as ruling
 use Rattle.tp_referee.specs.Numbering.{IsNumberingOf}
 
--- a rule is broken at each of the places, one or more, in the order of their lines
+-- a rule is broken at each of the places, one or more, in the order of their lines: they are all that is told of the
+-- trace
 pub record IsUnlawful (trace : Trace) (places : List Place) : Type 0 where
   pub some : places ≢ []
   pub unlawful : IsLawful trace → ⊥
   pub told : All (IsPlace trace) places
   pub in_order : AreInOrder places
+  pub all : AreToldOf trace places
 
 -- **lawful exactly where the trace is**, and then one run exactly where it is one; where it isn't lawful each place is
--- true
+-- true, and none is left out or told twice
 abbrev pub IsRulingOn : Trace → Ruling → Type 0
 IsRulingOn trace (ruling.Lawful run) = IsLawful trace × IsRunAnswer trace run
 IsRulingOn trace (ruling.Unlawful places) = IsUnlawful trace places.items

@@ -89,7 +89,8 @@ fn number_lines<'t>(
     Ok(lines)
 }
 
-/// A trace in numbers. Each name, port, route and message has the number of its first sight.
+/// A trace in numbers. Each port, name of a port, route and message has the number of its first
+/// sight; the components with a section come first, in the order of their sections.
 ///
 /// 50 `Memory` where an allocation was refused. It takes 40 bytes for each line, and what stands in
 /// the tables as long as it works.

@@ -18,14 +18,18 @@ use tp_trace::tree::Trace;
 /// A port: the number of its component, and that of its name among the names of ports.
 #[derive(Clone, Copy, PartialEq, Eq, Hash)]
 pub struct PortKey {
+    /// The number of the component.
     pub component: u32,
+    /// The number of the port's name.
     pub name: u32,
 }
 
 /// A route: the number of its sender, a component, and that of the port at its end.
 #[derive(Clone, Copy, PartialEq, Eq, Hash)]
 pub struct RouteKey {
+    /// The number of the sender.
     pub sender: u32,
+    /// The number of the port.
     pub port: u32,
 }
 

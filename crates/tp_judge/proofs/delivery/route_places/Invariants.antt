@@ -1,9 +1,7 @@
--- The routes so far are lawful, or one has its place.
-use Rattle.std.proofs.Common.{length}
+-- Of each of the routes so far that isn't lawful there is one place.
 use Rattle.tp_judge.specs.Delivered.{IsDeliveredAt, IsUnlawfulOn}
-use Rattle.tp_judge.proofs.Collecting.{Collects}
+use Rattle.tp_judge.specs.ToldOf.{OneForEach}
 use Rattle.tp_judge.proofs.delivery.route_places.Given as goal
 
 abbrev pub invariant-loop-route : goal.invariant-loop-route
-invariant-loop-route l =
-    Collects (IsDeliveredAt l.trace) (IsUnlawfulOn l.trace) (length l.trace.joined.items) l.route l.places.items
+invariant-loop-route l = OneForEach (IsDeliveredAt l.trace) (IsUnlawfulOn l.trace) l.route l.places.items

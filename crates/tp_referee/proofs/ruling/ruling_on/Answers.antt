@@ -20,4 +20,5 @@ returns c =
       unlawful = λ lawful. some (c.in_ok-places.ensures.lawful.1 lawful);
       told = c.in_ok-places.ensures.told;
       in_order = c.in_ok-places.ensures.sorted;
+      all = c.in_ok-places.ensures.all;
     }
