@@ -8,6 +8,7 @@ use Rattle.tp_exec.specs.declared.fault.RunFault.{RunFault}
 use Rattle.tp_exec.specs.Delivery.{IsReportOf}
 use Rattle.tp_exec.specs.Faults.{run_fault_text}
 use Rattle.tp_exec.specs.Order.{NoCircle}
+use Rattle.tp_exec.specs.Reporting.{IsRunFault}
 use Rattle.tp_script.specs.Scripts.{IsScriptOf}
 use Rattle.tpr.specs.Checked.{IsNotAccepted}
 
@@ -20,15 +21,16 @@ pub record IsReported (text : Made → Report → List ℕ) (made : Made) (old n
   pub code : status ≡ 0
   pub printed : Appends old new (text made report)
 
--- the line of the fault by which there is no report was added, and the status is 3
-pub record IsNotReported (old new : Option (List ℕ)) (status : ℕ) : Type 0 where
+-- the line of a fault by which a run of the test case has no report was added, and the status is 3
+pub record IsNotReported (made : Made) (old new : Option (List ℕ)) (status : ℕ) : Type 0 where
   pub fault : RunFault
+  pub why : IsRunFault made fault
   pub code : status ≡ 3
   pub printed : Appends old new (run_fault_text fault)
 
 -- what is printed of a run of this test case
 abbrev pub IsRunOf : (Made → Report → List ℕ) → Made → Option (List ℕ) → Option (List ℕ) → ℕ → Type 0
-IsRunOf text made old new status = IsReported text made old new status ⊎ IsNotReported old new status
+IsRunOf text made old new status = IsReported text made old new status ⊎ IsNotReported made old new status
 
 -- where the writer doesn't fail: what is printed of a run of the test case whose script was read, or the line and the
 -- status of the script's fault

@@ -116,7 +116,8 @@ fn answer_ruling<W: Write>(writer: &mut W, ruling: &Ruling) -> Option<u8>
 }
 
 /// Reads a trace, and prints `lawful` and `one run` or `delayed line L`, or a line
-/// `unlawful RULE line L` for each place where it isn't; or the line of its fault.
+/// `unlawful RULE line L` for each port and each route that isn't lawful, and where all routes are
+/// lawful one of a circle, if there is any; or the line of its fault.
 ///
 /// The status is 0 where it is lawful; 2 where it isn't, or was refused: `refused 2 Read`,
 /// `refused 1 BadLine line L` or `refused 15 Limit line 0`, above 268,435,456 bytes; 3 where memory

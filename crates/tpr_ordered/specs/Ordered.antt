@@ -8,6 +8,7 @@ use Rattle.tp_exec.specs.declared.fault.RunFault.{RunFault}
 use Rattle.tp_exec.specs.Delivery.{IsReportOf}
 use Rattle.tp_exec.specs.Faults.{run_fault_text}
 use Rattle.tp_exec.specs.Order.{NoCircle}
+use Rattle.tp_exec.specs.Reporting.{IsRunFault}
 use Rattle.tpr_ordered.specs.declared.orders.Order.{Order}
 
 -- the text of a report of the test case was added, for which **delivery** holds
@@ -17,14 +18,14 @@ pub record IsReportWritten (made : Made) (old new : Option (List ℕ)) : Type 0 
   pub order : NoCircle report
   pub written : Appends old new (report_text made report)
 
--- the line of a gate that gave up was added, or that of a fault
-abbrev pub IsLineWritten : Option (List ℕ) → Option (List ℕ) → Type 0
-IsLineWritten old new =
-    Appends old new (codes "not held\n") ⊎ ((f : RunFault) × Appends old new (run_fault_text f))
+-- the line of a gate that gave up was added, or that of a fault by which a run of the test case has no report
+abbrev pub IsLineWritten : Made → Option (List ℕ) → Option (List ℕ) → Type 0
+IsLineWritten made old new =
+    Appends old new (codes "not held\n") ⊎ ((f : RunFault) × IsRunFault made f × Appends old new (run_fault_text f))
 
 -- what is written of a run of this test case
 abbrev pub IsRunWritten : Made → Option (List ℕ) → Option (List ℕ) → Type 0
-IsRunWritten made old new = IsReportWritten made old new ⊎ IsLineWritten old new
+IsRunWritten made old new = IsReportWritten made old new ⊎ IsLineWritten made old new
 
 -- what is written of an order: its line, what came of its run, and an empty line
 pub record IsOrderWritten (made : Made) (order : Order) (old new : Option (List ℕ)) : Type 0 where
