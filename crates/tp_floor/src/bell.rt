@@ -130,7 +130,8 @@ impl Bell {
     }
 
     /// The owner, which has taken so many out, rests from now on, unless no other living behaviour
-    /// is awake: then it is told so. Where it rests already, it is not counted a second time.
+    /// is awake: then it is told so. Where it rests already, it is not counted a second time. There
+    /// is nothing for it: no more were announced than it has taken out, and the inbox is open.
     pub fn rest<R: Wait, S: Seam>(&mut self, rt: &R, seam: &mut S, taken: u64) -> Option<Woken>
         requires { (self.old.announced ≤ taken) × (self.old.closed ≡ false) }
         ensures announced { self.new.announced ≡ self.old.announced }

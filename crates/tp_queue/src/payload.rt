@@ -1,4 +1,4 @@
-//! What a queue asks of its messages, and a receiving operation of its template.
+//! What a history asks of its messages, and a queue of a receiving operation.
 ghost use Rattle.std.specs.Prelude.{◌≡◌, ◌↔◌, IfOk, IsTrue};
 ghost use Rattle.tp_queue.specs.Answers.{Satisfies};
 
@@ -6,8 +6,8 @@ use crate::event::Env;
 use std::alloc::Global;
 use tp_refusal::memory::Memory;
 
-/// A message that a queue can hold: it can be copied where there is memory, since the history
-/// keeps each message that arrived, was taken, found or dropped.
+/// A message that can be copied where there is memory: whoever keeps a history beside a queue keeps
+/// each message that arrived, was taken, found or dropped. A queue alone holds any message.
 pub trait Payload: Drop {
     /// A copy, which equals the original. 50 `Memory` only where an allocation was refused.
     fn copy(&self, alloc: Global) -> Result<Self, Memory>

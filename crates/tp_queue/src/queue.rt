@@ -138,7 +138,7 @@ impl<M: Drop> Queue<M> {
         if self.ahead() == 0 {
             return None;
         }
-        // Of a port that isn't halted it is 0, and stays so.
+        // Of a port that isn't halted it says nothing.
         self.ahead = self.ahead.saturating_sub(1);
         self.entries.pop_front()
     }

@@ -110,7 +110,7 @@ impl Opening {
     }
 }
 
-/// Does the same where there is room before this place, and else answers nothing.
+/// Puts these bytes before this place, where there is room, and answers where they begin.
 fn try_put(bytes: &[u8], text: &mut [u8], end: usize) -> Option<usize>
     requires { end ≤ length text.old }
     ensures { IfSome result (λ start. (start ≤ end)

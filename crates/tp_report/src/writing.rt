@@ -53,7 +53,8 @@ fn write_components<W: Write>(
 /// for each entry of its history that is no arrival, how its behaviour ended, its verdict, and what
 /// is left at its ports, the oldest message of each port first; at the end the overall verdict. A
 /// message is its type and its value, or `-` where the value hasn't the type. As a trace, the same
-/// with a line for each arrival too, at its place in the history.
+/// with a line for each arrival too, at its place in the history. The report is one of this test
+/// case: its components, ports and senders are those of the configuration.
 ///
 /// 3 `Write` where the writer answers an error or takes no byte; how much is written then is open.
 /// It takes no memory, and writes in small pieces: give it a writer with a buffer.

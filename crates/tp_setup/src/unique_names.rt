@@ -76,6 +76,9 @@ fn declare_fields<'m>(names: &mut NameSet<'m>, fields: &'m [FieldType]) -> Resul
 }
 
 /// Adds the names of the parameters.
+///
+/// 12 `Duplicate` at the line of the second name where one is there already; 50 `Memory` where an
+/// allocation was refused. The names before it stay added.
 pub fn declare_parameters<'m>(
     names: &mut NameSet<'m>,
     parameters: &'m [Parameter],

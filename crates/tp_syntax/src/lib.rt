@@ -1,4 +1,4 @@
-//! The tree of the core notation and its parser.
+//! The parser of the core notation.
 #![tactic(auto)]
 
 mod cursor;
