@@ -289,6 +289,8 @@ uses_installed() {
     tool_must "tpr-explain, installed" 2 grep -q '^broken.ttcn:26:19: refused 14 Direction: ' "$room/printed"
     installed tpr-suite --jobs 1 "$examples"
     tool_must "tpr-suite, installed" 0 grep -q '; all as wanted$' "$room/printed"
+    installed tpr-suite --explore --junit explored.xml "$examples"
+    tool_must "tpr-suite --explore, installed" 4 prints_nothing
 }
 
 # The libraries that the program is linked with come from packages that it depends on, and the tools' python3 too.

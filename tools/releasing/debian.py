@@ -43,7 +43,7 @@ Description: message ports of TTCN-3 test components, proved
  components talk: message ports, their queues, and start, stop, halt and clear.
  It checks and runs scripts, and replays what happens at one port. It is proved
  that no message which the report of a run calls sent is lost, doubled, put
- before an earlier one of its connection, or taken from behind a halt.
+ before an earlier one from the same component, or taken from behind a halt.
  .
  With it come tools that say what is wrong in a script, run many scripts, and
  draw and compare reports. They are not proved.
