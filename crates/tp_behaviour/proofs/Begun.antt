@@ -7,15 +7,11 @@ use Rattle.tp_play.specs.declared.body.Statement.{Statement}
 use Rattle.tp_play.specs.declared.body.VariableType.{VariableType}
 use Rattle.tp_play.specs.declared.body.VariableType.TheVariants as kind
 use Rattle.tp_inbox.specs.declared.entry.Entry.{Entry}
-use Rattle.tp_inbox.specs.declared.ending.End.TheVariants as ending
 use Rattle.tp_behaviour.specs.declared.held.Held.{Held}
 use Rattle.tp_behaviour.specs.declared.outcome.Outcome.{Outcome}
-use Rattle.tp_behaviour.specs.declared.outcome.Outcome.TheVariants as outcome
-use Rattle.tp_behaviour.specs.Ends.{Follows, Stops}
 use Rattle.tp_behaviour.specs.Held.{Actor, unset}
-use Rattle.tp_behaviour.specs.Moments.{Moment, moments}
+use Rattle.tp_behaviour.specs.Moments.{moments}
 use Rattle.tp_behaviour.specs.Outcomes.{Ends, HasEnded}
-use Rattle.tp_behaviour.specs.Paths.{IsPath}
 use Rattle.tp_behaviour.specs.Seen.{Grew}
 use Rattle.tp_behaviour.specs.Stations.{AreHeld, IsHeldAs}
 
@@ -38,22 +34,15 @@ none_more types i before after below none more =
     let one = ap (map no_value) (take_more types i kind.Component below) ∙ map-append no_value (take i types) (get_or types i kind.Component ∷ []) in
     more ∙ ap (λ (vs : List (Option Held)). vs ++ None ∷ []) none ∙ sym one
 
--- the moments of any history that has those of the statements are a path of them, or stop within them
-followed : (r : Actor) (body : Body) (o : Outcome) (ts : List Moment) (ws : List (Option Held)) (n : List Entry) → moments n ≡ ts
-    → Ends r o [] (unset body) body.statements ts ws → HasEnded r body o n
-followed r body outcome.Done ts ws n trace ends =
-    λ whole same. Follows.done ws (subst (λ us. IsPath r [] (unset body) body.statements us ws) (sym (same ∙ trace)) ends)
-followed r body (outcome.Error fault) ts ws n trace ends =
-    λ whole same. Follows.error fault (subst (Stops r whole (ending.Error fault) [] (unset body) body.statements) (sym (same ∙ trace)) (ends whole))
-followed r body (outcome.Waiting guards) ts ws n trace ends =
-    λ whole same none. Follows.waiting (subst (Stops r whole ending.Waiting [] (unset body) body.statements) (sym (same ∙ trace)) (ends whole none))
-
 -- a body that was carried out from the beginning
 pub has_ended : (r : Actor) (body : Body) (o : Outcome) (turns : List ℤ) (vs : List (Option Held)) (block : List Statement) (ws : List (Option Held))
     (k n : List Entry)
     → turns ≡ [] → vs ≡ unset body → block ≡ body.statements → moments k ≡ [] → Grew (λ ts. Ends r o turns vs block ts ws) k n → HasEnded r body o n
 has_ended r body o turns vs block ws k n no_turn not_set whole begun h =
-    followed r body o h.0 ws n (h.1 ∙ ap (λ ts. ts ++ h.0) begun)
-    (subst (λ (l : List ℤ). Ends r o l (unset body) body.statements h.0 ws) no_turn
-    (subst (λ (us : List (Option Held)). Ends r o turns us body.statements h.0 ws) not_set
-    (subst (λ (xs : List Statement). Ends r o turns vs xs h.0 ws) whole h.2)))
+    let trace : moments n ≡ h.0 = h.1 ∙ ap (λ ts. ts ++ h.0) begun in (
+      ws,
+      subst (λ ts. Ends r o [] (unset body) body.statements ts ws) (sym trace)
+          (subst (λ (l : List ℤ). Ends r o l (unset body) body.statements h.0 ws) no_turn
+          (subst (λ (us : List (Option Held)). Ends r o turns us body.statements h.0 ws) not_set
+          (subst (λ (xs : List Statement). Ends r o turns vs xs h.0 ws) whole h.2))),
+    )

@@ -7,7 +7,6 @@ use Rattle.tp_play.specs.declared.body.Statement.{Statement}
 use Rattle.tp_play.specs.declared.body.Statement.TheVariants as b
 use Rattle.tp_play.specs.declared.body.Branch.{Branch}
 use Rattle.tp_play.specs.Sizes.{turns_between}
-use Rattle.tp_inbox.specs.declared.entry.Entry.{Entry}
 use Rattle.tp_inbox.specs.declared.ending.End.{End}
 use Rattle.tp_inbox.specs.declared.ending.End.TheVariants as ending
 use Rattle.tp_behaviour.specs.declared.choice.Guard.{Guard}
@@ -18,7 +17,6 @@ use Rattle.tp_behaviour.specs.declared.outcome.Outcome.TheVariants as outcome
 use Rattle.tp_behaviour.specs.declared.post.Post.{Post}
 use Rattle.tp_behaviour.specs.declared.station.Station.{Station}
 use Rattle.tp_behaviour.specs.declared.station.State.{State}
-use Rattle.tp_behaviour.specs.Choices.{NoneOpen}
 use Rattle.tp_behaviour.specs.Ends.{Stops, StopsWithin}
 use Rattle.tp_behaviour.specs.Held.{Actor, redirected}
 use Rattle.tp_behaviour.specs.Moments.{Moment}
@@ -39,7 +37,17 @@ module _ (r : Actor) (turns : List ℤ) (vs us ws : List (Option Held)) (xs : Li
       → us ≡ redirected x.receiving h.env vs
   set_by i x ts h at = h.entered.set ∙ ap (λ (y : Branch). redirected y.receiving h.env vs) (same_Some h.entered.branch x (sym h.entered.there ∙ at))
 
-  -- the block of the branch that was chosen
+  -- the block of the branch that was chosen stops
+  stops_in_branch : (rests : List Guard → Type 0) (end : End) (i : ℕ) (x : Branch) (ts more : List Moment)
+      → Enters xs (guards_of r (record { turns = turns; variables = vs }) xs) i vs us ts → slice_get xs i ≡ Some x
+      → Stops r rests end turns us x.block more → StopsWithin r rests end turns vs (b.Alt xs otherwise) (ts ++ more)
+  stops_in_branch rests end i x ts more h at block =
+      let set = set_by i x ts h at in
+      subst (StopsWithin r rests end turns vs (b.Alt xs otherwise)) (behind h.chosen.0 ts more h.chosen.1 h.chosen.2)
+      (StopsWithin.within_branch end turns vs xs otherwise true h.chosen.0 h.chosen.1 i h.env x more h.chosen.3 (h.chosen.4 true) at
+      (subst (λ us'. Stops r rests end turns us' x.block more) set block))
+
+  -- or ends in any way
   of_branch : (o : Outcome) (i : ℕ) (x : Branch) (ts more : List Moment) → Enters xs (guards_of r (record { turns = turns; variables = vs }) xs) i vs us ts
       → slice_get xs i ≡ Some x → Ends r o turns us x.block more ws → EndsStep r o turns vs (b.Alt xs otherwise) (ts ++ more) ws
   of_branch outcome.Done i x ts more h at block =
@@ -47,32 +55,26 @@ module _ (r : Actor) (turns : List ℤ) (vs us ws : List (Option Held)) (xs : Li
       subst (λ us'. IsStep r turns vs (b.Alt xs otherwise) us' ws) (behind h.chosen.0 ts more h.chosen.1 h.chosen.2)
       (IsStep.branch turns vs xs otherwise true h.chosen.0 h.chosen.1 i h.env x more ws h.chosen.3 (h.chosen.4 true) at
       (subst (λ us'. IsPath r turns us' x.block more ws) set block))
-  of_branch (outcome.Error fault) i x ts more h at block = λ whole.
-      let set = set_by i x ts h at in
-      subst (StopsWithin r whole (ending.Error fault) turns vs (b.Alt xs otherwise)) (behind h.chosen.0 ts more h.chosen.1 h.chosen.2)
-      (StopsWithin.within_branch (ending.Error fault) turns vs xs otherwise true h.chosen.0 h.chosen.1 i h.env x more h.chosen.3 (h.chosen.4 true) at
-      (subst (λ us'. Stops r whole (ending.Error fault) turns us' x.block more) set (block whole)))
-  of_branch (outcome.Waiting waiting) i x ts more h at block = λ whole none.
-      let set = set_by i x ts h at in
-      subst (StopsWithin r whole ending.Waiting turns vs (b.Alt xs otherwise)) (behind h.chosen.0 ts more h.chosen.1 h.chosen.2)
-      (StopsWithin.within_branch ending.Waiting turns vs xs otherwise true h.chosen.0 h.chosen.1 i h.env x more h.chosen.3 (h.chosen.4 true) at
-      (subst (λ us'. Stops r whole ending.Waiting turns us' x.block more) set (block whole none)))
+  of_branch (outcome.Error fault) i x ts more h at block = stops_in_branch (λ _. ⊥) (ending.Error fault) i x ts more h at block
+  of_branch (outcome.Waiting waiting) i x ts more h at block = stops_in_branch (λ gs. gs ≡ waiting.items) ending.Waiting i x ts more h at block
 
 -- the block of `[else]`
 module _ (r : Actor) (turns : List ℤ) (vs us ws : List (Option Held)) (xs : List Branch) (has_else : Bool) (items : List Statement) where
+  stops_in_else : (rests : List Guard → Type 0) (end : End) (ts more : List Moment)
+      → EntersElse (guards_of r (record { turns = turns; variables = vs }) xs) has_else vs us ts
+      → Stops r rests end turns us items more → StopsWithin r rests end turns vs (b.Alt xs (Some items)) (ts ++ more)
+  stops_in_else rests end ts more h block =
+      subst (StopsWithin r rests end turns vs (b.Alt xs (Some items))) (behind h.chosen.0 ts more h.chosen.1 h.chosen.2)
+      (StopsWithin.within_else end turns vs xs items h.chosen.0 h.chosen.1 more h.chosen.3 h.chosen.4
+      (subst (λ us'. Stops r rests end turns us' items more) h.kept block))
+
   of_else : (o : Outcome) (ts more : List Moment) → EntersElse (guards_of r (record { turns = turns; variables = vs }) xs) has_else vs us ts
       → Ends r o turns us items more ws → EndsStep r o turns vs (b.Alt xs (Some items)) (ts ++ more) ws
   of_else outcome.Done ts more h block =
       subst (λ us'. IsStep r turns vs (b.Alt xs (Some items)) us' ws) (behind h.chosen.0 ts more h.chosen.1 h.chosen.2)
       (IsStep.otherwise turns vs xs items h.chosen.0 h.chosen.1 more ws h.chosen.3 h.chosen.4 (subst (λ us'. IsPath r turns us' items more ws) h.kept block))
-  of_else (outcome.Error fault) ts more h block = λ whole.
-      subst (StopsWithin r whole (ending.Error fault) turns vs (b.Alt xs (Some items))) (behind h.chosen.0 ts more h.chosen.1 h.chosen.2)
-      (StopsWithin.within_else (ending.Error fault) turns vs xs items h.chosen.0 h.chosen.1 more h.chosen.3 h.chosen.4
-      (subst (λ us'. Stops r whole (ending.Error fault) turns us' items more) h.kept (block whole)))
-  of_else (outcome.Waiting waiting) ts more h block = λ whole none.
-      subst (StopsWithin r whole ending.Waiting turns vs (b.Alt xs (Some items))) (behind h.chosen.0 ts more h.chosen.1 h.chosen.2)
-      (StopsWithin.within_else ending.Waiting turns vs xs items h.chosen.0 h.chosen.1 more h.chosen.3 h.chosen.4
-      (subst (λ us'. Stops r whole ending.Waiting turns us' items more) h.kept (block whole none)))
+  of_else (outcome.Error fault) ts more h block = stops_in_else (λ _. ⊥) (ending.Error fault) ts more h block
+  of_else (outcome.Waiting waiting) ts more h block = stops_in_else (λ gs. gs ≡ waiting.items) ending.Waiting ts more h block
 
 -- an `alt` of which a branch was chosen
 pub step_branch : (p : Post) (x : Statement) (xs ys : List Branch) (otherwise : Option (List Statement)) (has_else : Bool) (i : ℕ) (o : Outcome)
@@ -132,22 +134,22 @@ step_waits p x xs ys otherwise has_else waiting here before there after is are t
     let none : None ≡ otherwise = no_else otherwise (sym there_is ∙ h.none) in
     let whole : b.Alt ys None ≡ x = ap (λ (l : List Branch). b.Alt l None) are ∙ ap (λ (l : Option (List Statement)). b.Alt xs l) none ∙ sym is in
     subst (λ (y : Statement). Stepped p y (outcome.Waiting waiting) here before there after) whole
-    (decided.0, decided.1, λ all closed. StopsWithin.waits_at_alt turns vs ys decided.0 h.drops (subst (NoneOpen all) h.same closed))
+    (decided.0, decided.1, StopsWithin.waits_at_alt turns vs ys decided.0 h.drops (sym h.same))
 
 -- a `for`
 module _ (r : Actor) (turns : List ℤ) (vs ws : List (Option Held)) (first bound : ℤ) (block : List Statement) where
-  of_turn : (whole : List Entry) (end : End) (ts : List Moment)
-      → StopsTurn r turns vs first block (turns_between first bound) (λ inner us more. Stops r whole end inner us block more) ts
-      → StopsWithin r whole end turns vs (b.For first bound block) ts
-  of_turn whole end ts h =
-      subst (StopsWithin r whole end turns vs (b.For first bound block)) (sym h.4)
+  of_turn : (rests : List Guard → Type 0) (end : End) (ts : List Moment)
+      → StopsTurn r turns vs first block (turns_between first bound) (λ inner us more. Stops r rests end inner us block more) ts
+      → StopsWithin r rests end turns vs (b.For first bound block) ts
+  of_turn rests end ts h =
+      subst (StopsWithin r rests end turns vs (b.For first bound block)) (sym h.4)
       (StopsWithin.within_for end turns vs h.1 first bound block h.0 h.2 h.3 h.6 h.5 h.7)
 
   of_turns : (o : Outcome) (ts : List Moment) → EndsTurns r o turns vs first block (turns_between first bound) ts ws
       → EndsStep r o turns vs (b.For first bound block) ts ws
   of_turns outcome.Done ts h = IsStep.counted turns vs first bound block ts ws h
-  of_turns (outcome.Error fault) ts h = λ whole. of_turn whole (ending.Error fault) ts (h whole)
-  of_turns (outcome.Waiting waiting) ts h = λ whole none. of_turn whole ending.Waiting ts (h whole none)
+  of_turns (outcome.Error fault) ts h = of_turn (λ _. ⊥) (ending.Error fault) ts h
+  of_turns (outcome.Waiting waiting) ts h = of_turn (λ gs. gs ≡ waiting.items) ending.Waiting ts h
 
 pub step_for : (p : Post) (x : Statement) (first bound low high : ℤ) (items list : List Statement) (o : Outcome) (here : Station) (before : State)
     (there : Station) (after : State)

@@ -5,6 +5,7 @@ use Rattle.tp_play.specs.declared.body.Statement.{Statement}
 use Rattle.tp_inbox.specs.declared.entry.Entry.{Entry}
 use Rattle.tp_inbox.specs.declared.ending.End.{End}
 use Rattle.tp_inbox.specs.declared.ending.End.TheVariants as ending
+use Rattle.tp_behaviour.specs.declared.choice.Guard.{Guard}
 use Rattle.tp_behaviour.specs.declared.held.Held.{Held}
 use Rattle.tp_behaviour.specs.declared.outcome.Outcome.{Outcome}
 use Rattle.tp_behaviour.specs.declared.outcome.Outcome.TheVariants as outcome
@@ -61,19 +62,19 @@ passed_all p block i here before there after all passed =
 
 module _ (r : Actor) (turns : List ℤ) (vs ws us : List (Option Held)) (block : List Statement) (i : ℕ) (x : Statement) (below : i < length block)
     (is : x ≡ get_or block i x) where
-  stops_at : (whole : List Entry) (end : End) (ts more : List Moment) → IsPath r turns vs (take i block) ts ws
-      → StopsWithin r whole end turns ws x more → Stops r whole end turns vs block (ts ++ more)
-  stops_at whole end ts more path stop =
+  stops_at : (rests : List Guard → Type 0) (end : End) (ts more : List Moment) → IsPath r turns vs (take i block) ts ws
+      → StopsWithin r rests end turns ws x more → Stops r rests end turns vs block (ts ++ more)
+  stops_at rests end ts more path stop =
       let split : take i block ++ x ∷ drop (i + 1) block ≡ block =
       ap (λ y. take i block ++ y ∷ drop (i + 1) block) is ∙ ap (λ xs. take i block ++ xs) (sym (drop_more block i x below)) ∙ take-append-drop i block in
-      subst (λ (xs : List Statement). Stops r whole end turns vs xs (ts ++ more)) split
+      subst (λ (xs : List Statement). Stops r rests end turns vs xs (ts ++ more)) split
       (Stops.stops end turns vs ws (take i block) x (drop (i + 1) block) ts more path stop)
 
   ends_at : (o : Outcome) → (o ≡ outcome.Done → ⊥) → (ts more : List Moment) → IsPath r turns vs (take i block) ts ws
       → EndsStep r o turns ws x more us → Ends r o turns vs block (ts ++ more) us
   ends_at outcome.Done other ts more path one = absurd (other refl)
-  ends_at (outcome.Error fault) other ts more path one = λ whole. stops_at whole (ending.Error fault) ts more path (one whole)
-  ends_at (outcome.Waiting guards) other ts more path one = λ whole none. stops_at whole ending.Waiting ts more path (one whole none)
+  ends_at (outcome.Error fault) other ts more path one = stops_at (λ _. ⊥) (ending.Error fault) ts more path one
+  ends_at (outcome.Waiting guards) other ts more path one = stops_at (λ gs. gs ≡ guards.items) ending.Waiting ts more path one
 
 -- the next one ends otherwise: the block does
 pub passed_stop : (p : Post) (block : List Statement) (i : ℕ) (x : Statement) (o : Outcome) (here : Station) (before : State) (mid : Station) (now : State)

@@ -22,3 +22,4 @@ mod Executed
 mod Turned
 mod Branched
 mod Begun
+pub mod Stopped

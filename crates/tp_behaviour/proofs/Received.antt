@@ -18,7 +18,7 @@ use Rattle.tp_behaviour.specs.declared.choice.Guard.{Guard}
 use Rattle.tp_behaviour.specs.declared.choosing.Choice.TheVariants as choice
 use Rattle.tp_behaviour.specs.declared.held.Held.{Held}
 use Rattle.tp_behaviour.specs.declared.held.Held.TheVariants as held
-use Rattle.tp_behaviour.specs.Choices.{IsChoice, NoneOpen}
+use Rattle.tp_behaviour.specs.Choices.{IsChoice}
 use Rattle.tp_behaviour.specs.Ends.{StopsWithin}
 use Rattle.tp_behaviour.specs.Held.{Actor, guard_of, redirected, set_to}
 use Rattle.tp_behaviour.specs.Moments.{Moment}
@@ -46,14 +46,14 @@ received r turns vs x gs i e k n are h =
       subst (λ ts. IsStep r turns vs (b.Receive x) ts (redirected x e vs)) (sym one.2.2) (IsStep.receive turns vs x one.2.0 t e one.2.3 first),
     )
 
--- or waits, where it isn't open in the whole history
+-- or waits for just these
 pub waits_for : (r : Actor) (turns : List ℤ) (vs : List (Option Held)) (x : Receiving) (gs : List Guard) (k n : List Entry)
     → gs ≡ guard_of r (record { turns = turns; variables = vs }) x ∷ [] → Grew (Chose gs false choice.Waits) k n
-    → Grew (λ ts. (whole : List Entry) → NoneOpen whole gs → StopsWithin r whole ending.Waiting turns vs (b.Receive x) ts) k n
+    → Grew (λ ts. StopsWithin r (λ ys. ys ≡ gs) ending.Waiting turns vs (b.Receive x) ts) k n
 waits_for r turns vs x gs k n are h =
     let g : Guard = guard_of r (record { turns = turns; variables = vs }) x in
     let one : Grew (Chose (g ∷ []) false choice.Waits) k n = subst (λ l. Grew (Chose l false choice.Waits) k n) are h in
-    (one.0, one.1, λ whole none. StopsWithin.waits turns vs x one.0 one.2.1 (subst (NoneOpen whole) are none))
+    (one.0, one.1, StopsWithin.waits turns vs x one.0 one.2.1 (sym are))
 
 -- as many variables are held as are declared
 pub held_as_many : (types : List VariableType) (vs : List (Option Held)) → AreHeld types vs → length vs ≡ length types

@@ -16,15 +16,14 @@ use Rattle.std.specs.Prelude.{Some}
 
 -- a send that fails ends the behaviour
 pub failed : (r : Actor) (vs : Values) (x : SendOperation) (fault : SendFault) (k n : List Entry) → Sends r vs x (Some fault) k n
-    → Grew (λ ts. (whole : List Entry) → StopsWithin r whole (ending.Error fault) vs.turns vs.variables (b.Send x) ts) k n
+    → Grew (λ ts. StopsWithin r (λ _. ⊥) (ending.Error fault) vs.turns vs.variables (b.Send x) ts) k n
 failed r vs x fault k n grew =
     let t = grew.2.0 in
     let u : Moment = record { before = t.before; entry = entry.Failed fault } in
     let same : t ≡ u = λ i. record { before = t.before; entry = grew.2.2.1 i } in (
       u ∷ [],
       grew.1 ∙ ap (λ ts. moments k ++ ts) (grew.2.1 ∙ ap (λ v. v ∷ []) same),
-      λ whole. StopsWithin.fails vs.turns vs.variables x t.before fault
-          grew.2.2.0,
+      StopsWithin.fails vs.turns vs.variables x t.before fault grew.2.2.0,
     )
 
 -- what grew twice

@@ -118,8 +118,8 @@ module _ (r : Actor) (turns : List ℤ) (vs ws us : List (Option Held)) (first :
   ends_in : (o : Outcome) → (o ≡ outcome.Done → ⊥) → (ts more : List Moment) → AreTurns r turns vs first block n ts ws
       → Ends r o (turns ++ (first +ℤ pos n) ∷ []) ws block more us → EndsTurns r o turns vs first block count (ts ++ more) us
   ends_in outcome.Done other ts more so one = absurd (other refl)
-  ends_in (outcome.Error fault) other ts more so one = λ whole. (n, ws, ts, more, refl, less, so, one whole)
-  ends_in (outcome.Waiting guards) other ts more so one = λ whole none. (n, ws, ts, more, refl, less, so, one whole none)
+  ends_in (outcome.Error fault) other ts more so one = (n, ws, ts, more, refl, less, so, one)
+  ends_in (outcome.Waiting guards) other ts more so one = (n, ws, ts, more, refl, less, so, one)
 
 -- the next one ends otherwise: the `for` does
 pub made_stop : (p : Post) (first value bound : ℤ) (block : List Statement) (o : Outcome) (here : Station) (before : State) (mid : Station) (now : State)

@@ -15,6 +15,7 @@ use Rattle.tp_play.specs.declared.body.Body.{Body}
 use Rattle.tp_play.specs.Sizes.{turns_between}
 use Rattle.tp_inbox.specs.declared.entry.Entry.{Entry}
 use Rattle.tp_inbox.specs.declared.entry.Entry.TheVariants as entry
+use Rattle.tp_behaviour.specs.declared.choice.Guard.{Guard}
 use Rattle.tp_behaviour.specs.declared.held.Held.{Held}
 use Rattle.tp_inbox.specs.declared.ending.End.{End}
 use Rattle.tp_inbox.specs.declared.ending.End.TheVariants as ending
@@ -40,59 +41,60 @@ pub data IsFailure (r : Actor) (vs : Values) (x : SendOperation) (k : List Entry
       → routes_from r.config (own_port r x.port) ≡ [] → IsFailure r vs x k (send_fault.Unrouted route_fault.NoRoute)
 
 mutual
-  -- the moments lead to a statement within this one, or to itself, and the behaviour stops there with this end, the
-  -- component's whole history being `whole`
-  pub data StopsWithin (r : Actor) (whole : List Entry) : End → List ℤ → List (Option Held) → Statement → List Moment
-      → Type 0 where
+  -- the moments lead to a statement within this one, or to itself, and the behaviour stops there with this end; where
+  -- it waits, `rests` holds of the branches
+  pub data StopsWithin (r : Actor) (rests : List Guard → Type 0) : End → List ℤ → List (Option Held) → Statement
+      → List Moment → Type 0 where
     -- at a send that fails
     fails : (turns : List ℤ) (vs : List (Option Held)) (x : SendOperation) (k : List Entry) (fault : SendFault)
         → IsFailure r (record { turns = turns; variables = vs }) x k fault
-        → StopsWithin r whole (ending.Error fault) turns vs (statement.Send x)
+        → StopsWithin r rests (ending.Error fault) turns vs (statement.Send x)
         (record { before = k; entry = entry.Failed fault } ∷ [])
-    -- at a receiving operation that isn't open in the whole history
+    -- at a receiving operation
     waits : (turns : List ℤ) (vs : List (Option Held)) (x : Receiving) (drops : List Moment)
         → All (IsDrop (guard_of r (record { turns = turns; variables = vs }) x ∷ [])) drops
-        → NoneOpen whole (guard_of r (record { turns = turns; variables = vs }) x ∷ [])
-        → StopsWithin r whole ending.Waiting turns vs (statement.Receive x) drops
-    -- at an `alt` without `[else]` of which no branch is open in the whole history
+        → rests (guard_of r (record { turns = turns; variables = vs }) x ∷ [])
+        → StopsWithin r rests ending.Waiting turns vs (statement.Receive x) drops
+    -- at an `alt` without `[else]`
     waits_at_alt : (turns : List ℤ) (vs : List (Option Held)) (branches : List Branch) (drops : List Moment)
         → All (IsDrop (guards_of r (record { turns = turns; variables = vs }) branches)) drops
-        → NoneOpen whole (guards_of r (record { turns = turns; variables = vs }) branches)
-        → StopsWithin r whole ending.Waiting turns vs (statement.Alt branches None) drops
+        → rests (guards_of r (record { turns = turns; variables = vs }) branches)
+        → StopsWithin r rests ending.Waiting turns vs (statement.Alt branches None) drops
     -- within the block of the branch that was chosen
     within_branch : (end : End) (turns : List ℤ) (vs : List (Option Held)) (branches : List Branch)
         (otherwise : Option (List Statement)) (has_else : Bool)
         (drops : List Moment) (t : Moment) (i : ℕ) (e : Env Message) (x : Branch) (ts : List Moment)
         → All (IsDrop (guards_of r (record { turns = turns; variables = vs }) branches)) drops
         → IsChoice (guards_of r (record { turns = turns; variables = vs }) branches) has_else t (Some (i, e))
-        → slice_get branches i ≡ Some x → Stops r whole end turns (redirected x.receiving e vs) x.block ts
-        → StopsWithin r whole end turns vs (statement.Alt branches otherwise) (drops ++ t ∷ ts)
+        → slice_get branches i ≡ Some x → Stops r rests end turns (redirected x.receiving e vs) x.block ts
+        → StopsWithin r rests end turns vs (statement.Alt branches otherwise) (drops ++ t ∷ ts)
     within_else : (end : End) (turns : List ℤ) (vs : List (Option Held)) (branches : List Branch)
         (block : List Statement)
         (drops : List Moment) (t : Moment) (ts : List Moment)
         → All (IsDrop (guards_of r (record { turns = turns; variables = vs }) branches)) drops
         → IsChoice (guards_of r (record { turns = turns; variables = vs }) branches) true t None
-        → Stops r whole end turns vs block ts
-        → StopsWithin r whole end turns vs (statement.Alt branches (Some block)) (drops ++ t ∷ ts)
+        → Stops r rests end turns vs block ts
+        → StopsWithin r rests end turns vs (statement.Alt branches (Some block)) (drops ++ t ∷ ts)
     -- within a turn of a `for`, after n whole ones
     within_for : (end : End) (turns : List ℤ) (vs ws : List (Option Held)) (first bound : ℤ) (block : List Statement)
         (n : ℕ) (ts more : List Moment)
         → AreTurns r turns vs first block n ts ws → n < turns_between first bound
-        → Stops r whole end (turns ++ (first +ℤ pos n) ∷ []) ws block more
-        → StopsWithin r whole end turns vs (statement.For first bound block) (ts ++ more)
+        → Stops r rests end (turns ++ (first +ℤ pos n) ∷ []) ws block more
+        → StopsWithin r rests end turns vs (statement.For first bound block) (ts ++ more)
 
   -- the moments are a path of the first of these statements, and then lead to a stop within the one behind them
-  pub data Stops (r : Actor) (whole : List Entry) : End → List ℤ → List (Option Held) → List Statement → List Moment
-      → Type 0 where
+  pub data Stops (r : Actor) (rests : List Guard → Type 0) : End → List ℤ → List (Option Held) → List Statement
+      → List Moment → Type 0 where
     stops : (end : End) (turns : List ℤ) (vs ws : List (Option Held)) (xs : List Statement) (x : Statement)
         (rest : List Statement) (ts more : List Moment)
-        → IsPath r turns vs xs ts ws → StopsWithin r whole end turns ws x more
-        → Stops r whole end turns vs (xs ++ x ∷ rest) (ts ++ more)
+        → IsPath r turns vs xs ts ws → StopsWithin r rests end turns ws x more
+        → Stops r rests end turns vs (xs ++ x ∷ rest) (ts ++ more)
 
--- the history follows the behaviour to this end
+-- the history follows the behaviour to this end: where it waits, none of the branches is open in the whole history
 pub data Follows (r : Actor) (body : Body) (k : List Entry) : End → Type 0 where
   done : (vs : List (Option Held)) → IsPath r [] (unset body) body.statements (moments k) vs
       → Follows r body k ending.Done
-  error : (fault : SendFault) → Stops r k (ending.Error fault) [] (unset body) body.statements (moments k)
+  error : (fault : SendFault) → Stops r (NoneOpen k) (ending.Error fault) [] (unset body) body.statements (moments k)
       → Follows r body k (ending.Error fault)
-  waiting : Stops r k ending.Waiting [] (unset body) body.statements (moments k) → Follows r body k ending.Waiting
+  waiting : Stops r (NoneOpen k) ending.Waiting [] (unset body) body.statements (moments k)
+      → Follows r body k ending.Waiting

@@ -1,4 +1,4 @@
--- How carrying out statements ends, for whoever knows the whole history.
+-- How carrying out statements ends.
 use Rattle.std.specs.Prelude.{◌≡◌, ◌<◌, ◌+ℤ◌, ℕ, ℤ, pos, All, Option, List, [], ◌∷◌, ◌++◌, length}
 use Rattle.tp_config.specs.Setup.{ports_at}
 use Rattle.tp_play.specs.declared.body.Statement.{Statement}
@@ -13,31 +13,28 @@ use Rattle.tp_behaviour.specs.declared.outcome.Outcome.TheVariants as outcome
 use Rattle.tp_behaviour.specs.declared.post.Post.{Post}
 use Rattle.tp_behaviour.specs.declared.station.Station.{Station}
 use Rattle.tp_behaviour.specs.declared.station.State.{State}
-use Rattle.tp_behaviour.specs.Choices.{NoneOpen}
-use Rattle.tp_behaviour.specs.Ends.{Follows, Stops, StopsWithin}
-use Rattle.tp_behaviour.specs.Held.{Actor}
+use Rattle.tp_behaviour.specs.Ends.{Stops, StopsWithin}
+use Rattle.tp_behaviour.specs.Held.{Actor, unset}
 use Rattle.tp_behaviour.specs.Moments.{Moment, moments}
 use Rattle.tp_behaviour.specs.Paths.{AreTurns, IsPath, IsStep}
 use Rattle.tp_behaviour.specs.Seen.{Grew}
 use Rattle.tp_behaviour.specs.Stations.{AreHeld, role_of}
 
--- statements that end so: they are carried out, and the variables then hold these values; or they stop, whatever the
--- whole history is in which, at a wait, none of these is open
+-- statements that end so: they are carried out, and the variables then hold these values; or they stop at a send that
+-- fails by this fault, or at a wait of which these are the branches
 abbrev pub Ends : Actor → Outcome → List ℤ → List (Option Held) → List Statement → List Moment → List (Option Held)
     → Type 0
 Ends r outcome.Done turns vs xs ts ws = IsPath r turns vs xs ts ws
-Ends r (outcome.Error fault) turns vs xs ts ws = (whole : List Entry) → Stops r whole (end.Error fault) turns vs xs ts
-Ends r (outcome.Waiting guards) turns vs xs ts ws = (whole : List Entry) → NoneOpen whole guards.items
-    → Stops r whole end.Waiting turns vs xs ts
+Ends r (outcome.Error fault) turns vs xs ts ws = Stops r (λ _. ⊥) (end.Error fault) turns vs xs ts
+Ends r (outcome.Waiting guards) turns vs xs ts ws = Stops r (λ gs. gs ≡ guards.items) end.Waiting turns vs xs ts
 
 -- a statement that ends so
 abbrev pub EndsStep : Actor → Outcome → List ℤ → List (Option Held) → Statement → List Moment → List (Option Held)
     → Type 0
 EndsStep r outcome.Done turns vs x ts ws = IsStep r turns vs x ts ws
-EndsStep r (outcome.Error fault) turns vs x ts ws =
-    (whole : List Entry) → StopsWithin r whole (end.Error fault) turns vs x ts
-EndsStep r (outcome.Waiting guards) turns vs x ts ws = (whole : List Entry) → NoneOpen whole guards.items
-    → StopsWithin r whole end.Waiting turns vs x ts
+EndsStep r (outcome.Error fault) turns vs x ts ws = StopsWithin r (λ _. ⊥) (end.Error fault) turns vs x ts
+EndsStep r (outcome.Waiting guards) turns vs x ts ws =
+    StopsWithin r (λ gs. gs ≡ guards.items) end.Waiting turns vs x ts
 
 -- after n whole turns of a block the next stops
 abbrev pub StopsTurn : Actor → List ℤ → List (Option Held) → ℤ → List Statement → ℕ
@@ -52,21 +49,16 @@ abbrev pub EndsTurns : Actor → Outcome → List ℤ → List (Option Held) →
     → List (Option Held) → Type 0
 EndsTurns r outcome.Done turns vs first block count ts ws = AreTurns r turns vs first block count ts ws
 EndsTurns r (outcome.Error fault) turns vs first block count ts ws =
-    (whole : List Entry)
-    → StopsTurn r turns vs first block count
-    (λ inner us more. Stops r whole (end.Error fault) inner us block more) ts
+    StopsTurn r turns vs first block count
+    (λ inner us more. Stops r (λ _. ⊥) (end.Error fault) inner us block more) ts
 EndsTurns r (outcome.Waiting guards) turns vs first block count ts ws =
-    (whole : List Entry) → NoneOpen whole guards.items
-    → StopsTurn r turns vs first block count (λ inner us more. Stops r whole end.Waiting inner us block more) ts
+    StopsTurn r turns vs first block count
+    (λ inner us more. Stops r (λ gs. gs ≡ guards.items) end.Waiting inner us block more) ts
 
--- a behaviour with this history has ended so: the history, and each that is this one but for arrivals, follows its body
--- to that end, at a wait where none of these is open in it
+-- a behaviour with this history has ended so: its moments, to which later arrivals add none, are those of the body's
+-- statements, which ended so, no variable being set at first
 abbrev pub HasEnded : Actor → Body → Outcome → List Entry → Type 0
-HasEnded r body outcome.Done k = (whole : List Entry) → moments whole ≡ moments k → Follows r body whole end.Done
-HasEnded r body (outcome.Error fault) k = (whole : List Entry) → moments whole ≡ moments k
-    → Follows r body whole (end.Error fault)
-HasEnded r body (outcome.Waiting guards) k = (whole : List Entry) → moments whole ≡ moments k
-    → NoneOpen whole guards.items → Follows r body whole end.Waiting
+HasEnded r body o k = (vs : List (Option Held)) × Ends r o [] (unset body) body.statements (moments k) vs
 
 -- what it waits for are operations on the first n ports
 abbrev pub WaitsWithin : ℕ → Outcome → Type 0

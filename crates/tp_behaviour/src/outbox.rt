@@ -172,22 +172,23 @@ impl Outbox {
     /// Sends a message on this route, which one of the senders has: [`Desk::send`], by that sender.
     ///
     /// 15 `Limit` only where the route has taken all that it takes; else 50 `Memory` where an
-    /// allocation was refused, or where no stamp is left. Nothing is put or noted then.
+    /// allocation was refused, or where no stamp is left. Either hands the message back, and
+    /// nothing is put or noted then.
     pub fn send<R: Wait>(
         &mut self,
         rt: &R,
         desk: &mut Desk,
         route: RouteId,
-        message: &Message,
-    ) -> Result<(), PutFault>
+        message: Message,
+    ) -> Result<(), (PutFault, Message)>
         requires { Contains (routes_of self.old) route }
         ensures ok { OnOk result ((n : ℕ)
-            × HasPut route (next_of desk.old.log message.now) n self.old self.new
-            × (desk.new
-            ≡ adding desk.old (entry.Sent route n (next_of desk.old.log message.now)))) }
+            × HasPut route (next_of desk.old.log message) n self.old self.new
+            × (desk.new ≡ adding desk.old (entry.Sent route n (next_of desk.old.log message)))) }
         ensures err { OnErr result ((self.new ≡ self.old) × (desk.new ≡ desk.old)) }
-        ensures limit { IfErr result (λ fault.
-            fault ≡ PutFault.Limit → IsRouteFull route self.old) }
+        ensures back { IfErr result (λ back. back.1 ≡ message) }
+        ensures limit { IfErr result (λ back.
+            back.0 ≡ PutFault.Limit → IsRouteFull route self.old) }
     {
         let place = self.route_place(route);
         desk.send(rt, &mut self.senders[place.sender], place.way, message)

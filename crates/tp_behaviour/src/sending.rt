@@ -24,6 +24,7 @@ use tp_config::routes::RouteFault;
 use tp_inbox::entry::Entry;
 use tp_inbox::send_fault::SendFault;
 use tp_play::body::{Receiver, SendOperation};
+use tp_queue::payload::Payload;
 use tp_refusal::memory::Memory;
 use tp_value::message::Message;
 
@@ -58,16 +59,16 @@ fn send_on<R: Wait, G: Gate>(
     scene: &Scene<'_, R, G>,
     station: &mut Station,
     route: RouteId,
-    message: &Message,
+    message: Message,
 ) -> Result<(), Memory>
     requires manned { IsManned (role_of scene.now.post.now) station.old }
     requires known { Contains (routes_of station.old.outbox) route }
     ensures manned { OnOk result (IsManned (role_of scene.now.post.now) station.new) }
     ensures same { OnOk result (IsSame station.old station.new) }
     ensures log { OnOk result (station.new.desk.log
-        ≡ station.old.desk.log ++ next_sent route message.now station.old.desk.log ∷ []) }
+        ≡ station.old.desk.log ++ next_sent route message station.old.desk.log ∷ []) }
     ensures trace { OnOk result (AddsEntry station.old.desk
-        (next_sent route message.now station.old.desk.log) station.new.desk) }
+        (next_sent route message station.old.desk.log) station.new.desk) }
 {
     let rt = scene.rt;
     let Ok(()) = station.outbox.send(rt, &mut station.desk, route, message) else {
@@ -85,12 +86,12 @@ fn send_to<R: Wait, G: Gate>(
     station: &mut Station,
     state: &State,
     sending: &SendOperation,
-    message: &Message,
+    message: Message,
     named: Option<CompId>,
 ) -> Result<Option<SendFault>, Memory>
     requires manned { IsManned (role_of scene.now.post.now) station.old }
     requires started { IsStarted station.old.desk.log sending.now.port }
-    requires sent { IsSentAs (values_of state.now) sending.now.sent message.now }
+    requires sent { IsSentAs (values_of state.now) sending.now.sent message }
     requires named { IsNamed
         (role_of scene.now.post.now) (values_of state.now) sending.now.to named }
     ensures manned { OnOk result (IsManned (role_of scene.now.post.now) station.new) }
@@ -135,7 +136,8 @@ fn send_on_each<R: Wait, G: Gate>(
         station.old.desk.log station.new.desk.log) }
 {
     for route in routes {
-        send_on(scene, &mut *station, *route, message)?;
+        let copy = message.copy(scene.post.alloc)?;
+        send_on(scene, &mut *station, *route, copy)?;
     }
     Ok(())
 }
@@ -181,11 +183,11 @@ fn send_to_one<R: Wait, G: Gate>(
     station: &mut Station,
     state: &State,
     sending: &SendOperation,
-    message: &Message,
+    message: Message,
 ) -> Result<Option<SendFault>, Memory>
     requires manned { IsManned (role_of scene.now.post.now) station.old }
     requires started { IsStarted station.old.desk.log sending.now.port }
-    requires sent { IsSentAs (values_of state.now) sending.now.sent message.now }
+    requires sent { IsSentAs (values_of state.now) sending.now.sent message }
     requires names { CanName state.now.variables.items
         (length scene.now.post.now.behaviour.references.now) sending.now.to }
     ensures manned { OnOk result (IsManned (role_of scene.now.post.now) station.new) }
@@ -226,7 +228,7 @@ fn send_started<R: Wait, G: Gate>(
     };
     match sending.to {
         Receiver::All => send_to_all(scene, &mut *station, state, sending, &message),
-        _ => send_to_one(scene, &mut *station, state, sending, &message),
+        _ => send_to_one(scene, &mut *station, state, sending, message),
     }
 }
 

@@ -25,8 +25,7 @@ use Rattle.tp_inbox.specs.History.{event_at, history_of}
 use Rattle.tp_report.specs.Lines.{component_port, sender_of}
 use Rattle.tp_report.specs.Reports.{IsKnown}
 use Rattle.tp_exec.specs.Delivery.{IsOnRoute}
-use Rattle.tp_exec.specs.Reporting.{IsSoundJournal}
-use Rattle.tp_exec.specs.Settlings.{IsSentOut}
+use Rattle.tp_exec.specs.Settlings.{IsSentOut, IsSoundJournal}
 use Rattle.tp_exec.proofs.NoCircle.{given}
 
 -- what holds of all holds of the one at a place

@@ -11,6 +11,7 @@ use Rattle.tp_config.specs.declared.port_type.RouteId.{RouteId}
 use Rattle.tp_config.specs.Allowed.{IsSetup}
 use Rattle.tp_config.specs.Setup.{Setup, IsComponent, names}
 use Rattle.tp_config.specs.Routes.{routes_into}
+use Rattle.tp_play.specs.declared.body.Body.{Body}
 use Rattle.tp_play.specs.Behaviours.{Behaviour}
 use Rattle.tp_play.specs.TestCases.{Made, behaviour_at}
 use Rattle.tp_inbox.specs.declared.stamped.Stamped.{Stamped}
@@ -23,8 +24,12 @@ use Rattle.tp_report.specs.Reports.{IsDeskIn, IsReportable}
 use Rattle.tp_report.specs.Verdicts.{endings, local_verdict, locals, overall_verdict}
 use Rattle.tp_behaviour.specs.declared.outcome.Outcome.{Outcome}
 use Rattle.tp_behaviour.specs.declared.outcome.Outcome.TheVariants as outcome
+use Rattle.tp_behaviour.specs.Choices.{NoneOpen}
+use Rattle.tp_behaviour.specs.Ends.{Follows}
 use Rattle.tp_behaviour.specs.Fresh.{Fresh}
-use Rattle.tp_behaviour.specs.Outcomes.{WaitsWithin}
+use Rattle.tp_behaviour.specs.Held.{Actor}
+use Rattle.tp_behaviour.specs.Outcomes.{HasEnded, WaitsWithin}
+use Rattle.tp_behaviour.proofs.Stopped.{still_stops}
 use Rattle.tp_exec.specs.declared.ended.Ended.{Ended}
 use Rattle.tp_exec.specs.Delivery.{FollowsBehaviour, IsCompReport, IsDelivered, IsDeliveredBetween, IsOnRoute, IsReportOf, numbers_from}
 use Rattle.tp_exec.specs.Rounds.{BehaviourEnded}
@@ -72,15 +77,18 @@ pub room_more : {A B : Type 0} (before rest : List A) (done after : List B) (x :
     → now ≡ room → length done + length before ≤ room → length after + length rest ≤ now
 room_more before rest done after x y room now is was same low = omega (arith, low, same, ap length is, ap length was, length-push done y)
 
--- a behaviour with nothing to come follows what it is there for
+-- a behaviour that has ended, with nothing to come, follows its body to that end
+followed : (r : Actor) (body : Body) (o : Outcome) (k : List Entry) → HasEnded r body o k → IsRest k o → Follows r body k (end_as o)
+followed r body outcome.Done k h rest = Follows.done h.0 h.1
+followed r body (outcome.Error fault) k h rest = Follows.error fault (still_stops r (λ _. ⊥) (NoneOpen k) (λ gs none. absurd none) h.1)
+followed r body (outcome.Waiting guards) k h rest =
+    Follows.waiting (still_stops r (λ gs. gs ≡ guards.items) (NoneOpen k) (λ gs are. subst (NoneOpen k) (sym are) rest) h.1)
+
+-- so does a component with what it is there for
 follows : (s : Setup) (c : CompId) (d : Option Behaviour) (o : Outcome) (k : List Entry) → BehaviourEnded s c d o k → IsRest k o
     → FollowsBehaviour s c d k (end_as o)
-follows s c (Some d) outcome.Done k h rest = h k refl
-follows s c (Some d) (outcome.Error fault) k h rest = h k refl
-follows s c (Some d) (outcome.Waiting guards) k h rest = h k refl rest
-follows s c None outcome.Done k h rest = h k refl
-follows s c None (outcome.Error fault) k h rest = h k refl
-follows s c None (outcome.Waiting guards) k h rest = h k refl rest
+follows s c (Some d) o k h rest = followed (record { config = s; comp = c; references = d.references }) d.body o k h rest
+follows s c None o k h rest = followed (record { config = s; comp = c; references = [] }) (record { variables = []; statements = [] }) o k h rest
 
 -- what is numbered from n on has the numbers from n on
 numbers : (n : ℕ) (ms : List Stamped) → map (λ (x : ℕ × Stamped). x.0) (numbered n ms) ≡ numbers_from n (numbered n ms)

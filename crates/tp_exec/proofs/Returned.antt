@@ -10,11 +10,9 @@ use Rattle.tp_play.specs.Seen.{as_behaviour}
 use Rattle.tp_play.specs.TestCases.{Made, behaviour_at}
 use Rattle.tp_inbox.specs.declared.entry.Entry.{Entry}
 use Rattle.tp_inbox.specs.Ledgers.{Inbox}
-use Rattle.tp_inbox.specs.declared.ending.End.TheVariants as ending
 use Rattle.tp_behaviour.specs.declared.outcome.Outcome.TheVariants as outcome
 use Rattle.tp_behaviour.specs.declared.post.Post.{Post}
 use Rattle.tp_behaviour.specs.declared.station.Station.{Station}
-use Rattle.tp_behaviour.specs.Ends.{Follows}
 use Rattle.tp_behaviour.specs.Held.{Actor}
 use Rattle.tp_behaviour.specs.Moments.{Moment, moments}
 use Rattle.tp_behaviour.specs.Paths.{IsPath}
@@ -38,8 +36,8 @@ manned_for s c references others x h = record {
 }
 
 -- a body without a statement is at its end at once
-nothing_to_do : (r : Actor) (whole : List Entry) → moments whole ≡ [] → Follows r (record { variables = []; statements = [] }) whole ending.Done
-nothing_to_do r whole none = Follows.done [] (subst (λ (ts : List Moment). IsPath r [] [] [] ts []) (sym none) (IsPath.no_statement [] []))
+nothing_to_do : (r : Actor) (k : List Entry) → moments k ≡ [] → HasEnded r (record { variables = []; statements = [] }) outcome.Done k
+nothing_to_do r k none = ([], subst (λ (ts : List Moment). IsPath r [] [] [] ts []) (sym none) (IsPath.no_statement [] []))
 
 none_at_all : moments [] ≡ []
 unfolding moments
@@ -56,8 +54,8 @@ idle_returned made x waits nothing = record {
   staffed = waits.staffed;
   played = record {
     ended = subst (λ (d : Option Behaviour). BehaviourEnded made.config (comp_at (station_number x)) d outcome.Done x.desk.log) (sym nothing)
-        (λ whole same. nothing_to_do (record { config = made.config; comp = comp_at (station_number x); references = [] }) whole
-        (same ∙ no_moment x.desk.log waits.begun));
+        (nothing_to_do (record { config = made.config; comp = comp_at (station_number x); references = [] }) x.desk.log
+        (no_moment x.desk.log waits.begun));
     within = tt;
   };
 }

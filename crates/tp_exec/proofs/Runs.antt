@@ -15,13 +15,12 @@ use Rattle.tp_inbox.specs.declared.entry.Entry.{Entry}
 use Rattle.tp_inbox.specs.declared.entry.Entry.TheVariants as entry
 use Rattle.tp_inbox.specs.History.{is_arrival}
 use Rattle.tp_behaviour.specs.declared.outcome.Outcome.{Outcome}
-use Rattle.tp_behaviour.specs.declared.outcome.Outcome.TheVariants as outcome
 use Rattle.tp_behaviour.specs.declared.station.Station.{Station}
 use Rattle.tp_behaviour.specs.Fresh.{HasOwn, LooksAtPorts}
-use Rattle.tp_behaviour.specs.Held.{Actor}
+use Rattle.tp_behaviour.specs.Held.{Actor, unset}
 use Rattle.tp_behaviour.specs.Moments.{Moment, moments, moments_after, own}
 use Rattle.tp_behaviour.specs.Outboxes.{routes_of}
-use Rattle.tp_behaviour.specs.Outcomes.{HasEnded, WaitsWithin}
+use Rattle.tp_behaviour.specs.Outcomes.{Ends, HasEnded, WaitsWithin}
 use Rattle.tp_behaviour.specs.Stations.{IsSentBy}
 use Rattle.tp_exec.specs.declared.ended.Ended.{Ended}
 use Rattle.tp_exec.specs.declared.played.Played.{Played}
@@ -93,9 +92,7 @@ module _ (out : List RouteId) where
 
 -- a behaviour that has ended has done so in each history with its trace
 ended_so : (r : Actor) (body : Body) (o : Outcome) (k l : List Entry) → moments l ≡ moments k → HasEnded r body o k → HasEnded r body o l
-ended_so r body outcome.Done k l same h = λ whole is. h whole (is ∙ same)
-ended_so r body (outcome.Error fault) k l same h = λ whole is. h whole (is ∙ same)
-ended_so r body (outcome.Waiting guards) k l same h = λ whole is none. h whole (is ∙ same) none
+ended_so r body o k l same h = (h.0, subst (λ ts. Ends r o [] (unset body) body.statements ts h.0) (sym same) h.1)
 
 behaviour_ended : (s : Setup) (c : CompId) (d : Option Behaviour) (o : Outcome) (k l : List Entry) → moments l ≡ moments k → BehaviourEnded s c d o k
     → BehaviourEnded s c d o l
@@ -130,4 +127,5 @@ of_a_run made played ended are done settled = record { each = component; come = 
           sent = All-weaker (IsSentBy (routes_of x.outbox)) (IsSentOut made.config c)
               (gone_out (routes_of x.outbox) made.config c (ways_out made.config (stations_of played) are k x here)) e.desk.log
               (same_trace (IsSentBy (routes_of x.outbox)) (quiet (routes_of x.outbox)) x.desk.log e.desk.log trace manned.sent);
+          sound = w.2.sound;
         }

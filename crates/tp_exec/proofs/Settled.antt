@@ -96,6 +96,7 @@ settled_as p e h = record {
   ports = h.ports;
   rest = h.rest;
   grown = h.grown;
+  sound = h.sound;
 }
 
 -- the behaviour has done no more

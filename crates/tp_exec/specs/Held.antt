@@ -23,6 +23,7 @@ use Rattle.tp_exec.specs.declared.ended.Ended.{Ended}
 use Rattle.tp_exec.specs.declared.idle.Idle.{Idle}
 use Rattle.tp_exec.specs.declared.played.Played.{Played}
 use Rattle.tp_exec.specs.Rounds.{Way, comes_from, way_by, ways_in}
+use Rattle.tp_exec.specs.Settlings.{IsSoundJournal}
 
 -- a component without its senders
 abbrev pub idle_of : Played → Idle
@@ -94,14 +95,15 @@ pub record IsIdle (s : Setup) (x : Idle) : Type 0 where
   pub arrived : arrivals x.desk.log ≡ x.owner.drained
   pub routes : x.owner.inbox.routes ≡ routes_into s x.desk.comp
 
--- what has ended is this component, to which more has come, that is all; each arrival is of a route into its inbox, and
--- there is a count for each
+-- what has ended is this component, to which more has come, that is all; its history is a sound one, each arrival is of
+-- a route into its inbox, and there is a count for each
 pub record IsEndOf (x : Idle) (e : Ended) : Type 0 where
   pub outcome : e.outcome ≡ x.outcome
   pub comp : e.desk.comp ≡ x.desk.comp
   pub ports : e.desk.ports ≡ x.desk.ports
   pub rest : List (ℕ × Env Message × ℕ)
   pub grown : e.desk.log ≡ x.desk.log ++ rest_arrivals rest
+  pub sound : IsSoundJournal e.desk
   pub routed : All (IsArrivalOn x.owner.inbox.routes) (arrivals e.desk.log)
   pub counts : map (λ n. n.0) e.counts.items ≡ x.owner.inbox.routes
 

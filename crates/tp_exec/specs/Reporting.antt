@@ -1,10 +1,7 @@
 -- What a report has of what a run came to, and why there is none.
-use Rattle.std.specs.Prelude.{◌≡◌, ◌+◌, ◌<◌, ℕ, zero, suc, Option, Some, None, List, All, slice_get, string_bytes}
-use Rattle.tp_queue.specs.History.{Lawful}
+use Rattle.std.specs.Prelude.{◌≡◌, ◌+◌, ℕ, zero, suc, Option, Some, None, List, All, slice_get, string_bytes}
 use Rattle.tp_config.specs.Setup.{Setup, names}
 use Rattle.tp_inbox.specs.declared.entry.Entry.{Entry}
-use Rattle.tp_inbox.specs.Desks.{IsWithin, Journal, at_port}
-use Rattle.tp_inbox.specs.History.{IsClocked}
 use Rattle.tp_play.specs.Behaviours.{Behaviour}
 use Rattle.tp_play.specs.TestCases.{Made, behaviour_at}
 use Rattle.tp_inbox.specs.declared.ending.End.{End}
@@ -17,7 +14,7 @@ use Rattle.tp_behaviour.specs.Choices.{NoneOpen}
 use Rattle.tp_exec.specs.declared.ended.Ended.{Ended}
 use Rattle.tp_exec.specs.declared.fault.RunFault.{RunFault}
 use Rattle.tp_exec.specs.declared.fault.RunFault.TheVariants as run_fault
-use Rattle.tp_exec.specs.Settlings.{IsOfARun}
+use Rattle.tp_exec.specs.Settlings.{IsOfARun, IsSoundJournal}
 
 -- one, where there is something to do
 abbrev pub one_with : Option Behaviour → ℕ
@@ -43,12 +40,6 @@ abbrev pub end_as : Outcome → End
 end_as outcome.Done = end.Done
 end_as (outcome.Error fault) = end.Error fault
 end_as (outcome.Waiting guards) = end.Waiting
-
--- each port has a lawful history, the entries name no other port, and the stamps of what was sent grow
-pub record IsSoundJournal (d : Journal) : Type 0 where
-  pub lawful : (port : ℕ) → port < d.ports → Lawful (at_port d port)
-  pub within : All (IsWithin d.ports) d.log
-  pub clocked : IsClocked d.log
 
 -- this is reported of the component: its name, its ports and its history, its end, its verdict, and the numbers of its
 -- routes

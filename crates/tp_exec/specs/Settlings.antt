@@ -1,6 +1,7 @@
 -- What a run comes to once all messages have come.
-use Rattle.std.specs.Prelude.{◌≡◌, ◌++◌, ℕ, Some, List, All, Contains, length, map, slice_get}
+use Rattle.std.specs.Prelude.{◌≡◌, ◌<◌, ◌++◌, ℕ, Some, List, All, Contains, length, map, slice_get}
 use Rattle.tp_queue.specs.declared.event.Env.{Env}
+use Rattle.tp_queue.specs.History.{Lawful}
 use Rattle.tp_value.specs.declared.message.Message.{Message}
 use Rattle.tp_config.specs.declared.port_type.CompId.{CompId}
 use Rattle.tp_config.specs.declared.port_type.RouteId.{RouteId}
@@ -9,7 +10,8 @@ use Rattle.tp_config.specs.Routes.{routes_into}
 use Rattle.tp_inbox.specs.declared.entry.Entry.{Entry}
 use Rattle.tp_inbox.specs.declared.entry.Entry.TheVariants as entry
 use Rattle.tp_inbox.specs.declared.stamped.Stamped.{Stamped}
-use Rattle.tp_inbox.specs.History.{arrived_on, count_of, numbered, sent_on}
+use Rattle.tp_inbox.specs.Desks.{IsWithin, Journal, at_port}
+use Rattle.tp_inbox.specs.History.{IsClocked, arrived_on, count_of, numbered, sent_on}
 use Rattle.tp_inbox.specs.Routed.{rest_arrivals}
 use Rattle.tp_play.specs.TestCases.{Made, behaviour_at}
 use Rattle.tp_behaviour.specs.Fresh.{Fresh}
@@ -19,13 +21,21 @@ use Rattle.tp_exec.specs.declared.ended.Ended.{Ended}
 use Rattle.tp_exec.specs.Delivery.{IsDeliveredBetween, IsOnRoute}
 use Rattle.tp_exec.specs.Rounds.{BehaviourEnded, comp_at}
 
--- the component is the one that played, and has done what it did; its history has more arrivals behind it, that is all
+-- each port has a lawful history, the entries name no other port, and the stamps of what was sent grow
+pub record IsSoundJournal (d : Journal) : Type 0 where
+  pub lawful : (port : ℕ) → port < d.ports → Lawful (at_port d port)
+  pub within : All (IsWithin d.ports) d.log
+  pub clocked : IsClocked d.log
+
+-- the component is the one that played, and has done what it did; its history, a sound one, has more arrivals behind
+-- it, that is all
 pub record IsSettled (p : Played) (e : Ended) : Type 0 where
   pub outcome : e.outcome ≡ p.outcome
   pub comp : e.desk.comp ≡ p.station.desk.comp
   pub ports : e.desk.ports ≡ p.station.desk.ports
   pub rest : List (ℕ × Env Message × ℕ)
   pub grown : e.desk.log ≡ p.station.desk.log ++ rest_arrivals rest
+  pub sound : IsSoundJournal e.desk
 
 -- on a route, all that was sent has come, in its order, numbered from 0 and under its stamps, and is as much as the
 -- sender has put
@@ -62,7 +72,8 @@ abbrev pub IsSentOut : Setup → CompId → Entry → Type 0
 IsSentOut s c (entry.Sent r number m) = (r.source ≡ c) × Contains (routes_into s r.to.comp) r
 IsSentOut s c _ = Unit {0}
 
--- a component of a run: it is at its place, it has done what it is there for, and each operation was a fresh one
+-- a component of a run: it is at its place, it has done what it is there for, each operation was a fresh one, and its
+-- history is a sound one
 pub record IsComponentOf (made : Made) (k : ℕ) (e : Ended) : Type 0 where
   pub comp : e.desk.comp ≡ comp_at k
   pub ports : e.desk.ports ≡ length (ports_at made.config.types made.config.components (comp_at k))
@@ -70,6 +81,7 @@ pub record IsComponentOf (made : Made) (k : ℕ) (e : Ended) : Type 0 where
   pub within : WaitsWithin e.desk.ports e.outcome
   pub fresh : Fresh (comp_at k) e.desk.log
   pub sent : All (IsSentOut made.config (comp_at k)) e.desk.log
+  pub sound : IsSoundJournal e.desk
 
 -- what a run of the test case came to
 pub record IsOfARun (made : Made) (ended : List Ended) : Type 0 where

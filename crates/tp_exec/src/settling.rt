@@ -122,6 +122,8 @@ fn settle_one<R: Wait>(
     } = idle;
     let rest = settle(rt, owner, &desk, senders)?;
     append(&mut desk, rest)?;
+    // It says that the history is a sound one.
+    let _log = desk.log();
     Ok(Ended {
         desk,
         outcome,

@@ -12,16 +12,18 @@ use Rattle.tp_inbox.specs.declared.entry.Entry.{Entry}
 use Rattle.tp_inbox.specs.declared.envelope.Envelope.{Envelope}
 use Rattle.tp_inbox.specs.declared.hub.Hub.{Hub}
 use Rattle.tp_inbox.specs.declared.owner.Owner.TheInside as owner
+use Rattle.tp_inbox.specs.declared.rule.View.{View}
+use Rattle.tp_inbox.specs.Rule.{Sound}
 use Rattle.tp_inbox.specs.History.{is_arrival, arrivals, arrived_on}
 use Rattle.tp_inbox.specs.Desks.{Journal, adding_all}
 use Rattle.tp_inbox.specs.Envelopes.{of, one_of, before, EndsWith, AreCounts, AreRouted}
 use Rattle.tp_inbox.specs.Routed.{AreArrivals, arrival_of, arrivals_of, route_at, absent_route}
 use Rattle.tp_inbox.specs.Places.{route_eq}
-use Rattle.tp_inbox.specs.Ledgers.{Inbox, Draining, IsDeskOf, drained_on}
-use Rattle.tp_inbox.specs.Ends.{IsOwner, drained_of, inbox_of}
+use Rattle.tp_inbox.specs.Ledgers.{Draining, drained_on}
+use Rattle.tp_inbox.specs.Ends.{GivesNext, IsOwner, KeepsRoutes, drained_of, inbox_of}
 use Rattle.tp_inbox.proofs.Routes.{append_nil, length-of, counts_next}
-use Rattle.tp_inbox.proofs.Owners.{in_order_before, routed_before, arrived, ends_nothing, before_nothing}
-use Rattle.tp_inbox.proofs.Arrivals.{are_on, numbered_on, on_none, on_place}
+use Rattle.tp_inbox.proofs.Owners.{in_order_before, routed_before, arrived, ends-append, ends_nothing, before_nothing}
+use Rattle.tp_inbox.proofs.Arrivals.{are_on, arrivals-append, numbered_on, on_none, on_place}
 
 -- what an owner sees itself as
 abbrev pub seen : owner.Inside → Draining
@@ -51,12 +53,22 @@ length-arrivals (e ∷ log) = shorter (is_arrival e) e (filter is_arrival log) (
     shorter true e l n h = omega arith
     shorter false e l n h = omega arith
 
--- the envelope in hand is the next of its route
-pub in_hand : (s : owner.Inside) (e : Envelope) → IsOwner s → Some e ≡ s.hand
-    → (e.place < length (arc_value s.hub).routes.items) × (e.number ≡ length (of e.place (moved s))) × (s.pass.me.view.client.taken ≡ moved s ++ e ∷ [])
-in_hand s e h is =
-    let taken : s.pass.me.view.client.taken ≡ moved s ++ e ∷ [] = h.ends ∙ ap (λ x. moved s ++ one_of x) (sym is) in
-    let a = arrived s.pass.me.view.client (moved s) e (length (arc_value s.hub).routes.items) h.sound h.made taken in (a.0, a.1, taken)
+-- the envelope that comes next is the next of its route
+pub next_of_route : (s : owner.Inside) (w : View) (e : Envelope) → IsOwner s → Sound w → KeepsRoutes s.pass.me.view.client w
+    → GivesNext s.pass.me.view.client s.hand (Some e) w
+    → (e.place < length (arc_value s.hub).routes.items) × (e.number ≡ length (of e.place (moved s))) × (w.taken ≡ moved s ++ e ∷ [])
+next_of_route s w e h sound same is =
+    let a = arrived w (moved s) e (length (arc_value s.hub).routes.items) sound (same.0 ∙ h.made) is in (a.0, a.1, is)
+
+-- where it is in hand again, what was drained stands before it, as it did
+pub hand-back : (all xs : List Envelope) (e : Envelope) (o : Option Envelope) → o ≡ Some e → all ≡ xs ++ e ∷ []
+    → (before all (one_of o) ≡ xs) × EndsWith all (one_of o)
+hand-back all xs e o some is = ends-append all xs (one_of o) (is ∙ ap (λ h. xs ++ one_of h) (sym some))
+
+-- where nothing comes, as much was drained as before
+pub drained-none : (s : owner.Inside) (w : View) (o : Option Envelope) → o ≡ None → GivesNext s.pass.me.view.client s.hand None w
+    → before w.taken (one_of o) ≡ moved s
+drained-none s w o none is = λ i. before (is.1 i) (one_of ((none ∙ sym is.0) i))
 
 pub drained-push : (routes : List RouteId) (all : List Envelope) (xs : List Envelope) (e : Envelope) (o : Option Envelope) (x : Entry) → o ≡ None → all ≡ xs
     ++ e ∷ [] → x ≡ arrival_of routes e
@@ -76,14 +88,10 @@ pub ends-none : (all : List Envelope) (o : Option Envelope) → o ≡ None → E
 ends-none all o none = subst (λ (h : Option Envelope). EndsWith all (one_of h)) (sym none) (ends_nothing all)
 
 -- the port of an envelope is one of the desk's
-pub port_within : (hub shown : Hub) (inbox : Inbox) (d : Journal) (place port : ℕ) → shown ≡ hub → inbox_of hub ≡ inbox → IsDeskOf inbox d
-    → place < length hub.routes.items → port ≡ (route_at shown.routes.items place).to.port → port < d.ports
-port_within hub shown inbox d place port same is desk low at =
-    let p : port ≡ (route_at hub.routes.items place).to.port = at ∙ ap (λ (h : Hub). (route_at h.routes.items place).to.port) same in
-    let within : (route_at hub.routes.items place).to.port < hub.ports = hub.routed.within place absent_route low in
-    let ports : hub.ports ≡ inbox.ports = ap (λ (i : Inbox). i.ports) is in
-    let desks : d.ports ≡ inbox.ports = desk.1 in
-    omega arith
+pub port_within : (hub : Hub) (d : Journal) (place port : ℕ) → d.ports ≡ hub.ports → place < length hub.routes.items
+    → port ≡ (route_at hub.routes.items place).to.port → port < d.ports
+port_within hub d place port ports low at =
+    let within : (route_at hub.routes.items place).to.port < hub.ports = hub.routed.within place absent_route low in omega arith
 
 -- what is drained is no more than the desk's history holds
 pub drained_within : (s : owner.Inside) (v : Draining) (d : Journal) (place : ℕ) → seen s ≡ v → arrivals d.log ≡ v.drained
@@ -101,6 +109,13 @@ adding_nothing d = λ i. record { comp = d.comp; ports = d.ports; log = sym (app
 
 pub adding_twice : (d : Journal) (xs ys : List Entry) → adding_all (adding_all d xs) ys ≡ adding_all d (xs ++ ys)
 adding_twice d xs ys = λ i. record { comp = d.comp; ports = d.ports; log = append_assoc d.log xs ys i }
+
+-- where arrivals come behind both, those of the desk are still what was drained
+pub arrivals_more : (d e : Journal) (drained now more : List Entry) → arrivals d.log ≡ drained → e ≡ adding_all d more → now ≡ drained ++ more
+    → arrivals more ≡ more → arrivals e.log ≡ now
+arrivals_more d e drained now more was desk is same =
+    ap (λ (x : Journal). arrivals x.log) desk ∙ arrivals-append d.log more ∙ ap (λ l. l ++ arrivals more) was
+    ∙ ap (λ l. drained ++ l) same ∙ sym is
 
 -- how many of a route that is found were drained
 pub counted_at : (s : owner.Inside) (v : Draining) (route : RouteId) (place n : ℕ) → IsOwner s → seen s ≡ v → get_by (route_eq route) s.places ≡ Some place

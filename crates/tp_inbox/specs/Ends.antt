@@ -47,6 +47,10 @@ pub record IsSender (s : sender.Inside) : Type 0 where
   pub routed : AreRouted (length (arc_value s.hub).routes.items) s.pass.me.view.client.put
   pub counts : AreTold s.places.items s.counts.items s.pass.me.view.client.put
 
+-- what the owner has taken out is counted as the bell counts what was announced
+abbrev pub IsCounted : ℕ → View → Type 0
+IsCounted n v = n ≡ length v.taken % 2 ^ 64
+
 -- an owner's pass is of its inbox's queue; what it has taken out is what was drained, and then what is in hand, and is
 -- counted as the bell counts what was announced; the counts are those of what was drained, and each route's place among
 -- them is found; and there is room for each sender that comes back, and for what is in hand
@@ -56,7 +60,7 @@ pub record IsOwner (s : owner.Inside) : Type 0 where
   pub made : s.pass.me.view.client.made ≡ length (arc_value s.hub).routes.items
   pub known : s.pass.me.view.client.known ≡ []
   pub ends : EndsWith s.pass.me.view.client.taken (one_of s.hand)
-  pub taken : s.taken ≡ length s.pass.me.view.client.taken % 2 ^ 64
+  pub taken : IsCounted s.taken s.pass.me.view.client
   pub counts : AreCounts
       (length (arc_value s.hub).routes.items)
       s.counts.items
@@ -75,6 +79,12 @@ KeepsRoutes v w = (w.made ≡ v.made) × (w.known ≡ v.known)
 abbrev pub Fetches : View → Option Envelope → View → Type 0
 Fetches v (Some e) w = w.taken ≡ v.taken ++ e ∷ []
 Fetches v None w = (w.taken ≡ v.taken) × AreWhole w.taken w.known
+
+-- the envelope behind all that was drained: the one that was in hand, or one more that was taken out; or none, where
+-- none was in hand
+abbrev pub GivesNext : View → Option Envelope → Option Envelope → View → Type 0
+GivesNext v hand (Some e) w = w.taken ≡ before v.taken (one_of hand) ++ e ∷ []
+GivesNext v hand None w = (hand ≡ None) × (w.taken ≡ v.taken)
 
 -- what was drained
 abbrev pub drained_of : owner.Inside → List Entry

@@ -70,21 +70,6 @@ pub(crate) fn port_count(config: &Config, comp: CompId) -> usize
     config.comp_type(comp).ports.len()
 }
 
-/// A message under this stamp, twice: what is put, and what is noted.
-///
-/// 50 `Memory` only where an allocation was refused.
-fn twins(alloc: Global, stamp: u64, message: &Message) -> Result<(Stamped, Stamped), Memory>
-    ensures { IfOk result (λ two.
-        (two.0 ≡ record { stamp = stamp; message = message.now }) × (two.1 ≡ two.0)) }
-{
-    let put = Stamped {
-        stamp,
-        message: message.copy(alloc)?,
-    };
-    let noted = put.copy(alloc)?;
-    Ok((put, noted))
-}
-
 impl Desk {
     /// The desk of a component of the configuration: all its ports are started (ES 201 873-1,
     /// 21.2.1), and nothing has happened.
@@ -317,41 +302,44 @@ impl Desk {
     /// the history, and notes it there. The two are one: where it is put, it is noted.
     ///
     /// 15 `Limit` only where the route has taken all that it takes; else 50 `Memory` where an
-    /// allocation was refused, or where no stamp is left. Nothing is put or noted then.
+    /// allocation was refused, or where no stamp is left. Either hands the message back, and
+    /// nothing is put or noted then.
     pub fn send<R: Wait>(
         &mut self,
         rt: &R,
         sender: &mut Sender,
         way: usize,
-        message: &Message,
-    ) -> Result<(), PutFault>
+        message: Message,
+    ) -> Result<(), (PutFault, Message)>
         requires { way < length sender.old.routes }
         ensures desk { OnOk result (self.new
             ≡ adding self.old (entry.Sent (route_at sender.old.routes way)
-            (length (put_on_way sender.old way)) (next_of self.old.log message.now))) }
+            (length (put_on_way sender.old way)) (next_of self.old.log message))) }
         ensures sender { OnOk result (sender.new
-            ≡ putting sender.old way (next_of self.old.log message.now)) }
+            ≡ putting sender.old way (next_of self.old.log message)) }
         ensures err { OnErr result ((self.new ≡ self.old) × (sender.new ≡ sender.old)) }
-        ensures limit { IfErr result (λ fault.
-            fault ≡ PutFault.Limit → 100000 ≤ length (put_on_way sender.old way)) }
+        ensures back { IfErr result (λ back. back.1 ≡ message) }
+        ensures limit { IfErr result (λ back.
+            back.0 ≡ PutFault.Limit → 100000 ≤ length (put_on_way sender.old way)) }
     {
         let route = sender.route(way);
         let Some(stamp) = self.stamp() else {
-            return Err(PutFault::Memory);
-        };
-        let Ok((copy, noted)) = twins(self.alloc, stamp, message) else {
-            return Err(PutFault::Memory);
+            return Err((PutFault::Memory, message));
         };
         if self.log.reserve(1).is_err() {
-            return Err(PutFault::Memory);
+            return Err((PutFault::Memory, message));
         }
-        match sender.put(rt, way, copy) {
+        let put = Stamped { stamp, message };
+        let Ok(noted) = put.copy(self.alloc) else {
+            return Err((PutFault::Memory, put.message));
+        };
+        match sender.put(rt, way, put) {
             Ok(number) => {
                 self.log.push_reserved(Entry::Sent(route, number, noted));
                 self.clock = stamp;
                 Ok(())
             }
-            Err((fault, _)) => Err(fault),
+            Err((fault, back)) => Err((fault, back.message)),
         }
     }
 

@@ -1,12 +1,13 @@
 //! The owner of an inbox.
-ghost use Rattle.std.specs.Prelude.{◌≡◌, ◌++◌, ◌<◌, List, length, IfOk, OnErr, OnOk, option_map};
+ghost use Rattle.std.specs.Prelude.{◌≡◌, ◌++◌, ◌<◌, List, None, Some, length, IfOk, OnErr, OnOk, option_map};
 ghost use Rattle.crossbeam_queue.specs.SegTies.{IsSegPassOf};
 ghost use Rattle.tp_inbox.specs.declared.entry.Entry.{Entry};
 ghost use Rattle.tp_inbox.specs.History.{arrivals};
-ghost use Rattle.tp_inbox.specs.Desks.{adding_all};
+ghost use Rattle.tp_inbox.specs.Desks.{adding, adding_all};
 ghost use Rattle.tp_inbox.specs.Rule.{Sound};
-ghost use Rattle.tp_inbox.specs.Ends.{Fetches, KeepsRoutes};
-ghost use Rattle.tp_inbox.specs.Routed.{AreArrivals};
+ghost use Rattle.tp_inbox.specs.Envelopes.{EndsWith, one_of};
+ghost use Rattle.tp_inbox.specs.Ends.{Fetches, GivesNext, IsCounted, KeepsRoutes};
+ghost use Rattle.tp_inbox.specs.Routed.{AreArrivals, arrival_of};
 ghost use Rattle.tp_inbox.specs.Ledgers.{IsDeskOf, drained_on};
 
 use crate::desk::Desk;
@@ -73,6 +74,69 @@ pub(crate) fn take_out<R: Wait>(rt: &R, line: &InboxQueue, pass: &mut Pass) -> O
     line.pop_as::<Take, R>(rt, pass)
 }
 
+/// The envelope in hand, or else the next of the queue, which is counted as taken out. Nothing
+/// where there is none in hand and the queue was found empty.
+fn next_envelope<R: Wait>(
+    rt: &R,
+    line: &InboxQueue,
+    pass: &mut Pass,
+    hand: &mut Option<Envelope>,
+    taken: &mut u64,
+) -> Option<Envelope>
+    requires queue { IsSegPassOf line.now pass.old }
+    requires sound { Sound pass.old.me.view.client }
+    requires ends { EndsWith pass.old.me.view.client.taken (one_of hand.old) }
+    requires counted { IsCounted taken.old pass.old.me.view.client }
+    ensures queue { IsSegPassOf line.now pass.new }
+    ensures sound { Sound pass.new.me.view.client }
+    ensures same { KeepsRoutes pass.old.me.view.client pass.new.me.view.client }
+    ensures hand { hand.new ≡ None }
+    ensures counted { IsCounted taken.new pass.new.me.view.client }
+    ensures found { GivesNext pass.old.me.view.client hand.old result pass.new.me.view.client }
+{
+    if hand.is_some() {
+        return hand.take();
+    }
+    let envelope = take_out(rt, line, pass)?;
+    // The bell counts what was announced in the same way.
+    *taken = taken.wrapping_add(1);
+    Some(envelope)
+}
+
+/// Moves an envelope to its port.
+///
+/// 50 `Memory` where an allocation was refused: the envelope is in hand then, where none was.
+fn deliver(
+    hub: &Hub,
+    hand: &mut Option<Envelope>,
+    desk: &mut Desk,
+    envelope: Envelope,
+) -> Result<(), Memory>
+    requires place { envelope.place < length hub.now.routes.items }
+    requires ports { desk.old.ports ≡ hub.now.ports }
+    requires hand { hand.old ≡ None }
+    ensures ok { OnOk result ((hand.new ≡ None)
+        × (desk.new ≡ adding desk.old (arrival_of hub.now.routes.items envelope))) }
+    ensures err { OnErr result ((hand.new ≡ Some envelope) × (desk.new ≡ desk.old)) }
+{
+    let place = envelope.place;
+    let (port, env, stamp) = hub.addressed(envelope);
+    match desk.arrive(port, env, stamp) {
+        Ok(()) => Ok(()),
+        Err((memory, back)) => {
+            *hand = Some(Envelope {
+                place,
+                number: back.number,
+                stamped: Stamped {
+                    stamp,
+                    message: back.msg,
+                },
+            });
+            Err(memory)
+        }
+    }
+}
+
 /// What a wait finds at once where there is an envelope in hand.
 fn in_hand(hand: &Option<Envelope>) -> Option<Woken>
     ensures { result ≡ option_map (λ _. Woken.Arrived) hand.now }
@@ -84,26 +148,11 @@ fn in_hand(hand: &Option<Envelope>) -> Option<Woken>
 }
 
 impl Owner {
-    /// Takes the next envelope into the hand, unless there is one. False where the queue was found
-    /// empty.
-    fn fill<R: Wait>(&mut self, rt: &R) -> bool
-        ensures same { self.new ≡ self.old }
-        ensures drained { AreArrivals self.old.inbox.routes self.old.drained }
-    {
-        if self.hand.is_some() {
-            return true;
-        }
-        let Some(envelope) = take_out(rt, &self.hub.line, &mut self.pass) else {
-            return false;
-        };
-        // The bell counts what was announced in the same way.
-        self.taken = self.taken.wrapping_add(1);
-        self.hand = Some(envelope);
-        true
-    }
-
-    /// Moves the envelope in hand, if there is one, to its port.
-    fn deliver(&mut self, desk: &mut Desk) -> Result<(), Memory>
+    /// Moves the envelope in hand, or else the next of the queue, to its port. False where there is
+    /// none in hand and the queue was found empty.
+    ///
+    /// 50 `Memory` where an allocation was refused: the envelope is in hand then.
+    fn move_next<R: Wait>(&mut self, rt: &R, desk: &mut Desk) -> Result<bool, Memory>
         requires desk { IsDeskOf self.old.inbox desk.old }
         requires arrivals { arrivals desk.old.log ≡ self.old.drained }
         ensures inbox { self.new.inbox ≡ self.old.inbox }
@@ -112,31 +161,19 @@ impl Owner {
             × (self.new.drained ≡ self.old.drained ++ more)
             × (arrivals more ≡ more)) }
         ensures err { OnErr result ((desk.new ≡ desk.old) × (self.new ≡ self.old)) }
+        ensures drained { AreArrivals self.new.inbox.routes self.new.drained }
     {
-        let Some(envelope) = self.hand.take() else {
-            return Ok(());
+        let line = &self.hub.line;
+        let found = next_envelope(rt, line, &mut self.pass, &mut self.hand, &mut self.taken);
+        let Some(envelope) = found else {
+            return Ok(false);
         };
         let (place, number) = (envelope.place, envelope.number);
-        let (port, env, stamp) = self.hub.addressed(envelope);
-        match desk.arrive(port, env, stamp) {
-            Ok(()) => {
-                // The history holds this arrival, so that its number is below its length.
-                let _held = desk.entries();
-                self.counts[place] = number + 1;
-                Ok(())
-            }
-            Err((memory, back)) => {
-                self.hand = Some(Envelope {
-                    place,
-                    number: back.number,
-                    stamped: Stamped {
-                        stamp,
-                        message: back.msg,
-                    },
-                });
-                Err(memory)
-            }
-        }
+        deliver(&self.hub, &mut self.hand, desk, envelope)?;
+        // The history holds this arrival, so that its number is below its length.
+        let _held = desk.entries();
+        self.counts[place] = number + 1;
+        Ok(true)
     }
 
     /// Moves what has come into the inbox to the ports of the desk, in the order of the queue, and
@@ -157,10 +194,9 @@ impl Owner {
     {
         let had = desk.entries();
         for _ in rt.forever() {
-            if !self.fill(rt) {
+            if !self.move_next(rt, desk)? {
                 return Ok(desk.entries() - had);
             }
-            self.deliver(desk)?;
         }
         // The loop ends by a return alone.
         unreachable!()

@@ -220,12 +220,10 @@ fn stamps_are_used_up(rt: HostRuntime) {
 fn send_again<R: Wait + Abort>(rt: &R, desk: &mut Desk, sender: &mut Sender, n: i64) {
     assert!(rt; sender.ways() == 1);
     let (put, noted) = (sender.count(0), desk.log().len());
-    let message = integer(n);
-    if desk.send(rt, &mut *sender, 0, &message).is_err() {
+    if let Err((_, message)) = desk.send(rt, &mut *sender, 0, integer(n)) {
         assert!(rt; sender.count(0) == put && desk.log().len() == noted);
-        assert!(rt; desk.send(rt, &mut *sender, 0, &message).is_ok());
+        assert!(rt; desk.send(rt, &mut *sender, 0, message).is_ok());
     }
-    drop(message);
     assert!(rt; sender.ways() == 1);
     assert!(rt; sender.count(0) == put.wrapping_add(1));
 }

@@ -14,7 +14,7 @@ use Rattle.tp_behaviour.proofs.sending.send_on.Goals as goal
 pub returns-clause-manned : goal.returns-clause-manned
 returns-clause-manned g c =
     let s = c.args.station.now in
-    let x = next_of s.desk.log c.args.message.now in
+    let x = next_of s.desk.log c.args.message in
     let e = c.in-Ok.ensures.ok in
     (has_sent (role_of c.args.scene.now.post.now) s c.send.new.desk c.send.new.self c.args.route e.0 x c.requires.manned c.requires.known e.1 e.2).2
 
@@ -22,7 +22,7 @@ returns-clause-manned g c =
 pub returns-clause-log : goal.returns-clause-log
 returns-clause-log g c =
     let s = c.args.station.now in
-    let x = next_of s.desk.log c.args.message.now in
+    let x = next_of s.desk.log c.args.message in
     let e = c.in-Ok.ensures.ok in
     let all = has_sent (role_of c.args.scene.now.post.now) s c.send.new.desk c.send.new.self c.args.route e.0 x c.requires.manned c.requires.known e.1 e.2 in
     ap (λ (j : Journal). j.log) e.2 ∙ ap (λ n. s.desk.log ++ entry.Sent c.args.route n x ∷ []) all.0
@@ -30,7 +30,7 @@ returns-clause-log g c =
 pub returns-clause-trace : goal.returns-clause-trace
 returns-clause-trace g c =
     let s = c.args.station.now in
-    let x = next_of s.desk.log c.args.message.now in
+    let x = next_of s.desk.log c.args.message in
     let e = c.in-Ok.ensures.ok in
     let all = has_sent (role_of c.args.scene.now.post.now) s c.send.new.desk c.send.new.self c.args.route e.0 x c.requires.manned c.requires.known e.1 e.2 in
     all.1 ∙ ap (λ n. moments s.desk.log ++ moment s.desk (entry.Sent c.args.route n x) ∷ []) all.0
@@ -38,5 +38,5 @@ returns-clause-trace g c =
 -- only what was put changes
 pub returns-clause-same : goal.returns-clause-same
 returns-clause-same g c =
-    let x = next_of c.args.station.now.desk.log c.args.message.now in
+    let x = next_of c.args.station.now.desk.log c.args.message in
     record { inbox = refl; ends = ap (map end_of) c.in-Ok.ensures.ok.1.1 ∙ same_ends c.args.route x c.args.station.now.outbox }

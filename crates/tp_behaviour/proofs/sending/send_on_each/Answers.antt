@@ -1,6 +1,9 @@
 -- Each route has a sender, and one entry more stands for each turn.
-use Rattle.std.proofs.Common.{Contains, get_or, refl, subst, sym}
+use Rattle.std.proofs.Common.{◌∙◌, [], ◌∷◌, ◌++◌, Contains, ap, get_or, refl, subst, sym}
+use Rattle.tp_value.specs.declared.message.Message.{Message}
 use Rattle.tp_inbox.specs.Routed.{absent_route}
+use Rattle.tp_behaviour.specs.Seen.{AddsEntry}
+use Rattle.tp_behaviour.specs.Sends.{next_sent}
 use Rattle.tp_behaviour.proofs.Manned.{same_then}
 use Rattle.tp_behaviour.proofs.Routed.{routes_stay, sent_on_more}
 use Rattle.tp_behaviour.proofs.sending.send_on_each.Goals as goal
@@ -12,6 +15,7 @@ send_on-requires-clause-known g c κs within =
     subst (λ l. Contains l q) (sym (routes_stay c.args.station.now c.loop-route.station c.loop-route.invariant.same))
     (c.requires.known c.loop-route.route-index absent_route c.loop-route-test.true)
 
+-- a copy of the message is sent, which equals it
 pub loop-route-preserved : goal.loop-route-preserved
 loop-route-preserved g c =
     let e = c.in_ok-send_on.ensures in
@@ -20,10 +24,14 @@ loop-route-preserved g c =
     let routes = c.args.routes.now in
     let n = c.loop-route.route-index in
     let q = get_or routes n absent_route in
+    let next = λ (m : Message). next_sent q m before.desk.log in
+    let same = c.in_ok-copy.ensures in
+    let log = e.log ∙ ap (λ m. before.desk.log ++ next m ∷ []) same in
+    let trace = subst (λ m. AddsEntry before.desk (next m) c.send_on.new.station.desk) same e.trace in
     record {
       manned = e.manned;
       same = same_then c.args.station.now before c.send_on.new.station i.same e.same;
       each = λ port started.
           sent_on_more port c.args.message.now routes n absent_route q c.args.station.now.desk.log before.desk.log c.send_on.new.station.desk.log
-          (i.each port started) c.loop-route-test.true refl e.log e.trace;
+          (i.each port started) c.loop-route-test.true refl log trace;
     }

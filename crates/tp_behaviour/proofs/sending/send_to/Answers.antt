@@ -9,12 +9,12 @@ send_on-requires-clause-known g c κs within = c.requires.manned.posted.ways c.a
 
 pub fail-requires-clause-cause : goal.fail-requires-clause-cause
 fail-requires-clause-cause g c =
-    cause_route (role_of c.args.scene.now.post.now) (values_of c.args.state.now) c.args.sending.now c.args.message.now c.args.named c.in-Err.fault
+    cause_route (role_of c.args.scene.now.post.now) (values_of c.args.state.now) c.args.sending.now c.args.message c.args.named c.in-Err.fault
     c.args.station.now.desk.log
     c.requires.started c.requires.sent c.requires.named c.in-Err.ensures.route
 
 pub returns-in_ok-send_on-in-Ok-clause-sends : goal.returns-in_ok-send_on-in-Ok-clause-sends
 returns-in_ok-send_on-in-Ok-clause-sends g c =
-    sends_one (role_of c.args.scene.now.post.now) (values_of c.args.state.now) c.args.sending.now c.args.message.now c.args.named c.in-Ok.route
+    sends_one (role_of c.args.scene.now.post.now) (values_of c.args.state.now) c.args.sending.now c.args.message c.args.named c.in-Ok.route
     c.args.station.now.desk c.send_on.new.station.desk.log
     c.requires.started c.requires.sent c.requires.named c.in-Ok.ensures.route c.in_ok-send_on-in-Ok.ensures.trace

@@ -24,6 +24,7 @@ returns-clause-end g c =
       ports = ap (λ (j : Journal). j.ports) grown;
       rest = rest;
       grown = ap (λ (j : Journal). j.log) grown;
+      sound = record { lawful = c.log-log.ensures.lawful; within = c.log-log.ensures.within; clocked = c.log-log.ensures.clocked };
       routed = subst (λ (j : Journal). All (IsArrivalOn i.routes) (arrivals j.log)) (sym grown) c.in_ok-rest.ensures.routed;
       counts = c.in_ok-senders.ensures.routes;
     }

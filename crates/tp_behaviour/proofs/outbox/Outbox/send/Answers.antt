@@ -3,6 +3,7 @@ use Rattle.std.proofs.Common.{◌≡◌, ◌∙◌, ap, sym, subst, Some, ℕ, s
 use Rattle.std.specs.Prelude.{◌≤◌, IfErr, OnOk, length, slice_set}
 use Rattle.std.proofs.lemmas.Option.{get_or_from_slice_get}
 use Rattle.tp_config.specs.declared.port_type.RouteId.{RouteId}
+use Rattle.tp_value.specs.declared.message.Message.{Message}
 use Rattle.tp_inbox.specs.declared.entry.Entry.TheVariants as entry
 use Rattle.tp_inbox.specs.History.{next_of, posted_on}
 use Rattle.tp_inbox.specs.Desks.{adding}
@@ -20,7 +21,7 @@ invariant_of-self g c =
     let p = c.route_place-place.ensures in
     let ss = c.self.inside.senders.items in
     let place = c.route_place-place.result in
-    let m = next_of c.args.desk.now.log c.args.message.now in
+    let m = next_of c.args.desk.now.log c.args.message in
     let found = subst (λ l. slice_get l place.sender ≡ Some p.0) (sym c.self.view_is) p.1 in
     let this = c.index_mut.ensures.value ∙ get_or_from_slice_get ss place.sender p.0 c.index_mut.result.now found in
     filed_put ss c.self.inside.places c.self.inside.loops.items place.sender c.index_mut.result.now c.send.new.sender
@@ -35,7 +36,7 @@ returns-clause-ok g c =
     let place = c.route_place-place.result in
     let q = c.args.route in
     let d = c.args.desk.now in
-    let m = next_of d.log c.args.message.now in
+    let m = next_of d.log c.args.message in
     let found = subst (λ l. slice_get l place.sender ≡ Some p.0) (sym c.self.view_is) p.1 in
     let this = c.index_mut.ensures.value ∙ get_or_from_slice_get ss place.sender p.0 c.index_mut.result.now found in
     let way = ap (λ (s : Sending). route_at s.routes place.way) this ∙ get_or_from_slice_get p.0.routes place.way q absent_route p.2 in
@@ -57,6 +58,7 @@ returns-clause-limit g c =
     let found = subst (λ l. slice_get l place.sender ≡ Some p.0) (sym c.self.view_is) p.1 in
     let this = c.index_mut.ensures.value ∙ get_or_from_slice_get ss place.sender p.0 c.index_mut.result.now found in
     let way = get_or_from_slice_get p.0.routes place.way q absent_route p.2 in
-    full_on (λ (f : PutFault). f ≡ put_fault.Limit) _ q p.0 c.send.result (contained _ place.sender p.0 p.1) (contained p.0.routes place.way q p.2)
-    (subst (λ (r : RouteId). IfErr c.send.result (λ f. f ≡ put_fault.Limit → 100000 ≤ length (posted_on r p.0.ledger))) way
-    (subst (λ (s : Sending). IfErr c.send.result (λ f. f ≡ put_fault.Limit → 100000 ≤ length (put_on_way s place.way))) this c.send.ensures.limit))
+    full_on (λ (f : PutFault × Message). f.0 ≡ put_fault.Limit) _ q p.0 c.send.result (contained _ place.sender p.0 p.1)
+    (contained p.0.routes place.way q p.2)
+    (subst (λ (r : RouteId). IfErr c.send.result (λ f. f.0 ≡ put_fault.Limit → 100000 ≤ length (posted_on r p.0.ledger))) way
+    (subst (λ (s : Sending). IfErr c.send.result (λ f. f.0 ≡ put_fault.Limit → 100000 ≤ length (put_on_way s place.way))) this c.send.ensures.limit))

@@ -12,7 +12,7 @@ pub invariant_of-self-in-Ok-put : goal.invariant_of-self-in-Ok-put
 invariant_of-self-in-Ok-put g c =
     let log = c.self.inside.log.items in
     let next : c.in-Some.stamp ≡ clock_of log + 1 = c.in-Some.ensures.1 ∙ ap (λ (d : Journal). clock_of d.log + 1) (sym c.self.view_is) in
-    let mine : c.in-Ok.noted.stamp ≡ c.in-Some.stamp = ap (λ (s : Stamped). s.stamp) (c.in-Ok.ensures.1 ∙ c.in-Ok.ensures.0) in
+    let mine : c.in-Ok.noted.stamp ≡ c.in-Some.stamp = ap (λ (s : Stamped). s.stamp) c.in-Ok.ensures in
     let timely : clock_of log < c.in-Ok.noted.stamp = omega (arith, next, mine) in
     let time = c.self.invariant.time in
     let later : c.in-Some.stamp ≡ max c.self.inside.clock c.in-Ok.noted.stamp = omega (arith, next, mine, time) in
