@@ -43,12 +43,12 @@ fn fill_values(alloc: Global, values: &[SendValue], turns: &[i64]) -> Result<Ite
     requires given { greatest (map needed values.now) ≤ length turns.now }
     ensures { IfOk result (λ made. made ≡ map (filled turns.now) values.now) }
 {
-    let mut made = Items::new(alloc);
+    let mut made = Vec::with_capacity(alloc, values.len())?;
     for value in values {
         let one = fill_value(alloc, value, turns)?;
-        made.push(one)?;
+        made.push_reserved(one);
     }
-    Ok(made)
+    Ok(Items::from_vec(made))
 }
 
 /// Reads the integers, and changes nothing: each is then known to have 64 bits.
@@ -128,12 +128,12 @@ fn fill_all(
     requires given { greatest (map needed_by_template templates.now) ≤ length turns.now }
     ensures { IfOk result (λ made. made ≡ map (filled_template turns.now) templates.now) }
 {
-    let mut made = Items::new(alloc);
+    let mut made = Vec::with_capacity(alloc, templates.len())?;
     for template in templates {
         let one = fill_one(alloc, template, turns)?;
-        made.push(one)?;
+        made.push_reserved(one);
     }
-    Ok(made)
+    Ok(Items::from_vec(made))
 }
 
 /// What a receiving operation wants, where the loop variables around it hold these integers, the

@@ -1,5 +1,5 @@
 -- The reserved words by their lengths, and by their spelling.
-use Rattle.std.proofs.Common.{◌≡◌, ◌≢◌, ℕ, true, false, true≢false, List, [], ◌∷◌, length, filter, take, drop, suc, ◌&&◌, refl, ap, sym, ◌∙◌, inl, inr, Option, Some, map, subst, if◌then◌else◌, ◌==◌}
+use Rattle.std.proofs.Common.{◌≡◌, ◌≢◌, ℕ, ◌<◌, true, false, true≢false, List, [], ◌∷◌, length, filter, take, drop, suc, ◌&&◌, refl, ap, sym, ◌∙◌, inl, inr, Option, Some, None, map, subst, if◌then◌else◌, ◌==◌, arith}
 use Rattle.std.specs.Str.{bytes_eq}
 use Rattle.std.proofs.lemmas.Bool.Decides.{eqb_tells}
 use Rattle.std.proofs.lemmas.Bool.{cases_Bool}
@@ -29,10 +29,6 @@ by_length n bs (e ∷ es) h = elim (eqb_tells (length e.0) n) [
 -- the words of one length answer for a text of that length as all do
 part : (n : ℕ) (es : List (List ℕ × Word)) → filter (has_length n) reserved ≡ es → (bs : List ℕ) → length bs ≡ n → first_spelled bs es ≡ word_of bs
 part n es e bs h = ap (first_spelled bs) (sym e) ∙ by_length n bs reserved h
-
-pub one : (bs : List ℕ) → length bs ≡ 1 → first_spelled bs ([]) ≡ word_of bs
-unfolding reserved
-one bs h = part 1 ([]) refl bs h
 
 pub two : (bs : List ℕ) → length bs ≡ 2 → first_spelled bs (take 4 reserved) ≡ word_of bs
 unfolding reserved
@@ -77,6 +73,28 @@ found_spelling bs word (v ∷ ws) e = elim (cases_Bool (bytes_eq bs (word_spelli
   | inl same ↦ (bytes_eq-Decides bs (word_spelling v)).0 same ∙ ap (λ (found : Option Word). word_spelling (unwrap_or found v)) (rw same at e)
   | inr other ↦ found_spelling bs word ws (rw other at e)
 ]
+
+-- each word has from two to ten characters
+word_length : (word : Word) → (1 < length (word_spelling word)) × (length (word_spelling word) < 11)
+word_length w.Module = (omega arith, omega arith)
+word_length word = (omega arith, omega arith)
+
+-- what isn't found is found nowhere
+nowhere : (found : Option Word) → ((word : Word) → found ≡ Some word → ⊥) → None ≡ found
+nowhere None never = refl
+nowhere (Some word) never = absurd (never word refl)
+
+-- no word has another length
+pub others :
+    (bs : List ℕ) → length bs ≢ 2 → length bs ≢ 3 → length bs ≢ 4 → length bs ≢ 5 → length bs ≢ 6 → length bs ≢ 7 → length bs ≢ 8 → length bs ≢ 9 →
+    length bs ≢ 10 → None ≡ word_of bs
+unfolding reserved
+others bs not2 not3 not4 not5 not6 not7 not8 not9 not10 =
+    nowhere (word_of bs)
+    (λ word e.
+    let within = word_length word in
+    let same = ap length (found_spelling bs word words e) in
+    omega (arith, not2, not3, not4, not5, not6, not7, not8, not9, not10, within.0, within.1, same))
 
 -- each word is found
 known : (word : Word) → word_of (word_spelling word) ≡ Some word

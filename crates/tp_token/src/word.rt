@@ -139,7 +139,6 @@ fn words_of_length(size: usize) -> &'static [(&'static str, Word)]
 {
     let words: &'static [(&'static str, Word)] = &WORDS;
     match size {
-        1 => &words[..0],
         2 => &words[..4],
         3 => &words[4..11],
         4 => &words[11..25],
@@ -149,7 +148,7 @@ fn words_of_length(size: usize) -> &'static [(&'static str, Word)]
         8 => &words[45..48],
         9 => &words[48..49],
         10 => &words[49..],
-        _ => words,
+        _ => &words[..0],
     }
 }
 

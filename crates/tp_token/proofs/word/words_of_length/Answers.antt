@@ -1,7 +1,7 @@
 -- Each part of the table has all the words of its length: a text of that length has none elsewhere.
-use Rattle.std.proofs.Common.{◌∙◌, refl}
+use Rattle.std.proofs.Common.{◌∙◌, rules}
 use Rattle.tp_token.specs.Word.{reserved}
-use Rattle.tp_token.proofs.Words.{one, two, three, four, five, six, seven, eight, nine, ten}
+use Rattle.tp_token.proofs.Words.{two, three, four, five, six, seven, eight, nine, ten, others}
 use Rattle.tp_token.proofs.word.words_of_length.Goals as goal
 
 pub returns-in-2 : goal.returns-in-2
@@ -40,9 +40,5 @@ pub returns-in-10 : goal.returns-in-10
 unfolding reserved
 returns-in-10 c = λ bs h. ten bs (h ∙ c.in-10.is)
 
-pub returns-in-1 : goal.returns-in-1
-returns-in-1 c = λ bs h. one bs (h ∙ c.in-1.is)
-
 pub returns-in_default : goal.returns-in_default
-unfolding reserved
-returns-in_default c = λ bs h. refl
+returns-in_default c = search (rules, others)
