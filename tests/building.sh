@@ -1,10 +1,11 @@
 # What ./build builds, and that ./tpr then runs it and tries nothing: in a tree of five crates, with an `rt`
 # that only says what it was asked for. tests/trying.sh goes on with the same tree. `observe`, `judge`,
-# `count`, `at_least` and `set_up` are those of ./test, `must` is that of tests/command_line.sh.
+# `count`, `at_least` and `set_up` are those of ./test, `must` is that of tests/command_line.sh, `has_begun` that of
+# tests/trying.sh, `is_gone` that of tests/suites.sh.
 
 # The toolchain's command of these tests. The program that it makes prints its words and ends with 7. Files
 # beside the crates of the tree TREE make it refuse a crate, fail once it has made the program, edit a source
-# meanwhile, or wait for another crate; and one is what it does where it tries.
+# meanwhile, hang, or wait for another crate; and one is what it does where it tries.
 write_rt() { # FILE
     cat >"$1" <<'RT'
 #!/bin/sh
@@ -22,6 +23,7 @@ if [ "$1" = try ]; then exec sh ../tried "$@"; fi
 echo "rt was asked in $crate: $*"
 if [ -e "$TREE/refused in $crate" ]; then exit 2; fi
 if [ -e "$TREE/meet" ]; then meet; fi
+if [ -e "$TREE/hangs in $crate" ]; then echo $$ >"$TREE/hanging" && sleep 60; fi
 mkdir -p out/rlib && touch out/rlib/stamp
 if [ -e "$TREE/edits" ]; then rm "$TREE/edits" && sleep 0.1 && touch "$TREE/low/src/lib.rt"; fi
 if [ "$1" = run ]; then printf '#!/bin/sh\nprintf "%%s;" "$@"\nexit 7\n' >"out/$crate" && chmod +x "out/$crate"; fi
@@ -197,12 +199,34 @@ fails_and_builds_again() {
     fails_to_build "no list of crates" rt \
         "tpr: there is no crate tpr in $PWD/a tree/crates.txt"
     mv "a tree/list" "a tree/crates.txt"
+    gives_back_what_was_kept
+}
+
+# An interrupt while a crate is at work.
+gives_back_what_was_kept() {
+    local undo='import os, signal, sys; signal.signal(signal.SIGINT, signal.SIG_DFL)' started
+    touch "$crates/hangs in low" "$crates/low/src/lib.rt"
+    TREE="$PWD/$crates" PATH=$PWD/commands/rt:$PWD/commands/without_rt python3 -c \
+        "$undo; os.execv(sys.argv[1], sys.argv[1:])" "a tree/build" --jobs 2 >"$room/printed" 2>"$room/said" &
+    started=$!
+    set_up "rt is at work" has_begun "$crates/hanging" || return
+    kill -INT "$started"
+    { wait "$started"; } 2>/dev/null
+    status=$?
+    must "a build that is interrupted" 130 '' "$(printf 'tpr: %s\n' "$again" "$log" "$low")"$'\n'
+    observe is_gone "$crates/hanging"
+    must "rt is ended" 0 '' ''
+    observe ls "$crates/low/out" "a tree/out/rooms"
+    must "what was kept of the crate is back, and its room is gone" 2 "$crates/low/out:"$'\nrlib\n' \
+        "ls: cannot access 'a tree/out/rooms': No such file or directory"$'\n'
+    rm "$crates/hangs in low"
+    builds "once it hangs no longer" "$again" "$log" "$low" "$last"
 }
 
 building() {
     mkdir "$room/building" && cd -- "$room/building" || exit 1
     if set_up "there is a tree of five crates" make_tree; then
-        at_least 43 builds_and_fails
+        at_least 48 builds_and_fails
         trying
     fi
     cd -- "$root" || exit 1

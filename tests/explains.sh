@@ -44,7 +44,7 @@ explain() { # OPTION|FILE..
 
 explained_tables() {
     texts_of_tables "$room/texts"
-    set_up "the tables have 900 texts" [ "$(find "$room/texts" -name '*.ttcn' | wc -l)" -ge 900 ]
+    set_up "the tables have 1030 texts" [ "$(find "$room/texts" -name '*.ttcn' | wc -l)" -ge 1030 ]
     explain --json "$room/texts"
     cp -- "$room/printed" "$room/explained"
     tool_must "the number and the line of each text of the tables" 2 explain_rules_hold answers "$room/explained" "$room/texts"

@@ -16,7 +16,8 @@ of which no order of steps can be made.
 
 `planted` leaves out each of the rules by which two steps can't change places, one after the other: some script
 must tell it; `looks` takes the looks of an `alt` for one step, which each of its scripts must tell. `random` makes
-so many scripts by chance, and compares the classes that are found in the model alone. `told` reads what
+so many scripts by chance, and compares the classes that are found in the model alone; a quarter of them must be small
+enough for it. `told` reads what
 `tools/explore SCRIPT --json` printed: its answer is ANSWER, and its reports are those of SCRIPT's expected files.
 
 It prints lines that begin with `FAILED: ` where something doesn't hold.
@@ -158,7 +159,7 @@ def line_of(looking: Callable, program: str, path: str) -> str:
 
 
 def each(looking: Callable, program: str, paths: list[str]) -> None:
-    with ProcessPoolExecutor(os.cpu_count()) as pool:
+    with ProcessPoolExecutor(len(os.sched_getaffinity(0))) as pool:
         for line in pool.map(partial(line_of, looking, program), paths):
             print(line, flush=True)
 
@@ -237,7 +238,8 @@ def by_chance(seed: str, number: int) -> None:
             if wrong:
                 print(f"FAILED: seed {seed}, script {place}: {wrong}\n{bytes_of(path).decode('latin-1')}", flush=True)
             looked_at += wrong is None
-    print(f"passed {looked_at} of {number} scripts by chance; the others are too large", flush=True)
+    word = "FAILED: only" if looked_at < number // 4 else "passed"
+    print(f"{word} {looked_at} of {number} scripts by chance; the others are too large", flush=True)
 
 
 # What is told of a script

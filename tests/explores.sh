@@ -1,7 +1,7 @@
 # tools/explore: on each script of tests/orders/ the classes of reports that it finds are those of all orders, and so
 # on scripts made by chance; each rule of its reduction that is left out is told; what it says, and how it ends.
 # `root`, `room`, `ordered`, `observe`, `count`, `at_least` and `set_up` are those of ./test, `tool_must`,
-# `prints_nothing`, `says_nothing` and `says_alone` those of tests/tools.sh, `count_told` and `sum_of` those of
+# `prints_nothing`, `says_nothing` and `says_alone` those of tests/tools.sh, `told` and `sum_of` those of
 # tests/orders.sh.
 
 # The first script of each pair has a verdict that hangs on the schedule, and the second is its repaired twin.
@@ -35,8 +35,7 @@ run_explore() { # WORDS..
 
 # The classes of all orders, and at most a tenth of the runs.
 explored_orders() {
-    python3 -B tests/explored.py each "$ordered" tests/orders/*.ttcn >"$room/explored"
-    count_told "$room/explored"
+    told "$room/explored" tests/explored.py each "$ordered" tests/orders/*.ttcn
 }
 
 explored_orders_are_few() {
@@ -49,20 +48,16 @@ explored_orders_are_few() {
 
 # Scripts in which others act between two acts of one step, and a larger one: the classes of all orders of acts.
 explored_acts() {
-    python3 -B tests/explored.py acts "$ordered" tests/acts/*.ttcn >"$room/explored_acts"
-    count_told "$room/explored_acts"
+    told "$room/explored_acts" tests/explored.py acts "$ordered" tests/acts/*.ttcn
 }
 
 explored_rules() {
-    python3 -B tests/explored.py planted "${explored_planted[@]/%/.ttcn}" >"$room/explored_rules"
-    count_told "$room/explored_rules"
-    python3 -B tests/explored.py looks "${explored_by_looks[@]/#/tests/acts/}" >"$room/explored_looks"
-    count_told "$room/explored_looks"
+    told "$room/explored_rules" tests/explored.py planted "${explored_planted[@]/%/.ttcn}"
+    told "$room/explored_looks" tests/explored.py looks "${explored_by_looks[@]/#/tests/acts/}"
 }
 
 explored_by_chance() {
-    python3 -B tests/explored.py random 1 40 >"$room/explored_by_chance"
-    count_told "$room/explored_by_chance"
+    told "$room/explored_by_chance" tests/explored.py random 1 40
 }
 
 # The first line of what was printed.
@@ -269,7 +264,7 @@ sys.exit(0 if [f"{name} {it.get('value')}" for name, it in explored if it is not
 EOF
 }
 
-# A program that holds no order, and none at all.
+# A program that holds no order, one that answers nothing, and none at all.
 explored_other_programs() {
     local script=examples/ping_pong.ttcn
     printf '%s\n' '#!/usr/bin/env bash' 'while read -r line; do printf "order %s\nnot held\n\n" "$line"; done <"$2"' \
@@ -277,6 +272,10 @@ explored_other_programs() {
     chmod +x -- "$room/explored_holder"
     observe env TPR_ORDERED="$room/explored_holder" "$root/tools/explore" "$script"
     tool_must "a program that holds no order" 4 begins_with "no verdict, not all orders tried"
+    printf '%s\n' '#!/usr/bin/env bash' 'cat -- "$2" >/dev/null' >"$room/explored_mute"
+    chmod +x -- "$room/explored_mute"
+    observe env TPR_ORDERED="$room/explored_mute" "$root/tools/explore" "$script"
+    tool_must "a program that answers nothing" 1 says_alone "explore: $room/explored_mute ended with status 0: "
     observe env TPR_ORDERED="$room/nowhere" "$root/tools/explore" "$script"
     tool_must "no program" 1 says_alone "explore: there is no program $room/nowhere"
 }
@@ -306,6 +305,6 @@ explores() {
     at_least 4 all_explored_interrupted
     at_least 4 explored_as_told
     at_least 2 explored_in_a_suite
-    at_least 2 explored_other_programs
+    at_least 3 explored_other_programs
     at_least 4 explored_refusals
 }

@@ -4,7 +4,8 @@
 
     tests/failed_calls.py PROGRAM FOLDER REFUSED
 
-All three are those of tests/from_outside.py, and so is what it prints.
+All three are those of tests/from_outside.py, and so is what it prints. The writes of long reports, of `run` and of
+`trace`, are refused here alone; allocations, threads and reads of runs in tests/runs.sh too.
 """
 from __future__ import annotations
 

@@ -11,7 +11,9 @@ with `./test part NAME`. There are two kinds of faults:
     says SED         what the program prints goes through `sed -e SED`
     text FILE SED    a file of the copy is changed so
 
-It prints a line `passed NAME` for each fault that is told, `left out NAME: WHY`, or a line that begins with `FAILED: `.
+It prints a line `passed NAME` for each fault that is told, `left out the fault of NAME: WHY`, or a line that begins
+with `FAILED: `. The same seed chooses others where other parts took 30 seconds at most: by their names each is planted
+again.
 """
 from __future__ import annotations
 
@@ -139,7 +141,7 @@ def main() -> int:
     failed = 0
     for fault in faults:
         if (why := why_left_out(fault, ordered)) is not None:
-            print(f"left out {fault.part}: {why}", flush=True)
+            print(f"left out the fault of {fault.part}: {why}", flush=True)
         elif (wrong := untold(fault, program, ordered)) is not None:
             failed += 1
             print(f"FAILED: the fault that is planted for {fault.part} isn't told: {wrong}", flush=True)

@@ -1,19 +1,17 @@
 # tpr_ordered: orders that it keeps, refuses or can't hold, among them those in which components must be inside their
 # operations at once; runs that end by themselves (tests/forced.py); and calls that fail (tests/failed_orders.py).
-# `room`, `room_of_all`, `tpr`, `ordered`, `at_least`, `set_up` and `leave_out` are those of ./test, `count_told` that of
+# `room`, `room_of_all`, `tpr`, `ordered`, `at_least`, `set_up` and `leave_out` are those of ./test, `told` that of
 # tests/orders.sh, `is_script` that of tests/from_outside.sh, `is_another_entry` that of tests/listed_parts.sh.
 
 forced_of_each() {
     local script
     for script in tests/forced/*.ttcn; do is_another_entry "$script" "$script"; done
     mkdir -- "$room/forced"
-    python3 -B tests/forced.py "$tpr" "$ordered" "$room/forced" >"$room/told_of_forced"
-    count_told "$room/told_of_forced"
+    told "$room/told_of_forced" tests/forced.py "$tpr" "$ordered" "$room/forced"
 }
 
 failed_of_each() {
-    python3 -B tests/failed_orders.py "$ordered" "$room/forced" "$room_of_all/refused.so" >"$room/told_of_failed"
-    count_told "$room/told_of_failed"
+    told "$room/told_of_failed" tests/failed_orders.py "$ordered" "$room/forced" "$room_of_all/refused.so"
 }
 
 forced_orders() {

@@ -1,7 +1,7 @@
 # What the program answers where something outside it fails: where its answer goes, memory, threads, files, signals,
 # calls that are interrupted or cut short (tests/from_outside.py), and calls that fail behind so many bytes
 # (tests/failed_calls.py). `tpr`, `room`, `room_of_all` and `at_least` are those of ./test, `compile_refusals` that of
-# tests/refused_memory.sh, `count_told` that of tests/orders.sh.
+# tests/refused_memory.sh, `told` that of tests/orders.sh.
 
 # A program that is a script would be refused its shell's calls: its cases of that kind are left out.
 is_script() { # PROGRAM
@@ -12,20 +12,18 @@ cases_from_outside() {
     local refused=()
     if [[ -e $room_of_all/refused.so ]] && ! is_script "$tpr"; then refused=("$room_of_all/refused.so"); fi
     mkdir -- "$room/from_outside"
-    python3 -B tests/from_outside.py "$tpr" "$room/from_outside" "${refused[@]}" >"$room/told_from_outside"
-    count_told "$room/told_from_outside"
+    told "$room/told_from_outside" tests/from_outside.py "$tpr" "$room/from_outside" "${refused[@]}"
 }
 
 from_outside() {
-    local least=57
-    if is_script "$tpr"; then least=41; fi
+    local least=70
+    if is_script "$tpr"; then least=49; fi
     at_least "$least" cases_from_outside
 }
 
 each_failed_call() {
     mkdir -- "$room/failed_calls"
-    python3 -B tests/failed_calls.py "$tpr" "$room/failed_calls" "$room_of_all/refused.so" >"$room/told_of_failed_calls"
-    count_told "$room/told_of_failed_calls"
+    told "$room/told_of_failed_calls" tests/failed_calls.py "$tpr" "$room/failed_calls" "$room_of_all/refused.so"
 }
 
 failed_calls() {

@@ -1,6 +1,6 @@
 # Every order of the steps of small scripts (tests/orders/*.ttcn): what tpr_ordered reports of each must be what
 # the model of runs says (tests/orders/model.py). `root`, `room`, `ordered`, `count`, `at_least`, `set_up`
-# and `built_by_gate` are those of ./test, `is_another_entry` that of tests/listed_parts.sh.
+# and `built_by_gate` are those of ./test, `is_another_entry` and `leave_out` those of tests/listed_parts.sh.
 
 # How many scripts there are at least, how many of them with a behaviour that waits in the end, and how many
 # orders of them all.
@@ -24,12 +24,14 @@ build_ordered() {
     [[ -x $ordered ]]
 }
 
-# Counts the lines `passed ..` and the scripts that failed, of which all that is said is told.
+# Counts the lines `passed ..` and the scripts that failed, of which all that is said is told. What is left out is
+# told at the end of all.
 count_told() { # FILE
     local line
     while IFS= read -r line; do
         case $line in
             'passed '*) count 0 ;;
+            'left out '*) leave_out "${line#left out }" ;;
             'FAILED: '*)
                 echo "$line"
                 count 1
@@ -37,6 +39,18 @@ count_told() { # FILE
             *) echo "$line" ;;
         esac
     done <"$1"
+}
+
+# Runs a test in Python, keeps what it tells, and counts it. One that ends with a failure and tells none, as where it
+# breaks off, has failed.
+told() { # FILE WORD..
+    local ended
+    python3 -B "${@:2}" >"$1" 2>&1
+    ended=$?
+    if ((ended != 0)) && ! grep -q '^FAILED: ' "$1"; then
+        echo "FAILED: $2 ended with status $ended, and told no failure" >>"$1"
+    fi
+    count_told "$1"
 }
 
 # The sum of the numbers that stand at the place of each line `passed ..`.
@@ -47,8 +61,7 @@ sum_of() { # PLACE FILE
 orders_of_each() {
     local script
     for script in tests/orders/*.ttcn; do is_another_entry "$script" "$script"; done
-    python3 -B tests/orders/compare.py "$ordered" tests/orders/*.ttcn >"$room/orders"
-    count_told "$room/orders"
+    told "$room/orders" tests/orders/compare.py "$ordered" tests/orders/*.ttcn
     ordered_reports=$(sum_of 2 "$room/orders")
     waiting_scripts=$(awk '$1 == "passed" && $3 > 0' "$room/orders" | wc -l)
 }
@@ -69,11 +82,10 @@ judge_of_each() {
     for script in examples/*.ttcn tests/orders/*.ttcn; do
         if [[ ! -e ${script%.ttcn}.status ]]; then scripts+=("$script"); fi
     done
-    python3 -B tests/orders/judged.py "${scripts[@]}" >"$room/judged"
-    count_told "$room/judged"
+    told "$room/judged" tests/orders/judged.py "${scripts[@]}"
     echo "the judge: $(sum_of 2 "$room/judged") reports allowed, $(sum_of 3 "$room/judged") refused"
 }
 
 the_judge() {
-    at_least 158 judge_of_each
+    at_least 160 judge_of_each
 }

@@ -1,5 +1,6 @@
 # Runs in threads: again and again, with memory and threads refused, and on small stacks. `root`, `room`,
-# `tpr`, `count`, `at_least` and `set_up` are those of ./test. A run that doesn't end is stopped, and fails.
+# `tpr`, `count`, `at_least` and `set_up` are those of ./test, `count_told` and `sum_of` those of tests/orders.sh. A run
+# that doesn't end is stopped, and fails.
 
 # The mode in which calls are refused: `run`, or `trace`.
 mode_of_runs=run
@@ -39,30 +40,62 @@ runs_of_examples() {
     done
 }
 
+# The first of the processors that may be used here.
+a_processor() {
+    taskset -cp "$BASHPID" | sed 's/.*: *//; s/[^0-9].*//'
+}
+
 # Half of the runs on one processor, where only one thread is carried out at a time.
 run_each_again() {
-    local base
+    local base one
+    one=$(a_processor)
     for base in $(runs_of_examples); do
-        run_again 50 "$base" && run_again 50 "$base" taskset -c 0
+        run_again 50 "$base" && run_again 50 "$base" taskset -c "$one"
         count $?
     done
     run_again 1000 all_wait_for_each_other
     count $?
 }
 
-# Beside a load of a busy process for each processor, and behind them in rank.
+all_live() { # PROCESS..
+    local process
+    for process; do kill -0 "$process" || return; done
+}
+
+# Runs each example whose turn it is in this one of so many lanes, in a room of its own, and tells what came of it.
+run_a_lane() { # LANE LANES PROCESS OF THE LOAD..
+    local room=$room/lane$1 base turn=0
+    mkdir -- "$room"
+    for base in $(runs_of_examples); do
+        if ((turn++ % $2 != $1)); then continue; fi
+        if ! all_live "${@:3}"; then
+            echo "FAILED: $base: the load beside it has ended"
+        elif run_again 20 "$base" nice -n 10; then
+            echo "passed 20 $base"
+        fi
+    done
+}
+
+# Beside a load of a busy process for each processor, and behind them in rank: as many runs at once as there are
+# processors, since one alone would wait for the load and for nothing else.
 run_each_beside_a_load() {
-    local base number load=()
-    for ((number = 0; number < $(nproc); number++)); do
+    local lane lanes load=() running=()
+    lanes=$(nproc)
+    for ((lane = 0; lane < lanes; lane++)); do
         yes >/dev/null &
         load+=($!)
     done
-    for base in $(runs_of_examples); do
-        kill -0 "${load[@]}" && run_again 20 "$base" nice -n 10
-        count $?
+    for ((lane = 0; lane < lanes; lane++)); do
+        run_a_lane "$lane" "$lanes" "${load[@]}" >"$room/told_of_lane$lane" 2>&1 &
+        running+=($!)
     done
+    wait "${running[@]}"
     kill "${load[@]}"
     wait "${load[@]}" 2>/dev/null
+    for ((lane = 0; lane < lanes; lane++)); do
+        count_told "$room/told_of_lane$lane"
+        ((runs_of_all += $(sum_of 2 "$room/told_of_lane$lane")))
+    done
 }
 
 # Runs an example where the process may map so many KiB.
@@ -186,43 +219,6 @@ refuse_each_read() { # EXAMPLE
     fi
 }
 
-# A script whose report is written in several pieces: a component sends to itself.
-make_a_long_report() {
-    cat >"$room/long_report.ttcn" <<END
-module LongReport {
-    type port Loop message { inout integer; }
-    type component Looper { port Loop from_here, to_here; }
-    testcase loops() runs on Looper {
-        connect(self:from_here, self:to_here);
-        for (var integer turn := 0; turn < 5000; turn := turn + 1) {
-            from_here.send(integer:turn);
-            to_here.receive(integer:turn);
-        }
-    }
-}
-END
-    "$tpr" "$mode_of_runs" "$room/long_report.ttcn" >"$room/long_report" </dev/null
-}
-
-# Each write of a report refused in turn: status 3, and what was written before is its beginning.
-refuse_each_write() {
-    local number bytes
-    for ((number = 1; number <= 5000; number++)); do
-        with_refused WRITE=$number -- "$root/crates/tpr/out/tpr" "$mode_of_runs" "$room/long_report.ttcn"
-        if ! is_refused write; then break; fi
-        bytes=$(wc -c <"$room/printed")
-        if [[ $status != 3 || -s $room/said ]] || ! cmp -s -n "$bytes" -- "$room/long_report" "$room/printed"; then
-            fail_refused "a long report with write $number refused"
-            return 1
-        fi
-    done
-    if ((number < 3)) || is_refused write || [[ $status != 0 ]] \
-        || ! cmp -s -- "$room/long_report" "$room/printed"; then
-        fail_refused "a long report of $((number - 1)) writes, and the last run"
-        return 1
-    fi
-}
-
 write_faults() {
     printf 'fault 50 Memory\n' >"$room/no_memory"
     printf 'fault 51 NoThread\n' >"$room/no_thread"
@@ -260,10 +256,7 @@ refused_of_each_run() {
     count $?
     refuse_a_thread_and_each all_wait_for_each_other 2
     count $?
-    set_up "a long report can be made" make_a_long_report || return
-    refuse_each_write
-    count $?
-    at_least 5 refused_of_traced_runs
+    at_least 4 refused_of_traced_runs
 }
 
 # The same in mode `trace`.
@@ -273,8 +266,6 @@ refused_of_traced_runs() {
     counted refuse_each_of_run two_senders_to_one_that_ended
     counted refuse_each_read login_is_answered
     counted refuse_each_thread two_senders_to_one_that_ended 4
-    set_up "a long trace can be made" make_a_long_report || return
-    counted refuse_each_write
 }
 
 # A script of 500 turns, each with an alt over a template of 100 lists, one of them with this element.

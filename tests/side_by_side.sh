@@ -4,6 +4,7 @@
 # of tests/listed_parts.sh.
 
 declare -A at_work=() # by its process, when each part that is at work began, and its room
+ending=(TERM KILL)    # the signals that end what is at work
 
 # bash ends by SIGTERM and SIGHUP at once, and this comes before; but without a trap it ignores an interrupt that comes
 # to it alone while it waits for a command.
@@ -17,6 +18,25 @@ leave_nothing() {
     trap '' INT TERM HUP
     end_processes "$room_of_all" "${!at_work[@]}"
     rm -rf -- "$room_of_all"
+}
+
+# Runs a command that is no part as a group of processes too, so that whatever ends ./test ends all that it has
+# started: by an interrupt first, since rt then gives back what it has set aside, and by another signal doesn't. Its
+# folder for temporary files stays the common one, since rt runs programs there as nobody, who can't get into the room:
+# a variable of its own is what its processes are found by.
+in_a_group() { # COMMAND..
+    local process status
+    ending=(INT TERM KILL)
+    set -m
+    STARTED_IN=$room_of_all "$@" </dev/null &
+    process=$!
+    set +m
+    at_work[$process]="$SECONDS $room_of_all"
+    wait "$process"
+    status=$?
+    unset "at_work[$process]"
+    ending=(TERM KILL)
+    return "$status"
 }
 
 # Runs a part as soon as there is a processor for it.
@@ -92,7 +112,7 @@ take_back() { # ROOM PROCESS STATUS SECONDS
 
 # The processes that were started by the part of this room, or by all parts, however far they have gone.
 started_in() { # ROOM
-    grep -lsF -- "TMPDIR=$1" /proc/[0-9]*/environ | cut -d / -f 3
+    grep -lsF -e "TMPDIR=$1" -e "STARTED_IN=$1" /proc/[0-9]*/environ | cut -d / -f 3
 }
 
 send_to_all() { # SIGNAL ROOM GROUP..
@@ -103,10 +123,11 @@ send_to_all() { # SIGNAL ROOM GROUP..
 
 # Ends them. They are asked to first, since some have to end what they have started, or to take a folder away.
 end_processes() { # ROOM GROUP..
-    local signal turn
-    for signal in TERM KILL; do
+    local signal turn turns
+    for signal in "${ending[@]}"; do
         send_to_all "$signal" "$@"
-        for ((turn = 0; turn < 50; turn += 1)); do
+        if [[ $signal == INT ]]; then turns=200; else turns=50; fi
+        for ((turn = 0; turn < turns; turn += 1)); do
             if [[ ! $(started_in "$1") ]]; then break; fi
             sleep 0.1
         done

@@ -1,7 +1,8 @@
 # How ./test runs its parts (tests/side_by_side.sh, tests/listed_parts.sh): a small gate of two processors, whose parts
-# fail, end early, are killed, try too little, are beside each other, or hang while the gate is interrupted. `root`,
-# `room`, `observe`, `count`, `at_least` and `set_up` are those of ./test, `must` is that of tests/command_line.sh,
-# `has_begun` that of tests/trying.sh, `is_gone` that of tests/suites.sh.
+# fail, end early, are killed, try too little, are beside each other, or hang while the gate is interrupted; and what it
+# runs in a group of processes and is no part. `root`, `room`, `observe`, `count`, `at_least` and `set_up` are those of
+# ./test, `must` is that of tests/command_line.sh, `has_begun` that of tests/trying.sh, `is_gone` that of
+# tests/suites.sh.
 
 # Its word is the file of its parts: functions, their calls, and, behind `#:`, the lines of the list.
 write_gate() {
@@ -139,38 +140,72 @@ start_gate() { # FILE OF PARTS
     started=$!
 }
 
-# What its parts have started ends with it: what is in the part's group, in another one, and in another session.
-interrupted_gate() { # SIGNAL STATUS
+# What it has started ends with it: what is in its group, in another one, and in another session, which has the time
+# to give back what it took. The last word is the signal that comes to these.
+interrupted_gate() { # FILE OF PARTS, SIGNAL STATUS SIGNAL
     local name
-    start_gate hangs
+    start_gate "$1"
     for name in part group session; do
-        set_up "a part hangs: $name" has_begun "$name" || return
+        set_up "$1: $name" has_begun "$name" || return
     done
-    kill "-$1" "$started"
+    kill "-$2" "$started"
     { wait "$started"; } 2>/dev/null
     status=$?
     find rooms -mindepth 1 >"$room/said"
     : >"$room/printed"
-    must "no folder is left, $1" "$2" '' ''
+    must "no folder is left, $1, $2" "$3" '' ''
     for name in part group session; do
         observe is_gone "$name"
-        must "no process is left, $1: $name" 0 '' ''
+        must "no process is left, $1, $2: $name" 0 '' ''
         rm -- "$name"
     done
+    observe cat given_back
+    must "something was given back, $1, $2" 0 "$4"$'\n' ''
+    rm given_back
+}
+
+write_parts_that_hang() {
+    cat >hanging <<'PARTS'
+takes_an_interrupt() {
+    python3 -c 'import os, signal, sys
+signal.signal(signal.SIGINT, signal.SIG_DFL)
+os.execvp(sys.argv[1], sys.argv[1:])' "$@"
+}
+hangs() {
+    echo "$BASHPID" >part
+    takes_an_interrupt timeout 60 sh -c 'echo $$ >group; sleep 60' &
+    takes_an_interrupt setsid sh -c 'for signal in INT TERM; do trap "sleep 1; echo $signal >given_back; exit" $signal; done
+        echo $$ >session; while sleep 1; do :; done' &
+    for turn in {1..60}; do sleep 1; done
+}
+PARTS
+    { cat hanging && echo 'part hangs hangs'; } >a_part
+    { cat hanging && echo 'in_a_group hangs'; } >no_part
 }
 
 parts_that_are_interrupted() {
-    cat >hangs <<'PARTS'
-hangs() {
-    echo "$BASHPID" >part
-    timeout 60 sh -c 'echo $$ >group; sleep 60' &
-    setsid sh -c 'echo $$ >session; sleep 60' &
-    for turn in {1..60}; do sleep 1; done
+    write_parts_that_hang
+    interrupted_gate a_part INT 130 TERM
+    interrupted_gate a_part TERM 143 TERM
+    interrupted_gate no_part INT 130 INT
+    interrupted_gate no_part TERM 143 INT
 }
-part hangs hangs
+
+# What is no part hands back its status, and doesn't ignore an interrupt.
+no_part() {
+    cat >ends <<'PARTS'
+ends() {
+    python3 -c 'import signal; print(signal.getsignal(signal.SIGINT) is signal.default_int_handler)'
+    return 7
+}
+in_a_group ends
+echo "status $?, and ${#at_work[@]} at work"
 PARTS
-    interrupted_gate INT 130
-    interrupted_gate TERM 143
+    run_gate ends
+    must "a group that ends" 0 "True
+status 7, and 0 at work
+the built program, by parts: cases failed seconds
+examples: 0 passed, 0 failed; 0 and 0"$'\n' ''
 }
 
 small_gate() {
@@ -179,7 +214,8 @@ small_gate() {
     if set_up "there is a gate" write_gate; then
         at_least 2 parts_that_end
         at_least 2 parts_beside_each_other
-        at_least 8 parts_that_are_interrupted
+        at_least 20 parts_that_are_interrupted
+        at_least 1 no_part
     fi
     cd -- "$root" || exit 1
 }

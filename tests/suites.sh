@@ -147,7 +147,7 @@ only_files() { # FOLDER NAME..
 # Whether the process has ended, or does so at once.
 is_gone() { # FILE OF ITS NUMBER
     local number turn
-    read -r number <"$1"
+    read -r number <"$1" && [[ $number ]] || return 1
     for ((turn = 0; turn < 50; turn++)); do
         if ! kill -0 "$number" 2>/dev/null || grep -q '^State:.*Z' "/proc/$number/status" 2>/dev/null; then return 0; fi
         sleep 0.1
@@ -332,6 +332,11 @@ suites_that_are_interrupted() {
         "$room/printed"
     tool_must "its status" 0 grep -qx 'status 130' "$room/printed"
     tool_must "its JUnit file" 0 rules_hold junit cut.xml 2 0 0
+    printf '#!/bin/sh\ntouch %q; sleep 5\n' "$room/odd/explores" >ordered && chmod +x ordered
+    TPR=$room/another TPR_ORDERED=$PWD/ordered observe python3 "$root/tests/tool_rules.py" interrupted explores \
+        "$root/tools/suite" a.ttcn --explore --junit explored.xml
+    tool_must "the status of a suite that is interrupted while it explores" 0 grep -qx 'status 130' "$room/printed"
+    tool_must "its JUnit file, without what wasn't explored" 0 rules_hold junit explored.xml 1 0 0
     printf 'sleep 2; touch slow_is_done; cat %q\n' "$root/examples/login_is_answered.expected" >slow.ttcn
     TPR=$room/another "$root/tools/suite" a.ttcn slow.ttcn --jobs 1 2>"$room/said" | {
         head -n 2

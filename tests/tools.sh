@@ -295,21 +295,21 @@ comparisons_of_examples() {
 
 tools() {
     find_reports
-    at_least 87 charts_of_examples
-    at_least 2 charts_of_docs
+    at_least 130 charts_of_examples
+    at_least 3 charts_of_docs
     at_least 5 rules_on_reports
     at_least 12 charts_in_other_ways
     at_least 16 parts_of_charts
     pages
     at_least 66 cut_reports
-    at_least 95 refused_reports
+    at_least 141 refused_reports
     at_least 28 refusals_of_texts
     at_least 14 suites_of_scripts
     at_least 8 suites_of_another_program
     at_least 19 suites_that_cannot_be
     at_least 9 suites_of_what_is_wanted
-    at_least 17 suites_that_lose_nothing
+    at_least 19 suites_that_lose_nothing
     at_least 6 comparisons
     at_least 5 comparisons_of_two_senders
-    at_least 9 comparisons_of_examples
+    at_least 22 comparisons_of_examples
 }

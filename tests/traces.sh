@@ -1,6 +1,6 @@
 # Traces (docs/TRACES.md): a judge of them in Python (tests/traces/referee.py), against tables that were worked out by
 # hand and against all orders of small traces; `tpr judge` against that judge; tools/titan; and the traces of
-# `tpr trace`. `root`, `room`, `tpr`, `observe`, `count`, `at_least` and `set_up` are those of ./test, `count_told`
+# `tpr trace`. `root`, `room`, `tpr`, `observe`, `count`, `at_least` and `set_up` are those of ./test, `told`
 # that of tests/orders.sh, `tool_must`, `says_nothing`, `says_alone` and `prints` those of tests/tools.sh.
 
 # What is asked of traces: JUDGE names another command in place of `tpr judge`.
@@ -9,10 +9,9 @@ find_judge() {
     if [[ ${JUDGE-} ]]; then read -ra judge_of_traces <<<"$JUDGE"; fi
 }
 
-# Runs a part of the tests in Python, and counts its lines.
+# Runs a part of the tests in Python, which has so many cases at least.
 told_by() { # LEAST WORD..
-    python3 -B "${@:2}" >"$room/traces_told" 2>&1 || echo "FAILED: ${*:2}" >>"$room/traces_told"
-    at_least "$1" count_told "$room/traces_told"
+    at_least "$1" told "$room/traces_told" "${@:2}"
 }
 
 # The scripts of examples/ and tests/orders/ that can be run.
@@ -43,7 +42,7 @@ the_judge_of_traces() {
     told_by 172 tests/traces/rules.py lines tests/traces/lines.texts
     told_by 11 tests/traces/rules.py titan tests/titan/answers.table
     told_by 13 tests/traces/rules.py document docs/TRACES.md
-    told_by 134 tests/traces/rules.py played "${runnable[@]}"
+    told_by 160 tests/traces/rules.py played "${runnable[@]}"
     told_by 4 tests/traces/rules.py tried 2000
     at_least 5 played_traces_are_reports
 }
@@ -72,7 +71,7 @@ judged_traces() {
     told_by 19 tests/traces/compare.py several "${traces[@]}" -- "${judge_of_traces[@]}"
     told_by 2 tests/traces/compare.py cuts "${small[@]}" -- "${judge_of_traces[@]}"
     told_by 2 tests/traces/compare.py bytes "${small[@]}" -- "${judge_of_traces[@]}"
-    told_by 134 tests/traces/compare.py played "${runnable[@]}" -- "${judge_of_traces[@]}"
+    told_by 160 tests/traces/compare.py played "${runnable[@]}" -- "${judge_of_traces[@]}"
     told_by 20 tests/traces/compare.py chance {1..20} -- "${judge_of_traces[@]}"
     if [[ ! ${JUDGE-} ]]; then at_least 12 large_traces; fi
 }
@@ -300,7 +299,7 @@ traces() {
     find_runnable
     find_judge
     the_judge_of_traces
-    at_least 56 traces_of_titan
+    at_least 70 traces_of_titan
     at_least 8 shown_log
     at_least 10 refused_logs
     at_least 4 cases_of_logs
@@ -314,6 +313,5 @@ traces_of_runs() {
     local runnable judge_of_traces
     find_runnable
     find_judge
-    told_by 160 tests/traces/runs.py "$tpr" "${runnable[@]}"
-    told_by 160 tests/traces/runs.py "$tpr" "${runnable[@]}" -- "${judge_of_traces[@]}"
+    told_by 320 tests/traces/runs.py "$tpr" "${runnable[@]}" -- "${judge_of_traces[@]}"
 }

@@ -388,7 +388,7 @@ def table_rule(table, *reports):
     with open(table, encoding="ascii") as opened:
         rows = [line for line in opened.read().splitlines() if line and not line.startswith("#")]
     files = {os.path.basename(file): file for file in reports}
-    must(len(rows) >= 24, "the table has 12 reports")
+    must(len(rows) >= 38, "the table has 19 reports")
     for name, wanted in zip(rows[::2], rows[1::2]):
         with open(script_of(files[name]), "rb") as script, open(files[name], "rb") as report:
             told = [in_short(row) for row in rows_of_tool(script.read(), report.read())]

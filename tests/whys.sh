@@ -17,7 +17,7 @@ why_rules() { # NAME RULE..
 lines_of_reports() {
     local own=(tests/whys/*.expected)
     find_reports
-    set_up "there are 87 reports in examples/" [ "${#reports[@]}" -ge 87 ]
+    set_up "there are 129 reports in examples/" [ "${#reports[@]}" -ge 129 ]
     why_rules "the lines of all reports of examples/ are those of the model" examples "${reports[@]}"
     why_rules "so are those of tests/whys/" examples "${own[@]}"
     why_rules "the lines that were worked out by hand" table tests/whys/lines "${reports[@]}" "${own[@]}"

@@ -5,10 +5,11 @@
 
 The edits are those of crates/CRATE/must-fail, which the gate tries too, and those of
 tests/wrong_bodies/CRATE, of which it tries some (tests/wrong_bodies_of_a_run.py) and takes the
-record's word for the rest (tests/wrong_body_record.py), since there is no time for them. Without words all are tried; with `stale`, those that have no current
-line in the record. Whatever is tried, its line is written there if it was refused and taken away if
-it was not, as soon as that is known: so a run that is interrupted keeps what it has done. With
---jobs N, so many crates are tried at once, each by a check with one job, in 1 to 3 GB.
+record's word for the rest (tests/wrong_body_record.py), since there is no time for them. Without
+words all are tried; with `stale`, those that have no current line in the record. Whatever is tried,
+its line is written there if it was refused and taken away if it was not, as soon as that is known. An
+interrupt lets no further check begin, and keeps what was done: the status is 130. With --jobs N, so
+many crates are tried at once, each by a check with one job, in 1 to 3 GB.
 
 They are tried some at a time, each in a function of its own: a function is proved from the
 contracts of those that it calls, so one wrong body changes nothing for another. Where several fail,
@@ -16,13 +17,17 @@ each counts as refused only if the prover says so of its own function. One that 
 tried again by itself.
 
 An edit after which a proof names a step or a goal that is no longer there shows nothing: the prover
-says that the body has another shape, and no more. Such an edit is counted as not told.
+says that the body has another shape, and no more. Such an edit is counted as not told. One of which a
+check came to no answer, since it doesn't compile or the check was ended, is counted as not tried, and
+keeps its line.
 
-The last line is `wrong bodies: N refused, M not told, K not refused`.
+The last line is `wrong bodies: N refused, M not told, K not refused`, with `, L not tried` behind it
+where there are such.
 """
 import os
 import re
 import shutil
+import signal
 import subprocess
 import sys
 import tempfile
@@ -44,20 +49,29 @@ USAGE = "usage: ./test wrong_bodies [--jobs N] [stale | CRATE | CRATE/NAME ..]"
 SHAPE = re.compile(r"has no field |has no `[^`]*` that can be named")
 
 REFUSED, UNTOLD, LEFT = "refused", "NOT TOLD, since its shape is changed", "NOT REFUSED"
+UNTRIED = "NOT TRIED, since the check came to no answer"
+
+# What the prover answers. A check that is ended, or of sources that don't compile, comes to no answer.
+NOT_PROVED, PROVED, NO_ANSWER = "not proved", "proved", "no answer"
+
+ENDING = (signal.SIGINT, signal.SIGTERM, signal.SIGHUP)
 
 printing = threading.Lock()
+is_over = threading.Event()  # once it is set, no further check begins
 
 
 def check(folder, paths, words=("rt", "check", "--jobs", "1")):
-    """What a check says of these functions, or of the whole crate where there are none, and whether
-    the prover refused."""
+    """What a check says of these functions, or of the whole crate where there are none, and what the
+    prover answers."""
     words = [*words, *[word for path in paths for word in ("--only", path)]]
     how = {"stdin": subprocess.DEVNULL, "capture_output": True, "text": True, "errors": "replace"}
     ran = subprocess.run(words, cwd=folder, **how)
     lines = (ran.stdout + ran.stderr).split("\n")
     counts = [re.match(r"only=(\d+) proved=(\d+)", line) for line in lines]
     is_short = any(it and int(it[2]) < int(it[1]) for it in counts)
-    return lines, is_short or any(line.startswith("logic=not-proved") for line in lines)
+    if is_short or any(line.startswith("logic=not-proved") for line in lines):
+        return lines, NOT_PROVED
+    return lines, PROVED if ran.returncode == 0 else NO_ANSWER
 
 
 def batches(edits):
@@ -78,18 +92,20 @@ def try_them(folder, edits, proved, ask=check):
     files = {file: read(f"{folder}/{file}") for edit in edits for file, _, _ in edit.pairs}
     for edit in edits:
         edit.apply(folder)
-    lines, is_refused = ask(folder, [path for edit in edits for path in edit.paths(proved)])
+    lines, answer = ask(folder, [path for edit in edits for path in edit.paths(proved)])
     for file, text in files.items():
         write(f"{folder}/{file}", text)
     all_told = [line for line in lines if TOLD.match(line)]
     told_of_each = [edit.told(lines) for edit in edits]
-    return [(outcome(told, is_refused, not proved), told or all_told) for told in told_of_each]
+    return [(outcome(told, answer, not proved), told or all_told) for told in told_of_each]
 
 
-def outcome(told, is_refused, is_alone):
-    """What a check shows of an edit: by what was told of its own functions, by whether anything was
-    refused, and by whether it was tried alone."""
-    if not is_refused or not told and not is_alone:
+def outcome(told, answer, is_alone):
+    """What a check shows of an edit: by what was told of its own functions, by the prover's answer, and
+    by whether it was tried alone."""
+    if answer == NO_ANSWER:
+        return UNTRIED
+    if answer == PROVED or not told and not is_alone:
         return LEFT
     return UNTOLD if any(SHAPE.search(line) for line in told) else REFUSED
 
@@ -138,26 +154,35 @@ def edits_of(crate, names, folder):
         sys.exit(f"wrong_bodies: an edit of {crate} can't be applied: {why}")
 
 
+def try_alone(folder, edit):
+    return (UNTRIED, []) if is_over.is_set() else try_them(folder, [edit], [])[0]
+
+
 def try_batch(crate, batch, folder, proved, tried_on):
     """Tries edits that go with one another, tells what became of each, and writes it down."""
-    found, lines = [], {}
+    found, lines = {}, {}
     for edit, (seen, told) in zip(batch, try_them(folder, batch, proved)):
-        if seen == LEFT:
-            seen, told = try_them(folder, [edit], [])[0]
+        if seen in (LEFT, UNTRIED):
+            seen, told = try_alone(folder, edit)
+        name = f"{crate}/{edit.name}"
         where = refused_in(folder, edit, told, proved) if seen == REFUSED else None
-        lines[f"{crate}/{edit.name}"] = where and (tried_on.sum(crate, edit.text), where)
-        found.append(seen)
+        if seen != UNTRIED:
+            lines[name] = where and (tried_on.sum(crate, edit.text), where)
+        found[name] = seen
     with printing:
-        for name, seen in zip(lines, found):
+        for name, seen in found.items():
             print(f"{name}: {seen}", flush=True)
         update(lines)
-    return found
+    return [*found.values()]
 
 
 def try_crate(crate, names, room):
     """Tries the wrong bodies of a crate, or those of these names. Returns what became of each."""
     edits_of(crate, names, f"{ROOT}/crates/{crate}")
-    lines, _ = check(f"{ROOT}/crates/{crate}", [])
+    lines, answer = check(f"{ROOT}/crates/{crate}", [])
+    if answer == NO_ANSWER:
+        print(f"{crate}: a check of the crate itself came to no answer", flush=True)
+        return [UNTRIED]
     if not any(line.startswith("logic=proved") for line in lines):
         print(f"{crate}: the crate itself is not proved", flush=True)
         return [LEFT]
@@ -167,6 +192,8 @@ def try_crate(crate, names, room):
     tried_on.sum(crate, "")
     found = []
     for batch in batches(edits_of(crate, names, folder)):
+        if is_over.is_set():
+            break
         found += try_batch(crate, batch, folder, proved, tried_on)
     return found
 
@@ -174,6 +201,25 @@ def try_crate(crate, names, room):
 def try_in_a_room(crate, names):
     with tempfile.TemporaryDirectory(prefix="wrong-bodies-") as room:
         return try_crate(crate, names, room)
+
+
+def try_each(jobs, work, asked):
+    """What the work makes of each of the crates, so many at once. Whatever ends this early, as an
+    interrupt does, lets no further one begin, and waits for those at work, which take their folders
+    away: a second interrupt would leave them."""
+    for it in ENDING:
+        if signal.getsignal(it) is not signal.SIG_IGN:
+            signal.signal(it, signal.default_int_handler)
+    with ThreadPoolExecutor(jobs) as pool:
+        try:
+            made = [pool.submit(work, *it) for it in asked.items()]
+            return [it.result() for it in made]
+        except BaseException:
+            for it in ENDING:
+                signal.signal(it, signal.SIG_IGN)
+            is_over.set()
+            pool.shutdown(cancel_futures=True)
+            raise
 
 
 def asked(words):
@@ -200,13 +246,15 @@ def main(words):
     _, wrong = read_record()
     if wrong:
         sys.exit(f"wrong_bodies: tests/wrong_bodies/record: {wrong[0]}")
-    found = []
-    with ThreadPoolExecutor(jobs) as pool:
-        for made in [pool.submit(try_in_a_room, *it) for it in asked(words).items()]:
-            found += made.result()
-    refused, untold, left = (found.count(it) for it in (REFUSED, UNTOLD, LEFT))
-    print(f"wrong bodies: {refused} refused, {untold} not told, {left} not refused")
-    return 1 if untold or left else 0
+    try:
+        found = sum(try_each(jobs, try_in_a_room, asked(words)), [])
+    except KeyboardInterrupt:
+        print("wrong_bodies: interrupted", file=sys.stderr)
+        return 130
+    refused, untold, left, untried = (found.count(it) for it in (REFUSED, UNTOLD, LEFT, UNTRIED))
+    more = f", {untried} not tried" if untried else ""
+    print(f"wrong bodies: {refused} refused, {untold} not told, {left} not refused{more}")
+    return 1 if untold or left or untried else 0
 
 
 if __name__ == "__main__":

@@ -12,8 +12,8 @@ proved once more. So `rattle` is called with the words that `rt ci` has for it. 
 crates are tried at once, each by a check with one job.
 
 An edit counts as refused where the prover says so of its own function, and not by a proof that names
-what is no longer there. The last line is `wrong bodies of each run: N refused, M failed`, and the
-status is 1 where one failed.
+what is no longer there. One of which a check comes to no answer fails too. The last line is `wrong
+bodies of each run: N refused, M failed`, and the status is 1 where one failed.
 
 `rt ci` gives back the libraries that were there before it, which may be of older sources. With
 `stale_libraries` those are taken away, so that afterwards each is of the sources that are there.
@@ -25,11 +25,12 @@ import shutil
 import subprocess
 import sys
 import tempfile
-from concurrent.futures import ThreadPoolExecutor
 
 sys.dont_write_bytecode = True
 
-from wrong_bodies import REFUSED, UNTOLD, batches, check, edits_of, try_them  # noqa: E402
+from wrong_bodies import (  # noqa: E402
+    REFUSED, UNTOLD, UNTRIED, batches, check, edits_of, is_over, printing, try_each, try_them,
+)
 from wrong_body_basis import PARTS, below  # noqa: E402
 from wrong_body_edits import ROOT, crates, of_each_run  # noqa: E402
 
@@ -93,6 +94,8 @@ def failure(outcome):
     """Why an edit that came to this failed, if it did."""
     if outcome == UNTOLD:
         return "is refused only for its shape"
+    if outcome == UNTRIED:
+        return "came to no answer: it doesn't compile, or its check was ended"
     return None if outcome == REFUSED else "is not refused in its function"
 
 
@@ -107,6 +110,8 @@ def try_crate(crate, functions):
         copy(crate, room)
         known = [*dict.fromkeys(f"{crate}::{it}" for it in functions.values())]
         for batch in batches(edits_of(crate, [*functions], room)):
+            if is_over.is_set():
+                break
             for edit, (outcome, _) in zip(batch, try_them(room, batch, known, ask)):
                 found[edit.name] = failure(outcome)
     return found
@@ -121,11 +126,13 @@ def by_crates(listed):
     return dict(sorted(found.items(), key=lambda it: -len(below(it[0], uses))))
 
 
-def say(crate, functions, found):
-    """Tells what became of the edits of a crate, and returns how many failed."""
-    for name, why in found.items():
-        failed = f"FAILED: {crate}/{name} {why}"
-        print(failed if why else f"{crate}/{name}: refused in {functions[name]}", flush=True)
+def try_and_say(crate, functions):
+    """Tries the edits of a crate, tells what became of each, and returns how many failed."""
+    found = try_crate(crate, functions)
+    with printing:
+        for name, why in found.items():
+            failed = f"FAILED: {crate}/{name} {why}"
+            print(failed if why else f"{crate}/{name}: refused in {functions[name]}", flush=True)
     return sum(why is not None for why in found.values())
 
 
@@ -134,12 +141,11 @@ def main(words):
         return remove_stale_libraries()
     if words and not (len(words) == 2 and words[0] == "--jobs" and re.fullmatch(r"[1-9]\d?", words[1])):
         sys.exit(USAGE)
-    listed, failed = of_each_run()[0], 0
-    of_each = by_crates(listed)
-    with ThreadPoolExecutor(int(words[1]) if words else 1) as pool:
-        tried = [pool.submit(try_crate, *it) for it in of_each.items()]
-        for (crate, functions), made in zip(of_each.items(), tried):
-            failed += say(crate, functions, made.result())
+    listed = of_each_run()[0]
+    try:
+        failed = sum(try_each(int(words[1]) if words else 1, try_and_say, by_crates(listed)))
+    except KeyboardInterrupt:
+        return 130
     print(f"wrong bodies of each run: {len(listed) - failed} refused, {failed} failed")
     return 1 if failed else 0
 

@@ -10,10 +10,10 @@ longer that is stale, and shows nothing.
 
 Prints how many edits there are, how many of them each run of the gate tries (with --tried: this one
 has), how many are recorded, stale and never recorded, and the command that tries what is wanting. The
-status is 1, with a line that begins with FAILED for each fault, where an edit can't be applied or
-can't be found by `./test wrong_bodies`, where a crate has edits and each run tries none of them, and
-where a line of the record has another form, stands twice or out of its order, or names no edit. A
-stale or missing line is no fault.
+status is 1, with a line that begins with FAILED for each fault, where an edit can't be applied,
+names what isn't there (tests/wrong_body_names.py) or can't be found by `./test wrong_bodies`, where a
+crate has edits and each run tries none of them, and where a line of the record has another form, stands
+twice or out of its order, or names no edit. A stale or missing line is no fault.
 """
 import fcntl
 import os
@@ -26,6 +26,7 @@ from wrong_body_basis import basis, sum_of, toolchain  # noqa: E402
 from wrong_body_edits import (  # noqa: E402
     ROOT, Edit, Unfit, crates, files_of, of_each_run, read, shelves, write,
 )
+from wrong_body_names import Names  # noqa: E402
 
 RECORD = f"{ROOT}/tests/wrong_bodies/record"
 LINE = re.compile(r"(\w+/[\w.-]+) ([0-9a-f]{32}) (\S+)")
@@ -120,6 +121,17 @@ def states(lines):
     return found, wrong
 
 
+def gone_names(found):
+    """The edits that can't be compiled, since they name what isn't there. One with a current line was
+    refused on these very sources, so it can, whatever it names."""
+    wrong, names, there = [], Names(ROOT, crates()), all_edits()
+    for name in [name for name, state in found.items() if state != "current"]:
+        crate = name.partition("/")[0]
+        gone = names.unknown(crate, Edit(there[name][0], f"{ROOT}/crates/{crate}"))
+        wrong += [f"{name} can't be compiled: nothing that it can see is named {it}" for it in gone]
+    return wrong
+
+
 def wanting():
     """The edits that have no line, or a stale one."""
     return [name for name, state in states(read_record()[0])[0].items() if state != "current"]
@@ -147,7 +159,7 @@ def faults():
     there = all_edits()
     gone = [f"{name} is no edit" for name in sorted(lines) if name not in there]
     of_record = [f"tests/wrong_bodies/record: {it}" for it in wrong + gone]
-    return of_record + faults_of_the_list() + more, found
+    return of_record + faults_of_the_list() + more + gone_names(found), found
 
 
 def main(words):

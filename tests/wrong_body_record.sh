@@ -1,11 +1,13 @@
 # The record of wrong bodies: what makes a line stale and what doesn't, what is a fault, what a trial
 # writes, and what each run of the gate tries; in a tree of two crates, with an `rt` that refuses what has the
 # word `wrong`. `observe`, `count`, `at_least` and `set_up` are those of ./test, `must` is that of
-# tests/command_line.sh.
+# tests/command_line.sh, `has_begun` that of tests/trying.sh.
 
 # The toolchain's command of these tests: for each line of the sources with the word `wrong` it says that
 # the function there isn't proved, with `shape` behind it that its proof names what isn't there, and `unproved` beside
-# the crates stands for a crate that isn't. `rattle`, in bin/ beside the first page, says so too, and keeps its words.
+# the crates stands for a crate that isn't. It comes to no answer where the sources have the word `uncompiled`, or
+# `killed`, or `hangs`, and where `killed` stands beside the crates. `rattle`, in bin/ beside the first page, says so
+# too, and keeps its words.
 write_prover() { # FOLDER
     mkdir -p "$1/bin" || return
     printf '#!/bin/sh\necho "$*" >>"${0%%/bin/*}/words"\nexec "${0%%/bin/*}/rt"\n' >"$1/bin/rattle"
@@ -13,6 +15,9 @@ write_prover() { # FOLDER
 #!/bin/sh
 if [ "$1" = version ]; then echo "${KIT:-kit 1 logic 7}"; exit; fi
 if [ "$1" = doc ]; then echo "${0%/*}/FIRST.md"; exit; fi
+if [ -e ../killed ] || grep -q killed src/room.rt; then kill -9 $$; fi
+if grep -q hangs src/room.rt; then echo $$ >>"${0%/*}/hangs" && sleep 60; fi
+if grep -q uncompiled src/room.rt; then echo './src/room.rt:1:1: error[syntax]: it can not be read' && exit 1; fi
 printf "fn ${PWD##*/}::room::%s: proved\n" Room::get hidden RoomFromu8::from RoomFromu16::from
 told=$(grep -n wrong src/room.rt | sed 's/^\([0-9]*\):.*shape.*/note: .\/src\/room.rt:\1:5: it is not proved: it has no field x/
 s/^\([0-9]*\):.*/note: .\/src\/room.rt:\1:5: it is not proved/')
@@ -31,6 +36,10 @@ macro_rules! three {
 }
 #[derive(Drop)]
 pub struct Room { size: u8 }
+pub enum Kind { Full, #[error("{0} left")] Left(u8) }
+impl Kind {
+    pub fn is_full(&self) -> bool { true }
+}
 impl Room {
     /// It gets.
     pub fn get(&self) -> u8
@@ -98,9 +107,9 @@ in_tree() { # FILE WORD..
 
 # What the gate says of the tree: so many edits are current, stale and without a line. FAULT.. are told.
 record_says() { # NAME CURRENT STALE NEVER [FAULT..]
-    local said='' wanted=0 count=$(($2 + $3 + $4))
+    local said='' wanted=0
     if (($# > 4)); then wanted=1 && printf -v said 'FAILED: %s\n' "${@:5}"; fi
-    said+="wrong bodies: ${edits:-3}, 2 for a whole run of the gate; recorded: $2 current, $3 stale, $4 never"$'\n'
+    said+="wrong bodies: 3, 2 for a whole run of the gate; recorded: $2 current, $3 stale, $4 never"$'\n'
     if (($3 + $4 > 0)); then
         said+="$(($3 + $4)) wrong bodies have no current line: ./test wrong_bodies stale tries them and writes their lines"$'\n'
     fi
@@ -166,7 +175,7 @@ what_makes_a_line_stale() {
 }
 
 what_is_a_fault() {
-    local record=tests/wrong_bodies/record high=crates/high/src/room.rt edits
+    local record=tests/wrong_bodies/record high=crates/high/src/room.rt
     local line=0123456789abcdef0123456789abcdef
     edited_says "an edit whose text is gone" $high 'x * 1' 'x' 1 1 0 \
         "high/gives_another can't be applied: src/room.rt holds a text 0 times, and not once: x * 1"
@@ -201,6 +210,36 @@ what_is_a_fault() {
     echo 'low/gets_more room::Room::get' >tree/tests/wrong_bodies/each_run
 }
 
+# What an edit names must be there. These are tried on `high`, in place of its edit on the second shelf.
+names_says() { # NAME NEW TEXT [FAULT]
+    local faults=()
+    if (($# > 2)); then faults=("high/gets_more can't be compiled: nothing that it can see is named $3"); fi
+    edited_says "$1" tests/wrong_bodies/high/gets_more.edit 'self.size + 1 /* wrong */' "$2" 2 1 0 "${faults[@]}"
+}
+
+what_names_are_there() {
+    names_says "a variant" 'if self.size == 0 { 1 } else { Kind::Left(1).is_full() as u8 }'
+    names_says "a variant that is gone" 'Kind::Empty as u8' Kind::Empty
+    names_says "a function of a type that is gone" 'Kind::is_empty() as u8' Kind::is_empty
+    names_says "a constant of the toolchain" 'u8::MAX'
+    names_says "a type of a crate below" 'low::room::Room::get(self)'
+    names_says "a room of a crate below that is gone" 'low::hall::Room::get(self)' low::hall
+    names_says "a crate that isn't used" 'side::LIMIT as u8' side
+    names_says "a function of the file" 'hidden(1)'
+    names_says "a function that is gone" 'shown(1)' shown
+    names_says "a method" 'self.get()'
+    names_says "a method that is gone" 'self.give()' give
+    names_says "a field" 'Room { size: 1 }.size'
+    names_says "a field that is gone" 'Room { size: 1, width: 2 }.size' width
+    names_says "names that it declares" '{ let more = 1; [7].iter().max_by_key(|it| it + more) }' max_by_key
+    names_says "words of a text, a comment and a number" 'if "gone" == "gone too" { 0x1f } else { 9_u8 } // gone'
+    names_says "words that were there before" 'self.size'
+    write_edit tree/tests/wrong_bodies/high/gets_more.edit 'self.size + 0' 'hidden(1)'
+    edited_says "a function that gets another name" crates/high/src/room.rt 'fn hidden' 'fn shown' 1 2 0 \
+        "high/gets_more can't be compiled: nothing that it can see is named hidden"
+    write_edit tree/tests/wrong_bodies/high/gets_more.edit 'self.size + 0' 'self.size + 1 /* wrong */'
+}
+
 what_a_trial_writes() {
     local both=$'high/gets_more room::Room::get\nhigh/gives_another room::hidden\n'
     local shelf=tree/tests/wrong_bodies
@@ -226,6 +265,7 @@ what_a_trial_writes() {
     write_edit $shelf/low/gets_more.edit 'size: 16' 'size: 17 /* wrong */'
     trial_says "one of two impls of a trait" 0 $'low/gets_more: refused\nwrong bodies: 1 refused, 0 not told, 0 not refused\n' \
         $'high/gives_another room::hidden\nlow/gets_more room::RoomFromu16::from\n' low/gets_more
+    what_a_trial_lets_through
     write_edit $shelf/high/gets_more.edit none 'any /* wrong */'
     in_tree wrong_bodies.py high
     must "an edit that can't be applied ends all" 1 '' \
@@ -234,6 +274,61 @@ what_a_trial_writes() {
     in_tree wrong_bodies.py low
     must "a record with a fault is told first" 1 '' \
         $'wrong_bodies: tests/wrong_bodies/record: line 3 is no line of the record: none\n'
+}
+
+# A word of the toolchain's library that no source has yet is told, until a trial has seen the edit refused.
+what_a_trial_lets_through() {
+    write_edit tree/tests/wrong_bodies/low/gets_more.edit 'self.size + 0' 'self.size.leading_zeros() /* wrong */'
+    in_tree wrong_body_record.py
+    must "a word of the library that nothing here has" 1 \
+        "FAILED: low/gets_more can't be compiled: nothing that it can see is named leading_zeros
+wrong bodies: 2, 2 for a whole run of the gate; recorded: 1 current, 1 stale, 0 never
+1 wrong bodies have no current line: ./test wrong_bodies stale tries them and writes their lines"$'\n' ''
+    trial_says "once it is tried" 0 $'low/gets_more: refused\nwrong bodies: 1 refused, 0 not told, 0 not refused\n' \
+        $'high/gives_another room::hidden\nlow/gets_more room::Room::get\n' stale
+    in_tree wrong_body_record.py
+    must "it is let through" 0 $'wrong bodies: 2, 2 for a whole run of the gate; recorded: 2 current, 0 stale, 0 never\n' ''
+}
+
+# A check that comes to no answer shows nothing of an edit, which keeps its line.
+what_is_not_tried() {
+    local shelf=tree/tests/wrong_bodies one='low/gets_more: NOT TRIED, since the check came to no answer'
+    local all=$'high/gets_more room::Room::get\nhigh/gives_another room::hidden\nlow/gets_more room::Room::get\n'
+    local none=$'wrong bodies: 0 refused, 0 not told, 0 not refused, 1 not tried\n'
+    in_tree wrong_bodies.py
+    touch tree/crates/killed
+    trial_says "the check of a crate is killed" 1 \
+        $'low: a check of the crate itself came to no answer\n'"$none" "$all" low
+    rm tree/crates/killed
+    sed -i 's/wrong/uncompiled/' $shelf/low/gets_more.edit
+    trial_says "one doesn't compile" 1 "$one"$'\n'"$none" "$all" low
+    sed -i 's/uncompiled/killed/' $shelf/low/gets_more.edit
+    trial_says "the check of one is killed" 1 "$one"$'\n'"$none" "$all" low
+    write_edit $shelf/low/gives_more.edit 'x * 1' 'x * 2 /* wrong */'
+    trial_says "another is refused alone" 1 \
+        "$one"$'\nlow/gives_more: refused\nwrong bodies: 1 refused, 0 not told, 0 not refused, 1 not tried\n' \
+        "$all"$'low/gives_more room::hidden\n' low
+    interrupted_trial
+}
+
+# An interrupt comes to all of it, and one more while it ends, as of somebody who presses the keys twice.
+interrupted_trial() {
+    local undo='import os, signal, sys; signal.signal(signal.SIGINT, signal.SIG_DFL); os.setpgid(0, 0)' started
+    sed -i 's/wrong/hangs/' tree/tests/wrong_bodies/high/gets_more.edit
+    cp tree/tests/wrong_bodies/record kept_record && mkdir rooms
+    PATH=$PWD/prover:$PATH TMPDIR=$PWD/rooms python3 -c "$undo; os.execvp('python3', sys.argv[1:])" \
+        python3 tree/tests/wrong_bodies.py >"$room/printed" 2>"$room/said" &
+    started=$!
+    set_up "a check hangs" has_begun prover/hangs || return
+    kill -INT -- "-$started" && sleep 0.2 && kill -INT -- "-$started" 2>/dev/null
+    { wait "$started"; } 2>/dev/null
+    status=$?
+    must "two interrupts" 130 "$(printf 'high/%s: NOT TRIED, since the check came to no answer\n' gets_more gives_another)"$'\n' \
+        $'wrong_bodies: interrupted\n'
+    observe find rooms -mindepth 1
+    must "no folder is left of an interrupted trial" 0 '' ''
+    observe cmp kept_record tree/tests/wrong_bodies/record
+    must "the record is as it was before an interrupted trial" 0 '' ''
 }
 
 # What each run of the gate says of these lines of its list.
@@ -271,6 +366,9 @@ wrong bodies of each run: 0 refused, 1 failed\n' "$low"
     write_edit tree/tests/wrong_bodies/low/gets_more.edit 'self.size + 0' 'self.size + 1 /* wrong shape */'
     run_says "one is refused for its shape" 1 $'FAILED: low/gets_more is refused only for its shape
 wrong bodies of each run: 0 refused, 1 failed\n' "$low"
+    write_edit tree/tests/wrong_bodies/low/gets_more.edit 'self.size + 0' 'self.size + 1 /* uncompiled */'
+    run_says "one doesn't compile, in each run" 1 "FAILED: low/gets_more came to no answer: it doesn't compile, or its check was ended
+wrong bodies of each run: 0 refused, 1 failed"$'\n' "$low"
     write_edit tree/tests/wrong_bodies/low/gets_more.edit 'x * 1' 'x * 1 /* wrong */'
     write_edit tree/tests/wrong_bodies/low/gets_less.edit 'self.size + 0' 'self.size + 0 + 0'
     run_says "one that another function is refused for" 1 $'low/gets_more: refused in room::hidden
@@ -288,10 +386,13 @@ record_of_wrong_bodies() {
         in_tree wrong_bodies.py
         at_least 31 what_makes_a_line_stale
         at_least 12 what_is_a_fault
+        at_least 17 what_names_are_there
         rm -r tree && cp -R kept_tree tree
-        at_least 17 what_a_trial_writes
+        at_least 21 what_a_trial_writes
+        rm -r tree && cp -R kept_tree tree
+        at_least 11 what_is_not_tried
         rm -r tree && mv kept_tree tree
-        at_least 10 what_each_run_tries
+        at_least 11 what_each_run_tries
     fi
     cd -- "$root" || exit 1
 }

@@ -62,7 +62,7 @@ def compared(program: str, script: str) -> str:
 
 def main() -> None:
     program, *scripts = sys.argv[1:]
-    with ProcessPoolExecutor(os.cpu_count()) as pool:
+    with ProcessPoolExecutor(len(os.sched_getaffinity(0))) as pool:
         for line in pool.map(compared, [program] * len(scripts), scripts):
             print(line, flush=True)
 

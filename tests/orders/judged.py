@@ -88,7 +88,7 @@ def judged(script: str) -> str:
 
 
 def main() -> None:
-    with ProcessPoolExecutor(os.cpu_count()) as pool:
+    with ProcessPoolExecutor(len(os.sched_getaffinity(0))) as pool:
         for line in pool.map(judged, sys.argv[1:]):
             print(line, flush=True)
 

@@ -127,7 +127,7 @@ TEXTS = {
 def main() -> int:
     end = sys.argv.index("--")
     kind, *texts = sys.argv[1:end]
-    with ProcessPoolExecutor() as pool:
+    with ProcessPoolExecutor(len(os.sched_getaffinity(0))) as pool:
         waiting = [pool.submit(compared, kind, text, sys.argv[end + 1 :]) for text in texts]
         for done in waiting:
             print(done.result(), flush=True)

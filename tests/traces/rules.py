@@ -2,14 +2,15 @@
 
     rules.py planted|forms|titan TABLE [-- COMMAND..]
     rules.py document FILE [-- COMMAND..]
-    rules.py lines FILE           each text has the form of a trace, or its first line of another form is the one that
-                                  was found by hand
                                   each row of the table, each example of the document, has the answer that was worked
                                   out by hand: by the judge in referee.py, or by the command with a file behind it
+    rules.py lines FILE           each text has the form of a trace, or its first line of another form is the one that
+                                  was found by hand
     rules.py played SCRIPT..      traces of these scripts, played in orders made by chance, are lawful and one run
     rules.py tried NUMBER         of so many small traces, those are one run of which some order of their lines is a
                                   run; of so many small graphs, the first line of each circle is found; and of so many
-                                  ports and routes, the places are found where docs/MODEL.md has them
+                                  ports and routes, the places are found where docs/MODEL.md has them. A twentieth at
+                                  least must be of each of two kinds
 
 Each prints lines `passed ..`, or lines that begin with `FAILED: `.
 """
@@ -130,8 +131,14 @@ def played(script: str) -> str:
     return f"passed {SEEDS} {script}"
 
 
+def of_two_kinds(one: int, number: int, what: str) -> str:
+    """The line of a test in which so many of this number were of one kind: with too few of either kind it shows
+    nothing."""
+    return f"FAILED: {what} of {number}" if min(one, number - one) < number // 20 else f"passed {what}"
+
+
 def tried(number: int) -> str:
-    chance, one, delayed = random.Random(number), 0, 0
+    chance, one = random.Random(number), 0
     for _ in range(number):
         text = small_trace(chance)
         trace = read_trace(text)
@@ -140,8 +147,8 @@ def tried(number: int) -> str:
         lines, is_one = delayed_lines(trace), is_one_run_by_trying(trace)
         if (lines == []) is not is_one:
             return f"FAILED: the demands say delayed lines {lines}, all orders {is_one}\n{text.decode('latin-1')}"
-        one, delayed = one + is_one, delayed + (not is_one)
-    return f"passed {one} one run, {delayed} delayed"
+        one += is_one
+    return of_two_kinds(one, number, f"{one} one run, {number - one} delayed")
 
 
 def followed(behind: dict[int, list[int]], first: int) -> dict[int, set[int]]:
@@ -165,7 +172,7 @@ def graphs(number: int) -> str:
         if wanted[:1] != sorted(on_circles)[:1]:
             return f"FAILED: the first line on a circle of {behind} is {sorted(on_circles)[0]}"
         with_several += len(wanted) > 1
-    return f"passed {with_several} graphs with several circles"
+    return of_two_kinds(with_several, number, f"{with_several} graphs with several circles")
 
 
 def ports(number: int) -> str:
@@ -180,7 +187,7 @@ def ports(number: int) -> str:
         if wanted is None and (found is None) is not (queued(history) == []):
             return f"FAILED: {queued(history)} is queued in the end, and {found} is told, of {history}"
         unlawful += wanted is not None
-    return f"passed {unlawful} unlawful ports"
+    return of_two_kinds(unlawful, number, f"{unlawful} unlawful ports")
 
 
 def routes(number: int) -> str:
@@ -195,7 +202,7 @@ def routes(number: int) -> str:
         if is_lawful is not (places == []) or (told not in places if places else told is not None):
             return f"FAILED: lawful {is_lawful}, there are {places}, and {told} is told, of {route}"
         lawful += is_lawful
-    return f"passed {lawful} lawful routes"
+    return of_two_kinds(lawful, number, f"{lawful} lawful routes")
 
 
 def judge_of(words: list[str], room: str) -> Callable[[bytes], tuple[str, int]]:

@@ -1,11 +1,11 @@
 """Judges the traces of free runs.
 
-    runs.py PROGRAM SCRIPT.. [-- COMMAND..]
+    runs.py PROGRAM SCRIPT.. -- COMMAND..
 
 `PROGRAM trace SCRIPT` is called several times, a part of them on one processor. Each trace without its lines `came`
-must be a report that the script may have, and the trace lawful and one run: by the judge in referee.py, or by the
-command with a file behind it. A line `passed N SCRIPT` is printed for each script, or lines that begin with
-`FAILED: SCRIPT`.
+must be a report that the script may have, and the trace lawful and one run: by the judge in referee.py, and by the
+command with a file behind it. For each script and judge a line `passed N SCRIPT by JUDGE` is printed, or lines that
+begin with `FAILED: SCRIPT by JUDGE`.
 """
 import os
 import subprocess
@@ -24,7 +24,7 @@ from judged import expected_beside  # noqa: E402
 from reading import read_script  # noqa: E402
 
 RUNS, SECONDS = 6, 20
-ONE_PROCESSOR = ["taskset", "-c", "0"]
+ONE_PROCESSOR = ["taskset", "-c", str(min(os.sched_getaffinity(0)))]
 
 Answer = Callable[[bytes], tuple[str, int]]
 
@@ -47,41 +47,51 @@ def without_arrivals(trace: str) -> str:
     return "".join(line for line in trace.splitlines(True) if not line.startswith("came "))
 
 
-def fault_of(command: list[str], reports: Reports, answer: Answer) -> str | None:
-    """Runs the command. What is wrong with its trace, if anything is."""
+def run(command: list[str], reports: Reports) -> tuple[bytes, str | None]:
+    """Runs the command. Its trace, and what is wrong with it as a report, if anything is."""
     try:
         ended = subprocess.run(
             command, stdin=subprocess.DEVNULL, capture_output=True, timeout=SECONDS, check=False
         )
     except subprocess.TimeoutExpired:
-        return f"it hasn't ended after {SECONDS} seconds"
+        return b"", f"it hasn't ended after {SECONDS} seconds"
     trace = ended.stdout.decode("latin-1")
     if ended.returncode != 0 or ended.stderr:
-        return f"status {ended.returncode}, and it said {ended.stderr!r}"
+        return ended.stdout, f"status {ended.returncode}, and it said {ended.stderr!r}"
     if not reports.may_have(without_arrivals(trace)):
-        return f"without the lines `came` this is no report that it may have\n{trace}"
-    if (found := answer(ended.stdout)) != ("lawful\none run\n", 0):
-        return f"with status {found[1]} it is said\n{found[0]}of\n{trace}"
-    return None
+        return ended.stdout, f"without the lines `came` this is no report that it may have\n{trace}"
+    return ended.stdout, None
 
 
-def judged(program: str, script: str, answer: Answer) -> str:
-    """The line, or lines, for one script."""
-    reports = Reports(script)
+def fault_of(trace: bytes, answer: Answer) -> str | None:
+    """What the judge says against the trace, if anything."""
+    if (found := answer(trace)) == ("lawful\none run\n", 0):
+        return None
+    return f"with status {found[1]} it is said\n{found[0]}of\n{trace.decode('latin-1')}"
+
+
+def judged(program: str, script: str, judges: dict[str, Answer]) -> list[str]:
+    """The line, or lines, for one script, by each of the judges."""
+    reports, faults = Reports(script), {}
     for turn in range(RUNS):
         before = ONE_PROCESSOR if turn % 3 == 2 else []
-        if (fault := fault_of([*before, program, "trace", script], reports, answer)) is not None:
-            return f"FAILED: {script}, run {turn + 1}: {fault}"
-    return f"passed {RUNS} {script}"
+        trace, wrong = run([*before, program, "trace", script], reports)
+        for name, answer in judges.items():
+            fault = fault_of(trace, answer) if wrong is None else wrong
+            if fault is not None:
+                faults.setdefault(name, f"run {turn + 1}: {fault}")
+    failed = [f"FAILED: {script} by {name}, {fault}" for name, fault in faults.items()]
+    return [*(f"passed {RUNS} {script} by {name}" for name in judges if name not in faults), *failed]
 
 
 def main() -> int:
     program, *words = sys.argv[1:]
-    end = words.index("--") if "--" in words else len(words)
+    end = words.index("--")
     with tempfile.TemporaryDirectory() as room:
-        answer = Judge(words[end + 1 :], os.path.join(room, "trace")).answer if words[end:] else answer_of
+        command = Judge(words[end + 1 :], os.path.join(room, "trace"))
+        judges = {"referee.py": answer_of, "the command": command.answer}
         for script in words[:end]:
-            print(judged(program, script, answer), flush=True)
+            print("\n".join(judged(program, script, judges)), flush=True)
     return 0
 
 

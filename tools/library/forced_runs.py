@@ -69,7 +69,7 @@ class ForcedRuns:
 
     def run(self, orders: list[str]) -> list[Answer]:
         """An answer for each order, each of which is the names of components. An order that doesn't come to
-        an end is left, and those behind it are run anew."""
+        an end is left, and those behind it are run anew. A program that ends as it should has answered all."""
         answers: list[Answer] = []
         while len(answers) < len(orders) and not self.stopping:
             status, printed = self._run(self.script, orders[len(answers) :])
@@ -77,7 +77,7 @@ class ForcedRuns:
             answers += [_answer(piece) for piece in pieces]
             if status is None and not self.stopping:
                 answers.append(Answer(Outcome.NO_END, ""))
-            elif status != 0 and not self.stopping:
+            elif not self.stopping and (status != 0 or len(answers) < len(orders)):
                 raise Stop(NOT_BUILT, f"{self.program} ended with status {status}: {printed[-200:].strip()}")
         return answers
 

@@ -4,7 +4,7 @@ from __future__ import annotations
 from typing import Optional
 
 from .refusal_rules import Rule
-from .script_faults import RuleFault, listed, nearest
+from .script_faults import RuleFault, nearest
 from .script_tokens import Text
 from .script_tree import (
     ComponentType,
@@ -214,9 +214,6 @@ class Names:
 
     def listed_names(self, port_type: str, way: str) -> list[str]:
         return [self.word(place) for place in self.lists(port_type, way)]
-
-    def message_types(self) -> str:
-        return listed([*BASE_TYPES, *self.types])
 
 
 def _inner(definition: Definition) -> tuple[list[Declared], str]:

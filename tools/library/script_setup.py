@@ -1,8 +1,6 @@
 """The third pass of the checks: the setup of the test case, and the starts of its components."""
 from __future__ import annotations
 
-from typing import Optional
-
 from .refusal_rules import Rule
 from .script_faults import RuleFault, listed, nearest
 from .script_names import SUT, Names
@@ -289,9 +287,6 @@ class Setup:
             )
             fault = RuleFault(17, self.case.start, self.case.start, sentence, Rule.DONE)
             raise fault.write("`all component.done;` as the last statement of the test case")
-
-    def type_of(self, component: str) -> Optional[str]:
-        return self.types.get(component)
 
 
 def told(port: Port) -> str:
