@@ -40,8 +40,7 @@ fn place_on(trace: &Trace, rows: &RouteRows<'_>, route: usize) -> Option<Place>
     if !trace.joined[route] {
         return None;
     }
-    let place = route_place(&rows.sent[route], &rows.came[route]);
-    place
+    route_place(&rows.sent[route], &rows.came[route])
 }
 
 /// For each route that isn't lawful a line at which it isn't.

@@ -8,7 +8,7 @@ use std::alloc::Global;
 use tp_refusal::memory::Memory;
 
 /// So many empty rows.
-fn empty_rows<'t>(alloc: Global, count: usize) -> Result<Vec<Vec<&'t Line>>, Memory>
+pub(crate) fn empty_rows<T: Drop>(alloc: Global, count: usize) -> Result<Vec<Vec<T>>, Memory>
     ensures size { IfOk result (λ rows. length rows.items ≡ count) }
     ensures empty { IfOk result (λ rows. All (λ row. row.items ≡ []) rows.items) }
 {

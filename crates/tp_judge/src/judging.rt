@@ -1,5 +1,5 @@
 //! All three rules.
-ghost use Rattle.std.specs.Prelude.{◌≡◌, ◌↔◌, ◌++◌, [], All, IfOk, IsTrue, OnOk};
+ghost use Rattle.std.specs.Prelude.{◌≡◌, ◌↔◌, [], All, IfOk, OnOk};
 ghost use Rattle.std.specs.List.Sorted.{IsPermutation};
 ghost use Rattle.tp_judge.specs.Judged.{AreInOrder, IsLawful, IsOrderly, IsOrderPlace, IsPlace};
 ghost use Rattle.tp_judge.specs.Lawful.{AreWithin};
@@ -13,21 +13,6 @@ use crate::trace::Trace;
 use std::alloc::Global;
 use tp_refusal::memory::Memory;
 
-/// Whether there are none.
-fn are_none(places: &[Place]) -> bool
-    ensures { IsTrue result ↔ (places.now ≡ []) }
-{
-    matches!(places, [])
-}
-
-/// Adds places behind the others.
-fn append(places: &mut Vec<Place>, more: &[Place]) -> Result<(), Memory>
-    ensures { OnOk result (places.new.items ≡ places.old.items ++ more.now) }
-{
-    places.extend_from_slice(more)?;
-    Ok(())
-}
-
 /// The places of routes, and where there are none that of a circle.
 fn order_places(alloc: Global, trace: &Trace) -> Result<Vec<Place>, Memory>
     requires { AreWithin trace.now }
@@ -37,7 +22,7 @@ fn order_places(alloc: Global, trace: &Trace) -> Result<Vec<Place>, Memory>
 {
     let rows = gather_routes(alloc, trace)?;
     let mut places = route_places(alloc, trace, &rows)?;
-    if !are_none(&places) {
+    if !places.is_empty() {
         return Ok(places);
     }
     let found = circle_place(alloc, trace, &rows)?;
@@ -69,8 +54,8 @@ pub fn judge(alloc: Global, trace: &Trace) -> Result<Vec<Place>, Memory>
     ensures sorted { IfOk result (λ places. AreInOrder places.items) }
 {
     let mut places = port_places(alloc, trace)?;
-    let order = order_places(alloc, trace)?;
-    append(&mut places, &order)?;
+    let mut order = order_places(alloc, trace)?;
+    places.append(&mut order)?;
     put_in_order(&mut places)?;
     Ok(places)
 }

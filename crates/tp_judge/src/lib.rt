@@ -2,18 +2,18 @@
 //! itself.
 #![tactic(auto)]
 
-pub mod circles;
-pub mod delivery;
-pub mod demands;
-pub mod gathering;
+mod circles;
+mod delivery;
+mod demands;
+mod gathering;
 pub mod judging;
 pub mod line;
 pub mod one_run;
 pub mod place;
-pub mod ports;
-pub mod replaying;
-pub mod routes;
-pub mod run_demands;
-pub mod sendings;
-pub mod text_order;
+mod ports;
+mod replaying;
+mod routes;
+mod run_demands;
+mod sendings;
+mod text_order;
 pub mod trace;

@@ -1,5 +1,5 @@
 //! Whether a trace is one run.
-ghost use Rattle.std.specs.Prelude.{◌≡◌, ◌↔◌, [], IfOk, IsTrue};
+ghost use Rattle.std.specs.Prelude.{IfOk, IsTrue};
 ghost use Rattle.tp_judge.specs.Delivered.{Delivered};
 ghost use Rattle.tp_judge.specs.Lawful.{AreRouted, AreWithin};
 ghost use Rattle.tp_judge.specs.OneRun.{IsOneRun, IsRunAnswer};
@@ -9,7 +9,6 @@ use crate::run_demands::{Which, make_run_demands, make_those};
 use crate::trace::Trace;
 use std::alloc::Global;
 use tp_order::answer::Answer;
-use tp_order::demand::Demand;
 use tp_order::order::order_or_circle;
 use tp_refusal::memory::Memory;
 
@@ -24,13 +23,6 @@ pub enum OneRun {
     Delayed(u32),
 }
 
-/// Whether there are none.
-fn are_none(demands: &[Demand]) -> bool
-    ensures { IsTrue result ↔ (demands.now ≡ []) }
-{
-    matches!(demands, [])
-}
-
 /// Whether the order of the text is that of a run. To see it takes less than to look for an order,
 /// and a trace whose text has another order pays little for the look.
 fn runs_in_order(alloc: Global, trace: &Trace) -> Result<bool, Memory>
@@ -40,7 +32,7 @@ fn runs_in_order(alloc: Global, trace: &Trace) -> Result<bool, Memory>
     ensures { IfOk result (λ runs. IsTrue runs → IsOneRun trace.now) }
 {
     let backward = make_those(alloc, trace, Which::Backward)?;
-    Ok(are_none(&backward))
+    Ok(backward.is_empty())
 }
 
 /// Whether a trace whose routes are lawful is one run (ES 201 873-4), in time linear in the

@@ -2,9 +2,9 @@
 ghost use Rattle.std.specs.Prelude.{◌≡◌, ◌↔◌, ◌<◌, [], All, IfOk, IsTrue, MatchOption, Some, length, slice_get};
 ghost use Rattle.tp_queue.specs.Queues.{AtHistory};
 ghost use Rattle.tp_judge.specs.Gathered.{seen};
-ghost use Rattle.tp_judge.specs.Lawful.{AreWithin, IsCloserNumber, IsCloserOf, IsLawfulAt, IsLawfulPort, IsLeftBroken};
-ghost use Rattle.tp_judge.specs.Lawful.{IsPortPlace, IsToldLeft, IsUnlawfulAt, IsUnlawfulPort};
-ghost use Rattle.tp_judge.specs.Lawful.{LawfulPorts};
+ghost use Rattle.tp_judge.specs.Lawful.{AreWithin, IsCloserNumber, IsCloserOf, IsLawfulAt, IsLawfulPort};
+ghost use Rattle.tp_judge.specs.Lawful.{IsLeftBroken, IsPortPlace, IsToldLeft, IsUnlawfulAt};
+ghost use Rattle.tp_judge.specs.Lawful.{IsUnlawfulPort, LawfulPorts};
 ghost use Rattle.tp_judge.specs.PortRows.{AreClosers, ArePortRows};
 ghost use Rattle.tp_judge.specs.Lines.{envelope};
 ghost use Rattle.tp_judge.specs.ToldOf.{AreToldOfPorts};
@@ -163,18 +163,17 @@ fn place_at(
         MatchOption place (IsLawfulAt trace.now port) (IsUnlawfulAt trace.now port)) }
 {
     let owner = trace.owners[port] as usize;
-    let place = port_place(
+    port_place(
         alloc,
         &rows.events[port],
         &rows.left[port],
         &rows.closing[owner],
         rows.closers[owner],
-    )?;
-    Ok(place)
+    )
 }
 
 /// For each port that isn't lawful a line at which it isn't.
-pub fn port_places(alloc: Global, trace: &Trace) -> Result<Vec<Place>, Memory>
+pub(crate) fn port_places(alloc: Global, trace: &Trace) -> Result<Vec<Place>, Memory>
     requires { AreWithin trace.now }
     ensures lawful { IfOk result (λ places. (places.items ≡ []) ↔ LawfulPorts trace.now) }
     ensures told { IfOk result (λ places. All (IsPortPlace trace.now) places.items) }

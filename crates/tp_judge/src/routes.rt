@@ -49,13 +49,6 @@ fn misnumbered(sent: &[&Line]) -> Option<usize>
     None
 }
 
-/// Whether the two are the same.
-fn is_parcel(one: Parcel, other: Parcel) -> bool
-    ensures { IsTrue result ↔ (one ≡ other) }
-{
-    one == other
-}
-
 /// Whether what came at this place was sent there.
 fn agrees(sent: &[&Line], came: &[&Line], place: usize) -> bool
     requires sent { All NamesParcel (seen sent.now) }
@@ -117,8 +110,7 @@ fn overtaken_at(sent: &[&Line], came: &[&Line], place: usize) -> Place
     match find_from(came, place, place as u64) {
         None => told_at(Rule::Lost, sent, place),
         Some(later) => {
-            let is_same = is_parcel(parcel, parcel_at(came, later));
-            if !is_same {
+            if parcel_at(came, later) != parcel {
                 return told_at(Rule::Changed, came, later);
             }
             told_at(Rule::Reordered, came, later)
@@ -143,8 +135,7 @@ fn fault_at(sent: &[&Line], came: &[&Line], place: usize) -> Place
         return told_at(Rule::Doubled, came, place);
     }
     let original = parcel_at(sent, parcel.number as usize);
-    let is_same = is_parcel(original, parcel);
-    if !is_same {
+    if original != parcel {
         return told_at(Rule::Changed, came, place);
     }
     overtaken_at(sent, came, place)

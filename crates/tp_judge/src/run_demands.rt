@@ -219,6 +219,5 @@ pub(crate) fn make_run_demands(alloc: Global, trace: &Trace) -> Result<Vec<Deman
     ensures { IfOk result (λ demands.
         AreDemandsUpTo trace.now (length trace.now.lines.items) demands.items) }
 {
-    let demands = make_those(alloc, trace, Which::All)?;
-    Ok(demands)
+    make_those(alloc, trace, Which::All)
 }

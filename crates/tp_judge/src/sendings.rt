@@ -1,26 +1,15 @@
 //! Where the messages of each route were sent.
-ghost use Rattle.std.specs.Prelude.{◌≡◌, [], All, IfOk, length};
+ghost use Rattle.std.specs.Prelude.{IfOk, length};
 ghost use Rattle.tp_judge.specs.Delivered.{Delivered};
 ghost use Rattle.tp_judge.specs.Lawful.{AreRouted, AreWithin};
 ghost use Rattle.tp_judge.specs.OneRun.{IsSentAt};
 ghost use Rattle.tp_judge.specs.Sendings.{AreSendings, HasCome};
 
+use crate::gathering::empty_rows;
 use crate::line::{By, Mention};
 use crate::trace::Trace;
 use std::alloc::Global;
 use tp_refusal::memory::Memory;
-
-/// So many empty rows.
-fn empty_rows(alloc: Global, count: usize) -> Result<Vec<Vec<usize>>, Memory>
-    ensures size { IfOk result (λ rows. length rows.items ≡ count) }
-    ensures empty { IfOk result (λ rows. All (λ row. row.items ≡ []) rows.items) }
-{
-    let mut rows = Vec::with_capacity(alloc, count)?;
-    for _ in 0..count {
-        rows.push(Vec::new(alloc))?;
-    }
-    Ok(rows)
-}
 
 /// Of each route the places of its sendings, in their order.
 pub(crate) fn gather_sendings(alloc: Global, trace: &Trace) -> Result<Vec<Vec<usize>>, Memory>

@@ -1,5 +1,6 @@
 -- Lists that only grow at their end, and the sets that are such lists.
-use Rattle.std.proofs.Common.{◌≡◌, ◌⊎◌, inl, inr, ℕ, zero, suc, ◌≤◌, ◌+◌, Bool, true, false, cond, Some, List, [], ◌∷◌, ◌++◌, length, map, slice_get, option_map, ap, ◌∙◌, arith}
+use Rattle.std.proofs.Common.{Result, Ok, Err, ◌≡◌, ◌⊎◌, inl, inr, ℕ, zero, suc, ◌≤◌, ◌+◌, Bool, true, false, cond, Some, List, [], ◌∷◌, ◌++◌, length, map, slice_get, option_map, ap, ◌∙◌, arith}
+use Rattle.std.specs.Prelude.{IfOk}
 use Rattle.std.specs.List.{list_any}
 use Rattle.std.proofs.lemmas.List.{length_push}
 use Rattle.std.proofs.lemmas.Option.{same_Some, slice_get-map}
@@ -59,3 +60,8 @@ adds_views v eq xs x k y e =
       | inl old ↦ inl (at_view v xs k s.0 old ∙ ap Some s.2)
       | inr same ↦ inr (ap v same ∙ s.2)
     ]
+
+-- what two facts of a call that succeeded come to
+pub from_both : {T E : Type 0} {P Q R : T → Type 0} (r : Result T E) → ((x : T) → P x → Q x → R x) → IfOk r P → IfOk r Q → IfOk r R
+from_both (Ok x) f p q = f x p q
+from_both (Err e) f p q = tt

@@ -3,12 +3,11 @@ use Rattle.std.proofs.Common.{◌≡◌, ◌+◌, ◌≤◌, Bool, List, length,
 use Rattle.std.specs.List.{AllZip}
 use Rattle.tp_trace.specs.Line.{Told}
 use Rattle.tp_judge.specs.declared.trace.Trace.{Trace}
-use Rattle.tp_judge.specs.Lawful.{AreWithin}
+use Rattle.tp_judge.specs.Lawful.{AreRouted, AreWithin}
 use Rattle.tp_referee.specs.declared.tables.PortKey.{PortKey}
 use Rattle.tp_referee.specs.declared.tables.Tables.{Tables}
 use Rattle.tp_referee.specs.Numbering.{AreDistinct, IsLine, IsNumberingOf, stands_of}
 use Rattle.tp_referee.specs.Joining.{AreJoinedBy, AreSections}
-use Rattle.tp_judge.specs.Lawful.{AreRouted}
 use Rattle.tp_referee.specs.Turns.{IsWhole}
 use Rattle.tp_referee.proofs.Joined.{joined_routes}
 use Rattle.tp_referee.proofs.Routing.{numbering_routed}

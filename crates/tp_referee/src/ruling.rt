@@ -1,5 +1,5 @@
 //! What is said of the text of a trace.
-ghost use Rattle.std.specs.Prelude.{◌≡◌, ◌↔◌, [], IfErr, IfOk, IsTrue};
+ghost use Rattle.std.specs.Prelude.{IfErr, IfOk};
 ghost use Rattle.tp_trace.specs.Faults.{IsFaultOf};
 ghost use Rattle.tp_judge.specs.Lawful.{AreRouted, AreWithin};
 ghost use Rattle.tp_referee.specs.Rulings.{IsNumberedText, IsRulingOf, IsRulingOn};
@@ -22,13 +22,6 @@ pub enum Ruling {
     Unlawful(Vec<Place>),
 }
 
-/// Whether there are none.
-fn are_none(places: &[Place]) -> bool
-    ensures { IsTrue result ↔ (places.now ≡ []) }
-{
-    matches!(places, [])
-}
-
 /// What is said of a trace in numbers.
 fn ruling_on(alloc: Global, trace: &Trace) -> Result<Ruling, Memory>
     requires within { AreWithin trace.now }
@@ -36,7 +29,7 @@ fn ruling_on(alloc: Global, trace: &Trace) -> Result<Ruling, Memory>
     ensures { IfOk result (IsRulingOn trace.now) }
 {
     let places = judge(alloc, trace)?;
-    if are_none(&places) {
+    if places.is_empty() {
         let run = one_run(alloc, trace)?;
         return Ok(Ruling::Lawful(run));
     }

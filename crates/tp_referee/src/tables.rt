@@ -140,8 +140,7 @@ impl<'t> Tables<'t> {
         ensures grows { OnOk result (Grows 1 self.old self.new) }
         ensures whole { OnOk result (IsWhole self.new) }
     {
-        let number = self.components.number(name)?;
-        Ok(number)
+        self.components.number(name)
     }
 
     /// The number of a port that has been given its name's number.
@@ -154,8 +153,7 @@ impl<'t> Tables<'t> {
         ensures grows { OnOk result (Grows 1 self.old self.new) }
         ensures whole { OnOk result (IsWhole self.new) }
     {
-        let number = number_of(&mut self.ports, PortKey { component, name })?;
-        Ok(number)
+        number_of(&mut self.ports, PortKey { component, name })
     }
 
     /// The number of a name of ports.
@@ -166,8 +164,7 @@ impl<'t> Tables<'t> {
         ensures grows { OnOk result (Grows 1 self.old self.new) }
         ensures whole { OnOk result (IsWhole self.new) }
     {
-        let number = self.names.number(name)?;
-        Ok(number)
+        self.names.number(name)
     }
 
     /// The number of the port of this name of the component of this number.
@@ -180,8 +177,7 @@ impl<'t> Tables<'t> {
         ensures whole { OnOk result (IsWhole self.new) }
     {
         let word = self.name(name)?;
-        let port = self.port_key(component, word)?;
-        Ok(port)
+        self.port_key(component, word)
     }
 
     /// The number of the route from this sender to this port.
@@ -193,8 +189,7 @@ impl<'t> Tables<'t> {
         ensures grows { OnOk result (Grows 1 self.old self.new) }
         ensures whole { OnOk result (IsWhole self.new) }
     {
-        let number = number_of(&mut self.routes, RouteKey { sender, port })?;
-        Ok(number)
+        number_of(&mut self.routes, RouteKey { sender, port })
     }
 
     /// The number of a message.
@@ -205,8 +200,7 @@ impl<'t> Tables<'t> {
         ensures grows { OnOk result (Grows 1 self.old self.new) }
         ensures whole { OnOk result (IsWhole self.new) }
     {
-        let number = self.messages.number(text)?;
-        Ok(number)
+        self.messages.number(text)
     }
 
     /// A message between the components of these numbers.
@@ -280,14 +274,8 @@ impl<'t> Tables<'t> {
         ensures whole { OnOk result (IsWhole self.new) }
     {
         match line {
-            Line::Message(fate, message) => {
-                let act = self.passed(here, *fate, message)?;
-                Ok(act)
-            }
-            Line::Operation(operation, name) => {
-                let act = self.operated(here, *operation, name)?;
-                Ok(act)
-            }
+            Line::Message(fate, message) => self.passed(here, *fate, message),
+            Line::Operation(operation, name) => self.operated(here, *operation, name),
             Line::Else => Ok(Act::Else),
             Line::End(_) => Ok(Act::End),
             Line::Component(_) | Line::Note(_, _) | Line::Result(_) => Ok(Act::Other),

@@ -56,7 +56,6 @@ impl<'t> Words<'t> {
         ensures others { OnOk result (AddsOnly self.old word.now self.new) }
         ensures err { OnErr result (self.new ≡ self.old) }
     {
-        let number = number_of(&mut self.words, word)?;
-        Ok(number)
+        number_of(&mut self.words, word)
     }
 }

@@ -5,6 +5,6 @@ mod cut;
 pub mod form;
 pub mod line;
 mod names;
-pub mod read;
+mod read;
 pub mod reading;
 pub mod tree;

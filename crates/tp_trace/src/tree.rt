@@ -1,7 +1,7 @@
 //! A trace: a text that has the form of one, cut into its lines.
-ghost use Rattle.std.specs.Prelude.{◌≡◌, All, length, map};
+ghost use Rattle.std.specs.Prelude.{◌≡◌, ◌≢◌, ◌<◌, All, AllPairs, Some, length, map, slice_get};
 ghost use Rattle.tp_trace.specs.Spans.{IsSpanOf, pieces};
-ghost use Rattle.tp_trace.specs.Tree.{HoldsTrace, told_in};
+ghost use Rattle.tp_trace.specs.Tree.{HoldsTrace, IsTrace, names_of, section_named, told_in, told_of};
 
 use crate::line::Line;
 use crate::names::Names;
@@ -43,9 +43,6 @@ impl<'t> Model for Trace<'t> {
 }
 
 impl<'t> Trace<'t> {
-    ghost use Rattle.std.specs.Prelude.{◌≡◌, ◌≢◌, ◌<◌, AllPairs, length, slice_get, Some};
-    ghost use Rattle.tp_trace.specs.Tree.{IsTrace, names_of, section_named, told_of};
-
     /// The trace of the lines that lie there in the text, whose sections have these names.
     pub(crate) fn of(text: &'t [u8], spans: Vec<Span>, names: Names<'t>) -> Trace<'t>
         requires holds { HoldsTrace (pieces text.now spans.items) names }

@@ -4,7 +4,7 @@ use Rattle.std.specs.Prelude.{All}
 use Rattle.tp_judge.proofs.gathering.empty_rows.Given as goal
 
 abbrev pub invariant-loop : goal.invariant-loop
-invariant-loop l = record {
+invariant-loop g l = record {
   size : length l.rows.items ≡ l.counter;
   empty : All (λ row. row.items ≡ []) l.rows.items;
 }

@@ -1,7 +1,6 @@
 -- Each place is one of a port, a route or a circle, and none is left out, also where they stand in another order.
 use Rattle.std.proofs.Common.{◌≡◌, inl, inr, List, [], ◌++◌, length, ap, subst, arith}
 use Rattle.std.specs.List.Sorted.{IsPermutation}
-use Rattle.std.proofs.lemmas.Grind.{common_steps}
 use Rattle.std.proofs.lemmas.List.{length-append, nil_from_length}
 use Rattle.std.proofs.lemmas.List.Elements.{All-append, All-weaker}
 use Rattle.std.proofs.lemmas.List.Sorted.{All-permutation, IsPermutation-sym, length_permutation}
@@ -23,7 +22,7 @@ returns c =
     let ports = c.in_ok-places.places.items in
     let order = c.in_ok-order.order.items in
     let places = c.put_in_order.new.places.items in
-    let is : c.append.new.places.items ≡ ports ++ order = grind (arith, common_steps, c.in_ok-append.ensures, c.deref.ensures.value) in
+    let is : c.append.new.self.items ≡ ports ++ order = c.in_ok-append.ensures.items in
     let moved = subst (λ (l : List Place). IsPermutation l places) is c.in_ok-put_in_order.ensures.same in
     let count = length-append ports order in
     record {

@@ -1,6 +1,6 @@
 -- The places of routes, and where there are none that of a circle.
-use Rattle.std.proofs.Common.{◌≡◌, ◌∙◌, [], List, None, Some, sym, true≢false}
-use Rattle.std.proofs.lemmas.List.{append-nil}
+use Rattle.std.proofs.Common.{◌≡◌, [], List, None, Some, sym, arith}
+use Rattle.std.proofs.lemmas.List.{append-nil, nil_from_length}
 use Rattle.tp_judge.specs.declared.place.Place.{Place}
 use Rattle.tp_judge.specs.declared.trace.Trace.{Trace}
 use Rattle.tp_judge.specs.Before.{NoCircle}
@@ -14,10 +14,9 @@ routes_alone : (trace : Trace) (places : List Place) → AreToldOfRoutes trace p
 routes_alone trace places each none =
     record { routes = places; circle = None; of_routes = each; of_circles = none; are = sym (append-nil places) }
 
-pub returns-then-not-are_none-clause-all : goal.returns-then-not-are_none-clause-all
-returns-then-not-are_none-clause-all c =
-    let some = λ (e : c.in_ok-places.places.items ≡ []).
-    true≢false (sym (c.are_none.ensures.1 (c.deref.ensures.value ∙ e)) ∙ c.if-not-are_none.true) in
+pub returns-then-not-is_empty-clause-all : goal.returns-then-not-is_empty-clause-all
+returns-then-not-is_empty-clause-all c =
+    let some : c.in_ok-places.places.items ≡ [] → ⊥ = grind (arith, c.is_empty.ensures, c.if-not-is_empty.true) in
     routes_alone c.args.trace.now c.in_ok-places.places.items c.in_ok-places.ensures.all
     (λ delivered. absurd (some (c.in_ok-places.ensures.lawful.1 delivered)))
 
@@ -28,7 +27,7 @@ returns-in-None-clause-all c =
 
 pub returns-clause-all : goal.returns-clause-all
 returns-clause-all c =
-    let none = sym c.deref.ensures.value ∙ c.are_none.ensures.0 c.if-not-are_none.false in
+    let none = nil_from_length c.in_ok-places.places.items (grind (arith, c.is_empty.ensures, c.if-not-is_empty.false)) in
     record {
       routes = c.in_ok-places.places.items;
       circle = Some c.in-Some.place;

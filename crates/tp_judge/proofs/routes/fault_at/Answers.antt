@@ -1,6 +1,5 @@
 -- Which rule is broken, by the number of what came.
-use Rattle.std.proofs.Common.{◌≢◌, Some, refl, ap, sym, ◌∙◌, arith}
-use Rattle.std.proofs.lemmas.Bool.{false≢true}
+use Rattle.std.proofs.Common.{◌≡◌, ◌≢◌, Some, ap, sym, ◌∙◌, arith}
 use Rattle.std.proofs.lemmas.Option.{slice_get_within}
 use Rattle.std.specs.Prelude.{slice_get}
 use Rattle.tp_judge.specs.Gathered.{seen}
@@ -26,19 +25,20 @@ returns-then-parcel-place c =
     c.parcel_at-parcel.ensures (slice_get_within (parcels (seen c.args.came.now)) c.args.place parcel c.parcel_at-parcel.ensures)
     c.if-parcel-place.true
 
-pub returns-then-not-is_same : goal.returns-then-not-is_same
-returns-then-not-is_same c =
+pub returns-then-ne : goal.returns-then-ne
+returns-then-ne c =
     let parcel = c.parcel_at-parcel.result in
     let sent = c.parcel_at-original.result in
     let number = c.requires.numbered parcel.number sent c.parcel_at-original.ensures in
-    changed parcel.number c.args.place parcel sent c.told_at-then-not-is_same.ensures.rule c.told_at-then-not-is_same.ensures.told
+    changed parcel.number c.args.place parcel sent c.told_at-then-ne.ensures.rule c.told_at-then-ne.ensures.told
     c.parcel_at-parcel.ensures c.parcel_at-original.ensures number
-    (λ message. false≢true (c.if-not-is_same.ensures.1 (same_parcel sent parcel number message)))
+    (λ message. let same = same_parcel sent parcel number message in grind (arith, c.ne.ensures, c.if-ne.true, same))
 
 pub overtaken_at-requires-clause-overtaken : goal.overtaken_at-requires-clause-overtaken
 overtaken_at-requires-clause-overtaken c =
     let parcel = c.parcel_at-parcel.result in
-    let there = c.parcel_at-original.ensures ∙ ap Some (c.if-not-is_same.ensures.0 refl) in
+    let same : c.parcel_at-original.result ≡ parcel = grind (arith, c.ne.ensures, c.if-ne.false) in
+    let there = c.parcel_at-original.ensures ∙ ap Some same in
     let other : c.args.place ≢ parcel.number =
     λ e. c.requires.differs.here (ap (slice_get (parcels (seen c.args.sent.now))) e ∙ there ∙ sym c.parcel_at-parcel.ensures) in
     let high = c.if-parcel-place.false in

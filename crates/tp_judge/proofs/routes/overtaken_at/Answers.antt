@@ -1,7 +1,6 @@
 -- A message whose place another took: it never comes, or later, or another does with its number.
-use Rattle.std.proofs.Common.{◌≡◌, ◌≢◌, Some, refl, ap, sym, ◌∙◌, arith}
+use Rattle.std.proofs.Common.{◌≡◌, ◌≢◌, Some, ap, sym, ◌∙◌, arith}
 use Rattle.std.specs.Prelude.{slice_get}
-use Rattle.std.proofs.lemmas.Bool.{false≢true}
 use Rattle.std.proofs.lemmas.Option.{same_Some}
 use Rattle.tp_judge.specs.declared.line.Parcel.{Parcel}
 use Rattle.tp_judge.specs.Gathered.{seen}
@@ -19,31 +18,32 @@ pub parcel_at-requires-clause-within : goal.parcel_at-requires-clause-within
 parcel_at-requires-clause-within c =
     named_within c.args.came.now c.requires.came c.in-Some.later c.in-Some.ensures.parcel c.in-Some.ensures.at
 
-pub told_at-requires-then-not-is_same : goal.told_at-requires-then-not-is_same
-told_at-requires-then-not-is_same c =
+pub told_at-requires-then-ne : goal.told_at-requires-then-ne
+told_at-requires-then-ne c =
     named_within c.args.came.now c.requires.came c.in-Some.later c.in-Some.ensures.parcel c.in-Some.ensures.at
 
 pub told_at-requires-in-Some : goal.told_at-requires-in-Some
 told_at-requires-in-Some c =
     named_within c.args.came.now c.requires.came c.in-Some.later c.in-Some.ensures.parcel c.in-Some.ensures.at
 
-pub returns-then-not-is_same : goal.returns-then-not-is_same
-returns-then-not-is_same c =
+pub returns-then-ne : goal.returns-then-ne
+returns-then-ne c =
     let sent = c.parcel_at-parcel.result in
     let came = c.parcel_at.result in
     let is = same_Some came c.in-Some.ensures.parcel (sym c.parcel_at.ensures ∙ c.in-Some.ensures.at) in
     let number : sent.number ≡ came.number =
     c.requires.numbered c.args.place sent c.parcel_at-parcel.ensures
     ∙ sym (ap (λ (p : Parcel). p.number) is ∙ c.in-Some.ensures.is) in
-    changed c.args.place c.in-Some.later came sent c.told_at-then-not-is_same.ensures.rule c.told_at-then-not-is_same.ensures.told
+    changed c.args.place c.in-Some.later came sent c.told_at-then-ne.ensures.rule c.told_at-then-ne.ensures.told
     c.parcel_at.ensures c.parcel_at-parcel.ensures number
-    (λ message. false≢true (c.if-not-is_same.ensures.1 (same_parcel sent came number message)))
+    (λ message. let same = same_parcel sent came number message in grind (arith, c.ne.ensures, c.if-ne.true, same))
 
-pub returns-else-not-is_same : goal.returns-else-not-is_same
-returns-else-not-is_same c =
+pub returns-else-ne : goal.returns-else-ne
+returns-else-ne c =
     let came = c.parcel_at.result in
     let over = c.requires.overtaken in
-    let there = c.parcel_at-parcel.ensures ∙ ap Some (c.if-not-is_same.ensures.0 refl) in
+    let same : c.parcel_at-parcel.result ≡ came = grind (arith, c.ne.ensures, c.if-ne.false) in
+    let there = c.parcel_at-parcel.ensures ∙ ap Some same in
     let apart : c.args.place ≢ c.in-Some.later = λ e.
     let same = same_Some over.1 came (sym over.4 ∙ ap (slice_get (parcels (seen c.args.came.now))) e ∙ c.parcel_at.ensures) in
     let first = c.requires.numbered over.0 over.1 over.3 in

@@ -1,8 +1,7 @@
 -- One line more sends on a route, or doesn't.
-use Rattle.std.proofs.Common.{◌+◌, List, ap, sym, subst, ◌∙◌}
+use Rattle.std.proofs.Common.{◌+◌, ℕ, List, ap, sym, subst, ◌∙◌}
 use Rattle.std.specs.declared.vec.Vec.{Vec}
 use Rattle.std.specs.declared.alloc.Global.{Global}
-use Rattle.std.proofs.Common.{ℕ}
 use Rattle.tp_judge.specs.Sendings.{AreSendings}
 use Rattle.tp_judge.proofs.SendingRows.{line_of, sendings_more, sendings_same, sent_below}
 use Rattle.tp_judge.proofs.sendings.gather_sendings.Goals as goal

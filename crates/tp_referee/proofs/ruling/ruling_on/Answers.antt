@@ -1,20 +1,21 @@
 -- Where there are no places the trace is lawful, and so its routes are.
-use Rattle.std.proofs.Common.{◌≡◌, ◌∙◌, [], sym, true≢false}
+use Rattle.std.proofs.Common.{◌≡◌, [], arith}
+use Rattle.std.proofs.lemmas.List.{nil_from_length}
 use Rattle.tp_referee.proofs.ruling.ruling_on.Goals as goal
 
 pub one_run-requires-clause-delivered : goal.one_run-requires-clause-delivered
 one_run-requires-clause-delivered c =
-    let none = sym c.deref.ensures.value ∙ c.are_none.ensures.0 c.if-are_none.true in
+    let none = nil_from_length c.in_ok-places.places.items (grind (arith, c.is_empty.ensures, c.if-is_empty.true)) in
     (c.in_ok-places.ensures.lawful.0 none).orderly.delivered
 
-pub returns-then-are_none : goal.returns-then-are_none
-returns-then-are_none c =
-    let none = sym c.deref.ensures.value ∙ c.are_none.ensures.0 c.if-are_none.true in (c.in_ok-places.ensures.lawful.0 none, c.in_ok-run.ensures)
+pub returns-then-is_empty : goal.returns-then-is_empty
+returns-then-is_empty c =
+    let none = nil_from_length c.in_ok-places.places.items (grind (arith, c.is_empty.ensures, c.if-is_empty.true)) in
+    (c.in_ok-places.ensures.lawful.0 none, c.in_ok-run.ensures)
 
 pub returns : goal.returns
 returns c =
-    let places = c.in_ok-places.places.items in
-    let some = λ (e : places ≡ []). true≢false (sym (c.are_none.ensures.1 (c.deref.ensures.value ∙ e)) ∙ c.if-are_none.false) in
+    let some : c.in_ok-places.places.items ≡ [] → ⊥ = grind (arith, c.is_empty.ensures, c.if-is_empty.false) in
     record {
       some = some;
       unlawful = λ lawful. some (c.in_ok-places.ensures.lawful.1 lawful);

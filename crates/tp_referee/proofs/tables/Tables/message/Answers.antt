@@ -1,13 +1,17 @@
 -- A message more.
 use Rattle.std.proofs.Common.{arith}
+use Rattle.tp_referee.proofs.Keeping.{from_both}
 use Rattle.tp_referee.proofs.tables.Tables.message.Goals as goal
 
 pub returns-clause-grows : goal.returns-clause-grows
-returns-clause-grows c = record {
-  components = λ k x e. e;
-  names = λ k x e. e;
-  ports = λ k x e. e;
-  routes = λ k x e. e;
-  messages = c.in_ok-number.ensures.kept;
-  few = omega (arith, c.in_ok-number.ensures.few);
-}
+returns-clause-grows c =
+    from_both c.number.result
+    (λ _ kept few. record {
+      components = λ k x e. e;
+      names = λ k x e. e;
+      ports = λ k x e. e;
+      routes = λ k x e. e;
+      messages = kept;
+      few = omega (arith, few);
+    })
+    c.number.ensures.kept c.number.ensures.few

@@ -1,5 +1,6 @@
 -- A port more, of a component that has a number.
 use Rattle.std.proofs.Common.{◌≡◌, ◌∙◌, Some, ap, length, subst, sym, arith, slice_get}
+use Rattle.std.proofs.lemmas.Result.{IfOk-weaker, on_ok_weaker}
 use Rattle.tp_referee.specs.Kept.{Keeps}
 use Rattle.tp_referee.specs.declared.tables.PortKey.{PortKey}
 use Rattle.tp_referee.proofs.Apart.{port_eq, port_same}
@@ -9,21 +10,26 @@ use Rattle.tp_referee.proofs.tables.Tables.port_key.Goals as goal
 
 pub returns-clause-there : goal.returns-clause-there
 returns-clause-there c =
-    let found = c.in_ok-number.ensures.there in found.1 ∙ ap Some (sym (port_same _ found.0 found.2))
+    IfOk-weaker c.number_of.result _ _ (λ number found. found.1 ∙ ap Some (sym (port_same _ found.0 found.2))) c.number_of.ensures.there
 
 pub returns-clause-grows : goal.returns-clause-grows
 returns-clause-grows c =
     let key : PortKey = record { component = c.args.component; name = c.args.name } in
-    record {
+    on_ok_weaker c.number_of.result
+    (λ keys. record {
       components = λ k x e. e;
       names = λ k x e. e;
-      ports = subst (Keeps c.args.self.now.ports.keys) (sym c.in_ok-number.ensures.keys) (kept_key port_eq c.args.self.now.ports.keys key);
+      ports = subst (Keeps c.args.self.now.ports.keys) (sym keys) (kept_key port_eq c.args.self.now.ports.keys key);
       routes = λ k x e. e;
       messages = λ k x e. e;
-      few = omega (arith, ap length c.in_ok-number.ensures.keys, few_key port_eq c.args.self.now.ports.keys key);
-    }
+      few = omega (arith, ap length keys, few_key port_eq c.args.self.now.ports.keys key);
+    })
+    c.number_of.ensures.keys
 
 pub returns-clause-whole : goal.returns-clause-whole
-returns-clause-whole c = λ k port e.
+returns-clause-whole c =
+    on_ok_weaker c.number_of.result
+    (λ keys k port e.
     whole_more c.args.self.now (record { component = c.args.component; name = c.args.name }) c.requires.whole c.requires.component k port
-    (subst (λ l. slice_get l k ≡ Some port) c.in_ok-number.ensures.keys e)
+    (subst (λ l. slice_get l k ≡ Some port) keys e))
+    c.number_of.ensures.keys

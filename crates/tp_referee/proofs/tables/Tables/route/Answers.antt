@@ -1,5 +1,6 @@
 -- A route more.
 use Rattle.std.proofs.Common.{◌∙◌, Some, ap, length, subst, sym, arith}
+use Rattle.std.proofs.lemmas.Result.{IfOk-weaker, on_ok_weaker}
 use Rattle.tp_referee.specs.Kept.{Keeps}
 use Rattle.tp_referee.specs.declared.tables.RouteKey.{RouteKey}
 use Rattle.tp_referee.proofs.Apart.{route_eq, route_same}
@@ -8,16 +9,18 @@ use Rattle.tp_referee.proofs.tables.Tables.route.Goals as goal
 
 pub returns-clause-there : goal.returns-clause-there
 returns-clause-there c =
-    let found = c.in_ok-number.ensures.there in found.1 ∙ ap Some (sym (route_same _ found.0 found.2))
+    IfOk-weaker c.number_of.result _ _ (λ number found. found.1 ∙ ap Some (sym (route_same _ found.0 found.2))) c.number_of.ensures.there
 
 pub returns-clause-grows : goal.returns-clause-grows
 returns-clause-grows c =
     let key : RouteKey = record { sender = c.args.sender; port = c.args.port } in
-    record {
+    on_ok_weaker c.number_of.result
+    (λ keys. record {
       components = λ k x e. e;
       names = λ k x e. e;
       ports = λ k x e. e;
-      routes = subst (Keeps c.args.self.now.routes.keys) (sym c.in_ok-number.ensures.keys) (kept_key route_eq c.args.self.now.routes.keys key);
+      routes = subst (Keeps c.args.self.now.routes.keys) (sym keys) (kept_key route_eq c.args.self.now.routes.keys key);
       messages = λ k x e. e;
-      few = omega (arith, ap length c.in_ok-number.ensures.keys, few_key route_eq c.args.self.now.routes.keys key);
-    }
+      few = omega (arith, ap length keys, few_key route_eq c.args.self.now.routes.keys key);
+    })
+    c.number_of.ensures.keys
