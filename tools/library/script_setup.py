@@ -24,6 +24,8 @@ class Setup:
         self.connected: dict[Port, dict[Port, Pair]] = {}
         self.mapped: dict[Port, Pair] = {}
         self.started: dict[str, ComponentStart] = {}
+        # What a port type lists in a way, each once: a script may list much, and connect many ports of it.
+        self.lists: dict[tuple[str, str], dict[str, None]] = {}
 
     def check(self) -> None:
         if self.case.system is not None:
@@ -153,11 +155,13 @@ class Setup:
                 fault = self._fault(21, pair, end, sentence, Rule.ONE_OF_EACH)
                 raise fault.beside(before.start, "here")
 
-    def _listed(self, port: Port, way: str) -> tuple[str, list[str]]:
-        """The port's type, and what that lists."""
+    def _listed(self, port: Port, way: str) -> tuple[str, dict[str, None]]:
+        """The port's type, and what that lists, each once."""
         declared = self.names.ports_of(self.types[port[0]])[port[1]]
         type_name = self.names.word(declared.type)
-        return type_name, self.names.listed_names(type_name, way)
+        if (type_name, way) not in self.lists:
+            self.lists[type_name, way] = dict.fromkeys(self.names.listed_names(type_name, way))
+        return type_name, self.lists[type_name, way]
 
     def _check_received(self, pair: Pair, sender: Port, receiver: Port) -> None:
         sender_type, sent = self._listed(sender, "out")
