@@ -66,6 +66,22 @@ fn resolve_counter(
     })
 }
 
+/// The variable that has this name: its place, and what it holds. 13 `WrongType` for a loop
+/// variable, a parameter or a component variable, 11 `Unknown` for any other name.
+fn variable_named(context: &Context, name: &str) -> Result<(usize, VariableType), ScriptFault>
+    ensures no_turn { IfOk result (λ _. IsAbsent (texts context.now.turns.now) name.now) }
+    ensures held { IfOk result (λ found.
+        IsVariable context.now.variables.now name.now found.0 found.1) }
+{
+    let None = find(context.turns, name) else {
+        return Err(context.wrong_type());
+    };
+    match find_variable(context.variables, name) {
+        Some(found) => Ok(found),
+        None => Err(context.no_variable(name)),
+    }
+}
+
 /// The variable of messages that has this name: its place, and its type. 11 `Unknown` for an
 /// unknown name, 13 `WrongType` for a name of anything else.
 fn message_variable(context: &Context, name: &str) -> Result<(usize, Ty), ScriptFault>
@@ -73,12 +89,7 @@ fn message_variable(context: &Context, name: &str) -> Result<(usize, Ty), Script
     ensures held { IfOk result (λ found.
         IsVariable context.now.variables.now name.now found.0 (VariableType.Message found.1)) }
 {
-    let None = find(context.turns, name) else {
-        return Err(context.wrong_type());
-    };
-    let Some((place, held)) = find_variable(context.variables, name) else {
-        return Err(context.no_variable(name));
-    };
+    let (place, held) = variable_named(context, name)?;
     match held {
         VariableType::Message(ty) => Ok((place, ty)),
         VariableType::Component => Err(context.wrong_type()),
@@ -92,12 +103,7 @@ fn component_variable(context: &Context, name: &str) -> Result<usize, ScriptFaul
     ensures held { IfOk result (λ place.
         IsVariable context.now.variables.now name.now place VariableType.Component) }
 {
-    let None = find(context.turns, name) else {
-        return Err(context.wrong_type());
-    };
-    let Some((place, held)) = find_variable(context.variables, name) else {
-        return Err(context.no_variable(name));
-    };
+    let (place, held) = variable_named(context, name)?;
     match held {
         VariableType::Message(_) => Err(context.wrong_type()),
         VariableType::Component => Ok(place),
@@ -173,9 +179,9 @@ fn resolve_receiver(context: &Context, to: &Option<Destination>) -> Result<Recei
 
 /// What a send stands for (ES 201 873-1, 22.2.1).
 ///
-/// In this order: 11 `Unknown` for the port; for a message its type (11), the port's direction (14
-/// `Direction`) and the value; for a variable its name (11, 13 `WrongType`) and the direction (14);
-/// then the receiver (11, 13); 50.
+/// In this order, at the line of the context: 11 `Unknown` for the port; for a message its type
+/// (11), the port's direction (14 `Direction`) and the value; for a variable its name (11, 13
+/// `WrongType`) and the direction (14); then the receiver (11, 13); 50.
 pub fn resolve_send(
     alloc: Global,
     context: &Context,
@@ -286,9 +292,9 @@ fn resolve_sender_target(
 
 /// What a receiving operation stands for (ES 201 873-1, 22.2.2 to 22.2.4).
 ///
-/// In this order: 11 `Unknown` for the port; the template's type (11), the port's direction (14
-/// `Direction`) and the template; the component behind `from` (11, 13 `WrongType`); the variable
-/// behind `value`, then the one behind `sender` (11, 13); 50.
+/// In this order, at the line of the context: 11 `Unknown` for the port; the template's type (11),
+/// the port's direction (14 `Direction`) and the template; the component behind `from` (11, 13
+/// `WrongType`); the variable behind `value`, then the one behind `sender` (11, 13); 50.
 pub fn resolve_receive(
     alloc: Global,
     context: &Context,
@@ -317,7 +323,7 @@ pub fn resolve_receive(
     })
 }
 
-/// The verdict that a statement names: 13 `WrongType` for `error`.
+/// The verdict that a statement names: 13 `WrongType` at the line of the context for `error`.
 #[tactic(auto, using(crate::proofs::OperationRules::cases))]
 pub fn resolve_verdict(context: &Context, name: VerdictName) -> Result<Verdict, ScriptFault>
     ensures verdict { IfOk result (IsVerdict name) }

@@ -142,7 +142,7 @@ pub fn field_places<E: NamedField>(
     let mut table = FieldTable {
         names: IndexSet::new(alloc),
     };
-    let mut places = Vec::new(alloc);
+    let mut places = Vec::with_capacity(alloc, entries.len())?;
     for (index, entry) in entries.iter().enumerate() {
         let found = find_field(fields, &mut table, index, entry.name())?;
         let Some(place) = found else {
@@ -151,7 +151,7 @@ pub fn field_places<E: NamedField>(
         if !occupy(&mut taken, place) {
             return Err(refused(Refusal::WrongType, line));
         }
-        places.push(place)?;
+        places.push_reserved(place);
     }
     if !are_all(&taken) {
         return Err(refused(Refusal::WrongType, line));

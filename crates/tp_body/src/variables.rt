@@ -63,8 +63,8 @@ fn find_held(scope: &Scope, name: &TypeName) -> Option<VariableType>
     }
 }
 
-/// Adds a variable behind the others. 12 `Duplicate` for a name that is there; 15 `Limit` for more
-/// than 4,294,967,295 variables; 50.
+/// Adds a variable behind the others. 12 `Duplicate` at the line for a name that is there, 15
+/// `Limit` for more than 4,294,967,295 variables; 50.
 fn add_variable<'m>(
     variables: &mut Variables<'m>,
     name: &'m str,
@@ -83,8 +83,8 @@ fn add_variable<'m>(
 
 /// The variables of a body (ES 201 873-1, 11.1).
 ///
-/// For each of them in the order of the text 11 `Unknown` for its type, then 12 `Duplicate` for a
-/// name that isn't new, and 15 `Limit` for more than 4,294,967,295 variables; 50.
+/// For each of them in the order of the text, at its line: 11 `Unknown` for its type, then 12
+/// `Duplicate` for a name that isn't new, and 15 `Limit` for more than 4,294,967,295 variables; 50.
 pub fn resolve_variables<'m>(
     alloc: Global,
     scope: &Scope,

@@ -164,7 +164,9 @@ fn test_instances(
 /// What each component of a test case does, by its number: `mtc`, the components of the component
 /// variables, and the test system interface where there is a `system` clause.
 ///
-/// 50 `Memory` only where an allocation was refused.
+/// At the line of the test case 15 `Limit` where there are more than 4,294,967,295 component
+/// variables, or components, and 18 `NotStarted` where a component variable has the place of no
+/// start. 50 `Memory` only where an allocation was refused.
 pub fn make_instances(
     alloc: Global,
     prepared: &Prepared,

@@ -24,7 +24,7 @@ fn kind_at(kinds: &[CompType], place: u32) -> Option<&CompType>
 }
 
 /// The names of the parameters, in their order. 12 `Duplicate` at the line of the second of two
-/// that are equal; 50.
+/// that are equal, 15 `Limit` at the line of one behind 4,294,967,295 others; 50.
 pub fn parameter_names(alloc: Global, parameters: &[Parameter]) -> Result<NameSet<'_>, ScriptFault>
     ensures { IfOk result (λ names. names ≡ map (λ p. declared p.name) parameters.now) }
 {

@@ -1,7 +1,7 @@
 //! The third pass of the checks: the components of the test case.
-ghost use Rattle.std.specs.Prelude.{◌≡◌, ◌≢◌, ◌≤◌, ◌++◌, ◌∷◌, [], Contains, IfOk, OnErr, OnOk, length, map, option_map, slice_get, string_bytes};
+ghost use Rattle.std.specs.Prelude.{◌≡◌, ◌≢◌, ◌≤◌, ◌+◌, ◌++◌, ◌∷◌, [], Contains, IfOk, IfSome, OnErr, OnOk, Some, length, map, option_map, slice_get, string_bytes};
 ghost use Rattle.std.specs.Option.{option_copied};
-ghost use Rattle.tp_name.specs.Tables.{AreDistinct};
+ghost use Rattle.tp_name.specs.Tables.{AreDistinct, place_of};
 ghost use Rattle.tp_setup.specs.Components.{Adds, AddsAll, HasPorts, HasSoundVariables, created, creation_of, creations, interface, component_number, variable};
 ghost use Rattle.tp_setup.specs.Sorted.{AreComponentsNamed, component_types_in};
 
@@ -41,8 +41,10 @@ pub(crate) struct DeclaredComponent<'a> {
     pub line: u32,
 }
 
-/// Adds a component, and answers its number. 11 `Unknown` at its line where its type is unknown,
-/// then the refusals of [`Config::create`]: the configuration is then as before.
+/// Adds a component, and answers its number.
+///
+/// 11 `Unknown` at its line where its type is unknown, then the refusals of [`Config::create`] at
+/// that line, or 50 `Memory`: the configuration is then as before.
 pub(crate) fn add_component(
     alloc: Global,
     config: &mut Config,
@@ -137,6 +139,21 @@ pub(crate) fn as_creation(setup: &SetupStatement) -> Option<&Creation>
     }
 }
 
+/// The component of the component variable of this name, where the component variables have these
+/// names, or `None` where there is none. Takes no memory.
+pub(crate) fn variable_component(variables: &NameSet, name: &str) -> Option<CompId>
+    ensures { IfSome result (λ comp.
+        option_map (λ k. k + 1) (place_of variables.now name.now) ≡ Some comp.0) }
+{
+    let Some(place) = variables.find(name) else {
+        return None;
+    };
+    if place == u32::MAX {
+        return None;
+    }
+    Some(CompId(place + 1))
+}
+
 /// What a `var` of the setup statements says, with the line of its statement.
 #[derive(Clone, Copy)]
 struct CreationAt<'m> {
@@ -182,7 +199,8 @@ fn create<'m>(
 /// must obey these rules.
 ///
 /// The first statement that makes a component and breaks a rule stops it: 12 `Duplicate`, 11
-/// `Unknown`, 13 `WrongType` or 15 `Limit`, at its line, or 50 `Memory`.
+/// `Unknown`, 13 `WrongType` or 15 `Limit`, at its line, or 50 `Memory`. The components that were
+/// made before it stay.
 pub(crate) fn create_components<'m>(
     alloc: Global,
     config: &mut Config,
@@ -209,8 +227,9 @@ pub(crate) fn create_components<'m>(
     Ok(())
 }
 
-/// The names of the ports of the component type of this name. 11 `Unknown` at the line where there
-/// is no such type.
+/// The names of the ports of the component type of this name.
+///
+/// 11 `Unknown` at the line where there is no such type, then the refusals of [`declare_ports`].
 pub(crate) fn ports_of_type<'m>(
     alloc: Global,
     sorted: &Sorted<'m>,
@@ -232,6 +251,8 @@ pub(crate) fn ports_of_type<'m>(
 }
 
 /// Adds the test system interface, if the test case has a `system` clause, and answers its number.
+///
+/// The refusals of [`add_component`], at the line: the configuration is then as before.
 pub(crate) fn add_interface(
     alloc: Global,
     config: &mut Config,

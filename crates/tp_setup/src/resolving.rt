@@ -106,8 +106,10 @@ fn make_type(
 /// The types that are defined, under their own names, in the order of the text, where the record
 /// and record-of types have these names.
 ///
-/// 15 `Limit` at line 0 where there are 4,294,967,295 types. 50 `Memory` only where an allocation
-/// was refused.
+/// The first definition that breaks a rule is refused at line 0: 11 `Unknown` where the type of a
+/// field or of the elements is unknown, or where it is no record or record-of type; 15 `Limit`
+/// where there are 4,294,967,295 types before it; 12 `Duplicate` where one of them has its name. 50
+/// `Memory` only where an allocation was refused.
 pub fn make_types(
     alloc: Global,
     names: &NameSet,

@@ -9,7 +9,7 @@ ghost use Rattle.tp_setup.specs.Configuring.{AreSoundVariables, IsEnd, IsSetUp, 
 
 use crate::components::{
     DeclaredComponent, Stopped, VariableRules, add_component, add_interface, create_components,
-    fault_at, ports_of_type,
+    fault_at, ports_of_type, variable_component,
 };
 use crate::sorted::Sorted;
 use crate::unique_names::CaseAt;
@@ -35,15 +35,7 @@ fn find_end_component(
     match component {
         EndComponent::Mtc | EndComponent::SelfComponent => Some(CompId(0)),
         EndComponent::System => system,
-        EndComponent::Named(name) => {
-            let Some(place) = known.find(name.as_str()) else {
-                return None;
-            };
-            if place == u32::MAX {
-                return None;
-            }
-            Some(CompId(place + 1))
-        }
+        EndComponent::Named(name) => variable_component(known, name.as_str()),
     }
 }
 
@@ -122,9 +114,11 @@ fn add_setup<'m>(
 /// Makes the connections and mappings of the setup statements, one after the other, in a
 /// configuration whose components are all there, and answers the component variables.
 ///
-/// The first statement that breaks a rule stops it: 11 `Unknown` where a component or a port is
-/// unknown, then the refusals of [`Config::connect`] and [`Config::map`] in their order, at its
-/// line, or 50 `Memory`.
+/// The first statement that breaks a rule stops it, at its line: a `var` with 12 `Duplicate` where
+/// another component variable has its name, and 15 `Limit` for more than 4,294,967,295 of them; a
+/// `connect` or a `map` with 11 `Unknown` where a component or a port is unknown, and then with the
+/// refusals of [`Config::connect`] or [`Config::map`] in their order. 50 `Memory` only where an
+/// allocation was refused. The connections and mappings that were made before it stay.
 pub fn connect_all<'m>(
     alloc: Global,
     config: &mut Config,
@@ -247,8 +241,7 @@ fn add_components(
         line: case.line,
     };
     add_component(alloc, &mut *config, &sorted.component_names, &main)?;
-    create_all(alloc, config, sorted, case)?;
-    Ok(())
+    create_all(alloc, config, sorted, case)
 }
 
 /// Adds the components of a test case to a configuration that has none, makes its connections and
@@ -270,20 +263,20 @@ fn configure<'m>(
     add_components(alloc, &mut *config, sorted, case)?;
     let types = &sorted.component_names;
     let system = add_interface(alloc, &mut *config, types, case.case, case.line)?;
-    let known = connect_all(alloc, config, system, &case.case.setups)?;
-    Ok(known)
+    connect_all(alloc, config, system, &case.case.setups)
 }
 
 /// The setup statements of the third pass: the configuration of a test case, where the module's
 /// definitions are sorted so and its component types are these, each with at most 64 ports.
 ///
-/// The first statement in the order of the text that breaks a rule is refused at its line. Of a
-/// `var`: 12 `Duplicate` where another component variable or a port of the test case's component
-/// type has its name, 11 `Unknown` where its type is unknown, 13 `WrongType` where its two types
-/// differ, 15 `Limit` where there are more than 64 components, `mtc` and `system` counted. Of a
-/// `connect` and a `map`: 11 `Unknown` where a component or a port is unknown, and then the
-/// refusals of [`Config::connect`] and [`Config::map`] in their order. 50 `Memory` only where an
-/// allocation was refused.
+/// 11 `Unknown` at the line of the test case where the component type behind its `runs on`, or
+/// behind its `system`, is unknown. Then the first statement in the order of the text that breaks a
+/// rule is refused at its line. Of a `var`: 12 `Duplicate` where another component variable or a
+/// port of the test case's component type has its name, 11 `Unknown` where its type is unknown,
+/// 13 `WrongType` where its two types differ, 15 `Limit` where there are more than 64 components,
+/// `mtc` and `system` counted. Of a `connect` and a `map`: 11 `Unknown` where a component or a port
+/// is unknown, and then the refusals of [`Config::connect`] and [`Config::map`] in their order. 50
+/// `Memory` only where an allocation was refused.
 pub fn set_up<'m>(
     alloc: Global,
     sorted: &Sorted<'m>,

@@ -159,8 +159,9 @@ fn sort_kind<'m, K: DefinitionKind>(
 
 /// Sorts the definitions of a module, whose names are different.
 ///
-/// Where two of one kind have one name, 12 `Duplicate` at the line of the second. 50 `Memory` only
-/// where an allocation was refused.
+/// Where two of one kind have one name, 12 `Duplicate` at the line of the second; 15 `Limit` at the
+/// line of one behind 4,294,967,295 others of its kind. 50 `Memory` only where an allocation was
+/// refused.
 pub fn sort(alloc: Global, parsed: &Module) -> Result<Sorted<'_>, ScriptFault>
     ensures { IfOk result (AreSorted parsed.now) }
 {

@@ -7,7 +7,7 @@ ghost use Rattle.tp_name.specs.Tables.{AreDistinct};
 ghost use Rattle.tp_setup.specs.Components.{creations, variables};
 ghost use Rattle.tp_setup.specs.Starting.{AreStarts, HasParameterType, IsArgument, IsStartPlace, IsStartOf, started_names, type_names_of};
 
-use crate::components::as_creation;
+use crate::components::{as_creation, variable_component};
 use crate::definitions::is_sut;
 use crate::sorted::{Sorted, definition_at};
 use crate::starts::{Started, Starts};
@@ -26,15 +26,7 @@ fn find_argument(variables: &NameSet, argument: &ComponentName) -> Option<CompId
 {
     match argument {
         ComponentName::Mtc | ComponentName::SelfComponent => Some(CompId(0)),
-        ComponentName::Named(name) => {
-            let Some(place) = variables.find(name.as_str()) else {
-                return None;
-            };
-            if place == u32::MAX {
-                return None;
-            }
-            Some(CompId(place + 1))
-        }
+        ComponentName::Named(name) => variable_component(variables, name.as_str()),
     }
 }
 
@@ -118,7 +110,7 @@ fn check_start(
         (map (λ t. t.now) types.now) start.now) }
 {
     let line = start.line;
-    let Some(variable) = variables.find(start.component.as_str()) else {
+    let Some(comp) = variable_component(variables, start.component.as_str()) else {
         return Err(refused(Refusal::Unknown, line));
     };
     let Some(place) = sorted.function_names.find(start.function.as_str()) else {
@@ -130,7 +122,7 @@ fn check_start(
     if is_sut(start.function.as_str()) {
         return Err(refused(Refusal::NotInSut, line));
     }
-    if variable == u32::MAX || !is_of_type(types, CompId(variable + 1), function.runs_on.as_str()) {
+    if !is_of_type(types, comp, function.runs_on.as_str()) {
         return Err(refused(Refusal::WrongType, line));
     }
     let arguments = check_arguments(alloc, variables, types, &function.parameters, start)?;
@@ -250,8 +242,7 @@ fn start_all<'m>(
     ensures distinct { IfOk result (λ r. AreDistinct r.0) }
 {
     let types = component_types(alloc, case)?;
-    let made = check_each(alloc, sorted, names, &types, &case.starts)?;
-    Ok(made)
+    check_each(alloc, sorted, names, &types, &case.starts)
 }
 
 /// The places of the starts of the component variables, where the test case ends as it has to.

@@ -20,11 +20,12 @@ loop-index-preserved g c =
     let taken = c.occupy.ensures c.if-not-occupy.false in
     record {
       as_many = ap length taken ∙ length-set c.loop-index.taken.items c.in-Some.place true ∙ i.as_many;
-      passed = omega (arith, c.in_ok-push.ensures.len, i.passed);
+      passed = omega (arith, c.push_reserved.ensures.len, i.passed);
+      room = c.push_reserved.ensures.capacity ∙ i.room;
       same_name =
-          rw c.in_ok-push.ensures.items
+          rw c.push_reserved.ensures.items
           (pairs_more (field_names c.args.fields.now) names c.loop-index.places.items c.in-Some.place here i.same_name);
-      each = rw (c.in_ok-push.ensures.items, taken) (taken_more c.loop-index.taken.items c.loop-index.places.items c.in-Some.place i.each);
+      each = rw (c.push_reserved.ensures.items, taken) (taken_more c.loop-index.taken.items c.loop-index.places.items c.in-Some.place i.each);
     }
 
 pub returns : goal.returns
