@@ -29,7 +29,7 @@ EVERYWHERE = frozenset(
 # Words of the toolchain's library that edits have and no source below them has.
 OF_THE_KIT = frozenset(
     "MAX and is_err is_none is_ok iter max min or position remove rev reverse saturating_add swap trim"
-    .split()
+    " truncate unwrap_or".split()
 )
 # What `derive` gives a type.
 OF_A_DERIVE = frozenset("clone cmp default eq fmt from hash partial_cmp".split())

@@ -7,7 +7,8 @@ use Rattle.std.proofs.lemmas.List.Elements.{All-append}
 use Rattle.std.proofs.Math.Seq.{take-append_seam}
 use Rattle.tp_port.specs.declared.replay.QueueFault.{QueueFault}
 use Rattle.tp_port.specs.declared.replay.QueueFault.TheVariants as fault
-use Rattle.tp_port.specs.Line.{Line, IsGood, IsFirstBad, Spells, Says, lines_of}
+use Rattle.tp_text.specs.Cutting.{lines_of}
+use Rattle.tp_port.specs.Line.{Line, IsGood, IsFirstBad, Spells, Says}
 use Rattle.tp_port.specs.Replay.{Progress, answer, sighted, after, text_from, left_text, queue_text}
 use Rattle.tp_text.specs.declared.text.ReadFault.{ReadFault}
 use Rattle.tp_text.specs.declared.text.ReadFault.TheVariants as read

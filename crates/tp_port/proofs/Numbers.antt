@@ -1,15 +1,17 @@
--- Integers of 64 signed bits and names as ASCII, and as what `parse` reads.
-use Rattle.std.proofs.Common.{◌≡◌, inl, inr, ℕ, zero, suc, ◌<◌, ◌≤◌, ◌^◌, Bool, true, false, Option, List, [], ◌∷◌, length, get_or, refl, ap, sym, ◌∙◌, subst, arith, pos, negsuc, neg_ℤ}
-use Rattle.std.specs.Prelude.{ℤ, ◌≢◌, Result, Ok, Err, IfSome, FitsSigned, ◌&&◌}
+-- Integers of 64 signed bits as ASCII, names as text, and what `parse` reads.
+use Rattle.std.proofs.Common.{◌≡◌, inl, inr, ℕ, zero, suc, ◌<◌, ◌≤◌, ◌^◌, Bool, true, false, Option, Some, None, List, [], ◌∷◌, length, get_or, refl, ap, sym, ◌∙◌, subst, arith, pos, negsuc, neg_ℤ}
+use Rattle.std.specs.Prelude.{ℤ, ◌≢◌, Result, Ok, Err, IfSome, MatchOption, FitsSigned, ◌&&◌}
+use Rattle.std.specs.Borrow.{Bor}
 use Rattle.std.specs.Int.{IsInRange, w64}
 use Rattle.std.specs.Fmt.{decimal, signed_decimal}
-use Rattle.std.specs.Str.{IsAscii}
+use Rattle.std.specs.Str.{IsAscii, IsUtf8}
 use Rattle.std.specs.Str.Parse.{AllDigits, ParsesSigned, digits_value}
 use Rattle.std.specs.Result.{result_ok}
 use Rattle.std.specs.List.{list_all}
 use Rattle.std.specs.Char.{is_ascii_alphanumeric}
 use Rattle.std.proofs.lemmas.Bool.Decides.{nat_tests}
 use Rattle.std.proofs.lemmas.Fmt.{decimal_digit, decimal_is_IsNumeral, decimal-digits_value, first_decimal, IsAscii-decimal, parse-signed_decimal}
+use Rattle.std.proofs.lemmas.Str.{IsUtf8-from_ascii}
 use Rattle.std.proofs.lemmas.Str.Parse.{IsNumeralModel, digit_at, numerals_by_value, tells_digits, parse_signed_minus, parse_signed_plain}
 use Rattle.std.proofs.lemmas.Result.{Ok-from_Ok_iff, OkIff-at_ok}
 use Rattle.tp_port.specs.Line.{BeginsAsInteger, IsName}
@@ -38,8 +40,15 @@ IsAscii-alphanumeric [] e i = omega arith
 IsAscii-alphanumeric (b ∷ bs) e zero = alphanumeric_below b (both_true (is_ascii_alphanumeric b) (list_all is_ascii_alphanumeric bs) e).0
 IsAscii-alphanumeric (b ∷ bs) e (suc i) = IsAscii-alphanumeric bs (both_true (is_ascii_alphanumeric b) (list_all is_ascii_alphanumeric bs) e).1 i
 
-pub IsAscii-name : (name : List ℕ) → IsName name → IsAscii name
-IsAscii-name name is = IsAscii-alphanumeric name is.alphanumeric
+IsUtf8-name : (name : List ℕ) → IsName name → IsUtf8 name
+IsUtf8-name name is = IsUtf8-from_ascii _ (IsAscii-alphanumeric name is.alphanumeric)
+
+-- a name is text
+pub name_text : (word : List ℕ) (text : Option (Bor (List ℕ))) → IsName word
+    → MatchOption text (¬ IsUtf8 word) (λ text. text.now ≡ word)
+    → MatchOption text (¬ IsName word) (λ name. (name.now ≡ word) × IsName word)
+name_text word None is e = absurd (e (IsUtf8-name word is))
+name_text word (Some text) is e = (e, is)
 
 own : IsNumeralModel (AllDigits 10) (digits_value 10)
 own = numerals_by_value _ tells_digits

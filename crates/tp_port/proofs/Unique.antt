@@ -11,7 +11,8 @@ use Rattle.tp_port.specs.declared.pattern.Pattern.{Pattern}
 use Rattle.tp_port.specs.declared.pattern.Pattern.TheVariants as pattern
 use Rattle.tp_port.specs.declared.command.Verb.{Verb}
 use Rattle.tp_port.specs.declared.command.Verb.TheVariants as verb
-use Rattle.tp_port.specs.Line.{Line, arrive, receive, check, trigger, clear, start, stop, halt, Wish, IsWish, IsLine, PatternFits, Spells, Says, lines_of, operands, verb_of, verb_text, pattern_text, from_words, wish_words}
+use Rattle.tp_text.specs.Cutting.{lines_of}
+use Rattle.tp_port.specs.Line.{Line, arrive, receive, check, trigger, clear, start, stop, halt, Wish, IsWish, IsLine, PatternFits, Spells, Says, operands, verb_of, verb_text, pattern_text, from_words, wish_words}
 
 -- from a verb's word back to the verb, by its first two bytes and its third
 abbrev verb_at : ℕ → ℕ → ℕ → Verb

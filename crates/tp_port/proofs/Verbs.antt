@@ -2,7 +2,8 @@
 use Rattle.std.proofs.Common.{◌≡◌, ℕ, Bool, true, false, List, [], refl, ap, sym, ◌∙◌}
 use Rattle.tp_port.specs.declared.command.Verb.{Verb}
 use Rattle.tp_port.specs.declared.command.Verb.TheVariants as verb
-use Rattle.tp_port.specs.Line.{Line, arrive, receive, check, trigger, clear, start, stop, halt, operands, verb_of, words_of}
+use Rattle.tp_text.specs.Cutting.{words_of}
+use Rattle.tp_port.specs.Line.{Line, arrive, receive, check, trigger, clear, start, stop, halt, operands, verb_of}
 use Rattle.tp_port.proofs.Splits.{some_word}
 
 -- the verb has no operands

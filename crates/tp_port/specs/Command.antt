@@ -2,11 +2,12 @@
 use Rattle.std.specs.Prelude.{◌≡◌, ℕ, Option, Some, None, List}
 use Rattle.std.specs.Borrow.{Bor}
 use Rattle.std.specs.Option.{option_copied}
+use Rattle.tp_text.specs.Cutting.{words_after}
 use Rattle.tp_port.specs.declared.command.Criteria.{Criteria}
 use Rattle.tp_port.specs.declared.command.Verb.{Verb}
 use Rattle.tp_port.specs.declared.command.Command.{Command}
 use Rattle.tp_port.specs.declared.command.Command.TheVariants as command
-use Rattle.tp_port.specs.Line.{Line, Wish, IsLine, arrive, receive, check, trigger, clear, start, stop, halt, operands, verb_of, words_after}
+use Rattle.tp_port.specs.Line.{Line, Wish, IsLine, arrive, receive, check, trigger, clear, start, stop, halt, operands, verb_of}
 
 -- the words that are left of a line
 abbrev pub words_left : Option (Bor (List ℕ)) → List (List ℕ)

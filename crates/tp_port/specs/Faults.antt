@@ -3,9 +3,10 @@ use Rattle.std.specs.Prelude.{◌≡◌, ℕ, ◌<◌, ◌≤◌, ◌⊎◌, Opt
 use Rattle.std.specs.Io.KnownBytes.{Appends, Consumes}
 use Rattle.tp_text.specs.declared.text.ReadFault.{ReadFault}
 use Rattle.tp_text.specs.declared.text.ReadFault.TheVariants as read_fault
+use Rattle.tp_text.specs.Cutting.{lines_of}
 use Rattle.tp_port.specs.declared.replay.QueueFault.{QueueFault}
 use Rattle.tp_port.specs.declared.replay.QueueFault.TheVariants as queue_fault
-use Rattle.tp_port.specs.Line.{Line, Says, IsGood, IsFirstBad, lines_of}
+use Rattle.tp_port.specs.Line.{Line, Says, IsGood, IsFirstBad}
 use Rattle.tp_text.specs.Reading.{IsFull}
 use Rattle.tp_port.specs.Replay.{queue_text}
 

@@ -1,30 +1,14 @@
 -- The lines of a queue file: what each one says, and how it is spelled.
-use Rattle.std.specs.Prelude.{◌≡◌, ◌⊎◌, ℕ, ℤ, ◌-◌, ◌<◌, ◌==◌, ◌≤◌, Bool, true, false, Option, Some, None, List, [], ◌∷◌, length, take, slice_get, get_or, codes, IfSome, All, cond, FitsSigned}
+use Rattle.std.specs.Prelude.{◌≡◌, ◌⊎◌, ℕ, ℤ, ◌-◌, ◌<◌, ◌≤◌, Bool, true, false, Option, Some, None, List, [], ◌∷◌, length, take, slice_get, get_or, codes, IfSome, All, FitsSigned}
 use Rattle.std.specs.Int.{IsInRange, w64}
-use Rattle.std.specs.List.{onto_first, slice_split, list_all, AllZip}
+use Rattle.std.specs.List.{list_all, AllZip}
 use Rattle.std.specs.Char.{is_ascii_alphabetic, is_ascii_alphanumeric}
 use Rattle.std.specs.Fmt.{signed_decimal}
+use Rattle.tp_text.specs.Cutting.{lines_of, words_of}
 use Rattle.tp_port.specs.declared.pattern.Pattern.{Pattern}
 use Rattle.tp_port.specs.declared.pattern.Pattern.TheVariants as pattern
 use Rattle.tp_port.specs.declared.command.Verb.{Verb}
 use Rattle.tp_port.specs.declared.command.Verb.TheVariants as verb
-
--- the lines of a text: each ends at a byte 10, which the last may lack
-abbrev pub lines_of : List ℕ → List (List ℕ)
-lines_of [] = []
-lines_of (b ∷ bs) = cond (b == 10) ([] ∷ lines_of bs) (onto_first b (lines_of bs))
-
-abbrev pub is_space : ℕ → Bool
-is_space b = b == 32
-
--- the words of a line: what stands before, between and after its spaces
-abbrev pub words_of : List ℕ → List (List ℕ)
-words_of line = slice_split is_space line
-
--- the words after a first one: none where no space follows it
-abbrev pub words_after : Option (List ℕ) → List (List ℕ)
-words_after None = []
-words_after (Some rest) = words_of rest
 
 abbrev pub starts_with_letter : List ℕ → Bool
 starts_with_letter [] = false

@@ -1,16 +1,15 @@
 //! The lines of a queue file, read.
-ghost use Rattle.std.specs.Prelude.{◌≡◌, ◌∷◌, [], codes, Some, ◌↔◌, ℤ, IfSome, IsSome, IsTrue, MatchOption, FitsSigned};
+ghost use Rattle.std.specs.Prelude.{◌≡◌, ◌∷◌, [], codes, Some, ◌↔◌, ℤ, IfSome, IsTrue, MatchOption, FitsSigned};
 ghost use Rattle.std.specs.Int.{w64};
 ghost use Rattle.std.specs.List.{list_all};
-ghost use Rattle.std.specs.Str.{IsAscii};
 ghost use Rattle.std.specs.Char.{is_ascii_alphanumeric};
 ghost use Rattle.std.specs.Fmt.{signed_decimal};
-ghost use Rattle.tp_port.specs.Line.{BeginsAsInteger, IsArrival, IsGood, SaysOneAtMost, IsName, IsWish, PatternFits, Spells, arrival_words, operands, pattern_text, verb_of, verb_text, wish_words, words_of};
+ghost use Rattle.tp_text.specs.Cutting.{words_of};
+ghost use Rattle.tp_port.specs.Line.{BeginsAsInteger, IsArrival, IsGood, SaysOneAtMost, IsName, IsWish, PatternFits, Spells, arrival_words, operands, pattern_text, verb_of, verb_text, wish_words};
 ghost use Rattle.tp_port.specs.Command.{IsRead, line_of, wish_of, words_left};
 
-use crate::cut::first_word;
 use crate::pattern::Pattern;
-use std::str;
+use tp_text::cut::{first_word, text_of};
 
 /// The most letters and digits that a name has.
 pub const NAME_LIMIT: usize = 20;
@@ -102,17 +101,6 @@ fn is_name(word: &[u8]) -> bool
         [first, ..] => {
             first.is_ascii_alphabetic() && is_alphanumeric(word) && word.len() <= NAME_LIMIT
         }
-    }
-}
-
-/// The text that bytes are. ASCII is text.
-fn text_of(bytes: &[u8]) -> Option<&str>
-    ensures same { IfSome result (λ text. text.now ≡ bytes.now) }
-    ensures ascii { IsAscii bytes.now → IsSome result }
-{
-    match str::from_utf8(bytes) {
-        Ok(text) => Some(text),
-        Err(_) => None,
     }
 }
 

@@ -3,7 +3,6 @@
 
 mod answers;
 pub mod command;
-mod cut;
 mod engine;
 pub mod pattern;
 pub mod port_queue;

@@ -1,16 +1,17 @@
 //! A queue file, read, carried out and answered.
 ghost use Rattle.std.specs.Prelude.{◌≡◌, ◌<◌, ◌≤◌, ◌↔◌, length, All, IsErrOf, IfErr, IfOk, IfSome, List, MatchOption, OnOk, string_bytes};
+ghost use Rattle.tp_text.specs.Cutting.{lines_of};
 ghost use Rattle.tp_port.specs.Faults.{Answers, HasFault, IsFaultOf, IsRefusedFor};
-ghost use Rattle.tp_port.specs.Line.{IsFirstBad, IsGood, Line, Says, lines_of};
+ghost use Rattle.tp_port.specs.Line.{IsFirstBad, IsGood, Line, Says};
 ghost use Rattle.tp_port.specs.Replay.{queue_text};
 
 use crate::command::command_of;
-use crate::cut::first_line;
 use crate::engine::Engine;
 use std::alloc::Global;
 use std::io::{Read, Write};
 use thiserror::Error;
 use tp_refusal::limit::TEXT_LIMIT;
+use tp_text::cut::first_line;
 use tp_text::text::{ReadFault, read_text};
 
 /// Why a queue file was not replayed.

@@ -2,7 +2,8 @@
 use Rattle.std.proofs.Common.{◌≡◌, ℕ, ◌+◌, ◌≤◌, Bool, true, false, cond, List, [], ◌∷◌, length, refl, arith}
 use Rattle.std.specs.Prelude.{◌==◌}
 use Rattle.std.specs.List.{onto_first}
-use Rattle.tp_trace.specs.Line.{Told, Spells, lines_of}
+use Rattle.tp_text.specs.Cutting.{lines_of}
+use Rattle.tp_trace.specs.Line.{Told, Spells}
 use Rattle.tp_trace.specs.Tree.{IsTraceOf}
 use Rattle.tp_referee.proofs.Zips.{zip_length}
 

@@ -1,1 +1,4 @@
 pub mod Taking
+pub mod Places
+pub mod Lines
+pub mod Words

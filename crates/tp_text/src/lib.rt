@@ -1,4 +1,5 @@
-//! A whole text, read from any reader.
+//! A text: read whole from any reader, and cut into lines and words.
 #![tactic(auto)]
 
+pub mod cut;
 pub mod text;

@@ -1,20 +1,16 @@
 -- A list is cut at a byte in one way: at the first one, or at the last.
-use Rattle.std.proofs.Common.{◌≡◌, ℕ, ◌+◌, ◌<◌, ◌≤◌, Bool, true, false, not, Option, Some, None, List, [], ◌∷◌, ◌++◌, length, take, drop, get_or, refl, ap, sym, ◌∙◌, arith}
+use Rattle.std.proofs.Common.{◌≡◌, ℕ, ◌<◌, ◌≤◌, Bool, true, false, not, Option, Some, None, List, [], ◌∷◌, ◌++◌, refl, ap, sym, ◌∙◌, arith}
 use Rattle.std.specs.Prelude.{◌==◌, ◌&&◌}
 use Rattle.std.specs.List.{list_all}
 use Rattle.std.proofs.lemmas.Bool.Decides.{nat_tests}
-use Rattle.std.specs.Prelude.{cond, position}
 use Rattle.std.specs.Char.{is_ascii_graphic}
 use Rattle.std.specs.Fmt.{decimal}
 use Rattle.std.specs.Str.Parse.{AllDigits}
-use Rattle.std.proofs.Common.{◌-◌, ◌^◌}
+use Rattle.std.proofs.Common.{◌^◌}
 use Rattle.std.proofs.lemmas.Fmt.{decimal_is_IsNumeral}
 use Rattle.std.proofs.lemmas.Str.Parse.{digit_from_value}
-use Rattle.std.proofs.lemmas.List.Sums.{split_at_first, passes_at_first}
-use Rattle.std.specs.List.{before_first, after_first, position_or_len}
-use Rattle.std.proofs.Math.Seq.{take-length}
-use Rattle.tp_trace.specs.Line.{behind, is_port_byte, lacks}
-use Rattle.tp_trace.proofs.Lines.{before_first-cons, place_is, no_place, range_is}
+use Rattle.tp_text.specs.Cutting.{behind, lacks}
+use Rattle.tp_trace.specs.Line.{is_port_byte}
 
 pub both_true : (a b : Bool) → (a && b) ≡ true → (a ≡ true) × (b ≡ true)
 both_true true b e = (refl, e)
@@ -73,39 +69,6 @@ last_only (x ∷ a) b (z ∷ c) d p q e =
     let t : a ++ (46 ∷ b) ≡ c ++ (46 ∷ d) = cc in
     let k = last_only a b c d p q t in
     (ap (λ y. y ∷ a) h ∙ ap (λ l. z ∷ l) k.0, k.1)
-
--- what stands before the first of a byte lacks it
-lacks_either : (c x : ℕ) (l : List ℕ) (b : Bool) → (x == c) ≡ b → lacks c l ≡ true → lacks c (cond b [] (x ∷ l)) ≡ true
-lacks_either c x l true e h = refl
-lacks_either c x l false e h = and_true (not (x == c)) (lacks c l) (ap not e) h
-
-lacks_before : (c : ℕ) (s : List ℕ) → lacks c (before_first (λ b. b == c) s) ≡ true
-lacks_before c [] = refl
-lacks_before c (x ∷ xs) =
-    ap (lacks c) (before_first-cons (λ b. b == c) x xs)
-    ∙ lacks_either c x (before_first (λ b. b == c) xs) (x == c) refl (lacks_before c xs)
-
-pub word_lacks : (s : List ℕ) (place : ℕ) → position (λ b. b == 32) s ≡ Some place → lacks 32 (take place s) ≡ true
-word_lacks s place e =
-    ap (λ n. lacks 32 (take n s)) (sym (place_is (λ b. b == 32) s place e).0) ∙ lacks_before 32 s
-
-pub whole_lacks : (s : List ℕ) → position (λ b. b == 32) s ≡ None → lacks 32 s ≡ true
-whole_lacks s e =
-    ap (lacks 32) (sym (take-length s)) ∙ ap (λ n. lacks 32 (take n s)) (sym (no_place (λ b. b == 32) s e)) ∙ lacks_before 32 s
-
-byte_is : (b c : ℕ) → (b == c) ≡ true → b ≡ c
-byte_is b c e = grind (arith, nat_tests)
-
--- a line is its first word, a space and the rest
-pub word_parts : (s : List ℕ) (place : ℕ) → position (λ b. b == 32) s ≡ Some place
-    → s ≡ take place s ++ (32 ∷ take (length s - (place + 1)) (drop (place + 1) s))
-word_parts s place e =
-    let there = place_is (λ b. b == 32) s place e in
-    let here = byte_is (get_or s (position_or_len (λ b. b == 32) s) 0) 32 (passes_at_first (λ b. b == 32) s 0 there.1) in
-    split_at_first (λ b. b == 32) s 0 there.1
-    ∙ ap (λ b. before_first (λ b. b == 32) s ++ (b ∷ after_first (λ b. b == 32) s)) here
-    ∙ ap (λ n. take n s ++ (32 ∷ drop (n + 1) s)) there.0
-    ∙ ap (λ l. take place s ++ (32 ∷ l)) (sym (range_is s (place + 1)))
 
 -- names have no space, and ports no `.`
 graphic_byte : (b : ℕ) → is_ascii_graphic b ≡ true → not (b == 32) ≡ true

@@ -2,7 +2,8 @@
 use Rattle.std.proofs.Common.{◌≡◌, ℕ, ◌<◌, ◌^◌, true, Option, Some, List, ◌∷◌, ◌++◌}
 use Rattle.std.specs.Fmt.{decimal}
 use Rattle.tp_trace.specs.declared.line.Fate.TheVariants as fate
-use Rattle.tp_trace.specs.Line.{Letter, IsLetter, behind, contents, lacks, letter_text}
+use Rattle.tp_text.specs.Cutting.{behind, lacks}
+use Rattle.tp_trace.specs.Line.{Letter, IsLetter, contents, letter_text}
 use Rattle.tp_trace.specs.Read.{contents_text}
 use Rattle.tp_trace.proofs.Cuts.{first_only, lacks-append, lacks-decimal, lacks-graphic, lacks-port}
 

@@ -1,29 +1,8 @@
 -- Where a line lies that the rest of a text begins with.
-use Rattle.std.proofs.Common.{◌≡◌, ℕ, ◌+◌, ◌-◌, ◌<◌, ◌≤◌, Some, List, length, take, drop, ap, sym, ◌∙◌, subst, arith}
-use Rattle.std.specs.Prelude.{◌==◌, position}
-use Rattle.std.proofs.lemmas.List.{drop-drop, length-drop, length-take-le}
-use Rattle.std.proofs.Math.Seq.{take-length}
-use Rattle.tp_trace.specs.Spans.{IsFrontOf, IsLeftOf, IsSpanOf}
-use Rattle.tp_trace.proofs.Lines.{place_is, range_is}
-
-pub front_at : (s : List ℕ) (n : ℕ) → n ≤ length s → IsFrontOf s (take n s)
-front_at s n h =
-    let size = length-take-le n s h in
-    record { shorter = omega arith; is = ap (λ k. take k s) (sym size) }
-
-pub front_all : (s : List ℕ) → IsFrontOf s s
-front_all s = record { shorter = omega arith; is = sym (take-length s) }
-
--- what is cut off behind a place
-pub left_at : (s : List ℕ) (n : ℕ) → n ≤ length s → IsLeftOf s (take (length s - n) (drop n s))
-left_at s n h =
-    let size = length-drop n s in
-    let there : n ≡ length s - length (drop n s) = omega arith in
-    subst (IsLeftOf s) (sym (range_is s n)) (record { shorter = omega arith; is = ap (λ k. drop k s) there })
-
--- a byte that is found stands in the text
-pub found_within : (s : List ℕ) (place : ℕ) → position (λ b. b == 10) s ≡ Some place → place < length s
-found_within s place e = let is = place_is (λ b. b == 10) s place e in let same = is.0 in let low = is.1 in omega arith
+use Rattle.std.proofs.Common.{◌≡◌, ℕ, ◌+◌, ◌-◌, List, length, take, drop, ap, sym, ◌∙◌, arith}
+use Rattle.std.proofs.lemmas.List.{drop-drop}
+use Rattle.tp_text.specs.Cutting.{IsFrontOf, IsLeftOf}
+use Rattle.tp_trace.specs.Spans.{IsSpanOf}
 
 pub left_all : (text : List ℕ) → IsLeftOf text text
 left_all text =

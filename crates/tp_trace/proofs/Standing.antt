@@ -8,7 +8,8 @@ use Rattle.std.proofs.lemmas.Option.{same_Some}
 use Rattle.std.proofs.Math.Seq.{take-append_seam}
 use Rattle.tp_trace.specs.declared.form.Place.{Place}
 use Rattle.tp_trace.specs.declared.form.Place.TheVariants as stand
-use Rattle.tp_trace.specs.Line.{Told, begins, passed, operated, otherwise, noted, ended, resulted, Spells, Says, lines_of}
+use Rattle.tp_text.specs.Cutting.{lines_of}
+use Rattle.tp_trace.specs.Line.{Told, begins, passed, operated, otherwise, noted, ended, resulted, Spells, Says}
 use Rattle.tp_trace.specs.Tree.{HoldsTrace, IsFirstBad, IsTrace, IsTraceOf, MayStand, StandsAt, TellsSomething, names_of, place_behind, place_of, told_in}
 use Rattle.tp_trace.specs.Faults.{TakesPlace}
 use Rattle.tp_trace.proofs.Telling.{told_read}

@@ -12,10 +12,11 @@ use Rattle.tp_trace.specs.declared.line.Fate.TheVariants as fate
 use Rattle.tp_trace.specs.declared.line.Note.TheVariants as note
 use Rattle.tp_trace.specs.declared.line.Verb.{Verb}
 use Rattle.tp_trace.specs.declared.line.Verb.TheVariants as verb
-use Rattle.tp_trace.specs.Line.{Letter, Told, begins, passed, operated, otherwise, noted, ended, resulted, IsLetter, IsTold, Spells, behind, contents, lacks, letter_text, operands, verb_of, verb_text}
-use Rattle.tp_trace.specs.Tree.{is_space, before_dot, after_dot, verbs, first_spelled, letter_in, told_by, told_in}
+use Rattle.tp_text.specs.Cutting.{behind, is_space, lacks}
+use Rattle.tp_trace.specs.Line.{Letter, Told, begins, passed, operated, otherwise, noted, ended, resulted, IsLetter, IsTold, Spells, contents, letter_text, operands, verb_of, verb_text}
+use Rattle.tp_trace.specs.Tree.{before_dot, after_dot, verbs, first_spelled, letter_in, told_by, told_in}
 use Rattle.tp_queue.proofs.Cuts.{after_first-cons}
-use Rattle.tp_trace.proofs.Lines.{before_first-cons}
+use Rattle.tp_text.proofs.Words.{before_first-cons}
 use Rattle.tp_trace.proofs.Cuts.{both_true, lacks_none, lacks-decimal, lacks-graphic, lacks-port, undotted}
 use Rattle.tp_trace.proofs.Messages.{place_lacks}
 

@@ -1,9 +1,10 @@
 -- How the lines of a text are taken, and when each fault comes.
 use Rattle.std.specs.Prelude.{◌≡◌, ℕ, ◌<◌, ◌≤◌, Bool, true, false, List, [], ◌∷◌, ◌++◌, length}
+use Rattle.tp_text.specs.Cutting.{lines_of}
 use Rattle.tp_trace.specs.declared.form.Place.{Place}
 use Rattle.tp_trace.specs.declared.reading.TraceFault.{TraceFault}
 use Rattle.tp_trace.specs.declared.reading.TraceFault.TheVariants as trace_fault
-use Rattle.tp_trace.specs.Line.{Told, Spells, lines_of}
+use Rattle.tp_trace.specs.Line.{Told, Spells}
 use Rattle.tp_trace.specs.Tree.{IsFirstBad, IsNewName, StandsAt, names_of, place_of}
 
 -- the name of a section that begins there, where one does, is new and noted; or it isn't new

@@ -1,8 +1,11 @@
 -- The lines of a trace: what each one tells, and how it is spelled.
-use Rattle.std.specs.Prelude.{◌≡◌, ℕ, ◌<◌, ◌^◌, ◌==◌, ◌&&◌, ◌⊎◌, Bool, true, not, Option, Some, None, List, [], ◌∷◌, ◌++◌, length, codes, cond}
-use Rattle.std.specs.List.{onto_first, list_all, AllZip}
+use Rattle.std.specs.Prelude.{◌≡◌, ℕ, ◌<◌, ◌^◌, ◌==◌, ◌&&◌, ◌⊎◌, Bool, true, not, Option, Some, None, List, ◌∷◌, ◌++◌, length, codes}
+use Rattle.std.specs.List.{list_all, AllZip}
 use Rattle.std.specs.Char.{is_ascii_graphic}
 use Rattle.std.specs.Fmt.{decimal}
+use Rattle.tp_text.specs.Cutting.{behind}
+-- for whoever cites what a text says
+use Rattle.tp_text.specs.Cutting.{lines_of}
 use Rattle.tp_queue.specs.declared.operation.PortOperation.{PortOperation}
 use Rattle.tp_queue.specs.declared.operation.PortOperation.TheVariants as operation
 use Rattle.tp_trace.specs.declared.line.Fate.{Fate}
@@ -28,15 +31,6 @@ pub data Told : Type 0 where
   noted : Note → List ℕ → Told
   ended : List ℕ → Told
   resulted : List ℕ → Told
-
--- the lines of a text: each ends at a byte 10, which the last may lack
-abbrev pub lines_of : List ℕ → List (List ℕ)
-lines_of [] = []
-lines_of (b ∷ bs) = cond (b == 10) ([] ∷ lines_of bs) (onto_first b (lines_of bs))
-
--- none of the bytes is this one
-abbrev pub lacks : ℕ → List ℕ → Bool
-lacks c bytes = list_all (λ b. not (b == c)) bytes
 
 -- a byte of a port's name: no `.`
 abbrev pub is_port_byte : ℕ → Bool
@@ -141,11 +135,6 @@ operands otherwise = None
 operands (noted note word) = Some word
 operands (ended words) = Some words
 operands (resulted word) = Some word
-
--- a space, and what stands behind it, if anything does
-abbrev pub behind : Option (List ℕ) → List ℕ
-behind None = []
-behind (Some rest) = 32 ∷ rest
 
 abbrev pub spelling : Told → List ℕ
 spelling told = verb_text (verb_of told) ++ behind (operands told)

@@ -1,8 +1,9 @@
 -- What the lines of a trace tell, and which lines are a trace.
-use Rattle.std.specs.Prelude.{◌≡◌, ℕ, ◌+◌, ◌-◌, ◌<◌, ◌==◌, Bool, true, false, Option, Some, None, List, [], ◌∷◌, take, position, slice_get, All, fold, if◌then◌else◌, Contains, map}
+use Rattle.std.specs.Prelude.{◌≡◌, ℕ, ◌+◌, ◌-◌, ◌<◌, Bool, true, false, Option, Some, None, List, [], ◌∷◌, take, position, slice_get, All, fold, if◌then◌else◌, Contains, map}
 use Rattle.std.specs.List.{AllZip, before_first, after_first}
 use Rattle.std.specs.Str.{bytes_eq}
 use Rattle.std.specs.Str.Parse.{digits_value}
+use Rattle.tp_text.specs.Cutting.{is_space, lacks, lines_of}
 use Rattle.tp_queue.specs.declared.operation.PortOperation.TheVariants as operation
 use Rattle.tp_trace.specs.declared.line.Fate.{Fate}
 use Rattle.tp_trace.specs.declared.line.Fate.TheVariants as fate
@@ -14,7 +15,7 @@ use Rattle.tp_trace.specs.declared.form.Place.TheVariants as place
 use Rattle.tp_trace.specs.declared.line.Message.{Message}
 use Rattle.tp_trace.specs.declared.line.Line.{Line}
 use Rattle.tp_trace.specs.declared.line.Line.TheVariants as line
-use Rattle.tp_trace.specs.Line.{Letter, Told, begins, passed, operated, otherwise, noted, ended, resulted, Spells, Says, lacks, lines_of, verb_text}
+use Rattle.tp_trace.specs.Line.{Letter, Told, begins, passed, operated, otherwise, noted, ended, resulted, Spells, Says, verb_text}
 
 abbrev pub letter_of : Message → Letter
 letter_of m = record { component = m.component.now; port = m.port.now; number = m.number; text = m.text.now }
@@ -28,9 +29,6 @@ told_of line.Else = otherwise
 told_of (line.Note note word) = noted note word.now
 told_of (line.End words) = ended words.now
 told_of (line.Result word) = resulted word.now
-
-abbrev pub is_space : ℕ → Bool
-is_space b = b == 32
 
 -- what stands before the last `.`
 abbrev pub before_dot : List ℕ → List ℕ

@@ -1,7 +1,6 @@
 //! Traces: what each line tells, and which texts are traces.
 #![tactic(auto)]
 
-mod cut;
 pub mod form;
 pub mod line;
 mod names;

@@ -1,20 +1,19 @@
 //! What a line tells.
-ghost use Rattle.std.specs.Prelude.{◌≡◌, ◌∷◌, ◌++◌, ◌<◌, ◌^◌, ◌↔◌, ℕ, codes, IfSome, IsSome, IsTrue, MatchBool, MatchOption, None, Some, false, length, true};
+ghost use Rattle.std.specs.Prelude.{◌≡◌, ◌∷◌, ◌++◌, ◌<◌, ◌^◌, ◌↔◌, ℕ, codes, IsTrue, MatchBool, MatchOption, None, Some, false, length, true};
 ghost use Rattle.std.specs.Char.{is_ascii_graphic};
 ghost use Rattle.std.specs.List.{list_all};
-ghost use Rattle.std.specs.Str.{IsAscii};
 ghost use Rattle.std.specs.Fmt.{decimal};
 ghost use Rattle.std.specs.Option.{option_copied};
+ghost use Rattle.tp_text.specs.Cutting.{lacks};
 ghost use Rattle.tp_trace.specs.declared.line.Fate.TheVariants as fate;
 ghost use Rattle.tp_trace.specs.Line.{IsLetter, IsNote, IsNumber, IsPort, IsTold, IsVerdict, IsWord, Spells, Told, fate_text, is_port_byte, letter_text, note_text, operands, operation_text, verb_of, verb_text};
 ghost use Rattle.tp_trace.specs.Read.{IsContents, IsRead, contents_text};
 ghost use Rattle.tp_trace.specs.Tree.{letter_of, told_of};
 
-use crate::cut::{around_last_dot, first_word};
 use crate::line::{Fate, Line, Message, Note, Verb};
 use itoa::Buffer;
-use std::str;
 use tp_queue::operation::PortOperation;
+use tp_text::cut::{first_word, text_of};
 
 /// The greatest number of a message.
 const GREATEST_NUMBER: u64 = 9_223_372_036_854_775_807;
@@ -147,17 +146,6 @@ fn is_verdict(word: &[u8]) -> bool
         || word == b"error".as_slice()
 }
 
-/// The text that bytes are. ASCII is text.
-fn text_of(bytes: &[u8]) -> Option<&str>
-    ensures same { IfSome result (λ text. text.now ≡ bytes.now) }
-    ensures ascii { IsAscii bytes.now → IsSome result }
-{
-    match str::from_utf8(bytes) {
-        Ok(text) => Some(text),
-        Err(_) => None,
-    }
-}
-
 /// The number that a word can be read as, in whatever form.
 fn parse_number(word: &[u8]) -> Option<u64>
     ensures { (n : ℕ) → n < 2 ^ 63 → word.now ≡ decimal n → result ≡ Some n }
@@ -209,6 +197,22 @@ fn contents_of(rest: Option<&[u8]>) -> Option<(u64, &[u8])>
         return None;
     }
     Some((number, text))
+}
+
+/// What stands before the last `.`, and what behind it, where there is one.
+fn around_last_dot(word: &[u8]) -> Option<(&[u8], &[u8])>
+    ensures { MatchOption result
+        (lacks 46 word.now ≡ true)
+        (λ parts. (word.now ≡ parts.0.now ++ 46 ∷ parts.1.now) × (lacks 46 parts.1.now ≡ true)) }
+{
+    let mut place = word.len();
+    while place > 0 {
+        place -= 1;
+        if word[place] == b'.' {
+            return Some((&word[..place], &word[place + 1..]));
+        }
+    }
+    None
 }
 
 /// The message behind `sent`.

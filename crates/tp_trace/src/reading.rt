@@ -1,11 +1,11 @@
 //! A text, read as a trace.
 ghost use Rattle.std.specs.Prelude.{◌≡◌, ◌+◌, ◌<◌, ◌≤◌, ◌==◌, ◌↔◌, IsErrOf, IfErr, IfOk, MatchOption, length, count_by};
+ghost use Rattle.tp_text.specs.Cutting.{IsFrontOf, IsLeftOf};
 ghost use Rattle.tp_trace.specs.Line.{Told, Spells};
 ghost use Rattle.tp_trace.specs.Tree.{BadLinesStayBad, IsTraceOf, SaysOneAtMost, StandsAt, told_of};
-ghost use Rattle.tp_trace.specs.Spans.{IsFrontOf, IsLeftOf, IsSpanOf, piece};
+ghost use Rattle.tp_trace.specs.Spans.{IsSpanOf, piece};
 ghost use Rattle.tp_trace.specs.Faults.{IsFaultOf, Notes, TakesPlace};
 
-use crate::cut::first_line;
 use crate::form::{Place, may_stand, place_behind};
 use crate::line::Line;
 use crate::names::Names;
@@ -14,6 +14,7 @@ use crate::tree::{Span, Trace};
 use std::alloc::{AllocError, AllocFailed, Global};
 use thiserror::Error;
 use tp_refusal::memory::Memory;
+use tp_text::cut::first_line;
 
 /// The most bytes that the text of a trace may have: 256 MiB.
 pub const TRACE_LIMIT: usize = 268_435_456;

@@ -1,7 +1,8 @@
 -- All lines before the rest are good, and they are counted.
 use Rattle.std.proofs.Common.{◌≡◌, ◌+◌, ◌≤◌, ◌++◌, List, ℕ, length}
 use Rattle.std.specs.Prelude.{All}
-use Rattle.tp_port.specs.Line.{lines_of, IsGood}
+use Rattle.tp_text.specs.Cutting.{lines_of}
+use Rattle.tp_port.specs.Line.{IsGood}
 use Rattle.tp_port.proofs.replay.first_bad.Given as goal
 
 abbrev pub invariant-loop-rest : goal.invariant-loop-rest

@@ -2,7 +2,8 @@
 use Rattle.std.proofs.Common.{◌≡◌, ◌∙◌, true, ap, sym, arith, subst}
 use Rattle.std.specs.Option.{option_copied}
 use Rattle.std.proofs.lemmas.Bool.Decides.{nat_tests}
-use Rattle.tp_trace.specs.Line.{IsPort, IsWord, lacks}
+use Rattle.tp_text.specs.Cutting.{lacks}
+use Rattle.tp_trace.specs.Line.{IsPort, IsWord}
 use Rattle.tp_trace.proofs.Cuts.{lacks_none, last_only, undotted}
 use Rattle.tp_trace.proofs.Messages.{sent_cut}
 use Rattle.tp_trace.proofs.read.sent_of.Goals.{then-not-is_word-via-then-not-is_word, then-not-is_word-via-else-not-is_word+then-not-is_port}

@@ -1,7 +1,8 @@
 -- The lines so far were taken, and the rest is left.
 use Rattle.std.proofs.Common.{◌≡◌, ◌+◌, ◌≤◌, length, vec_len}
 use Rattle.std.specs.Prelude.{All}
-use Rattle.tp_trace.specs.Spans.{IsLeftOf, IsSpanOf, pieces}
+use Rattle.tp_text.specs.Cutting.{IsLeftOf}
+use Rattle.tp_trace.specs.Spans.{IsSpanOf, pieces}
 use Rattle.tp_trace.proofs.Standing.{Taken}
 use Rattle.tp_trace.proofs.reading.read_trace.Given as goal
 

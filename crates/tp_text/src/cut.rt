@@ -1,8 +1,10 @@
-//! Texts cut into lines, and lines into parts.
+//! Texts cut into lines, lines into words, and the text that a word is.
 ghost use Rattle.std.specs.Prelude.{◌≡◌, ◌∷◌, ◌++◌, ◌<◌, ◌==◌, MatchOption, length, position, true};
 ghost use Rattle.std.specs.Option.{option_copied};
-ghost use Rattle.tp_trace.specs.Line.{behind, lacks, lines_of};
-ghost use Rattle.tp_trace.specs.Spans.{IsFrontOf, IsLeftOf};
+ghost use Rattle.std.specs.Str.{IsUtf8};
+ghost use Rattle.tp_text.specs.Cutting.{IsFrontOf, IsLeftOf, behind, lacks, lines_of, words_after, words_of};
+
+use std::str;
 
 /// The place of the first byte that is this one.
 fn find_byte(separator: u8, text: &[u8]) -> Option<usize>
@@ -11,7 +13,9 @@ fn find_byte(separator: u8, text: &[u8]) -> Option<usize>
     text.iter().position(|byte| *byte == separator)
 }
 
-/// The first line of a text, and what follows it.
+/// The first line of a text, and what follows it. A line ends at a byte 10, which is in neither
+/// and which the last line may lack. The text isn't empty, since an empty one has no line. Takes
+/// no memory.
 pub fn first_line(text: &[u8]) -> (&[u8], &[u8])
     requires { 0 < length text.now }
     ensures lines { lines_of text.now ≡ result.0.now ∷ lines_of result.1.now }
@@ -25,8 +29,11 @@ pub fn first_line(text: &[u8]) -> (&[u8], &[u8])
     }
 }
 
-/// The first word of a line, and what follows it, where a space does.
+/// The first word of a line, and what stands behind the space that follows it, where one does: so
+/// `None` where the line has one word alone, and an empty rest where it ends with its only space.
+/// A word has no space; it is empty where the line is, or begins with one. Takes no memory.
 pub fn first_word(line: &[u8]) -> (&[u8], Option<&[u8]>)
+    ensures words { words_of line.now ≡ result.0.now ∷ words_after (option_copied result.1) }
     ensures parts { line.now ≡ result.0.now ++ behind (option_copied result.1) }
     ensures word { lacks 32 result.0.now ≡ true }
 {
@@ -36,18 +43,12 @@ pub fn first_word(line: &[u8]) -> (&[u8], Option<&[u8]>)
     }
 }
 
-/// What stands before the last `.`, and what behind it, where there is one.
-pub fn around_last_dot(word: &[u8]) -> Option<(&[u8], &[u8])>
-    ensures { MatchOption result
-        (lacks 46 word.now ≡ true)
-        (λ parts. (word.now ≡ parts.0.now ++ 46 ∷ parts.1.now) × (lacks 46 parts.1.now ≡ true)) }
+/// The text that bytes are, and `None` exactly where they aren't UTF-8. Takes no memory.
+pub fn text_of(bytes: &[u8]) -> Option<&str>
+    ensures { MatchOption result (¬ IsUtf8 bytes.now) (λ text. text.now ≡ bytes.now) }
 {
-    let mut place = word.len();
-    while place > 0 {
-        place -= 1;
-        if word[place] == b'.' {
-            return Some((&word[..place], &word[place + 1..]));
-        }
+    match str::from_utf8(bytes) {
+        Ok(text) => Some(text),
+        Err(_) => None,
     }
-    None
 }

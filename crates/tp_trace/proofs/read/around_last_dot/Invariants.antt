@@ -1,7 +1,7 @@
 -- What stands behind the place has no `.`.
 use Rattle.std.proofs.Common.{◌≡◌, ◌≤◌, true, length, drop}
-use Rattle.tp_trace.specs.Line.{lacks}
-use Rattle.tp_trace.proofs.cut.around_last_dot.Given as goal
+use Rattle.tp_text.specs.Cutting.{lacks}
+use Rattle.tp_trace.proofs.read.around_last_dot.Given as goal
 
 abbrev pub invariant-loop-place : goal.invariant-loop-place
 invariant-loop-place l = (l.place ≤ length l.word) × (lacks 46 (drop l.place l.word) ≡ true)

@@ -1,0 +1,6 @@
+-- A name is text.
+use Rattle.tp_port.proofs.Numbers.{name_text}
+use Rattle.tp_port.proofs.command.name_of.Goals as goal
+
+pub returns-then-is_name : goal.returns-then-is_name
+returns-then-is_name c = name_text c.args.word.now c.text_of.result (c.is_name.ensures.0 c.if-is_name.true) c.text_of.ensures

@@ -1,0 +1,39 @@
+-- The lines of a text, and the words of a line.
+use Rattle.std.specs.Prelude.{◌≡◌, ℕ, ◌-◌, ◌≤◌, ◌==◌, Bool, not, Option, Some, None, List, [], ◌∷◌, length, take, drop, cond}
+use Rattle.std.specs.List.{onto_first, slice_split, list_all}
+
+-- the lines of a text: each ends at a byte 10, which the last may lack
+abbrev pub lines_of : List ℕ → List (List ℕ)
+lines_of [] = []
+lines_of (b ∷ bs) = cond (b == 10) ([] ∷ lines_of bs) (onto_first b (lines_of bs))
+
+-- the text begins with the front
+pub record IsFrontOf (text front : List ℕ) : Type 0 where
+  pub shorter : length front ≤ length text
+  pub is : front ≡ take (length front) text
+
+-- the rest is left of the text where a front is cut off
+pub record IsLeftOf (text rest : List ℕ) : Type 0 where
+  pub shorter : length rest ≤ length text
+  pub is : rest ≡ drop (length text - length rest) text
+
+abbrev pub is_space : ℕ → Bool
+is_space b = b == 32
+
+-- the words of a line: what stands before, between and after its spaces
+abbrev pub words_of : List ℕ → List (List ℕ)
+words_of line = slice_split is_space line
+
+-- the words after a first one: none where no space follows it
+abbrev pub words_after : Option (List ℕ) → List (List ℕ)
+words_after None = []
+words_after (Some rest) = words_of rest
+
+-- none of the bytes is this one
+abbrev pub lacks : ℕ → List ℕ → Bool
+lacks c bytes = list_all (λ b. not (b == c)) bytes
+
+-- a space, and what stands behind it, if anything does
+abbrev pub behind : Option (List ℕ) → List ℕ
+behind None = []
+behind (Some rest) = 32 ∷ rest
