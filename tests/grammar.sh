@@ -166,7 +166,7 @@ characters_of_patterns() {
 }
 
 grammar() {
-    at_least 401 grammar_table
+    at_least 404 grammar_table
     at_least 42 open_brackets
     at_least 19 brackets_too_many
     at_least 21 token_faults_first

@@ -24,21 +24,25 @@ abbrev pub minus_before : Bool → List Lexeme → List Lexeme
 minus_before true ts = ts
 minus_before false ts = symbol Minus ∷ ts
 
--- a symbol before the tokens: a `-` directly before the number 0 is left out
-abbrev pub symbol_before : Symbol → List Lexeme → List Lexeme
-symbol_before Minus ts = minus_before (starts_zero ts) ts
-symbol_before s ts = symbol s ∷ ts
+-- a symbol before the tokens: a `-` is left out where the test says so
+abbrev pub symbol_before : Bool → Symbol → List Lexeme → List Lexeme
+symbol_before zero_next Minus ts = minus_before zero_next ts
+symbol_before zero_next s ts = symbol s ∷ ts
 
--- a token before the tokens: a `-` directly before the number 0 is left out
-abbrev pub token_before : Lexeme → List Lexeme → List Lexeme
-token_before (symbol s) ts = symbol_before s ts
-token_before t ts = t ∷ ts
+-- a token before the tokens: a `-` is left out where the test says so
+abbrev pub token_before : Bool → Lexeme → List Lexeme → List Lexeme
+token_before zero_next (symbol s) ts = symbol_before zero_next s ts
+token_before zero_next t ts = t ∷ ts
 
--- the tokens, each `-` directly before the number 0 left out
+-- the tokens, each `-` left out whose next token is the number 0: of `--0` the second alone
 abbrev pub plain : List Lexeme → List Lexeme
 plain [] = []
-plain (t ∷ ts) = token_before t (plain ts)
+plain (t ∷ ts) = token_before (starts_zero ts) t (plain ts)
 
 -- what is left to read at these tokens
 abbrev pub ahead : List Placed → List Lexeme
 ahead ps = plain (lexemes ps)
+
+-- what is left to read at this token with these behind it
+abbrev pub before : Lexeme → List Placed → List Lexeme
+before t ps = token_before (starts_zero (lexemes ps)) t (ahead ps)

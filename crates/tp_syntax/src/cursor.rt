@@ -2,8 +2,8 @@
 ghost use Rattle.std.specs.Prelude.{◌≡◌, ◌+◌, ◌≤◌, ◌∷◌, length, IfErr, IfOk, OnErr, OnOk, string_bytes};
 ghost use Rattle.std.specs.Bool.{OnTrue, OnFalse};
 ghost use Rattle.tp_refusal.specs.declared.refusal.Refusal.TheVariants.{Limit};
-ghost use Rattle.tp_token.specs.Lexeme.{name, word, lexeme_of};
-ghost use Rattle.tp_syntax.specs.Ahead.{ahead, symbol_before, token_before};
+ghost use Rattle.tp_token.specs.Lexeme.{name, symbol, word, lexeme_of};
+ghost use Rattle.tp_syntax.specs.Ahead.{ahead, before};
 ghost use Rattle.tp_syntax.specs.Passing.{Passes};
 ghost use Rattle.tp_syntax.specs.Sequences.{end_lexemes};
 ghost use Rattle.tp_syntax.specs.Refusals.{IsOfGrammar};
@@ -37,8 +37,8 @@ impl<'a, 't> Parser<'a, 't> {
     /// The next token, which is passed. 10 `Syntax` at the end of the text: there is none.
     pub fn take(&mut self) -> Result<&'a Placed<'t>, ScriptFault>
         ensures tokens { IfOk result (λ p.
-            ahead self.old.rest.now
-            ≡ token_before (lexeme_of p.now.token) (ahead self.new.rest.now)) }
+            ahead self.old.rest.now ≡ before (lexeme_of p.now.token) self.new.rest.now) }
+        ensures next { IfOk result (λ p. self.old.rest.now ≡ p.now ∷ self.new.rest.now) }
         ensures shorter { OnOk result (length self.new.rest.now + 1 ≡ length self.old.rest.now) }
         ensures fault { IfErr result IsOfGrammar }
     {
@@ -53,7 +53,7 @@ impl<'a, 't> Parser<'a, 't> {
     /// Passes this symbol. 10 `Syntax`: another token comes next, or none.
     pub fn symbol(&mut self, want: Symbol) -> Result<(), ScriptFault>
         ensures tokens { OnOk result
-            (ahead self.old.rest.now ≡ symbol_before want (ahead self.new.rest.now)) }
+            (ahead self.old.rest.now ≡ before (symbol want) self.new.rest.now) }
         ensures shorter { OnOk result (length self.new.rest.now + 1 ≡ length self.old.rest.now) }
         ensures fault { IfErr result IsOfGrammar }
     {
@@ -68,7 +68,7 @@ impl<'a, 't> Parser<'a, 't> {
     /// `Syntax`: another token comes next, or none. 15 `Limit`: it is one bracket too many.
     pub fn open(&mut self, want: Symbol, left: u32) -> Result<u32, ScriptFault>
         ensures tokens { OnOk result
-            (ahead self.old.rest.now ≡ symbol_before want (ahead self.new.rest.now)) }
+            (ahead self.old.rest.now ≡ before (symbol want) self.new.rest.now) }
         ensures shorter { OnOk result (length self.new.rest.now + 1 ≡ length self.old.rest.now) }
         ensures inner { IfOk result (λ inner. inner + 1 ≡ left) }
         ensures fault { IfErr result IsOfGrammar }
@@ -123,7 +123,7 @@ impl<'a, 't> Parser<'a, 't> {
     /// Passes this symbol, if it comes next, and says whether it did.
     pub fn has_symbol(&mut self, want: Symbol) -> bool
         ensures yes { OnTrue result
-            (ahead self.old.rest.now ≡ symbol_before want (ahead self.new.rest.now)) }
+            (ahead self.old.rest.now ≡ before (symbol want) self.new.rest.now) }
         ensures shorter { OnTrue result (length self.new.rest.now + 1 ≡ length self.old.rest.now) }
         ensures no { OnFalse result (self.new ≡ self.old) }
     {

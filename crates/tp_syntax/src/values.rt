@@ -1,7 +1,7 @@
 //! Values, types and messages.
 ghost use Rattle.std.specs.Prelude.{◌≡◌, ◌+◌, ◌<◌, ◌≤◌, ◌∷◌, ◌++◌, length, map, pos, IfErr, IfOk, OnOk};
 ghost use Rattle.tp_token.specs.Lexeme.{symbol};
-ghost use Rattle.tp_syntax.specs.Ahead.{ahead, token_before};
+ghost use Rattle.tp_syntax.specs.Ahead.{ahead, before};
 ghost use Rattle.tp_syntax.specs.Passing.{Passes};
 ghost use Rattle.tp_syntax.specs.Sequences.{by_commas};
 ghost use Rattle.tp_syntax.specs.Values.{int_lexemes, type_lexemes, value_lexemes, value_field_lexemes, message_lexemes};
@@ -34,7 +34,7 @@ impl<'a, 't> Parser<'a, 't> {
     /// The number behind a `-`.
     pub fn negative(&mut self) -> Result<i64, ScriptFault>
         ensures tokens { IfOk result (λ z.
-            token_before (symbol Symbol.Minus) (ahead self.old.rest.now)
+            before (symbol Symbol.Minus) self.old.rest.now
             ≡ int_lexemes z ++ ahead self.new.rest.now) }
         ensures shorter { OnOk result (length self.new.rest.now + 1 ≡ length self.old.rest.now) }
         ensures fault { IfErr result IsOfGrammar }

@@ -19,13 +19,13 @@ reading_fault read.Read (Some text) new taken = taken
 reading_fault read.Limit None new taken = (taken.0, taken.1, tt)
 reading_fault read.Limit (Some text) None taken = absurd taken.1
 reading_fault read.Limit (Some text) (Some rest) taken =
-    (taken.0, taken.1, inl (inl (inl (omega (arith, ap length taken.1, length-append taken.0 rest, taken.2), refl, refl))))
+    (taken.0, taken.1, (omega (arith, taken.2), inl (inl (inl (omega (arith, ap length taken.1, length-append taken.0 rest, taken.2), refl, refl)))))
 reading_fault read.Memory None new taken = (taken.0, taken.1, tt)
 reading_fault read.Memory (Some text) new taken = (taken.0, taken.1, (taken.2.0, inl taken.2.1))
 
 -- a fault of the checks, of a text that was read
 script_fault : (f : ScriptFault) (text : List ℕ) (taken : ℕ) → length text ≤ 1048576 → taken ≤ 1048576 → IsScriptFaultOf text f → IsScriptFaultIn text taken f
-script_fault (script.Refused r line) text taken short few h = h
+script_fault (script.Refused r line) text taken short few h = (omega (arith, few), h)
 script_fault (script.Memory m) text taken short few h = (few, inr short)
 
 pub checking_fault : (f : ScriptFault) (old new : Option (List ℕ)) (text : List ℕ) → IfSome old (λ all. text ≡ all) → length text ≤ 1048576

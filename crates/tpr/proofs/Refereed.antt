@@ -20,14 +20,14 @@ unread read.Read (Some text) new taken = taken
 unread read.Limit None new taken = (taken.0, taken.1, tt)
 unread read.Limit (Some text) None taken = absurd taken.1
 unread read.Limit (Some text) (Some rest) taken =
-    (taken.0, taken.1, omega (arith, ap length taken.1, length-append taken.0 rest, taken.2))
+    (taken.0, taken.1, (omega (arith, taken.2), omega (arith, ap length taken.1, length-append taken.0 rest, taken.2)))
 unread read.Memory None new taken = (taken.0, taken.1, tt)
 unread read.Memory (Some text) new taken = (taken.0, taken.1, (taken.2.0, inl taken.2.1))
 
 -- a fault of the trace, of a text that was read
 trace_fault : (f : TraceFault) (text : List ℕ) (taken : ℕ) → length text ≤ 268435456 → taken ≤ 268435456 → IsFaultOf text f → IsTraceFaultIn text taken f
-trace_fault (trace.BadLine line) text taken short few h = h
-trace_fault trace.Limit text taken short few h = h
+trace_fault (trace.BadLine line) text taken short few h = (few, h)
+trace_fault trace.Limit text taken short few h = (omega (arith, few), h)
 trace_fault trace.Memory text taken short few h = (few, inr short)
 
 pub untraced : (f : TraceFault) (old new : Option (List ℕ)) (text : List ℕ) → IfSome old (λ all. text ≡ all) → length text ≤ 268435456

@@ -45,10 +45,12 @@ accepted_text = codes "accepted\n"
 abbrev pub IsRight : List ℕ → Type 0
 IsRight text = (made : Made) × IsScriptOf text made
 
--- the same of a text that is read first, where reading took so many bytes of it: memory may be wanting where the room
--- for the text is full, whatever the text, and then for a text that isn't too long
+-- the same of a text that is read first, where reading took so many bytes of it, of a text that is too long one more
+-- than the limit: memory may be wanting where the room for the text is full, whatever the text, and then for a text
+-- that isn't too long
 abbrev pub IsScriptFaultIn : List ℕ → ℕ → ScriptFault → Type 0
-IsScriptFaultIn text taken (script_fault.Refused r line) = IsScriptFaultOf text (script_fault.Refused r line)
+IsScriptFaultIn text taken (script_fault.Refused r line) =
+    (taken ≤ 1048577) × IsScriptFaultOf text (script_fault.Refused r line)
 IsScriptFaultIn text taken (script_fault.Memory m) = (taken ≤ 1048576) × (IsFull taken ⊎ (length text ≤ 1048576))
 
 -- and the reader may fail anywhere within the limit

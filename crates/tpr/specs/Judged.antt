@@ -41,11 +41,12 @@ abbrev pub judge_fault_status : JudgeFault → ℕ
 judge_fault_status judge_fault.Read = 2
 judge_fault_status (judge_fault.Trace f) = trace_fault_status f
 
--- a fault of a text that is read first, where reading took so many bytes of it: memory may be wanting where the room
--- for the text is full, whatever the text, and then for a text that isn't too long
+-- a fault of a text that is read first, where reading took so many bytes of it, of a text that is too long one more
+-- than the limit: memory may be wanting where the room for the text is full, whatever the text, and then for a text
+-- that isn't too long
 abbrev pub IsTraceFaultIn : List ℕ → ℕ → TraceFault → Type 0
-IsTraceFaultIn text taken (trace_fault.BadLine line) = IsFaultOf text (trace_fault.BadLine line)
-IsTraceFaultIn text taken trace_fault.Limit = IsFaultOf text trace_fault.Limit
+IsTraceFaultIn text taken (trace_fault.BadLine line) = (taken ≤ 268435456) × IsFaultOf text (trace_fault.BadLine line)
+IsTraceFaultIn text taken trace_fault.Limit = (taken ≤ 268435457) × IsFaultOf text trace_fault.Limit
 IsTraceFaultIn text taken trace_fault.Memory =
     (taken ≤ 268435456) × (IsFull taken ⊎ (length text ≤ 268435456))
 

@@ -3,3 +3,4 @@ pub mod Outcome
 pub mod Checked
 pub mod Ran
 pub mod Judged
+pub mod Handed

@@ -1,10 +1,13 @@
 //! `tpr`: message ports of TTCN-3, replayed, checked, run, traced and judged.
 #![tactic(auto)]
 
-ghost use Rattle.std.specs.Prelude.{◌≡◌, IfSome};
+ghost use Rattle.std.specs.Prelude.{◌≡◌, IfSome, Some};
+ghost use Rattle.std.specs.Io.Buffered.{writer_contents};
+ghost use Rattle.std.specs.Io.KnownBytes.{Appends, Keeps};
 ghost use Rattle.tpr.specs.Checked.{IsCheckAnswer};
+ghost use Rattle.tpr.specs.Handed.{HasGot};
 ghost use Rattle.tpr.specs.Judged.{IsJudgeAnswer};
-ghost use Rattle.tpr.specs.Outcome.{IsQueueAnswer};
+ghost use Rattle.tpr.specs.Outcome.{IsQueueAnswer, unread_text};
 ghost use Rattle.tpr.specs.Ran.{IsRunAnswer, IsTraceAnswer};
 
 mod checking;
@@ -66,27 +69,84 @@ fn answer<T: AllocGlobal + Threads + Wait + Sync, R: Read, W: Write>(
     }
 }
 
+/// The status, and the writer behind this buffer, which has got all that the buffer held. `None`
+/// where there is no status, or the writer failed; nothing is written behind that.
+fn emptied<W: Write + Drop>(buffer: BufWriter<W>, status: Option<u8>) -> Option<(u8, W)>
+    ensures status { IfSome result (λ handed. status ≡ Some handed.0) }
+    ensures got { IfSome result (λ handed.
+        Keeps (writer_contents W.contents buffer) (W.contents handed.1)) }
+{
+    let Some(status) = status else {
+        // A buffer that is dropped tries once more to write what it holds.
+        mem::forget(buffer);
+        return None;
+    };
+    match buffer.into_inner() {
+        Ok(writer) => Some((status, writer)),
+        Err(failed) => {
+            // It has the buffer.
+            mem::forget(failed);
+            None
+        }
+    }
+}
+
+/// Answers in this mode through this buffer: the status, and the writer behind the buffer, which
+/// has got all that was printed. `None` where the writer failed; nothing is written behind that.
+fn answer_through<T: AllocGlobal + Threads + Wait + Sync, R: Read, W: Write + Drop>(
+    rt: &T,
+    mode: Mode,
+    reader: &mut R,
+    mut buffer: BufWriter<W>,
+) -> Option<(u8, W)>
+    ensures queue { mode ≡ Mode.Queue → IfSome result (λ handed. HasGot
+        (λ held. IsQueueAnswer (R.remaining reader.old) (R.remaining reader.new)
+        (writer_contents W.contents buffer) held handed.0) (W.contents handed.1)) }
+    ensures check { mode ≡ Mode.Check → IfSome result (λ handed. HasGot
+        (λ held. IsCheckAnswer (R.remaining reader.old) (R.remaining reader.new)
+        (writer_contents W.contents buffer) held handed.0) (W.contents handed.1)) }
+    ensures run { mode ≡ Mode.Run → IfSome result (λ handed. HasGot
+        (λ held. IsRunAnswer (R.remaining reader.old) (R.remaining reader.new)
+        (writer_contents W.contents buffer) held handed.0) (W.contents handed.1)) }
+    ensures trace { mode ≡ Mode.Trace → IfSome result (λ handed. HasGot
+        (λ held. IsTraceAnswer (R.remaining reader.old) (R.remaining reader.new)
+        (writer_contents W.contents buffer) held handed.0) (W.contents handed.1)) }
+    ensures judge { mode ≡ Mode.Judge → IfSome result (λ handed. HasGot
+        (λ held. IsJudgeAnswer (R.remaining reader.old) (R.remaining reader.new)
+        (writer_contents W.contents buffer) held handed.0) (W.contents handed.1)) }
+{
+    let status = answer(rt, mode, reader, &mut buffer);
+    emptied(buffer, status)
+}
+
+/// Answers that the text could not be read, through this buffer, as [`answer_through`] does.
+fn answer_unread<W: Write + Drop>(mut buffer: BufWriter<W>) -> Option<(u8, W)>
+    ensures code { IfSome result (λ handed. handed.0 ≡ 2) }
+    ensures got { IfSome result (λ handed. HasGot
+        (λ held. Appends (writer_contents W.contents buffer) held unread_text)
+        (W.contents handed.1)) }
+{
+    let status = answer_fault(&mut buffer, QueueFault::Read);
+    emptied(buffer, status)
+}
+
 /// Answers the text of this file, or of standard input where no file is named. `None` where the
 /// writer failed; nothing is written behind that.
 fn answer_file<T>(rt: &T, mode: Mode, file: Option<&str>) -> Option<u8>
 where
     T: AllocGlobal + Files + Input + Print + Threads + Wait + Sync,
 {
-    let Ok(mut writer) = BufWriter::new(rt.alloc(), io::writer(rt)) else {
+    let Ok(buffer) = BufWriter::new(rt.alloc(), io::writer(rt)) else {
         return answer_fault(&mut io::writer(rt), QueueFault::Memory);
     };
-    let status = match file {
-        None => answer(rt, mode, &mut rt.reader(), &mut writer),
+    let handed = match file {
+        None => answer_through(rt, mode, &mut rt.reader(), buffer),
         Some(path) => match File::open(rt, path) {
-            Ok(mut reader) => answer(rt, mode, &mut reader, &mut writer),
-            Err(_) => answer_fault(&mut writer, QueueFault::Read),
+            Ok(mut reader) => answer_through(rt, mode, &mut reader, buffer),
+            Err(_) => answer_unread(buffer),
         },
     };
-    if status.is_none() {
-        // A writer that is dropped tries once more to write what it holds.
-        mem::forget(writer);
-    }
-    status
+    handed.map(|(status, _)| status)
 }
 
 /// The words after the program's name.
