@@ -226,7 +226,7 @@ gives_back_what_was_kept() {
 building() {
     mkdir "$room/building" && cd -- "$room/building" || exit 1
     if set_up "there is a tree of five crates" make_tree; then
-        at_least 48 builds_and_fails
+        at_least 49 builds_and_fails
         trying
     fi
     cd -- "$root" || exit 1

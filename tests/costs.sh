@@ -28,10 +28,30 @@ what_each_function_cost() {
     must "the dearest alone" 0 $'    20.0 s in all, 3 parts\n    13.0 s  65.0 %  room.Room.get\n' ''
     observe "$root/tools/costs.py" none
     must "a crate that wasn't checked" 1 '' $'costs.py: no check has left a module in none/out/incremental\n'
+    "$root/tools/costs.py" made >/dev/full 2>"$room/said"
+    status=$?
+    : >"$room/printed"
+    must "what each function cost, onto a full device" 3 '' $'costs.py: the answer can\'t be written\n'
+}
+
+# Its words: the help, or what is no command line.
+words_of_costs() {
+    local usage=$'usage: tools/costs.py CRATE_FOLDER [COUNT]\n' help word
+    help=$(python3 -c 'import ast, sys; print(ast.get_docstring(ast.parse(open(sys.argv[1]).read()), clean=False))' \
+        "$root/tools/costs.py")
+    set_up "the tool begins with what it does" [ "$help" ] || return
+    for word in -h --help; do
+        observe "$root/tools/costs.py" "$word"
+        must "the help of costs.py, by $word" 0 "$help"$'\n' ''
+    done
     observe "$root/tools/costs.py"
-    must "no crate" 1 '' $'usage: tools/costs.py CRATE_FOLDER [COUNT]\n'
+    must "no crate" 4 '' "$usage"
     observe "$root/tools/costs.py" made 0
-    must "no count" 1 '' $'usage: tools/costs.py CRATE_FOLDER [COUNT]\n'
+    must "no count" 4 '' "$usage"
+    observe "$root/tools/costs.py" made 1 1
+    must "three words" 4 '' "$usage"
+    observe "$root/tools/costs.py" --count 1
+    must "an option that there isn't" 4 '' "$usage"
 }
 
 # What rt ci took: the part of each process is told by its words and its folder. Each goes on until the table
@@ -73,7 +93,8 @@ what_each_crate_took() {
 
 costs() {
     mkdir "$room/costs" && cd -- "$room/costs" || exit 1
-    at_least 5 what_each_function_cost
+    at_least 4 what_each_function_cost
+    at_least 6 words_of_costs
     at_least 3 what_each_crate_took
     cd -- "$root" || exit 1
 }

@@ -36,7 +36,7 @@ refusal_scripts() {
 shows() { # DOCUMENT FILE
     local shown
     shown=$(sed 's/^    //' "$1")
-    if [[ $shown == *"$(<"$2")"* ]]; then
+    if [[ -s $2 && $shown == *"$(<"$2")"* ]]; then
         count 0
     else
         echo "FAILED: $1 doesn't show $2 as it is"

@@ -19,7 +19,7 @@ sys.dont_write_bytecode = True
 sys.path.insert(0, os.path.join(ROOT, "tools"))
 
 from library.constructs import Construct  # noqa: E402
-from library.refusal_rules import RULES_OF  # noqa: E402
+from library.refusal_rules import BEYOND_SCRIPTS, RULES_OF  # noqa: E402
 from library.refusals import SEND_FAULTS, Refusal  # noqa: E402
 from library.words import RESERVED, RESERVED_ELSEWHERE  # noqa: E402
 
@@ -106,7 +106,8 @@ def check_table(file, table, least):
 def check_words():
     """Each rule stands in a document, each construct has its row with the same words."""
     refusals, profile = read(f"{ROOT}/docs/REFUSALS.md"), read(f"{ROOT}/docs/PROFILE.md")
-    for rule in (rule for rules in RULES_OF.values() for rule in rules):
+    beyond = [it.rule for it in BEYOND_SCRIPTS.values()]
+    for rule in (rule for rules in (*RULES_OF.values(), beyond) for rule in rules):
         must(rule.value in refusals or rule.value in profile, f"no document says: {rule.value}")
     reserved = set(profile.replace("`", " ").split())
     must(reserved >= RESERVED_ELSEWHERE | RESERVED, "docs/PROFILE.md hasn't each reserved word")
@@ -125,8 +126,8 @@ def check_words():
 
 
 def check_numbers():
-    """The numbers and names are those of the document's table, and of the one by which the program prints; the faults
-    of a send stand in their order."""
+    """The numbers and names are those of the document's table, and of the one by which the program prints; each that is
+    ever printed has rules, in one place; the faults of a send stand in their order."""
     table = [(str(it.value), it.word) for it in Refusal]
     page = read(f"{ROOT}/docs/REFUSALS.md").partition("\n## Numbers and names\n")[2].partition("\n## ")[0]
     rows = "\n".join(line for line in page.splitlines() if line.startswith("|"))
@@ -135,6 +136,9 @@ def check_numbers():
     source = read(f"{ROOT}/crates/tp_refusal/src/refusal.rt")
     printed = re.findall(r'Refusal::\w+ => \(([0-9]+), "(\w+)"\)', source)
     must(printed == table, f"the program prints {printed}, and tools/library/refusals.py has {table}")
+    with_rules = sorted([*RULES_OF, *BEYOND_SCRIPTS])
+    wanted = [it for it in Refusal if it != Refusal.WRITE]
+    must(with_rules == wanted, f"{with_rules} have rules, and all but {Refusal.WRITE} are printed")
     order = f"the first in the order {', '.join(f'{fault:d}' for fault in SEND_FAULTS)} counts"
     must(order in read(f"{ROOT}/docs/PROFILE.md"), f"docs/PROFILE.md doesn't say: {order}")
 

@@ -91,6 +91,32 @@ $room/folder/$(head -n 1 -- "$room/shown" | sed "s|^$room/||")
     tool_must "explain: the end of a send" 0 prints "41 NoRoute
   the port isn't connected or mapped, or not with the component behind \`to\`
 "
+    explained_beyond_scripts
+}
+
+# The numbers that no script is refused by.
+explained_beyond_scripts() {
+    explain --number 1
+    tool_must "explain: a line that is none" 0 prints "1 BadLine
+  modes \`queue\` and \`judge\`: a line is none of a queue file, or of a trace
+  what to do: docs/PROFILE.md, \"The queue file\", has the form of its lines; docs/TRACES.md has that of the lines of\
+ a trace, and where each can stand
+"
+    explain --number 50
+    tool_must "explain: memory that was refused" 0 prints "50 Memory
+  memory was refused
+  what to do: run it again where it may have more memory (\`ulimit -v\` prints the bound)
+"
+    explain --number 51
+    tool_must "explain: a thread that was refused" 0 prints "51 NoThread
+  modes \`run\` and \`trace\`: the starting of a thread was refused
+  what to do: run it again where it may have more threads (\`ulimit -u\`), and memory for their stacks (\`ulimit -v\`)
+"
+    explain --number 61
+    tool_must "explain: a behaviour that was ended too early" 0 prints "61 Restless
+  a run ended a behaviour as waiting although one of its branches is open
+  what to do: run it again. It is a fault of \`tpr\`, and not of the script: report it, with the script
+"
 }
 
 # A script of which this is the text is told so, where its name is FILE.
@@ -181,7 +207,9 @@ $room/missing: refused 2 Read: the file isn't there, is a folder, or can't be re
     explain
     tool_must "explain: nothing to explain" 4 grep -q '^usage: explain' "$room/said"
     explain --number 19
-    tool_must "explain: a number that isn't given" 4 grep -q "'19' is none of 2, 10, 11" "$room/said"
+    tool_must "explain: a number that isn't given" 4 grep -q "'19' is none of 1, 2, 10, 11" "$room/said"
+    explain --number 3
+    tool_must "explain: the number that is never printed" 4 grep -q "'3' is none of 1, 2, 10, 11" "$room/said"
     explain --short --json tests/every_line.ttcn
     tool_must "explain: two forms" 4 grep -q '^usage: explain' "$room/said"
     "$root/tools/explain" --tpr "$tpr" tests/every_line.ttcn >/dev/full 2>"$room/said"
@@ -205,6 +233,7 @@ explained_by_another_program() { # NAME STATUS ANSWER PRINTED
 }
 
 explained_less() {
+    local long
     explained_by_another_program "another line than its own reading" 2 'refused 10 Syntax line 3' "\
 FILE:3: refused 10 Syntax: a rule is broken, and it isn't sure where
   one of these rules: a byte that begins no token
@@ -216,6 +245,8 @@ FILE:2: refused 17 NoDone: where there is one, \`all component.done\` ends the t
 "
     explained_by_another_program "a fault" 3 'fault 50 Memory' $'FILE: fault 50 Memory\n'
     explained_by_another_program "no answer of tpr" 1 'hello' $'FILE: hello\n'
+    long=refused\ $(printf '9%.0s' {1..5000})\ Limit
+    explained_by_another_program "a number that is none" 1 "$long" "FILE: $long"$'\n'
 }
 
 # A script of 1 MiB, in which one line is wrong. How long it takes, bench/explaining/run says.
@@ -227,10 +258,10 @@ explained_at_length() {
 }
 
 explains() {
-    at_least 5 explained_tables
-    at_least 6 explained_example
+    at_least 6 explained_tables
+    at_least 10 explained_example
     at_least 7 explained_places
-    at_least 12 explained_bad_input
-    at_least 4 explained_less
+    at_least 13 explained_bad_input
+    at_least 5 explained_less
     at_least 1 explained_at_length
 }

@@ -264,7 +264,7 @@ sys.exit(0 if [f"{name} {it.get('value')}" for name, it in explored if it is not
 EOF
 }
 
-# A program that holds no order, one that answers nothing, and none at all.
+# A program that holds no order, one that answers nothing, some that aren't what is asked for, and none at all.
 explored_other_programs() {
     local script=examples/ping_pong.ttcn
     printf '%s\n' '#!/usr/bin/env bash' 'while read -r line; do printf "order %s\nnot held\n\n" "$line"; done <"$2"' \
@@ -276,8 +276,19 @@ explored_other_programs() {
     chmod +x -- "$room/explored_mute"
     observe env TPR_ORDERED="$room/explored_mute" "$root/tools/explore" "$script"
     tool_must "a program that answers nothing" 1 says_alone "explore: $room/explored_mute ended with status 0: "
+    explored_by_a_program 'echo a file; exit 7' "ended with status 7: a file"
+    explored_by_a_program 'kill -9 $$' "came to no end of its own: "
+    explored_by_a_program 'printf "component mtc\n\n"' "ended with status 0: component mtc"
     observe env TPR_ORDERED="$room/nowhere" "$root/tools/explore" "$script"
     tool_must "no program" 1 says_alone "explore: there is no program $room/nowhere"
+}
+
+# What is said of a program that does so, whatever it is asked.
+explored_by_a_program() { # LINE SAID
+    printf '%s\n' '#!/bin/sh' "$1" >"$room/explored_other"
+    chmod +x -- "$room/explored_other"
+    observe env TPR_ORDERED="$room/explored_other" "$root/tools/explore" examples/ping_pong.ttcn
+    tool_must "a program of the line $1" 1 says_alone "explore: $room/explored_other $2"
 }
 
 explored_refusals() {
@@ -305,6 +316,6 @@ explores() {
     at_least 4 all_explored_interrupted
     at_least 4 explored_as_told
     at_least 2 explored_in_a_suite
-    at_least 3 explored_other_programs
+    at_least 6 explored_other_programs
     at_least 4 explored_refusals
 }

@@ -7,6 +7,6 @@
 # loading of what the crates below state.
 
 lanes=$(./build lanes) || exit
-python3 tests/wrong_bodies_of_a_run.py stale_libraries
+python3 tests/wrong_bodies_of_a_run.py stale_libraries || exit
 RT_JOBS=$lanes rt ci || exit
 python3 tests/wrong_bodies_of_a_run.py --jobs "$lanes"

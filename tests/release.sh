@@ -15,14 +15,19 @@ begin_gate() {
     commit_of_gate=$(clean_commit)
 }
 
-# Only where the sources were those of one commit from the beginning to the end.
+# Only where the sources were those of one commit from the beginning to the end, and the toolchain says which it is.
 keep_gate() { # LAST LINES
+    local toolchain program
     if [[ -z $commit_of_gate || $commit_of_gate != "$(clean_commit)" ]]; then return; fi
+    if ! toolchain=$(rt version) || ! program=$(sha256sum <crates/tpr/out/tpr); then
+        echo "test: out/gate isn't kept: rt version, or the sum of the program, failed" >&2
+        return 1
+    fi
     mkdir -p out
     {
         echo "commit $commit_of_gate"
-        echo "toolchain $(rt version)"
-        echo "program $(sha256sum <crates/tpr/out/tpr | cut -d ' ' -f 1)"
+        echo "toolchain $toolchain"
+        echo "program ${program%% *}"
         echo
         cat -- "$1"
     } >out/gate.begun && mv -- out/gate.begun out/gate
@@ -225,6 +230,11 @@ as_gate() { # COMMAND..
 
 a_whole_gate() { begin_gate && keep_gate ../last_lines; }
 
+a_gate_of_no_toolchain() {
+    rt() { return 1; }
+    a_whole_gate
+}
+
 a_gate_beside_an_edit() {
     begin_gate
     echo more >>README.md
@@ -236,6 +246,9 @@ keeps_gate() {
     printf 'the gate said\nexamples: 9 passed, 0 failed\n' >last_lines
     as_gate a_gate_beside_an_edit
     set_up "a gate beside which a file is edited leaves nothing" [ ! -e tree/out/gate ] && count 0
+    observe as_gate a_gate_of_no_toolchain
+    set_up "a gate of which rt doesn't say the toolchain leaves nothing" [ ! -e tree/out/gate ] && count 0
+    tool_must "and that is said" 1 says_alone "test: out/gate isn't kept: "
     as_gate a_whole_gate
     observe cat tree/out/gate
     tool_must "what a gate leaves" 0 prints "commit $(git -C tree rev-parse HEAD)
@@ -317,7 +330,8 @@ package_is_installed() {
     observe depends_on_what_it_needs
     tool_must "what the package depends on" 0 prints_nothing
     observe install_into empty
-    tool_must "the package in an empty root" 0 says_nothing || cat installed
+    if ((status != 0)); then cat installed; fi
+    tool_must "the package in an empty root" 0 says_nothing
     uses_installed
     observe cmp -- empty/usr/lib/tpr/tpr "$tpr"
     tool_must "the program that is installed" 0 prints_nothing
@@ -405,7 +419,7 @@ release() {
     if set_up "there is a repository to make a release of" make_repository; then
         at_least 4 makes_both
         at_least 8 planted_releases
-        at_least 18 refusals_of_releases
+        at_least 20 refusals_of_releases
         at_least 4 manual_page
         at_least 4 archive_is_used
         of_the_package

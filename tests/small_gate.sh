@@ -1,8 +1,8 @@
 # How ./test runs its parts (tests/side_by_side.sh, tests/listed_parts.sh): a small gate of two processors, whose parts
-# fail, end early, are killed, try too little, are beside each other, or hang while the gate is interrupted; and what it
-# runs in a group of processes and is no part. `root`, `room`, `observe`, `count`, `at_least` and `set_up` are those of
-# ./test, `must` is that of tests/command_line.sh, `has_begun` that of tests/trying.sh, `is_gone` that of
-# tests/suites.sh.
+# fail, end early, are killed, try too little, are beside each other, or hang while the gate is interrupted; what it
+# runs in a group of processes and is no part; and its first half (tests/first_half.sh), each step of which fails once.
+# `root`, `room`, `observe`, `count`, `at_least` and `set_up` are those of ./test, `must` is that of
+# tests/command_line.sh, `has_begun` that of tests/trying.sh, `is_gone` that of tests/suites.sh.
 
 # Its word is the file of its parts: functions, their calls, and, behind `#:`, the lines of the list.
 write_gate() {
@@ -208,6 +208,37 @@ the built program, by parts: cases failed seconds
 examples: 0 passed, 0 failed; 0 and 0"$'\n' ''
 }
 
+# The first half, in a tree in which all that it calls prints its words, and fails with 7 where FAILS is these.
+write_first_half() {
+    mkdir -p half/tests half/commands && cp -- "$root/tests/first_half.sh" half/tests/ || return
+    cat >half/build <<'COMMAND'
+#!/bin/sh
+words="${0##*/} $*"
+if [ "${0##*/}" = build ]; then echo 3; else echo "$words, RT_JOBS=$RT_JOBS"; fi
+if [ "$FAILS" = "$words" ]; then exit 7; fi
+COMMAND
+    chmod +x half/build && ln -s ../build half/commands/python3 && ln -s ../build half/commands/rt
+}
+
+# Where a step of it fails, it ends with that one's status, and this is all that it has called.
+first_half_fails() { # STEP STATUS CALL..
+    local printed=''
+    if (($# > 2)); then printf -v printed '%s\n' "${@:3}"; fi
+    FAILS=$1 RT_JOBS=none PATH=$PWD/half/commands:$PATH observe bash -c 'cd half && exec bash tests/first_half.sh'
+    must "the first half, where ${1:-nothing} fails" "$2" "$printed" ''
+}
+
+steps_of_the_first_half() {
+    local of_a_run=tests/wrong_bodies_of_a_run.py
+    local stale="python3 $of_a_run stale_libraries, RT_JOBS=none" ci="rt ci, RT_JOBS=3"
+    local wrong="python3 $of_a_run --jobs 3, RT_JOBS=none"
+    first_half_fails '' 0 "$stale" "$ci" "$wrong"
+    first_half_fails "build lanes" 7
+    first_half_fails "python3 $of_a_run stale_libraries" 7 "$stale"
+    first_half_fails "rt ci" 7 "$stale" "$ci"
+    first_half_fails "python3 $of_a_run --jobs 3" 7 "$stale" "$ci" "$wrong"
+}
+
 small_gate() {
     local started
     mkdir "$room/small_gate" && cd -- "$room/small_gate" || exit 1
@@ -216,6 +247,9 @@ small_gate() {
         at_least 2 parts_beside_each_other
         at_least 20 parts_that_are_interrupted
         at_least 1 no_part
+    fi
+    if set_up "there is a first half" write_first_half; then
+        at_least 5 steps_of_the_first_half
     fi
     cd -- "$root" || exit 1
 }

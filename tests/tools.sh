@@ -293,6 +293,32 @@ comparisons_of_examples() {
     tool_must "compare: one file" 4 grep -q '^usage: compare' "$room/said"
 }
 
+# What the tools have in common (tools/library/command.py). Without PYTHONUNBUFFERED what can't be written stays, and is
+# tried again at the very end.
+words_that_nobody_gets() {
+    local tool
+    unset -v PYTHONUNBUFFERED
+    for tool in chart compare explain explore release suite titan why; do
+        "$root/tools/$tool" --help >/dev/full 2>"$room/said"
+        status=$?
+        : >"$room/printed"
+        tool_must "the help of $tool onto a full device" 3 says_alone "$tool: the answer can't be written"
+        "$root/tools/$tool" --nothing >"$room/printed" 2>/dev/full
+        status=$?
+        tool_must "wrong words for $tool, and a full standard error" 4 prints_nothing
+        "$root/tools/$tool" --nothing >"$room/printed" 2>&-
+        status=$?
+        tool_must "wrong words for $tool, and a closed standard error" 4 prints_nothing
+    done
+    "$root/tools/titan" "$root"/tests/titan/odd/{mtc,3}.log >"$room/printed" 2>/dev/full
+    status=$?
+    tool_must "what titan can't read, and a full standard error" 5 \
+        cmp -s -- "$room/printed" "$root/tests/titan/odd/trace"
+    PYTHONPATH=$root/tools observe python3 -B -c 'from library import command
+command.run("tool", lambda: len(bytes(1 << 62)))'
+    tool_must "a tool that is refused memory" 1 says_alone "tool: memory was refused"
+}
+
 tools() {
     find_reports
     at_least 130 charts_of_examples
@@ -312,4 +338,5 @@ tools() {
     at_least 6 comparisons
     at_least 5 comparisons_of_two_senders
     at_least 22 comparisons_of_examples
+    at_least 26 words_that_nobody_gets
 }

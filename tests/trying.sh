@@ -304,5 +304,5 @@ trying() {
         "there is no program yet" "./build proves and builds the program" "$minutes"
     rm -rf "a tree/out" "a tree/crates/"*/out link
     echo "a text" >text && cp text "a text"
-    at_least 85 tries
+    at_least 88 tries
 }

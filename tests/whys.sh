@@ -52,8 +52,10 @@ $(cat -- tests/whys/causes/waits_behind_the_mark.why)
     "$tpr" run "$script" >"$room/why_report"
     why "$script" "$room/why_report"
     tool_must "why: the same of its report" 0 cmp -s -- "$room/printed" "$room/why_printed"
-    why "$script" /dev/stdin <"$room/why_report"
-    tool_must "why: and of standard input" 2 says_alone "why: /dev/stdin, line 1: "
+    observe "$root/tools/why" --tpr "$tpr" "$script" /dev/stdin <"$room/why_report"
+    tool_must "why: and of standard input" 0 cmp -s -- "$room/printed" "$room/why_printed"
+    why "$script" /dev/stdin
+    tool_must "why: an empty standard input" 2 says_alone "why: /dev/stdin, line 1: "
     why examples/login_is_answered.ttcn
     tool_must "why: a result that is pass has no reason" 0 eval '[[ $(tail -n 1 -- "$room/printed") == *"  result pass" ]]'
     awk '/^    line +report$/ { is_shown = 1 } /^[^ ]/ { is_shown = 0 } is_shown' README.md | sed 's/^    //;$d' >"$room/why_shown"
@@ -262,7 +264,7 @@ why_at_length() {
 whys() {
     at_least 5 lines_of_reports
     at_least 1 causes_of_results
-    at_least 5 why_of_one_script
+    at_least 6 why_of_one_script
     at_least 4 annotated_scripts
     at_least 13 misfits
     at_least 12 why_of_bad_input

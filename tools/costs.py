@@ -2,6 +2,7 @@
 """Says what each function cost in the first check of a crate.
 
     tools/costs.py CRATE_FOLDER [COUNT]
+    tools/costs.py -h | --help
 
 Prints the seconds of each, the dearest first: COUNT of them, or 25. Before it, in the crate's
 folder, on a machine without other work:
@@ -18,11 +19,22 @@ pays for it; what happens before the first module and behind the last is in none
 job, or beside other work, the order of the costs is all that is left; and over kept work only what
 was checked anew counts, with the time between two checks as one long wait. So of two forms of a
 function compare whole checks from nothing, and take a difference below a fifth for noise.
+
+The status is 0 where it is told, 1 where no check has left a module, 3 where the answer can't be
+written, and 4 for a wrong command line.
 """
 import os
 import re
 import sys
 from collections import Counter
+
+sys.dont_write_bytecode = True
+
+from library import command  # noqa: E402
+
+USAGE = "usage: tools/costs.py CRATE_FOLDER [COUNT]\n"
+NOT_CHECKED = 1  # no check has left a module
+MOST_TOLD = "25"
 
 # The modules that a check makes of a function or a type, by the word behind its name.
 OF_ONE = (
@@ -64,19 +76,29 @@ def costs_of(modules):
     return found
 
 
-def main(words):
-    if len(words) not in (1, 2) or not re.fullmatch(r"[1-9]\d*", (words[1:] or ["25"])[0]):
-        sys.exit("usage: tools/costs.py CRATE_FOLDER [COUNT]")
-    modules = written(f"{words[0]}/out/incremental")
-    if not modules:
-        sys.exit(f"costs.py: no check has left a module in {words[0]}/out/incremental")
-    found = costs_of(modules)
+def table(found, most):
+    """What all took, and so many of the dearest."""
     whole = sum(found.values())
-    print(f"{whole:8.1f} s in all, {len(found)} parts")
-    for owner, seconds in found.most_common(int((words[1:] or ["25"])[0])):
-        print(f"{seconds:8.1f} s {100 * seconds / whole if whole else 0:5.1f} %  {owner}")
-    return 0
+    lines = [f"{whole:8.1f} s in all, {len(found)} parts"]
+    for owner, seconds in found.most_common(most):
+        lines.append(f"{seconds:8.1f} s {100 * seconds / whole if whole else 0:5.1f} %  {owner}")
+    return "".join(f"{line}\n" for line in lines)
 
 
-if __name__ == "__main__":
-    sys.exit(main(sys.argv[1:]))
+def main():
+    words = sys.argv[1:]
+    if words in (["-h"], ["--help"]):
+        command.write_out(__doc__)
+        return command.DONE
+    folder, most = [*words, MOST_TOLD][:2] if len(words) in (1, 2) else ("", "")
+    if folder.startswith("-") or not re.fullmatch("[1-9][0-9]{0,8}", most):
+        command.say(USAGE)
+        return command.WRONG_USAGE
+    modules = written(f"{folder}/out/incremental")
+    if not modules:
+        raise command.Stop(NOT_CHECKED, f"no check has left a module in {folder}/out/incremental")
+    command.write_out(table(costs_of(modules), int(most)))
+    return command.DONE
+
+
+command.run("costs.py", main)

@@ -53,9 +53,13 @@ class Arguments(argparse.ArgumentParser):
             allow_abbrev=False,
         )
 
+    def print_help(self, file: object = None) -> None:
+        """It is an answer as any other, so where it can't be written the tool ends so."""
+        write_out(self.format_help())
+
     def error(self, message: str) -> NoReturn:
-        self.print_usage(sys.stderr)
-        self.exit(WRONG_USAGE, f"{self.prog}: {message}\n")
+        say(self.format_usage())
+        raise Stop(WRONG_USAGE, message)
 
 
 def read_bytes(file: Optional[str]) -> bytes:
@@ -123,9 +127,11 @@ def run(name: str, tool: Callable[[], int], at_once: bool = False) -> NoReturn:
     except Stop as stop:
         say(f"{name}: {stop.text}\n")
         status = stop.status
+    except MemoryError:
+        say(f"{name}: memory was refused\n")
+        status = NOT_BUILT
     except KeyboardInterrupt:
         status = INTERRUPTED
-    # What could not be written is not tried again when the interpreter ends.
     _forget_output()
     if at_once:
         os._exit(status)
@@ -133,7 +139,9 @@ def run(name: str, tool: Callable[[], int], at_once: bool = False) -> NoReturn:
 
 
 def _forget_output() -> None:
-    try:
-        sys.stdout.flush()
-    except (OSError, AttributeError, ValueError):
-        sys.stdout = None  # type: ignore[assignment]
+    """What could not be written is not tried again when the interpreter ends: it would end with a status of its own."""
+    for stream in ("stdout", "stderr"):
+        try:
+            getattr(sys, stream).flush()
+        except (OSError, AttributeError, ValueError):
+            setattr(sys, stream, None)

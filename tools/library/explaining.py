@@ -8,7 +8,7 @@ from typing import Optional, Union
 from .construct_letters import construct_of_rest
 from .construct_signs import Found, Signs, construct_of_name
 from .explanation import Answer, Explanation, Shown
-from .refusal_rules import RULES_OF, Rule
+from .refusal_rules import BEYOND_SCRIPTS, RULES_OF, Rule
 from .refusals import Refusal
 from .script_checks import check_script
 from .script_cursor import GrammarFault
@@ -16,7 +16,7 @@ from .script_faults import RuleFault
 from .script_tokens import MOST_BYTES, Text, TokenFault, is_name
 from .words import RESERVED, RESERVED_ELSEWHERE
 
-_REFUSED = re.compile(r"refused ([0-9]+) ([A-Za-z]+)(?: line ([0-9]+))?")
+_REFUSED = re.compile(r"refused ([0-9]{1,9}) ([A-Za-z]+)(?: line ([0-9]{1,9}))?")
 _FAULT = re.compile(r"fault ([0-9]+) [A-Za-z]+")
 _CLAUSES = "ES 201 873-1"
 
@@ -180,7 +180,11 @@ _EXPLAINED = {TokenFault: _of_token, GrammarFault: _of_grammar, RuleFault: _of_r
 
 
 def rules_text(number: int) -> str:
-    """The rules of a number, in the words of the documents."""
-    lines = [Refusal(number).told()]
-    lines += [f"  {rule.value}" for rule in RULES_OF[Refusal(number)]]
+    """The rules of a number, in the words of the documents; of one that speaks of no script what to do, too."""
+    refusal = Refusal(number)
+    lines = [refusal.told()]
+    if beyond := BEYOND_SCRIPTS.get(refusal):
+        lines += [f"  {beyond.rule.value}", f"  what to do: {beyond.remedy}"]
+    else:
+        lines += [f"  {rule.value}" for rule in RULES_OF[refusal]]
     return "\n".join(lines) + "\n"

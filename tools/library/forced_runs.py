@@ -9,7 +9,8 @@ from dataclasses import dataclass
 from enum import Enum
 from typing import Optional
 
-from .command import NOT_BUILT, Stop
+from .command import NOT_BUILT, NOT_WRITTEN, REFUSED, Stop
+from .words import VERDICTS
 
 MOST_SECONDS = 120  # for the orders that are run at once
 
@@ -60,9 +61,13 @@ class ForcedRuns:
         self.stopping = False
 
     def refusal_of(self, script: str) -> Optional[tuple[int, str]]:
-        """The status and the line by which the program refuses the script."""
+        """The status and the line by which the program refuses the script, or tells that memory was refused."""
         status, printed = self._run(script, [])
-        return None if status == 0 else (status, printed)
+        if status == 0:
+            return None
+        if status not in (REFUSED, NOT_WRITTEN):
+            raise self._broken(status, printed)
+        return status, printed
 
     def write_script(self, text: str) -> None:
         self.forced.write(text)
@@ -73,13 +78,20 @@ class ForcedRuns:
         answers: list[Answer] = []
         while len(answers) < len(orders) and not self.stopping:
             status, printed = self._run(self.script, orders[len(answers) :])
-            pieces = printed.split("\n\n")[:-1]
-            answers += [_answer(piece) for piece in pieces]
+            pieces = [piece.partition("\n") for piece in printed.split("\n\n")[:-1]]
+            if not all(line.startswith("order ") and text for line, _, text in pieces):
+                raise self._broken(status, printed)
+            answers += [_answer(f"{text}\n") for _, _, text in pieces]
             if status is None and not self.stopping:
                 answers.append(Answer(Outcome.NO_END, ""))
             elif not self.stopping and (status != 0 or len(answers) < len(orders)):
-                raise Stop(NOT_BUILT, f"{self.program} ended with status {status}: {printed[-200:].strip()}")
+                raise self._broken(status, printed)
         return answers
+
+    def _broken(self, status: Optional[int], printed: str) -> Stop:
+        """The end of the tool, where the program doesn't do what one that forces orders does."""
+        ended = "came to no end of its own" if status is None else f"ended with status {status}"
+        return Stop(NOT_BUILT, f"{self.program} {ended}: {printed[-200:].strip()}")
 
     def stop(self) -> None:
         """Ends what is run, and lets nothing begin."""
@@ -131,10 +143,10 @@ class AnswersBeside:
             self.fault = fault
 
 
-def _answer(piece: str) -> Answer:
-    """What stands behind the line of an order."""
-    text = piece.split("\n", 1)[1] + "\n"
-    if text.startswith("component "):
+def _answer(text: str) -> Answer:
+    """By what stands behind the line of an order: a report begins with a component, and ends with the result."""
+    last = text.splitlines()[-1]
+    if text.startswith("component ") and last in [f"result {verdict}" for verdict in VERDICTS]:
         return Answer(Outcome.REPORT, text)
     return Answer(Outcome.NOT_HELD if text == "not held\n" else Outcome.FAULT, text)
 

@@ -2,6 +2,7 @@
 from __future__ import annotations
 
 from enum import Enum
+from typing import NamedTuple
 
 from .refusals import Refusal
 
@@ -96,6 +97,10 @@ class Rule(Enum):
     NO_ROUTE = "the port isn't connected or mapped, or not with the component behind `to`"
     NEEDS_TO = "the port has several connections and the send names no receiver"
     UNSET = "a send of a variable, or to one, that has no value"
+    BAD_LINE = "modes `queue` and `judge`: a line is none of a queue file, or of a trace"
+    MEMORY = "memory was refused"
+    NO_THREAD = "modes `run` and `trace`: the starting of a thread was refused"
+    RESTLESS = "a run ended a behaviour as waiting although one of its branches is open"
 
 
 # What must hold, or for 2, 10, 15 of the reader and the ends of a send what must not.
@@ -160,4 +165,30 @@ RULES_OF = {
     Refusal.NO_ROUTE: (Rule.NO_ROUTE,),
     Refusal.NEEDS_TO: (Rule.NEEDS_TO,),
     Refusal.UNSET_VARIABLE: (Rule.UNSET,),
+}
+
+
+class Beyond(NamedTuple):
+    """When a number is printed that speaks of no script, and what to do then."""
+
+    rule: Rule
+    remedy: str
+
+
+# Apart from the rules of scripts, since `tpr check` refuses none by these numbers. 3 isn't here: it is never printed.
+BEYOND_SCRIPTS = {
+    Refusal.BAD_LINE: Beyond(
+        Rule.BAD_LINE,
+        'docs/PROFILE.md, "The queue file", has the form of its lines; docs/TRACES.md has that of the lines of a trace,'
+        " and where each can stand",
+    ),
+    Refusal.MEMORY: Beyond(Rule.MEMORY, "run it again where it may have more memory (`ulimit -v` prints the bound)"),
+    Refusal.NO_THREAD: Beyond(
+        Rule.NO_THREAD,
+        "run it again where it may have more threads (`ulimit -u`), and memory for their stacks (`ulimit -v`)",
+    ),
+    Refusal.RESTLESS: Beyond(
+        Rule.RESTLESS,
+        "run it again. It is a fault of `tpr`, and not of the script: report it, with the script",
+    ),
 }
