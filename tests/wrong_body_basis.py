@@ -3,7 +3,8 @@
 That is, in this order:
 
 - which logic the toolchain has (`rt version`), not which kit it is; and HANDLES;
-- of the crate, what its line of crates.txt uses, and every file of its src/, specs/ and proofs/, whole;
+- of the crate, what its line of crates.txt uses, and every file of its src/, specs/ and proofs/,
+  without its comments and empty lines;
 - of each crate below it the same, but of src/ what `reached` leaves, and of proofs/ not the proofs
   of single functions, unless a text that is taken names one of them.
 
@@ -120,24 +121,46 @@ def behind_function(text, head, at, end):
     return closing(text, at) if at < end and text[at] == "{" else at + 1
 
 
+def comments(source):
+    """The first and the last place of each comment of a source."""
+    if "/*" in masked(source):
+        raise Unclear
+    return [it.span() for it in MASKED.finditer(source) if it[0].startswith("//")]
+
+
+def without(source, cut):
+    """A source without what stands at these places, and without the lines that are empty then."""
+    left, at = "", 0
+    for first, behind in sorted(cut):
+        if first >= at:
+            left += source[at:first]
+            at = behind
+    return without_empty_lines(left + source[at:])
+
+
+def without_empty_lines(text):
+    return "\n".join(line.rstrip() for line in text.split("\n") if line.strip())
+
+
 def reached(source):
     """What of a source a crate above it can rest on: all but comments, empty lines, and the bodies
     of functions. Where these can't be told, all of it."""
     try:
         text = masked(source)
-        if "/*" in text:
-            raise Unclear
-        cut = bodies(text, 0, len(text))
+        return without(source, comments(source) + bodies(text, 0, len(text)))
     except Unclear:
         return source
-    left, at = "", 0
-    cut += [it.span() for it in MASKED.finditer(source) if it[0].startswith("//")]
-    for first, behind in sorted(cut):
-        if first >= at:
-            left += source[at:first]
-            at = behind
-    lines = (left + source[at:]).split("\n")
-    return "\n".join(line.rstrip() for line in lines if line.strip())
+
+
+def said(file, text):
+    """What a file says to the prover: all but its comments and empty lines, of a source where these
+    can be told."""
+    if file.endswith(".antt"):
+        return without_empty_lines("\n".join(it for it in text.split("\n") if not it.lstrip().startswith("--")))
+    try:
+        return without(text, comments(text))
+    except Unclear:
+        return text
 
 
 def files_of(folder):
@@ -162,9 +185,9 @@ def texts_below(root, crate):
     for file in files_of(f"{root}/crates/{crate}"):
         text = text_of(f"{root}/crates/{crate}/{file}")
         if file.startswith("proofs/") and os.path.basename(file) in OF_A_FUNCTION:
-            proofs[f"Rattle.{crate}.{file.removesuffix('.antt').replace('/', '.')}"] = text
+            proofs[f"Rattle.{crate}.{file.removesuffix('.antt').replace('/', '.')}"] = said(file, text)
         else:
-            taken[f"{crate}/{file}"] = reached(text) if file.endswith(".rt") else text
+            taken[f"{crate}/{file}"] = reached(text) if file.endswith(".rt") else said(file, text)
     return taken, proofs
 
 
@@ -220,7 +243,7 @@ def logic_of(kit):
 def basis(root, crate, uses, kit):
     """The hash of all that an edit of the crate is tried on, but of the edit itself."""
     folder = f"{root}/crates/{crate}"
-    taken = {f"{crate}/{file}": text_of(f"{folder}/{file}") for file in files_of(folder)}
+    taken = {f"{crate}/{file}": said(file, text_of(f"{folder}/{file}")) for file in files_of(folder)}
     proofs = {}
     for it in below(crate, uses):
         its_taken, its_proofs = texts_below(root, it)

@@ -73,7 +73,7 @@ fn holds() -> u8 {
     8
 }
 RATTLE
-    echo 'pub two : ℕ' >"$1/specs/Lib.antt"
+    printf '%s\n' '-- It says' 'pub two : ℕ -- and more' >"$1/specs/Lib.antt"
     echo 'lemma : two ≡ 2' >"$1/proofs/Lib.antt"
     echo 'pub returns : goal.returns' | tee "$1/proofs/get/Answers.antt" >"$1/proofs/hidden/Answers.antt"
 }
@@ -138,11 +138,14 @@ edited_says() { # NAME FILE OLD NEW CURRENT STALE NEVER [FAULT..]
 what_makes_a_line_stale() {
     local low=crates/low/src/room.rt high=crates/high/src/room.rt
     edited_says "a body in the crate" $high '- 1' '- 1 - 0' 1 2 0
-    edited_says "a comment in the crate" $high 'A comment' 'Another' 1 2 0
+    edited_says "a comment in the crate" $high 'A comment' 'Another' 3 0 0
+    edited_says "a text of the crate that has the marks of a comment" $high 'fn { // ' 'fn { / ' 1 2 0
     edited_says "a proof in the crate" crates/high/proofs/get/Answers.antt returns other 1 2 0
     edited_says "a body below" $low '- 1' '- 1 - 0' 2 1 0
     edited_says "a body below without a pub" $low 'x * 1' 'x * 1 * 1' 2 1 0
-    edited_says "a comment below" $low 'It gets' 'It lends' 2 1 0
+    edited_says "a comment below" $low 'It gets' 'It lends' 3 0 0
+    edited_says "a comment of a definition below" crates/low/specs/Lib.antt 'It says' 'It tells' 3 0 0
+    edited_says "what stands behind a definition below" crates/low/specs/Lib.antt 'and more' 'and less' 0 3 0
     edited_says "a proof below that nothing cites" crates/low/proofs/get/Answers.antt returns other 2 1 0
     edited_says "a proof below that is cited" crates/low/proofs/hidden/Answers.antt returns other 0 3 0
     edited_says "a clause below" $low '≡ self.now.size' '≡ 1' 0 3 0
@@ -384,7 +387,7 @@ record_of_wrong_bodies() {
         record_says "nothing is recorded" 0 0 3
         cp -R tree kept_tree
         in_tree wrong_bodies.py
-        at_least 31 what_makes_a_line_stale
+        at_least 34 what_makes_a_line_stale
         at_least 12 what_is_a_fault
         at_least 17 what_names_are_there
         rm -r tree && cp -R kept_tree tree

@@ -20,7 +20,7 @@ use tp_queue::event::Env;
 use tp_refusal::memory::Memory;
 use tp_value::message::Message;
 
-/// What an `alt` goes on with.
+/// The block of an `alt` that comes next, if one does.
 #[derive(Drop)]
 pub enum Decision {
     /// The block of the branch at this place.

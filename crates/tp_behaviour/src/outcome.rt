@@ -2,7 +2,7 @@
 use crate::choice::Guard;
 use tp_inbox::send_fault::SendFault;
 
-/// How carrying out statements ends.
+/// Whether all statements were carried out, and what ended them if not.
 #[derive(Drop)]
 pub enum Outcome {
     /// They were carried out.

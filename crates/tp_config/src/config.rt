@@ -18,7 +18,7 @@ use std::marker::Model;
 use tp_refusal::memory::Memory;
 
 /// The components of a test, and which of their ports are connected and mapped (ES 201 873-1, 9.1,
-/// 21.1, 21.2.1). Contracts see the component types, the components, and the pairs in the order of
+/// 21.1, 21.3.1). Contracts see the component types, the components, and the pairs in the order of
 /// their statements; a pair itself has no order.
 ///
 /// At every moment the configuration is allowed: no port is connected with two ports of one
@@ -133,7 +133,7 @@ impl Config {
         &self.types[kind as usize]
     }
 
-    /// Creates a component (21.2.1): a component of this name, whose type is the one of this
+    /// Creates a component (21.3.1): a component of this name, whose type is the one of this
     /// number, from 0, among the component types. Its number is the number of components before.
     ///
     /// 12 `Duplicate` exactly where a component has the name, or where it would be a second test

@@ -72,7 +72,7 @@ pub(crate) fn port_count(config: &Config, comp: CompId) -> usize
 
 impl Desk {
     /// The desk of a component of the configuration: all its ports are started (ES 201 873-1,
-    /// 21.2.1), and nothing has happened.
+    /// 21.3.1), and nothing has happened.
     ///
     /// 50 `Memory` where an allocation was refused.
     pub fn new(alloc: Global, config: &Config, comp: CompId) -> Result<Desk, Memory>

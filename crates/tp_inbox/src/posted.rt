@@ -2,8 +2,7 @@
 use crate::stamped::Stamped;
 use tp_config::port_type::RouteId;
 
-/// A message that was put into an inbox. No value of it is made: it stands in contracts alone, in
-/// what a sender has put.
+/// A message that was put into an inbox. No value of it is made: it stands in contracts alone.
 #[derive(Drop)]
 pub struct Posted {
     /// Its route.

@@ -3,7 +3,7 @@ ghost use Rattle.std.specs.Prelude.{◌≡◌, IfSome, IfNone};
 ghost use Rattle.std.specs.Str.{bytes_eq};
 ghost use Rattle.tp_name.specs.Named.{IsPlace, IsAbsent, texts};
 
-/// A name of the text (ES 201 873-1, 5.4).
+/// A name of the text (ES 201 873-1, 5.2.2).
 #[derive(Clone, Copy)]
 pub struct Name<'m> {
     /// Its bytes, as they are written.

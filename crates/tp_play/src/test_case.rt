@@ -144,7 +144,7 @@ impl TestCase {
 
     /// How many components there are, at most 64. They are numbered from 0: `mtc`, those that are
     /// created in their order, and the test system interface where the test case has a `system`
-    /// clause (ES 201 873-1, 9.1, 21.2.1). Takes no memory.
+    /// clause (ES 201 873-1, 9.1, 21.3.1). Takes no memory.
     pub fn components(&self) -> usize
         ensures count { result ≡ length self.now.config.components }
         ensures few { result ≤ 64 }

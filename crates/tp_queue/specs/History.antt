@@ -61,7 +61,7 @@ unfoldable pub since_start : {M : Type 0} → List (Event M) → List (Event M)
 since_start h = after_last is_start h
 
 -- 22.5.2 to 22.5.4: stopped if there was a stop since the last start, else halted if there was a halt; a port is
--- started when its component is created (21.2.1)
+-- started when its component is created (21.3.1)
 unfoldable pub status_of : {M : Type 0} → List (Event M) → Status
 status_of h = cond (list_any is_stop (since_start h)) status.Stopped
     (cond (list_any is_halt (since_start h)) status.Halted status.Started)

@@ -43,7 +43,7 @@ impl<M: Drop> Model for Queue<M> {
 
 impl<M: Drop> Queue<M> {
     /// A started port's queue with nothing in it, which takes its memory from `alloc`: so is each
-    /// port when its component is created (ES 201 873-1, 21.2.1). Takes no memory itself.
+    /// port when its component is created (ES 201 873-1, 21.3.1). Takes no memory itself.
     pub fn new(alloc: Global) -> Self
         ensures { StandsFor result [] }
     {

@@ -7,7 +7,7 @@ use std::fmt;
 /// Why something was refused, or what went wrong: each number and name of the product, once.
 #[derive(Clone, Copy, Debug, PartialEq, Eq)]
 pub enum Refusal {
-    /// A line that no queue file has.
+    /// A line that no queue file, or no trace, has.
     BadLine,
     /// The text could not be read.
     Read,
@@ -25,7 +25,7 @@ pub enum Refusal {
     Direction,
     /// More than the profile allows of something.
     Limit,
-    /// A statement or signature that the system under test can't have.
+    /// A statement, signature or start that the system under test can't have.
     NotInSut,
     /// `all component.done` is missing.
     NoDone,

@@ -1,6 +1,6 @@
 //! Which lines are written of a report.
 
-/// Which lines are written of a report.
+/// In which of two forms a report is written.
 #[derive(Clone, Copy)]
 pub enum Telling {
     /// Those of a report, which has none for an arrival.

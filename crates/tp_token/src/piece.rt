@@ -18,8 +18,8 @@ use tp_refusal::refusal::Refusal;
 /// How many characters a name may have.
 const LONGEST_NAME: usize = 64;
 
-/// The greatest number: the least integer is this with a `-` before it.
-const GREATEST_NUMBER: u64 = 9_223_372_036_854_775_808;
+/// The greatest number that a token may be: the least integer is this with a `-` before it.
+const GREATEST_IN_TOKEN: u64 = 9_223_372_036_854_775_808;
 
 /// The piece at the front: its token, if it is one, and how many bytes it has. `line` is the line
 /// of its first byte.
@@ -104,7 +104,7 @@ fn word_len(bytes: &[u8]) -> usize
 fn number(bytes: &[u8], line: u32) -> Result<(u64, usize), ScriptFault>
     requires { BeginsWith Kind.Digit bytes.now }
     ensures token { IfOk result (λ r. TokenAt bytes.now (number r.0) r.1) }
-    ensures limits { IfOk result (λ r. r.0 ≤ GREATEST_NUMBER) }
+    ensures limits { IfOk result (λ r. r.0 ≤ GREATEST_IN_TOKEN) }
     ensures refused { IfErr result (IsFaultAt bytes.now line) }
 {
     if bytes[0] == b'0' {
@@ -130,18 +130,18 @@ fn digits_len(bytes: &[u8]) -> usize
 fn spelled_number(digits: &[u8], line: u32) -> Result<u64, ScriptFault>
     requires { Run is_digit digits.now }
     ensures value { IfOk result (λ n. n ≡ value_on 0 digits.now) }
-    ensures limits { IfOk result (λ n. n ≤ GREATEST_NUMBER) }
+    ensures limits { IfOk result (λ n. n ≤ GREATEST_IN_TOKEN) }
     ensures refused { IfErr result (λ fault. fault ≡ ScriptFault.Refused Refusal.Limit line) }
-    ensures great { OnErr result (GREATEST_NUMBER < value_on 0 digits.now) }
+    ensures great { OnErr result (GREATEST_IN_TOKEN < value_on 0 digits.now) }
 {
     let mut value: u64 = 0;
     for digit in digits {
-        if value > GREATEST_NUMBER / 10 {
+        if value > GREATEST_IN_TOKEN / 10 {
             return Err(ScriptFault::limit(line));
         }
         value = value * 10 + digit_value(*digit) as u64;
     }
-    if value > GREATEST_NUMBER {
+    if value > GREATEST_IN_TOKEN {
         return Err(ScriptFault::limit(line));
     }
     Ok(value)

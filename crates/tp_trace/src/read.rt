@@ -24,20 +24,14 @@ fn fate_of(word: &[u8]) -> Option<Fate>
         ((fate : _) → word.now ≡ fate_text fate → ⊥)
         (λ fate. word.now ≡ fate_text fate) }
 {
-    if word == b"sent".as_slice() {
-        Some(Fate::Sent)
-    } else if word == b"came".as_slice() {
-        Some(Fate::Came)
-    } else if word == b"took".as_slice() {
-        Some(Fate::Took)
-    } else if word == b"found".as_slice() {
-        Some(Fate::Found)
-    } else if word == b"dropped".as_slice() {
-        Some(Fate::Dropped)
-    } else if word == b"left".as_slice() {
-        Some(Fate::Left)
-    } else {
-        None
+    match word {
+        b"sent" => Some(Fate::Sent),
+        b"came" => Some(Fate::Came),
+        b"took" => Some(Fate::Took),
+        b"found" => Some(Fate::Found),
+        b"dropped" => Some(Fate::Dropped),
+        b"left" => Some(Fate::Left),
+        _ => None,
     }
 }
 
@@ -47,16 +41,12 @@ fn operation_of(word: &[u8]) -> Option<PortOperation>
         ((operation : _) → word.now ≡ operation_text operation → ⊥)
         (λ operation. word.now ≡ operation_text operation) }
 {
-    if word == b"started".as_slice() {
-        Some(PortOperation::Start)
-    } else if word == b"stopped".as_slice() {
-        Some(PortOperation::Stop)
-    } else if word == b"halted".as_slice() {
-        Some(PortOperation::Halt)
-    } else if word == b"cleared".as_slice() {
-        Some(PortOperation::Clear)
-    } else {
-        None
+    match word {
+        b"started" => Some(PortOperation::Start),
+        b"stopped" => Some(PortOperation::Stop),
+        b"halted" => Some(PortOperation::Halt),
+        b"cleared" => Some(PortOperation::Clear),
+        _ => None,
     }
 }
 
@@ -66,14 +56,11 @@ fn note_of(word: &[u8]) -> Option<Note>
         ((note : _) → word.now ≡ note_text note → ⊥)
         (λ note. word.now ≡ note_text note) }
 {
-    if word == b"set".as_slice() {
-        Some(Note::Set)
-    } else if word == b"failed".as_slice() {
-        Some(Note::Failed)
-    } else if word == b"verdict".as_slice() {
-        Some(Note::Verdict)
-    } else {
-        None
+    match word {
+        b"set" => Some(Note::Set),
+        b"failed" => Some(Note::Failed),
+        b"verdict" => Some(Note::Verdict),
+        _ => None,
     }
 }
 
@@ -92,16 +79,12 @@ fn verb_of(word: &[u8]) -> Option<Verb>
     if let Some(note) = note_of(word) {
         return Some(Verb::Note(note));
     }
-    if word == b"component".as_slice() {
-        Some(Verb::Component)
-    } else if word == b"else".as_slice() {
-        Some(Verb::Else)
-    } else if word == b"end".as_slice() {
-        Some(Verb::End)
-    } else if word == b"result".as_slice() {
-        Some(Verb::Result)
-    } else {
-        None
+    match word {
+        b"component" => Some(Verb::Component),
+        b"else" => Some(Verb::Else),
+        b"end" => Some(Verb::End),
+        b"result" => Some(Verb::Result),
+        _ => None,
     }
 }
 
@@ -139,11 +122,10 @@ fn is_port(word: &[u8]) -> bool
 fn is_verdict(word: &[u8]) -> bool
     ensures { MatchBool result (IsVerdict word.now) (¬ IsVerdict word.now) }
 {
-    word == b"none".as_slice()
-        || word == b"pass".as_slice()
-        || word == b"inconc".as_slice()
-        || word == b"fail".as_slice()
-        || word == b"error".as_slice()
+    match word {
+        b"none" | b"pass" | b"inconc" | b"fail" | b"error" => true,
+        _ => false,
+    }
 }
 
 /// The number that a word can be read as, in whatever form.

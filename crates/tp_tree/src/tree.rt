@@ -6,7 +6,7 @@
 use crate::message::{Message, MessageTemplate, TypeName, Value};
 use tp_queue::operation::{PortOperation, ReceiveKind};
 
-/// A name where it is declared (ES 201 873-1, 5.4).
+/// A name where it is declared (ES 201 873-1, 5.2.2).
 #[derive(Drop)]
 pub struct DeclaredName {
     /// The line of the name.
@@ -15,7 +15,7 @@ pub struct DeclaredName {
     pub name: String,
 }
 
-/// A component, as a statement names it (ES 201 873-1, 8.1).
+/// A component, as a statement names it (ES 201 873-1, 6.2.11).
 #[derive(Drop)]
 pub enum ComponentName {
     /// A component variable or parameter.
