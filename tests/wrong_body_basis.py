@@ -156,7 +156,8 @@ def said(file, text):
     """What a file says to the prover: all but its comments and empty lines, of a source where these
     can be told."""
     if file.endswith(".antt"):
-        return without_empty_lines("\n".join(it for it in text.split("\n") if not it.lstrip().startswith("--")))
+        lines = [it for it in text.split("\n") if not it.lstrip().startswith("--")]
+        return without_empty_lines("\n".join(lines))
     try:
         return without(text, comments(text))
     except Unclear:
