@@ -117,6 +117,11 @@ explained_beyond_scripts() {
   a run ended a behaviour as waiting although one of its branches is open
   what to do: run it again. It is a fault of \`tpr\`, and not of the script: report it, with the script
 "
+    explain --number 62
+    tool_must "explain: a run that no one order gives" 0 prints "62 NoOrder
+  no one order of all that the components of a run did gives what each sent and received
+  what to do: run it again. It is a fault of \`tpr\`, and not of the script: report it, with the script
+"
 }
 
 # A script of which this is the text is told so, where its name is FILE.
@@ -259,7 +264,7 @@ explained_at_length() {
 
 explains() {
     at_least 6 explained_tables
-    at_least 10 explained_example
+    at_least 11 explained_example
     at_least 7 explained_places
     at_least 13 explained_bad_input
     at_least 5 explained_less

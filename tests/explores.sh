@@ -304,7 +304,7 @@ explored_refusals() {
 
 explores() {
     set_up "tpr_ordered is built" [ -x "$ordered" ] || return
-    at_least 81 explored_orders
+    at_least 82 explored_orders
     set_up "a tenth of the orders is run at most" explored_orders_are_few
     at_least 7 explored_acts
     at_least 9 explored_rules

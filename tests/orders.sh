@@ -4,7 +4,7 @@
 
 # How many scripts there are at least, how many of them with a behaviour that waits in the end, and how many
 # orders of them all.
-least_scripts=81
+least_scripts=82
 least_waiting=10
 least_orders=31000
 

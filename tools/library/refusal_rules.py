@@ -101,6 +101,7 @@ class Rule(Enum):
     MEMORY = "memory was refused"
     NO_THREAD = "modes `run` and `trace`: the starting of a thread was refused"
     RESTLESS = "a run ended a behaviour as waiting although one of its branches is open"
+    NO_ORDER = "no one order of all that the components of a run did gives what each sent and received"
 
 
 # What must hold, or for 2, 10, 15 of the reader and the ends of a send what must not.
@@ -175,6 +176,9 @@ class Beyond(NamedTuple):
     remedy: str
 
 
+# What to do about a fault that is the program's own.
+_REPORT_IT = "run it again. It is a fault of `tpr`, and not of the script: report it, with the script"
+
 # Apart from the rules of scripts, since `tpr check` refuses none by these numbers. 3 isn't here: it is never printed.
 BEYOND_SCRIPTS = {
     Refusal.BAD_LINE: Beyond(
@@ -187,8 +191,6 @@ BEYOND_SCRIPTS = {
         Rule.NO_THREAD,
         "run it again where it may have more threads (`ulimit -u`), and memory for their stacks (`ulimit -v`)",
     ),
-    Refusal.RESTLESS: Beyond(
-        Rule.RESTLESS,
-        "run it again. It is a fault of `tpr`, and not of the script: report it, with the script",
-    ),
+    Refusal.RESTLESS: Beyond(Rule.RESTLESS, _REPORT_IT),
+    Refusal.NO_ORDER: Beyond(Rule.NO_ORDER, _REPORT_IT),
 }

@@ -36,6 +36,7 @@ class Refusal(IntEnum):
     MEMORY = 50
     NO_THREAD = 51
     RESTLESS = 61
+    NO_ORDER = 62
 
     @property
     def word(self) -> str:

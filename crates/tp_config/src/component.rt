@@ -53,10 +53,11 @@ pub(crate) fn type_in<'a>(
     type_at(types, component.kind)
 }
 
-fn port_at(kind: &CompType, port: u32) -> Option<&PortType>
-    ensures { option_copied result ≡ option_map (λ e. e.1) (slice_get kind.now.ports.entries port) }
+fn port_at(comp_type: &CompType, port: u32) -> Option<&PortType>
+    ensures { option_copied result
+        ≡ option_map (λ e. e.1) (slice_get comp_type.now.ports.entries port) }
 {
-    match kind.ports.get_index(port as usize) {
+    match comp_type.ports.get_index(port as usize) {
         Some((_, port_type)) => Some(port_type),
         None => None,
     }
@@ -81,10 +82,10 @@ fn port_type<'a>(
         option_map types_of_port_type (option_copied result)
         ≡ option_map types_of_decl (decl_at (map ports_of types.now) m p) }
 {
-    let Some(kind) = type_in(types, components, p.comp) else {
+    let Some(comp_type) = type_in(types, components, p.comp) else {
         return None;
     };
-    port_at(kind, p.port)
+    port_at(comp_type, p.port)
 }
 
 /// The message types that the port receives.
@@ -123,7 +124,7 @@ pub(crate) fn port_count(types: &[CompType], components: &[Component], comp: Com
         ≡ length (ports_at (map ports_of types.now) (map member_of components.now) comp) }
 {
     match type_in(types, components, comp) {
-        Some(kind) => kind.ports.len(),
+        Some(comp_type) => comp_type.ports.len(),
         None => 0,
     }
 }

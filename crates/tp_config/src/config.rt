@@ -133,6 +133,13 @@ impl Config {
         &self.types[kind as usize]
     }
 
+    /// How many ports a component has. One that isn't there has none. Takes no memory.
+    pub fn port_count(&self, comp: CompId) -> usize
+        ensures { result ≡ length (ports_at self.now.types self.now.components comp) }
+    {
+        port_count(self.types.as_slice(), self.components.as_slice(), comp)
+    }
+
     /// Creates a component (21.3.1): a component of this name, whose type is the one of this
     /// number, from 0, among the component types. Its number is the number of components before.
     ///
@@ -187,8 +194,8 @@ impl Config {
         ensures port { IfSome result (λ p. IsPort self.now p) }
         ensures known { IsSome result ↔ Contains (port_names self.now comp) name.now }
     {
-        let kind = type_in(self.types.as_slice(), self.components.as_slice(), comp)?;
-        match kind.ports.get_index_of(name) {
+        let comp_type = type_in(self.types.as_slice(), self.components.as_slice(), comp)?;
+        match comp_type.ports.get_index_of(name) {
             Some(place) => Some(PortRef {
                 comp,
                 port: place as u32,
@@ -270,9 +277,12 @@ impl Config {
         ensures distinct { AreDistinct (routes_into self.now comp) }
         ensures both_ways { AreRoutesInto self.now comp (routes_into self.now comp) }
     {
-        let components = self.components.as_slice();
-        let count = port_count(self.types.as_slice(), components, comp);
-        routes_in(self.alloc, components, comp, count)
+        routes_in(
+            self.alloc,
+            self.components.as_slice(),
+            comp,
+            self.port_count(comp),
+        )
     }
 
     /// The route of a send at the port (22.2.1): the only route from it, or, where a component is

@@ -23,3 +23,10 @@ pub mod Known
 pub mod Returned
 pub mod Crossing
 pub mod AllPlayed
+pub mod OneOrder
+pub mod EntryKinds
+pub mod Courses
+pub mod Stuck
+pub mod Dues
+pub mod Crossed
+pub mod Messages

@@ -32,6 +32,7 @@ use Rattle.tp_behaviour.specs.Outcomes.{HasEnded, WaitsWithin}
 use Rattle.tp_behaviour.proofs.Stopped.{still_stops}
 use Rattle.tp_exec.specs.declared.ended.Ended.{Ended}
 use Rattle.tp_exec.specs.Delivery.{FollowsBehaviour, IsCompReport, IsDelivered, IsDeliveredBetween, IsOnRoute, IsReportOf, numbers_from}
+use Rattle.tp_exec.specs.OneOrder.{logs_of}
 use Rattle.tp_exec.specs.Rounds.{BehaviourEnded}
 use Rattle.tp_exec.specs.Settlings.{IsOfARun}
 use Rattle.tp_exec.specs.Reporting.{IsAtRest, IsReportedAs, IsRest, end_as}
@@ -76,6 +77,13 @@ module _ {A B : Type 0} (R : A → B → Type 0) where
 pub room_more : {A B : Type 0} (before rest : List A) (done after : List B) (x : A) (y : B) (room now : ℕ) → before ≡ x ∷ rest → after ≡ done ++ y ∷ []
     → now ≡ room → length done + length before ≤ room → length after + length rest ≤ now
 room_more before rest done after x y room now is was same low = omega (arith, low, same, ap length is, ap length was, length-push done y)
+
+-- what is reported has the histories that there were
+pub same_logs : (s : Setup) (es : List Ended) (ys : List CompReport) → AllZip (IsReportedAs s) es ys → logs_of ys ≡ map (λ (e : Ended). e.desk.log) es
+same_logs s [] [] zip = refl
+same_logs s [] (y ∷ ys) zip = absurd zip
+same_logs s (e ∷ es) [] zip = absurd zip
+same_logs s (e ∷ es) (y ∷ ys) zip = ap (λ (d : Journal). d.log ∷ logs_of ys) zip.0.desk ∙ ap (λ l. e.desk.log ∷ l) (same_logs s es ys zip.1)
 
 -- a behaviour that has ended, with nothing to come, follows its body to that end
 followed : (r : Actor) (body : Body) (o : Outcome) (k : List Entry) → HasEnded r body o k → IsRest k o → Follows r body k (end_as o)

@@ -48,9 +48,9 @@ pub no_moment : (k : List Entry) → k ≡ [] → moments k ≡ []
 no_moment k none = ap moments none ∙ none_at_all
 
 -- a component that has nothing to do
-pub idle_returned : (made : Made) (x : Station) → IsWaiting made x → behaviour_at made (station_number x) ≡ None
+pub returned_at_once : (made : Made) (x : Station) → IsWaiting made x → behaviour_at made (station_number x) ≡ None
     → HasReturned made (record { station = x; outcome = outcome.Done })
-idle_returned made x waits nothing = record {
+returned_at_once made x waits nothing = record {
   staffed = waits.staffed;
   played = record {
     ended = subst (λ (d : Option Behaviour). BehaviourEnded made.config (comp_at (station_number x)) d outcome.Done x.desk.log) (sym nothing)
@@ -103,10 +103,10 @@ pub desk_comp : (made : Made) (x : Station) → IsWaiting made x → x.desk.comp
 desk_comp made x waits = (waits.staffed []).desk.0
 
 -- a component with which a body comes has something to do, and one without has nothing
-pub idle_where_none : (made : Made) (x : Station) (comp : CompId) (r : Option BorrowedBehaviour) → IsWaiting made x → comp ≡ x.desk.comp
+pub nothing_where_none : (made : Made) (x : Station) (comp : CompId) (r : Option BorrowedBehaviour) → IsWaiting made x → comp ≡ x.desk.comp
     → option_map as_behaviour r ≡ behaviour_at made comp.0 → is_some r ≡ false → behaviour_at made (station_number x) ≡ None
-idle_where_none made x comp None waits its is none = ap (λ (c : CompId). behaviour_at made c.0) (sym (its ∙ desk_comp made x waits)) ∙ sym is
-idle_where_none made x comp (Some d) waits its is none = absurd (true≢false none)
+nothing_where_none made x comp None waits its is none = ap (λ (c : CompId). behaviour_at made c.0) (sym (its ∙ desk_comp made x waits)) ∙ sym is
+nothing_where_none made x comp (Some d) waits its is none = absurd (true≢false none)
 
 pub busy_where_some : (made : Made) (x : Station) (comp : CompId) (r : Option BorrowedBehaviour) → IsWaiting made x → comp ≡ x.desk.comp
     → option_map as_behaviour r ≡ behaviour_at made comp.0 → is_some r ≡ true → IsBusy made x

@@ -12,14 +12,17 @@ abbrev pub run_refusal : RunFault → Refusal
 run_refusal run_fault.NoThread = refusal.NoThread
 run_refusal run_fault.Memory = refusal.Memory
 run_refusal run_fault.Restless = refusal.Restless
+run_refusal run_fault.NoOrder = refusal.NoOrder
 
 -- its line
 abbrev pub run_fault_text : RunFault → List ℕ
 run_fault_text f =
     codes "fault " ++ decimal (label (run_refusal f)).0 ++ codes " " ++ (label (run_refusal f)).1 ++ codes "\n"
 
--- threads alone don't come to this: that a behaviour waits is known once all messages have come
+-- threads alone don't come to this: that a behaviour waits, and that no order gives the histories, is known once all
+-- messages have come
 abbrev pub IsThreadFault : RunFault → Type 0
 IsThreadFault run_fault.NoThread = Unit {0}
 IsThreadFault run_fault.Memory = Unit {0}
 IsThreadFault run_fault.Restless = ⊥
+IsThreadFault run_fault.NoOrder = ⊥

@@ -9,3 +9,7 @@ pub mod Seats
 pub mod Settlings
 pub mod Reporting
 pub mod Laws
+pub mod OneOrder
+pub mod Courses
+pub mod Greedy
+pub mod Sights

@@ -1,5 +1,5 @@
 -- What a report has of what a run came to, and why there is none.
-use Rattle.std.specs.Prelude.{◌≡◌, ◌+◌, ℕ, zero, suc, Option, Some, None, List, All, slice_get, string_bytes}
+use Rattle.std.specs.Prelude.{◌≡◌, ◌+◌, ℕ, zero, suc, Option, Some, None, List, All, map, slice_get, string_bytes}
 use Rattle.tp_config.specs.Setup.{Setup, names}
 use Rattle.tp_inbox.specs.declared.entry.Entry.{Entry}
 use Rattle.tp_play.specs.Behaviours.{Behaviour}
@@ -14,6 +14,7 @@ use Rattle.tp_behaviour.specs.Choices.{NoneOpen}
 use Rattle.tp_exec.specs.declared.ended.Ended.{Ended}
 use Rattle.tp_exec.specs.declared.fault.RunFault.{RunFault}
 use Rattle.tp_exec.specs.declared.fault.RunFault.TheVariants as run_fault
+use Rattle.tp_exec.specs.OneOrder.{HasOneOrder}
 use Rattle.tp_exec.specs.Settlings.{IsOfARun, IsSoundJournal}
 
 -- one, where there is something to do
@@ -51,20 +52,30 @@ pub record IsReportedAs (s : Setup) (e : Ended) (x : CompReport) : Type 0 where
   pub counts : x.counts.items ≡ e.counts.items
   pub sound : IsSoundJournal e.desk
 
+-- no one order of all that the components did gives their histories
+abbrev pub IsWithoutOrder : List Ended → Type 0
+IsWithoutOrder ended = ¬ HasOneOrder (map (λ (e : Ended). e.desk.log) ended)
+
 -- why there is no report of what a run came to: a behaviour waits for what is there; or none does, and memory was
--- refused
+-- refused, or no one order gives the histories
 abbrev pub IsRefusal : List Ended → RunFault → Type 0
 IsRefusal ended run_fault.NoThread = ⊥
 IsRefusal ended run_fault.Memory = All IsAtRest ended
 IsRefusal ended run_fault.Restless = ¬ All IsAtRest ended
+IsRefusal ended run_fault.NoOrder = All IsAtRest ended × IsWithoutOrder ended
 
 -- a run of the test case came to what it came to, and a behaviour waits for what is there
 abbrev pub IsRestless : Made → Type 0
 IsRestless made = (ended : List Ended) × IsOfARun made ended × (¬ All IsAtRest ended)
 
+-- a run of the test case came to what it came to, no behaviour waits for what is there, and no one order gives that
+abbrev pub IsDisordered : Made → Type 0
+IsDisordered made = (ended : List Ended) × IsOfARun made ended × All IsAtRest ended × IsWithoutOrder ended
+
 -- this is why a run of the test case has no report: that a behaviour waits for what is there is said only where one
--- does
+-- does, and that no one order gives what the components did only where none does
 abbrev pub IsRunFault : Made → RunFault → Type 0
 IsRunFault made run_fault.NoThread = Unit {0}
 IsRunFault made run_fault.Memory = Unit {0}
 IsRunFault made run_fault.Restless = IsRestless made
+IsRunFault made run_fault.NoOrder = IsDisordered made

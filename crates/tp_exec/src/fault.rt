@@ -21,6 +21,9 @@ pub enum RunFault {
     /// 61 Restless: a behaviour ended as waiting, and a branch of it is open in the final queues.
     #[error("a behaviour waits for what has come")]
     Restless,
+    /// 62 NoOrder: no one order of all that the components did gives what each sent and received.
+    #[error("no one order gives the histories")]
+    NoOrder,
 }
 
 impl RunFault {
@@ -32,6 +35,7 @@ impl RunFault {
             RunFault::NoThread => Refusal::NoThread,
             RunFault::Memory => Refusal::Memory,
             RunFault::Restless => Refusal::Restless,
+            RunFault::NoOrder => Refusal::NoOrder,
         }
     }
 }

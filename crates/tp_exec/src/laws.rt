@@ -1,5 +1,6 @@
 //! Laws of what a report promises, each as a function whose contract it is. They do nothing.
 ghost use Rattle.tp_exec.specs.Laws.{RoutesFollow, TracesAreLawful};
+ghost use Rattle.tp_exec.specs.Sights.{LooksSeeSent};
 
 /// The law that what is delivered between two components is delivered on each route from the one to
 /// the other.
@@ -11,4 +12,10 @@ pub fn routes_follow()
 /// rules of ports, of delivery on every route, and of circles.
 pub fn traces_are_lawful()
     ensures { TracesAreLawful }
+{}
+
+/// The law that in an order which gives the histories of a report a look at ports sees the very
+/// messages that were sent to its component before.
+pub fn looks_see_sent()
+    ensures { LooksSeeSent }
 {}

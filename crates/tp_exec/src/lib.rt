@@ -2,11 +2,14 @@
 #![tactic(auto)]
 
 mod counting;
+mod course;
 mod ended;
 pub mod fault;
 mod idle;
 mod inboxes;
+mod kind;
 pub mod laws;
+mod one_order;
 mod played;
 mod reporting;
 mod returning;

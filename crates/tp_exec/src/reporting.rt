@@ -1,15 +1,18 @@
 //! The report of a run whose messages have all come.
-ghost use Rattle.std.specs.Prelude.{◌≡◌, All, IfErr, IfOk};
+ghost use Rattle.std.specs.Prelude.{◌≡◌, All, IfErr, IfOk, MatchOption};
 ghost use Rattle.std.specs.List.{AllZip};
 ghost use Rattle.tp_config.specs.Setup.{IsComponent};
 ghost use Rattle.tp_report.specs.Reports.{IsReportable};
 ghost use Rattle.tp_report.specs.Verdicts.{endings, locals, overall_verdict};
 ghost use Rattle.tp_exec.specs.Delivery.{IsReportOf};
-ghost use Rattle.tp_exec.specs.Reporting.{IsAtRest, IsRefusal, IsReportedAs, end_as};
+ghost use Rattle.tp_exec.specs.OneOrder.{HasOneOrder, IsInOneOrder, logs_of};
+ghost use Rattle.tp_exec.specs.Reporting.{IsAtRest, IsRefusal, IsReportedAs, IsWithoutOrder};
+ghost use Rattle.tp_exec.specs.Reporting.{end_as};
 ghost use Rattle.tp_exec.specs.Settlings.{IsOfARun};
 
 use crate::ended::Ended;
 use crate::fault::RunFault;
+use crate::one_order::has_one_order;
 use crate::waiting::are_at_rest;
 use std::alloc::Global;
 use tp_behaviour::outcome::Outcome;
@@ -69,6 +72,28 @@ fn report_components(
     Ok(reports)
 }
 
+/// The reports of these components, in their order. Nothing where no one order of all that they
+/// did gives their histories.
+///
+/// 50 `Memory` where an allocation was refused.
+fn report_in_order(
+    alloc: Global,
+    config: &Config,
+    components: Vec<Ended>,
+) -> Result<Option<Vec<CompReport>>, Memory>
+    requires { All (λ e. IsComponent config.now e.desk.comp) components.items }
+    ensures { IfOk result (λ made. MatchOption made (IsWithoutOrder components.items)
+        (λ reports. AllZip (IsReportedAs config.now) components.items reports.items
+        × HasOneOrder (logs_of reports.items))) }
+{
+    let reports = report_components(alloc, config, components)?;
+    if has_one_order(alloc, reports.as_slice())? {
+        Ok(Some(reports))
+    } else {
+        Ok(None)
+    }
+}
+
 /// The report with these components.
 fn conclude(components: Vec<CompReport>) -> Report
     ensures components { result.components.items ≡ components.items }
@@ -82,7 +107,8 @@ fn conclude(components: Vec<CompReport>) -> Report
 /// The report of the components of a run, in their order.
 ///
 /// 61 `Restless` where a behaviour waits and one of its branches is open in its final queues; else
-/// 50 `Memory` where an allocation was refused.
+/// 50 `Memory` where an allocation was refused; else 62 `NoOrder` where no one order of all that
+/// the components did gives their histories.
 pub(crate) fn make_report(
     alloc: Global,
     test_case: &TestCase,
@@ -90,6 +116,7 @@ pub(crate) fn make_report(
 ) -> Result<Report, RunFault>
     requires { IsOfARun test_case.now ended.items }
     ensures report { IfOk result (IsReportOf test_case.now) }
+    ensures one_order { IfOk result IsInOneOrder }
     ensures text { IfOk result (IsReportable test_case.now.config) }
     ensures rest { IfOk result (λ _. All IsAtRest ended.items) }
     ensures refusal { IfErr result (IsRefusal ended.items) }
@@ -99,8 +126,11 @@ pub(crate) fn make_report(
     if !are_at_rest(ended.as_slice()) {
         return Err(RunFault::Restless);
     }
-    let Ok(components) = report_components(alloc, test_case.config(), ended) else {
+    let Ok(reported) = report_in_order(alloc, test_case.config(), ended) else {
         return Err(RunFault::Memory);
+    };
+    let Some(components) = reported else {
+        return Err(RunFault::NoOrder);
     };
     Ok(conclude(components))
 }

@@ -1,6 +1,7 @@
 //! A run.
 ghost use Rattle.std.specs.Prelude.{◌≡◌, IfErr, IfOk, length};
 ghost use Rattle.tp_exec.specs.Delivery.{IsReportOf};
+ghost use Rattle.tp_exec.specs.OneOrder.{IsInOneOrder};
 ghost use Rattle.tp_exec.specs.Order.{NoCircle, NoneOvertakes};
 ghost use Rattle.tp_exec.specs.Reporting.{IsRunFault, living_below};
 ghost use Rattle.tp_report.specs.Reports.{IsReportable};
@@ -36,7 +37,8 @@ fn count_living(test_case: &TestCase) -> u32
 /// 51 `NoThread` where the starting of a thread was refused; else 50 `Memory` where an allocation
 /// was refused before all messages had come; else 61 `Restless` where a behaviour waits and one of
 /// its branches is open in its final queues; else 50 `Memory` where there was no memory for the
-/// report.
+/// report; else 62 `NoOrder` where no one order of all that the components did gives what each
+/// sent and received.
 pub fn run<R: Threads + Wait + Sync, G: Gate>(
     rt: &R,
     alloc: Global,
@@ -44,6 +46,7 @@ pub fn run<R: Threads + Wait + Sync, G: Gate>(
     gate: &G,
 ) -> Result<Report, RunFault>
     ensures report { IfOk result (IsReportOf test_case.now) }
+    ensures one_order { IfOk result IsInOneOrder }
     ensures order { IfOk result NoCircle }
     ensures overtaking { IfOk result NoneOvertakes }
     ensures text { IfOk result (IsReportable test_case.now.config) }

@@ -128,7 +128,7 @@ fn live<R: Wait, G: Gate>(
 }
 
 /// A component that has nothing to do has done it.
-fn idle(station: Station) -> Played
+fn done_at_once(station: Station) -> Played
     ensures same { result.station ≡ station }
     ensures returned { (made : Made) → IsWaiting made station →
         behaviour_at made (station_number station) ≡ None → HasReturned made result }
@@ -155,7 +155,7 @@ fn set_out<'s, E, R: Wait + Sync, G: Gate>(
     ensures seat { IfSome result (IsSeat test_case.now) }
 {
     if test_case.body(station.desk.comp()).is_none() {
-        return Some(Seat::Here(idle(station)));
+        return Some(Seat::Here(done_at_once(station)));
     }
     let was = Was {
         test_case: Snapshot::of(test_case),

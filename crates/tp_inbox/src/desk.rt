@@ -62,14 +62,6 @@ impl Model for Desk {
     ghost invariant = { λ d. IsKept d.ports.items d.clock d.log.items };
 }
 
-/// How many ports a component of the configuration has.
-pub(crate) fn port_count(config: &Config, comp: CompId) -> usize
-    requires { IsComponent config.now comp }
-    ensures { result ≡ length (ports_at config.now.types config.now.components comp) }
-{
-    config.comp_type(comp).ports.len()
-}
-
 impl Desk {
     /// The desk of a component of the configuration: all its ports are started (ES 201 873-1,
     /// 21.3.1), and nothing has happened.
@@ -81,7 +73,7 @@ impl Desk {
             ≡ new_desk comp (length (ports_at config.now.types config.now.components comp))) }
         ensures none { IfOk result (λ desk. arrivals desk.log ≡ []) }
     {
-        Desk::with_ports(alloc, comp, port_count(config, comp))
+        Desk::with_ports(alloc, comp, config.port_count(comp))
     }
 
     /// A desk with so many ports.

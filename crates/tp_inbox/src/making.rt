@@ -12,7 +12,6 @@ ghost use Rattle.tp_inbox.specs.Ends.{inbox_of};
 ghost use Rattle.crossbeam_queue.specs.SegTies.{IsSegPassOf};
 ghost use Rattle.std.specs.Arc.{arc_value};
 
-use crate::desk::port_count;
 use crate::hub::Hub;
 use crate::owner::{Closer, Owner};
 use crate::rule::{InboxQueue, Pass, Route};
@@ -164,7 +163,7 @@ pub fn inbox(
     let routes = routes_of(config, comp)?;
     let floor = Arc::try_clone(floor)?;
     let (line, mut pass) = InboxQueue::with_rule(alloc)?;
-    let hub = Hub::over(line, comp, port_count(config, comp), routes, floor);
+    let hub = Hub::over(line, comp, config.port_count(comp), routes, floor);
     let hub = Arc::new(alloc, hub)?;
     let senders = split(alloc, &hub, &mut pass)?;
     let closer = Closer {

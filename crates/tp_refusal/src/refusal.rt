@@ -63,10 +63,12 @@ pub enum Refusal {
     NoThread,
     /// A behaviour was ended as waiting while one of its branches was open.
     Restless,
+    /// No one order of all that the components did gives what each sent and received.
+    NoOrder,
 }
 
 impl Refusal {
-    /// The number, from 1 to 61, and the name, in ASCII letters, as every printed text gives them.
+    /// The number, from 1 to 62, and the name, in ASCII letters, as every printed text gives them.
     pub const fn label(self) -> (u8, &'static str)
         ensures number { result.0 ≡ (label self).0 }
         ensures name { result.1.now ≡ (label self).1 }
@@ -100,6 +102,7 @@ impl Refusal {
             Refusal::Memory => (50, "Memory"),
             Refusal::NoThread => (51, "NoThread"),
             Refusal::Restless => (61, "Restless"),
+            Refusal::NoOrder => (62, "NoOrder"),
         }
     }
 }

@@ -323,14 +323,19 @@ fn comes_by_three_routes<R: Abort>(rt: &R, config: &Config) {
     );
 }
 
+/// The same of each other component, in this order.
+fn connects_each_in_the_end<R: Abort>(rt: &R, config: &mut Config) {
+    for (name, comp) in [("a", 1), ("b", 2), ("c", 3)] {
+        connects_in_the_end(rt, config, name, comp);
+    }
+}
+
 /// Right also where an allocation was refused, whichever: each create, connect and list of routes
 /// is then as if it had not been called.
 #[test]
 fn refused_memory_leaves_connections_as_they_were(rt: HostRuntime) {
     let mut config = four_again(&rt);
-    for (name, comp) in [("a", 1), ("b", 2), ("c", 3)] {
-        connects_in_the_end(&rt, &mut config, name, comp);
-    }
+    connects_each_in_the_end(&rt, &mut config);
     for _ in 0..2 {
         leaves_by_three_routes(&rt, &config);
         comes_by_three_routes(&rt, &config);

@@ -228,6 +228,13 @@ fn send_again<R: Wait + Abort>(rt: &R, desk: &mut Desk, sender: &mut Sender, n: 
     assert!(rt; sender.count(0) == put.wrapping_add(1));
 }
 
+/// The same by each of these senders.
+fn send_by_each<R: Wait + Abort>(rt: &R, desk: &mut Desk, senders: &mut [Sender], n: i64) {
+    for sender in senders {
+        send_again(rt, desk, sender, n);
+    }
+}
+
 /// The messages that were sent have the stamps 1 and 2 and the numbers 0 and 1, and were put, also
 /// where memory was refused at first.
 #[test]
@@ -246,9 +253,7 @@ fn refused_memory_puts_and_notes_nothing(rt: HostRuntime) {
     } = ends;
     let Mailbox { owner, mut desk } = mailbox;
     for n in 1..3 {
-        for sender in &mut senders {
-            send_again(&rt, &mut desk, sender, n);
-        }
+        send_by_each(&rt, &mut desk, senders.as_mut_slice(), n);
     }
     is_noted(&rt, desk.log(), LOG);
     drop((owner, desk, senders, closer, floor));

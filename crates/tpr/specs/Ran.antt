@@ -7,16 +7,19 @@ use Rattle.tp_report.specs.Reports.{report_text, trace_text}
 use Rattle.tp_exec.specs.declared.fault.RunFault.{RunFault}
 use Rattle.tp_exec.specs.Delivery.{IsReportOf}
 use Rattle.tp_exec.specs.Faults.{run_fault_text}
+use Rattle.tp_exec.specs.OneOrder.{IsInOneOrder}
 use Rattle.tp_exec.specs.Order.{NoCircle}
 use Rattle.tp_exec.specs.Reporting.{IsRunFault}
 use Rattle.tp_script.specs.Scripts.{IsScriptOf}
 use Rattle.tpr.specs.Checked.{IsNotAccepted}
 
--- a report of the test case, for which **delivery** holds, was added in the form of this text, and the status is 0
+-- a report of the test case, for which **delivery** holds and which one order of all that was done gives, was added in
+-- the form of this text, and the status is 0
 pub record IsReported (text : Made → Report → List ℕ) (made : Made) (old new : Option (List ℕ)) (status : ℕ)
     : Type 0 where
   pub report : Report
   pub delivery : IsReportOf made report
+  pub one_order : IsInOneOrder report
   pub order : NoCircle report
   pub code : status ≡ 0
   pub printed : Appends old new (text made report)

@@ -7,14 +7,17 @@ use Rattle.tp_report.specs.Reports.{report_text}
 use Rattle.tp_exec.specs.declared.fault.RunFault.{RunFault}
 use Rattle.tp_exec.specs.Delivery.{IsReportOf}
 use Rattle.tp_exec.specs.Faults.{run_fault_text}
+use Rattle.tp_exec.specs.OneOrder.{IsInOneOrder}
 use Rattle.tp_exec.specs.Order.{NoCircle}
 use Rattle.tp_exec.specs.Reporting.{IsRunFault}
 use Rattle.tpr_ordered.specs.declared.orders.Order.{Order}
 
--- the text of a report of the test case was added, for which **delivery** holds
+-- the text of a report of the test case was added, for which **delivery** holds and which one order of all that was
+-- done gives
 pub record IsReportWritten (made : Made) (old new : Option (List ℕ)) : Type 0 where
   pub report : Report
   pub delivery : IsReportOf made report
+  pub one_order : IsInOneOrder report
   pub order : NoCircle report
   pub written : Appends old new (report_text made report)
 

@@ -4,4 +4,4 @@ use Rattle.tp_config.proofs.Look.{length_ports}
 use Rattle.tp_config.proofs.component.port_count.Goals as goal
 
 pub returns-in-Some : goal.returns-in-Some
-returns-in-Some c = c.len.ensures.len ∙ sym (length_ports c.in-Some.kind.now) ∙ ap length c.in-Some.ensures
+returns-in-Some c = c.len.ensures.len ∙ sym (length_ports c.in-Some.comp_type.now) ∙ ap length c.in-Some.ensures

@@ -6,4 +6,4 @@ pub returns-in_default : goal.returns-in_default
 returns-in_default c = types_none _ _ c.args.p c.in_default.ensures
 
 pub returns : goal.returns
-returns c = types_entry _ _ c.args.p c.in-Some.kind.now _ c.in-Some.ensures c.port_at.ensures
+returns c = types_entry _ _ c.args.p c.in-Some.comp_type.now _ c.in-Some.ensures c.port_at.ensures

@@ -3,14 +3,14 @@ use denote.Param.Send.{sendable}
 use Rattle.std.proofs.Crossing.{crosses}
 use Rattle.tp_play.proofs.Crossing.{test_case_sync}
 use Rattle.tp_exec.proofs.Crossing.{hall_sync, station_send, played_send}
-use Rattle.tp_exec.proofs.Returned.{busy_where_some, idle_where_none}
+use Rattle.tp_exec.proofs.Returned.{busy_where_some, nothing_where_none}
 use Rattle.tp_exec.proofs.threads.set_out.Goals as goal
 
 pub returns-then-is_none-clause-seat : goal.returns-then-is_none-clause-seat
 returns-then-is_none-clause-seat g c =
     let made = c.args.test_case.now in
-    c.idle.ensures.returned made c.requires
-    (idle_where_none made c.args.station c.comp.result c.body.result c.requires c.comp.ensures c.body.ensures.behaviour c.if-is_none.ensures)
+    c.done_at_once.ensures.returned made c.requires
+    (nothing_where_none made c.args.station c.comp.result c.body.result c.requires c.comp.ensures c.body.ensures.behaviour c.if-is_none.ensures)
 
 pub spawn_with-requires-send-F : goal.spawn_with-requires-send-F
 spawn_with-requires-send-F g c κs within = search (sendable, crosses, station_send, test_case_sync, hall_sync) depth 30 fits 20000

@@ -7,6 +7,7 @@ returns-in-Ok-write_report g c =
     inl (record {
       report = c.in-Ok-outcome.report;
       delivery = c.in-Ok-outcome.ensures.report;
+      one_order = c.in-Ok-outcome.ensures.one_order;
       order = c.in-Ok-outcome.ensures.order;
       written = c.in-Ok-write_report.ensures;
     })

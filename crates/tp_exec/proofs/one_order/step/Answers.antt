@@ -1,0 +1,41 @@
+-- The next thing is done.
+use Rattle.std.proofs.Common.{◌≡◌, ◌<◌, ◌+◌, ℕ, List, Some, length, set, refl, sym, ap, ◌∙◌, subst, slice_index, arith}
+use Rattle.std.specs.Prelude.{slice_get}
+use Rattle.std.proofs.lemmas.Grind.{get_or_default_zero}
+use Rattle.std.proofs.lemmas.List.{length-map}
+use Rattle.std.proofs.lemmas.Option.{slice_get_read}
+use Rattle.tp_report.specs.declared.report.CompReport.{CompReport}
+use Rattle.tp_exec.specs.OneOrder.{logs_of}
+use Rattle.tp_exec.specs.Courses.{sent_then}
+use Rattle.tp_exec.specs.Greedy.{IsCourseBy}
+use Rattle.tp_exec.proofs.Courses.{done, log_is}
+use Rattle.tp_exec.proofs.one_order.step.Goals as goal
+
+pub returns-clause-course : goal.returns-clause-course
+returns-clause-course c =
+    let logs = logs_of c.args.components.now in
+    let was = c.args.course.now in
+    let places = was.places.items in
+    let known = was.known.items in
+    let sent = was.sent.items in
+    let n = c.args.c in
+    let p = slice_index places n in
+    let size = c.requires.size in
+    let low : n < length places = omega (arith, size.places, c.requires.within) in
+    let e = c.index-log-place.result in
+    let k = c.kind_of-kind.result in
+    let log = log_is c.args.components.now n c.index-components-c.result c.log-log.result.now c.requires.within c.log-log.ensures.history in
+    let is = c.index-place.ensures ∙ get_or_default_zero places n c.index-place.result.now low in
+    let at : slice_get c.log-log.result.now p ≡ Some e =
+    subst (λ m. slice_get c.log-log.result.now m ≡ Some e) is
+    (slice_get_read c.log-log.result.now (length c.log-log.result.now) c.index-place.result.now e refl c.if-place-log.false c.index-log-place.is) in
+    let can = (c.if-not-is_possible.ensures.can c.args.components.now c.requires.dues).0 refl in
+    let count : length logs ≡ length c.args.components.now = length-map c.args.components.now (λ (x : CompReport). x.desk.log) in
+    let low_known : n < length known = omega (arith, size.known, c.requires.within) in
+    let r = done logs places known sent n e k (sym c.kind_of-kind.ensures) (ap (λ l. slice_get l p) log ∙ at) low low_known
+    (size.sent ∙ sym count) can c.requires.course in
+    let then = set places n (p + 1) in
+    let new = c.go_by.new.course in
+    subst (λ (s : List ℕ). IsCourseBy logs s new.known.items new.sent.items) (sym c.go_by.ensures.places)
+    (subst (λ (s : List ℕ). IsCourseBy logs then new.known.items s) (sym c.go_by.ensures.sent)
+    (subst (λ (s : List ℕ). IsCourseBy logs then s (sent_then k sent)) (sym c.go_by.ensures.known) r))

@@ -1,0 +1,69 @@
+-- How far the histories of a run's components are gone through, on the way to one order.
+use Rattle.std.specs.Prelude.{◌≡◌, ℕ, ◌<◌, ◌≤◌, ◌+◌, ◌^◌, Some, List, length, map, take, slice_index, slice_set}
+use Rattle.tp_inbox.specs.declared.entry.Entry.{Entry}
+use Rattle.tp_inbox.specs.declared.entry.Entry.TheVariants as entry
+use Rattle.tp_behaviour.specs.Fresh.{LooksAtPorts}
+use Rattle.tp_exec.specs.declared.kind.Kind.{Kind}
+use Rattle.tp_exec.specs.declared.kind.Kind.TheVariants as kind
+use Rattle.tp_exec.specs.declared.kind.Due.{Due}
+use Rattle.tp_exec.specs.declared.course.Course.{Course}
+use Rattle.tp_exec.specs.Order.{Spot}
+use Rattle.tp_exec.specs.OneOrder.{IsAt, IsFrontOf, IsOwn, came_before, entry_at, log_in, senders_to, sources}
+
+-- what an entry is for the order
+abbrev pub kind_of : Entry → Kind
+kind_of (entry.Arrive port env stamp) = kind.Came env.sender
+kind_of (entry.Sent r number m) = kind.Sent r.to.comp.0
+kind_of (entry.Verdict v) = kind.Quiet
+kind_of (entry.Failed fault) = kind.Quiet
+kind_of _ = kind.Looked
+
+-- the senders of these arrivals
+abbrev pub due_sources : List Due → List ℕ
+due_sources dues = map (λ x. x.source) dues
+
+-- the spot may follow these in an order
+pub record Follows (logs : List (List Entry)) (before : List Spot) (a : Spot) : Type 0 where
+  pub own : IsOwn logs a
+  pub new : (i : ℕ) → ¬ IsAt before i a
+  pub kept : (j : ℕ) → j < a.place → IsOwn logs (record { comp = a.comp; place = j })
+      → (i : ℕ) × IsAt before i (record { comp = a.comp; place = j })
+  pub sent : IsFrontOf (came_before logs a) (senders_to logs a.comp before)
+  pub seen : (e : Entry) → entry_at logs a ≡ Some e → LooksAtPorts e → came_before logs a ≡ senders_to logs a.comp before
+
+-- the order has all that the components did themselves before these places; so many messages that came to each stand
+-- there, and so many were sent to it by those in the order
+pub record IsGone (logs : List (List Entry)) (at came out : ℕ → ℕ) (order : List Spot) : Type 0 where
+  pub follows : (i : ℕ) (a : Spot) → IsAt order i a → Follows logs (take i order) a
+  pub each : (a : Spot) → IsOwn logs a → a.place < at a.comp → (i : ℕ) × IsAt order i a
+  pub below : (i : ℕ) (a : Spot) → IsAt order i a → a.place < at a.comp
+  pub known : (c : ℕ) → length (sources (take (at c) (log_in logs c))) ≡ came c
+  pub most : (c : ℕ) → came c ≤ out c
+  pub sent : (c : ℕ) → senders_to logs c order ≡ take (out c) (sources (log_in logs c))
+  pub within : (c : ℕ) → at c ≤ length (log_in logs c)
+
+-- the counts still fit once a thing of this kind is done
+abbrev pub HasRoom : List ℕ → List ℕ → ℕ → Kind → Type 0
+HasRoom known sent c (kind.Came source) = slice_index known c + 1 < 2 ^ 64
+HasRoom known sent c (kind.Sent d) = (d < length sent) × (slice_index sent d + 1 < 2 ^ 64)
+HasRoom known sent c _ = Unit {0}
+
+-- how many messages that came are gone by once it is done, and how many were sent to each
+abbrev pub known_then : ℕ → Kind → List ℕ → List ℕ
+known_then c (kind.Came source) known = slice_set known c (slice_index known c + 1)
+known_then c _ known = known
+
+abbrev pub sent_then : Kind → List ℕ → List ℕ
+sent_then (kind.Sent d) sent = slice_set sent d (slice_index sent d + 1)
+sent_then _ sent = sent
+
+-- the component to which something is sent, or else that which does it
+abbrev pub affected : ℕ → Kind → ℕ
+affected c (kind.Sent d) = d
+affected c _ = c
+
+-- it has its numbers for so many components
+pub record HasSize (course : Course) (size : ℕ) : Type 0 where
+  pub places : length course.places.items ≡ size
+  pub known : length course.known.items ≡ size
+  pub sent : length course.sent.items ≡ size

@@ -1,0 +1,80 @@
+-- That where no component can go on, and not all is done, there is no order.
+use Rattle.std.specs.Prelude.{◌≡◌, ℕ, ◌<◌, ◌≤◌, ◌==◌, Some, List, cond, length, take, slice_get, slice_index, ◌↔◌, map}
+use Rattle.std.specs.List.{sum_by}
+use Rattle.std.specs.declared.vec.Vec.{Vec}
+use Rattle.std.specs.Global.{Global}
+use Rattle.tp_inbox.specs.declared.entry.Entry.{Entry}
+use Rattle.tp_behaviour.specs.Fresh.{LooksAtPorts}
+use Rattle.tp_report.specs.declared.report.CompReport.{CompReport}
+use Rattle.tp_exec.specs.declared.course.Course.{Course}
+use Rattle.tp_exec.specs.declared.kind.Due.{Due}
+use Rattle.tp_exec.specs.declared.kind.Kind.{Kind}
+use Rattle.tp_exec.specs.declared.kind.Kind.TheVariants as kind
+use Rattle.tp_exec.specs.Order.{Spot}
+use Rattle.tp_exec.specs.OneOrder.{log_in, logs_of, senders_to, sends_to, sources}
+use Rattle.tp_exec.specs.Courses.{IsGone, due_sources, kind_of}
+
+-- how many messages are sent to the component in this history
+abbrev pub sends : ℕ → List Entry → ℕ
+sends d k = sum_by (λ e. cond (sends_to d (Some e)) 1 0) k
+
+-- how often the number stands in the list
+abbrev pub many : ℕ → List ℕ → ℕ
+many c xs = sum_by (λ x. cond (x == c) 1 0) xs
+
+-- each look of this history before which so many messages came, or fewer, stands before the place
+abbrev pub AreLookedBefore : List Entry → ℕ → ℕ → Type 0
+AreLookedBefore k n place =
+    (q : ℕ) (e : Entry) → slice_get k q ≡ Some e → LooksAtPorts e → length (sources (take q k)) ≤ n → q < place
+
+-- the order has what was sent before these places; no more is sent than came, and only after the looks that saw less
+pub record IsGreedy (logs : List (List Entry)) (at out : ℕ → ℕ) (order : List Spot) : Type 0 where
+  pub counted : (c d : ℕ) → many c (senders_to logs d order) ≡ sends d (take (at c) (log_in logs c))
+  pub fits : (c : ℕ) → out c ≤ length (sources (log_in logs c))
+  pub looked : (c q : ℕ) (e : Entry) → slice_get (log_in logs c) q ≡ Some e → LooksAtPorts e
+      → length (sources (take q (log_in logs c))) < out c → q < at c
+
+-- some order is gone through so far, with these numbers for each component
+abbrev pub IsCourseBy : List (List Entry) → List ℕ → List ℕ → List ℕ → Type 0
+IsCourseBy logs places known sent =
+    (order : List Spot) × IsGone logs (slice_index places) (slice_index known) (slice_index sent) order
+    × IsGreedy logs (slice_index places) (slice_index sent) order
+
+abbrev pub IsCourse : List (List Entry) → Course → Type 0
+IsCourse logs course = IsCourseBy logs course.places.items course.known.items course.sent.items
+
+-- the next message to that component is this one's, and that one has looked where it was to look before
+abbrev pub MaySend : List (List Entry) → (ℕ → ℕ) → (ℕ → ℕ) → ℕ → ℕ → Type 0
+MaySend logs at out c d =
+    (slice_get (sources (log_in logs d)) (out d) ≡ Some c) × AreLookedBefore (log_in logs d) (out d) (at d)
+
+-- the component can do a thing of this kind
+abbrev pub CanDo : List (List Entry) → (ℕ → ℕ) → (ℕ → ℕ) → (ℕ → ℕ) → ℕ → Kind → Type 0
+CanDo logs at came out c (kind.Came source) = came c < out c
+CanDo logs at came out c kind.Looked = came c ≡ out c
+CanDo logs at came out c kind.Quiet = Unit {0}
+CanDo logs at came out c (kind.Sent d) = MaySend logs at out c d
+
+-- this component can't go on
+abbrev pub IsHeld : List (List Entry) → (ℕ → ℕ) → (ℕ → ℕ) → (ℕ → ℕ) → ℕ → Type 0
+IsHeld logs at came out c =
+    (e : Entry) → slice_get (log_in logs c) (at c) ≡ Some e → ¬ CanDo logs at came out c (kind_of e)
+
+-- none can
+abbrev pub IsStuck : List (List Entry) → (ℕ → ℕ) → (ℕ → ℕ) → (ℕ → ℕ) → Type 0
+IsStuck logs at came out = (c : ℕ) → IsHeld logs at came out c
+
+-- each place is the least that is behind the looks which have to be before that message was sent
+abbrev pub AreAfter : List Entry → List Due → Type 0
+AreAfter k dues =
+    (n : ℕ) (due : Due) → slice_get dues n ≡ Some due → (p : ℕ) → (due.after ≤ p) ↔ AreLookedBefore k n p
+
+abbrev pub AreAllAfter : List CompReport → List (Vec Due Global) → Type 0
+AreAllAfter components all =
+    (c : ℕ) (x : CompReport) (v : Vec Due Global) → slice_get components c ≡ Some x → slice_get all c ≡ Some v
+    → AreAfter x.desk.log v.items
+
+-- this is known of the messages that came to these components
+pub record AreDuesOf (components : List CompReport) (all : List (Vec Due Global)) : Type 0 where
+  pub are : map (λ x. due_sources x.items) all ≡ map sources (logs_of components)
+  pub after : AreAllAfter components all

@@ -1,0 +1,37 @@
+-- What one order says of messages: a look at ports sees the very messages that were sent before.
+use Rattle.std.specs.Prelude.{◌≡◌, ℕ, ◌==◌, cond, Option, Some, None, List, slice_get, take}
+use Rattle.std.specs.List.{filter_map}
+use Rattle.tp_config.specs.declared.port_type.CompId.{CompId}
+use Rattle.tp_play.specs.TestCases.{Made}
+use Rattle.tp_inbox.specs.declared.entry.Entry.{Entry}
+use Rattle.tp_inbox.specs.declared.posted.Posted.{Posted}
+use Rattle.tp_inbox.specs.History.{arrived_from, sending_to}
+use Rattle.tp_report.specs.declared.report.CompReport.{CompReport}
+use Rattle.tp_report.specs.declared.report.Report.{Report}
+use Rattle.tp_behaviour.specs.Fresh.{LooksAtPorts}
+use Rattle.tp_exec.specs.Delivery.{IsReportOf}
+use Rattle.tp_exec.specs.Order.{Spot}
+use Rattle.tp_exec.specs.OneOrder.{IsAt, IsOrderOf, entry_at, logs_of}
+
+-- what the entry sends to the component
+abbrev pub post_of : CompId → Option Entry → Option Posted
+post_of d (Some e) = sending_to d e
+post_of d None = None
+
+-- what is sent to the component d at this spot, where the spot is one of c
+abbrev pub posted_at : List (List Entry) → CompId → CompId → Spot → Option Posted
+posted_at logs c d a = cond (c.0 == a.comp) (post_of d (entry_at logs a)) None
+
+-- what c sends to d at these spots, in their order
+abbrev pub posted_by : List (List Entry) → CompId → CompId → List Spot → List Posted
+posted_by logs c d order = filter_map (posted_at logs c d) order
+
+-- in an order that gives the histories of a report: what had come to d from c before d looked at ports is what c sent to
+-- d before that in the order, all of it and in its turn
+abbrev pub LooksSeeSent : Type 0
+LooksSeeSent =
+    (made : Made) (report : Report) (order : List Spot) (c d : CompId) (x y : CompReport) (i place : ℕ) (e : Entry)
+    → IsReportOf made report → IsOrderOf (logs_of report.components.items) order
+    → slice_get report.components.items c.0 ≡ Some x → slice_get report.components.items d.0 ≡ Some y
+    → IsAt order i (record { comp = d.0; place = place }) → slice_get y.desk.log place ≡ Some e → LooksAtPorts e
+    → arrived_from d c (take place y.desk.log) ≡ posted_by (logs_of report.components.items) c d (take i order)
