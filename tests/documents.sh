@@ -137,5 +137,5 @@ documents() {
     at_least 3 first_example
     at_least 1 script_of_the_profile
     at_least 9 quoted_contracts
-    at_least 22 named_wrong_bodies
+    at_least 27 named_wrong_bodies
 }

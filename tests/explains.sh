@@ -119,7 +119,7 @@ explained_beyond_scripts() {
 "
     explain --number 62
     tool_must "explain: a run that no one order gives" 0 prints "62 NoOrder
-  no one order of all that the components of a run did gives what each sent and received
+  no one order of all that the components of a run did gives what each did and saw
   what to do: run it again. It is a fault of \`tpr\`, and not of the script: report it, with the script
 "
 }

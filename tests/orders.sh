@@ -87,5 +87,5 @@ judge_of_each() {
 }
 
 the_judge() {
-    at_least 160 judge_of_each
+    at_least 161 judge_of_each
 }

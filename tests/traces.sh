@@ -41,8 +41,8 @@ the_judge_of_traces() {
     told_by 79 tests/traces/rules.py forms tests/traces/forms.table
     told_by 172 tests/traces/rules.py lines tests/traces/lines.texts
     told_by 11 tests/traces/rules.py titan tests/titan/answers.table
-    told_by 13 tests/traces/rules.py document docs/TRACES.md
-    told_by 160 tests/traces/rules.py played "${runnable[@]}"
+    told_by 15 tests/traces/rules.py document docs/TRACES.md
+    told_by 161 tests/traces/rules.py played "${runnable[@]}"
     told_by 4 tests/traces/rules.py tried 2000
     at_least 5 played_traces_are_reports
 }
@@ -67,11 +67,11 @@ judged_traces() {
     told_by 189 tests/traces/rules.py planted tests/traces/planted.table -- "${judge_of_traces[@]}"
     told_by 79 tests/traces/rules.py forms tests/traces/forms.table -- "${judge_of_traces[@]}"
     told_by 11 tests/traces/rules.py titan tests/titan/answers.table -- "${judge_of_traces[@]}"
-    told_by 13 tests/traces/rules.py document docs/TRACES.md -- "${judge_of_traces[@]}"
+    told_by 15 tests/traces/rules.py document docs/TRACES.md -- "${judge_of_traces[@]}"
     told_by 19 tests/traces/compare.py several "${traces[@]}" -- "${judge_of_traces[@]}"
     told_by 2 tests/traces/compare.py cuts "${small[@]}" -- "${judge_of_traces[@]}"
     told_by 2 tests/traces/compare.py bytes "${small[@]}" -- "${judge_of_traces[@]}"
-    told_by 160 tests/traces/compare.py played "${runnable[@]}" -- "${judge_of_traces[@]}"
+    told_by 161 tests/traces/compare.py played "${runnable[@]}" -- "${judge_of_traces[@]}"
     told_by 20 tests/traces/compare.py chance {1..20} -- "${judge_of_traces[@]}"
     if [[ ! ${JUDGE-} ]]; then at_least 12 large_traces; fi
 }
@@ -313,5 +313,5 @@ traces_of_runs() {
     local runnable judge_of_traces
     find_runnable
     find_judge
-    told_by 320 tests/traces/runs.py "$tpr" "${runnable[@]}" -- "${judge_of_traces[@]}"
+    told_by 322 tests/traces/runs.py "$tpr" "${runnable[@]}" -- "${judge_of_traces[@]}"
 }

@@ -1,9 +1,11 @@
-"""One order of all entries that a run can have had: each history keeps its own, and played in this
-order on the ports (docs/MODEL.md), with each message queued as it is sent, every port delivers, discards
-and keeps what the report says.
+"""One order of all entries that the ports allow: each history keeps its own, and played in this order on
+the ports (docs/MODEL.md), with each message queued as it is sent, every port delivers, discards and keeps
+what the report says.
 
 There are many such orders. This one goes on with a message as soon as it can, so that a chart has short
-arrows, and sends late what nobody waits for.
+arrows, and sends late what nobody waits for. At which ports an `else` looked, or a branch above the one
+that was chosen, isn't in a report, nor on which side of a mark a message is left: so an `else`, or a
+`halted`, may stand behind a sending that it missed.
 
 What an order must have is told by search.py. All that a component can do is done as it comes, since none
 of it can stand in the way of anything else, but for one thing: an emptying, where the port still has to
@@ -35,7 +37,7 @@ class Row:
 
 
 def rows_of(deliveries: Deliveries) -> list[Row]:
-    """All entries in an order that a run can have had, and by which entries messages were discarded is
+    """All entries in an order that the ports allow, and by which entries messages were discarded is
     settled in the deliveries too. NotAReport where there is no such order."""
     search = Search(deliveries)
     _find(search)

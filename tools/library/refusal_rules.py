@@ -101,7 +101,7 @@ class Rule(Enum):
     MEMORY = "memory was refused"
     NO_THREAD = "modes `run` and `trace`: the starting of a thread was refused"
     RESTLESS = "a run ended a behaviour as waiting although one of its branches is open"
-    NO_ORDER = "no one order of all that the components of a run did gives what each sent and received"
+    NO_ORDER = "no one order of all that the components of a run did gives what each did and saw"
 
 
 # What must hold, or for 2, 10, 15 of the reader and the ends of a send what must not.

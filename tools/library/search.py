@@ -9,6 +9,9 @@ An entry waits
   before it at that port;
 - where it sends what was discarded, for what the port delivered and kept in this era, since what is
   discarded came behind that.
+
+An `else` waits for nothing: a report doesn't say at which ports it looked. Nor does a `halted` wait for
+messages that are left: it doesn't say on which side of the mark they are.
 """
 from __future__ import annotations
 

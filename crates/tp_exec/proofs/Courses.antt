@@ -5,7 +5,7 @@ use Rattle.std.specs.List.{cons_option}
 use Rattle.std.proofs.Math.Seq.{take-suc}
 use Rattle.std.proofs.Math.ListN.{get_or-map as get_or_map_both}
 use Rattle.std.proofs.lemmas.Bool.{cases_eq, cases_lt, ne_eqb}
-use Rattle.std.proofs.lemmas.List.{append-nil, get_or-map, get_or_past, get_or-replicate, length-replicate, get_or-set_same, get_or-set_other, length-map, map-append}
+use Rattle.std.proofs.lemmas.List.{append-nil, get_or-map, get_or_past, get_or-replicate, length-replicate, get_or-set_same, get_or-set_other, length-map, map-append, take_all}
 use Rattle.std.proofs.lemmas.List.Elements.{filter_map-append}
 use Rattle.std.proofs.lemmas.List.Sums.{sum_by-append, sum_by-cons}
 use Rattle.std.proofs.lemmas.Option.{slice_get_within, get_or_from_slice_get}
@@ -18,7 +18,7 @@ use Rattle.tp_exec.specs.declared.kind.Due.{Due}
 use Rattle.tp_exec.specs.declared.kind.Kind.{Kind}
 use Rattle.tp_exec.specs.declared.kind.Kind.TheVariants as kind
 use Rattle.tp_exec.specs.OneOrder.{HasOneOrder, entry_at, log_in, logs_of, sender_to, senders_to, sends_to, source_of, sources}
-use Rattle.tp_exec.specs.Courses.{due_sources, kind_of, known_then, sent_then}
+use Rattle.tp_exec.specs.Courses.{due_sources, kind_of, came_then, sent_then}
 use Rattle.tp_exec.specs.Order.{Spot}
 use Rattle.tp_exec.specs.Greedy.{CanDo, IsCourseBy, IsGreedy, many, sends}
 use Rattle.tp_exec.proofs.EntryKinds.{of_came, of_looked, of_quiet, of_sent}
@@ -139,7 +139,7 @@ module _ (logs : List (List Entry)) where
       → length sent ≡ length logs
       → CanDo logs (slice_index places) (slice_index known) (slice_index sent) c k
       → IsCourseBy logs places known sent
-      → IsCourseBy logs (set places c (slice_index places c + 1)) (known_then c k known) (sent_then k sent)
+      → IsCourseBy logs (set places c (slice_index places c + 1)) (came_then c k known) (sent_then k sent)
   done places known sent c e (kind.Came s) is stands low low_known size can was =
       let h = of_came e s is in
       let at = slice_index places in
@@ -321,22 +321,22 @@ begun logs n m k = (
   },
 )
 
--- at last all is
-pub ended : (xs : List CompReport) (places known sent : List ℕ) → IsCourseBy (logs_of xs) places known sent → length places ≡ length xs → length sent ≡ length xs
-    → ((c : ℕ) → c < length xs → (slice_index places c ≡ length (log_in (logs_of xs) c)) × (slice_index sent c ≡ length (sources (log_in (logs_of xs) c))))
-    → HasOneOrder (logs_of xs)
-ended xs places known sent was size sizes end =
+-- at last all is, and then all that came was sent
+pub ended : (xs : List CompReport) (places came sent : List ℕ) → IsCourseBy (logs_of xs) places came sent → length places ≡ length xs
+    → ((c : ℕ) → c < length xs → slice_index places c ≡ length (log_in (logs_of xs) c)) → HasOneOrder (logs_of xs)
+ended xs places came sent was size end =
     let logs = logs_of xs in
     let count : length logs ≡ length xs = length-map xs (λ (x : CompReport). x.desk.log) in
-    let none : (c : ℕ) → length xs ≤ c → log_in logs c ≡ [] = λ c past. get_or_past logs c [] (omega (arith, count, past)) in (
+    let done : (c : ℕ) → slice_index places c ≡ length (log_in logs c) = λ c. elim (cases_lt c (length xs)) [
+      | inl low ↦ end c low
+      | inr past ↦ get_or_past places c 0 (omega (arith, size, past)) ∙ sym (ap length (get_or_past logs c [] (omega (arith, count, past))))
+    ] in (
       was.0,
-      gone_all logs (slice_index places) (slice_index known) (slice_index sent) was.0 was.1
-          (λ c. elim (cases_lt c (length xs)) [
-            | inl low ↦ (end c low).0
-            | inr past ↦ get_or_past places c 0 (omega (arith, size, past)) ∙ sym (ap length (none c past))
-          ])
-          (λ c. elim (cases_lt c (length xs)) [
-            | inl low ↦ (end c low).1
-            | inr past ↦ get_or_past sent c 0 (omega (arith, sizes, past)) ∙ sym (ap (λ l. length (sources l)) (none c past))
-          ]),
+      gone_all logs (slice_index places) (slice_index came) (slice_index sent) was.0 was.1 done (λ c.
+          let log = log_in logs c in
+          let gone : length (sources (take (slice_index places c) log)) ≡ slice_index came c = was.1.known c in
+          let whole = ap (λ n. length (sources (take n log))) (done c) ∙ ap (λ l. length (sources l)) (take_all (length log) log (omega arith)) in
+          let most = was.1.most c in
+          let fits = was.2.fits c in
+          omega (arith, gone, whole, most, fits)),
     )

@@ -18,13 +18,13 @@ use Rattle.tp_behaviour.specs.Fresh.{LooksAtPorts}
 use Rattle.tp_exec.specs.Order.{Spot}
 use Rattle.tp_exec.specs.OneOrder.{IsAt, IsOrderOf, IsOwn, entry_at, log_in, logs_of, sender_to, sends_to, source_of}
 use Rattle.tp_exec.specs.Greedy.{many}
-use Rattle.tp_exec.specs.Sights.{LooksSeeSent, post_of, posted_at, posted_by}
+use Rattle.tp_exec.specs.Sights.{LooksSeeSent, sending_in, posted_at, posted_by}
 use Rattle.tp_exec.proofs.OneOrder.{spot, spot_is}
 use Rattle.tp_exec.proofs.Courses.{log_is}
 use Rattle.tp_exec.proofs.Stuck.{many_sent, take_one, unit}
 
 -- what is given of the fronts of a list
-given_one : {X Y : Type 0} (f : X → Option Y) (k : List X) (n : ℕ) (x : X) → slice_get k n ≡ Some x
+pub given_one : {X Y : Type 0} (f : X → Option Y) (k : List X) (n : ℕ) (x : X) → slice_get k n ≡ Some x
     → filter_map f (take (n + 1) k) ≡ filter_map f (take n k) ++ cons_option (f x) []
 given_one f k n x at = ap (filter_map f) (take_one k n x at) ∙ filter_map-append f (take n k) (x ∷ [])
 
@@ -43,7 +43,7 @@ given_flat f k n (suc r) none =
           ap (filter_map f) (take_all ((n + r) + 1) k (omega (arith, low)) ∙ sym (take_all (n + r) k low)) ∙ rest
     ]
 
-given_front : {X Y : Type 0} (f : X → Option Y) (k : List X) (n : ℕ) → filter_map f (take n k) ≡ take (length (filter_map f (take n k))) (filter_map f k)
+pub given_front : {X Y : Type 0} (f : X → Option Y) (k : List X) (n : ℕ) → filter_map f (take n k) ≡ take (length (filter_map f (take n k))) (filter_map f k)
 given_front f k n =
     sym (take-append_seam (filter_map f (take n k)) (filter_map f (drop n k)))
     ∙ ap (take (length (filter_map f (take n k)))) (sym (filter_map-append f (take n k) (drop n k)) ∙ ap (filter_map f) (take-append-drop n k))
@@ -96,7 +96,7 @@ arrival_size c d (entry.Arrive p v t) =
     size_if (c.0 == v.sender) _ ∙ ap unit (turned c.0 v.sender) ∙ sym one
 arrival_size c d _ = refl
 
-post_size : (c d : CompId) (x : ℕ) (o : Option Entry) → length (cons_option (cond (c.0 == x) (post_of d o) None) [])
+post_size : (c d : CompId) (x : ℕ) (o : Option Entry) → length (cons_option (cond (c.0 == x) (sending_in d o) None) [])
     ≡ many c.0 (cons_option (cond (sends_to d.0 o) (Some x) None) [])
 post_size c d x None = size_none (c.0 == x)
 post_size c d x (Some (entry.Sent q n m)) =
@@ -137,7 +137,7 @@ module _ (logs : List (List Entry)) (full : List Spot) (is : IsOrderOf logs full
     ];
     each = λ q own less. let j = was.each q own less in let low : j.0 < i = j.1 in (j.0, omega (arith, low), j.2);
     list = given_one (posted_at logs c d) full i a there
-        ∙ ap (λ (b : Bool). posted_by logs c d (take i full) ++ cons_option (cond b (post_of d (entry_at logs a)) None) []) (ne_eqb c.0 a.comp (λ e. other (sym e)))
+        ∙ ap (λ (b : Bool). posted_by logs c d (take i full) ++ cons_option (cond b (sending_in d (entry_at logs a)) None) []) (ne_eqb c.0 a.comp (λ e. other (sym e)))
         ∙ append-nil (posted_by logs c d (take i full)) ∙ was.list;
   }
 
@@ -183,8 +183,8 @@ module _ (logs : List (List Entry)) (full : List Spot) (is : IsOrderOf logs full
           ]
         ];
         list = given_one (posted_at logs c d) full i (spot c.0 q) there
-            ∙ ap (λ (b : Bool). posted_by logs c d (take i full) ++ cons_option (cond b (post_of d (entry_at logs (spot c.0 q))) None) []) (eq-eqb c.0 c.0 refl)
-            ∙ ap (λ (o : Option Entry). posted_by logs c d (take i full) ++ cons_option (post_of d o) []) own.stands
+            ∙ ap (λ (b : Bool). posted_by logs c d (take i full) ++ cons_option (cond b (sending_in d (entry_at logs (spot c.0 q))) None) []) (eq-eqb c.0 c.0 refl)
+            ∙ ap (λ (o : Option Entry). posted_by logs c d (take i full) ++ cons_option (sending_in d o) []) own.stands
             ∙ ap (λ l. l ++ cons_option (sending_to d own.act) []) (was.list ∙ sym flat)
             ∙ sym (given_one (sending_to d) log q own.act own.stands);
       }

@@ -13,7 +13,7 @@ use Rattle.tp_inbox.specs.History.{is_arrival}
 use Rattle.tp_behaviour.specs.Fresh.{LooksAtPorts}
 use Rattle.tp_exec.specs.Order.{Spot}
 use Rattle.tp_exec.specs.OneOrder.{IsAt, IsFrontOf, IsOrderOf, IsOwn, entry_at, log_in, sender_to, senders_to, source_of, sources}
-use Rattle.tp_exec.specs.Courses.{Follows, IsGone}
+use Rattle.tp_exec.specs.Courses.{IsGone, MayFollow}
 
 -- where spots stand in an order once one more is put behind it
 at_still : (xs : List Spot) (y : Spot) (i : ℕ) (x : Spot) → IsAt xs i x → IsAt (xs ++ y ∷ []) i x
@@ -93,7 +93,7 @@ module _ (logs : List (List Entry)) where
   -- what a component does itself may follow where all that came to it before was sent, and no more where it looks
   follows : (at came out : ℕ → ℕ) (order : List Spot) (c : ℕ) (e : Entry) → IsGone logs at came out order
       → entry_at logs (spot c (at c)) ≡ Some e → is_arrival e ≡ false → (LooksAtPorts e → came c ≡ out c)
-      → Follows logs order (spot c (at c))
+      → MayFollow logs order (spot c (at c))
   follows at came out order c e was stands own looks =
       let log = log_in logs c in
       let xs = sources (take (at c) log) in
@@ -128,11 +128,11 @@ module _ (logs : List (List Entry)) where
       ] in
       record {
         follows = λ i a there. elim (at_cases order new i a there) [
-          | inl old ↦ subst (λ (l : List Spot). Follows logs l a) (sym (take_still order new i a old)) (was.follows i a old)
+          | inl old ↦ subst (λ (l : List Spot). MayFollow logs l a) (sym (take_still order new i a old)) (was.follows i a old)
           | inr last ↦
               let before : order ≡ take i (order ++ new ∷ []) = sym (take-append_seam order (new ∷ [])) ∙ ap (λ n. take n (order ++ new ∷ [])) (sym last.0) in
-              subst (λ (l : List Spot). Follows logs l a) before
-              (subst (λ (b : Spot). Follows logs order b) (sym last.1) (follows at came out order c e was stands own looks))
+              subst (λ (l : List Spot). MayFollow logs l a) before
+              (subst (λ (b : Spot). MayFollow logs order b) (sym last.1) (follows at came out order c e was stands own looks))
         ];
         each = λ a is less. elim (cases_lt a.place (at a.comp)) [
           | inl old ↦ let h = was.each a is old in (h.0, at_still order new h.0 a h.1)

@@ -411,7 +411,7 @@ module _ (logs : List (List Entry)) (at came out : ℕ → ℕ) (order : List Sp
       (then, subst (λ (n : ℕ). IsPast n then) e (past_more i was.0 was.1 a there))
 
   -- so all is done
-  pub all_out : (x : ℕ) → out x ≡ length (sources (log_in logs x))
+  all_out : (x : ℕ) → out x ≡ length (sources (log_in logs x))
   all_out x =
       let past = all_past (length full) (omega arith) in
       let most = no_more (length full) past.0 past.1 x in

@@ -16,14 +16,21 @@ kind_of (entry.Arrive port env stamp) = kind.Came env.sender
 kind_of (entry.Sent r number m) = kind.Sent r.to.comp.0
 kind_of (entry.Verdict v) = kind.Quiet
 kind_of (entry.Failed fault) = kind.Quiet
-kind_of _ = kind.Looked
+kind_of (entry.Took port env branch) = kind.Looked
+kind_of (entry.Found port env branch) = kind.Looked
+kind_of (entry.Dropped port env branch) = kind.Looked
+kind_of (entry.Cleared port) = kind.Looked
+kind_of (entry.Started port) = kind.Looked
+kind_of (entry.Stopped port) = kind.Looked
+kind_of (entry.Halted port) = kind.Looked
+kind_of entry.Else = kind.Looked
 
 -- the senders of these arrivals
 abbrev pub due_sources : List Due → List ℕ
 due_sources dues = map (λ x. x.source) dues
 
 -- the spot may follow these in an order
-pub record Follows (logs : List (List Entry)) (before : List Spot) (a : Spot) : Type 0 where
+pub record MayFollow (logs : List (List Entry)) (before : List Spot) (a : Spot) : Type 0 where
   pub own : IsOwn logs a
   pub new : (i : ℕ) → ¬ IsAt before i a
   pub kept : (j : ℕ) → j < a.place → IsOwn logs (record { comp = a.comp; place = j })
@@ -34,7 +41,7 @@ pub record Follows (logs : List (List Entry)) (before : List Spot) (a : Spot) : 
 -- the order has all that the components did themselves before these places; so many messages that came to each stand
 -- there, and so many were sent to it by those in the order
 pub record IsGone (logs : List (List Entry)) (at came out : ℕ → ℕ) (order : List Spot) : Type 0 where
-  pub follows : (i : ℕ) (a : Spot) → IsAt order i a → Follows logs (take i order) a
+  pub follows : (i : ℕ) (a : Spot) → IsAt order i a → MayFollow logs (take i order) a
   pub each : (a : Spot) → IsOwn logs a → a.place < at a.comp → (i : ℕ) × IsAt order i a
   pub below : (i : ℕ) (a : Spot) → IsAt order i a → a.place < at a.comp
   pub known : (c : ℕ) → length (sources (take (at c) (log_in logs c))) ≡ came c
@@ -44,14 +51,14 @@ pub record IsGone (logs : List (List Entry)) (at came out : ℕ → ℕ) (order 
 
 -- the counts still fit once a thing of this kind is done
 abbrev pub HasRoom : List ℕ → List ℕ → ℕ → Kind → Type 0
-HasRoom known sent c (kind.Came source) = slice_index known c + 1 < 2 ^ 64
-HasRoom known sent c (kind.Sent d) = (d < length sent) × (slice_index sent d + 1 < 2 ^ 64)
-HasRoom known sent c _ = Unit {0}
+HasRoom came sent c (kind.Came source) = slice_index came c + 1 < 2 ^ 64
+HasRoom came sent c (kind.Sent d) = (d < length sent) × (slice_index sent d + 1 < 2 ^ 64)
+HasRoom came sent c _ = Unit {0}
 
 -- how many messages that came are gone by once it is done, and how many were sent to each
-abbrev pub known_then : ℕ → Kind → List ℕ → List ℕ
-known_then c (kind.Came source) known = slice_set known c (slice_index known c + 1)
-known_then c _ known = known
+abbrev pub came_then : ℕ → Kind → List ℕ → List ℕ
+came_then c (kind.Came source) came = slice_set came c (slice_index came c + 1)
+came_then c _ came = came
 
 abbrev pub sent_then : Kind → List ℕ → List ℕ
 sent_then (kind.Sent d) sent = slice_set sent d (slice_index sent d + 1)
@@ -65,5 +72,5 @@ affected c _ = c
 -- it has its numbers for so many components
 pub record HasSize (course : Course) (size : ℕ) : Type 0 where
   pub places : length course.places.items ≡ size
-  pub known : length course.known.items ≡ size
+  pub came : length course.came.items ≡ size
   pub sent : length course.sent.items ≡ size

@@ -1,4 +1,4 @@
--- That where no component can go on, and not all is done, there is no order.
+-- What it is that a component can go on in its history, and that none can.
 use Rattle.std.specs.Prelude.{◌≡◌, ℕ, ◌<◌, ◌≤◌, ◌==◌, Some, List, cond, length, take, slice_get, slice_index, ◌↔◌, map}
 use Rattle.std.specs.List.{sum_by}
 use Rattle.std.specs.declared.vec.Vec.{Vec}
@@ -36,12 +36,12 @@ pub record IsGreedy (logs : List (List Entry)) (at out : ℕ → ℕ) (order : L
 
 -- some order is gone through so far, with these numbers for each component
 abbrev pub IsCourseBy : List (List Entry) → List ℕ → List ℕ → List ℕ → Type 0
-IsCourseBy logs places known sent =
-    (order : List Spot) × IsGone logs (slice_index places) (slice_index known) (slice_index sent) order
+IsCourseBy logs places came sent =
+    (order : List Spot) × IsGone logs (slice_index places) (slice_index came) (slice_index sent) order
     × IsGreedy logs (slice_index places) (slice_index sent) order
 
 abbrev pub IsCourse : List (List Entry) → Course → Type 0
-IsCourse logs course = IsCourseBy logs course.places.items course.known.items course.sent.items
+IsCourse logs course = IsCourseBy logs course.places.items course.came.items course.sent.items
 
 -- the next message to that component is this one's, and that one has looked where it was to look before
 abbrev pub MaySend : List (List Entry) → (ℕ → ℕ) → (ℕ → ℕ) → ℕ → ℕ → Type 0

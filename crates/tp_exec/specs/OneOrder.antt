@@ -43,7 +43,7 @@ abbrev pub sends_to : ℕ → Option Entry → Bool
 sends_to d (Some (entry.Sent r number m)) = d == r.to.comp.0
 sends_to d _ = false
 
--- the component of the spot, where a sending to that other one stands there
+-- the component of the spot, where a sending to the component d stands there
 abbrev pub sender_to : List (List Entry) → ℕ → Spot → Option ℕ
 sender_to logs d a = cond (sends_to d (entry_at logs a)) (Some a.comp) None
 

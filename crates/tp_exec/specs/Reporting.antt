@@ -64,11 +64,13 @@ IsRefusal ended run_fault.Memory = All IsAtRest ended
 IsRefusal ended run_fault.Restless = ¬ All IsAtRest ended
 IsRefusal ended run_fault.NoOrder = All IsAtRest ended × IsWithoutOrder ended
 
--- a run of the test case came to what it came to, and a behaviour waits for what is there
+-- there is what a run of the test case may have come to, by all that is proved of one, and a behaviour waits for what
+-- is there
 abbrev pub IsRestless : Made → Type 0
 IsRestless made = (ended : List Ended) × IsOfARun made ended × (¬ All IsAtRest ended)
 
--- a run of the test case came to what it came to, no behaviour waits for what is there, and no one order gives that
+-- there is what a run of the test case may have come to, by all that is proved of one; no behaviour waits for what is
+-- there, and no one order gives that
 abbrev pub IsDisordered : Made → Type 0
 IsDisordered made = (ended : List Ended) × IsOfARun made ended × All IsAtRest ended × IsWithoutOrder ended
 

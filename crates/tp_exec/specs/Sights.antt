@@ -1,5 +1,6 @@
--- What one order says of messages: a look at ports sees the very messages that were sent before.
-use Rattle.std.specs.Prelude.{◌≡◌, ℕ, ◌==◌, cond, Option, Some, None, List, slice_get, take}
+-- What one order says of messages: a look at ports sees the very messages that were sent before, so not both of two
+-- components which each send to the other and then look can miss what the other sent.
+use Rattle.std.specs.Prelude.{◌≡◌, ℕ, ◌<◌, ◌+◌, ◌==◌, true, cond, Option, Some, None, List, slice_get, take}
 use Rattle.std.specs.List.{filter_map}
 use Rattle.tp_config.specs.declared.port_type.CompId.{CompId}
 use Rattle.tp_play.specs.TestCases.{Made}
@@ -11,16 +12,17 @@ use Rattle.tp_report.specs.declared.report.Report.{Report}
 use Rattle.tp_behaviour.specs.Fresh.{LooksAtPorts}
 use Rattle.tp_exec.specs.Delivery.{IsReportOf}
 use Rattle.tp_exec.specs.Order.{Spot}
-use Rattle.tp_exec.specs.OneOrder.{IsAt, IsOrderOf, entry_at, logs_of}
+use Rattle.tp_exec.specs.OneOrder.{HasOneOrder, IsAt, IsOrderOf, came_before, entry_at, log_in, logs_of, sends_to}
+use Rattle.tp_exec.specs.Greedy.{many, sends}
 
 -- what the entry sends to the component
-abbrev pub post_of : CompId → Option Entry → Option Posted
-post_of d (Some e) = sending_to d e
-post_of d None = None
+abbrev pub sending_in : CompId → Option Entry → Option Posted
+sending_in d (Some e) = sending_to d e
+sending_in d None = None
 
 -- what is sent to the component d at this spot, where the spot is one of c
 abbrev pub posted_at : List (List Entry) → CompId → CompId → Spot → Option Posted
-posted_at logs c d a = cond (c.0 == a.comp) (post_of d (entry_at logs a)) None
+posted_at logs c d a = cond (c.0 == a.comp) (sending_in d (entry_at logs a)) None
 
 -- what c sends to d at these spots, in their order
 abbrev pub posted_by : List (List Entry) → CompId → CompId → List Spot → List Posted
@@ -35,3 +37,19 @@ LooksSeeSent =
     → slice_get report.components.items c.0 ≡ Some x → slice_get report.components.items d.0 ≡ Some y
     → IsAt order i (record { comp = d.0; place = place }) → slice_get y.desk.log place ≡ Some e → LooksAtPorts e
     → arrived_from d c (take place y.desk.log) ≡ posted_by (logs_of report.components.items) c d (take i order)
+
+-- c sends to d at the place p of its history, and looks at ports at the place q behind it; and the look missed what d sent
+-- at its place r: fewer messages of d had come to c before it than d sends to c up to r, with what stands at r
+pub record Misses (logs : List (List Entry)) (c p q d r : ℕ) : Type 0 where
+  pub sent : sends_to d (entry_at logs (record { comp = c; place = p })) ≡ true
+  pub behind : p < q
+  pub look : Entry
+  pub stands : entry_at logs (record { comp = c; place = q }) ≡ Some look
+  pub looks : LooksAtPorts look
+  pub fewer : many d (came_before logs (record { comp = c; place = q })) < sends c (take (r + 1) (log_in logs d))
+
+-- where one order gives the histories, not both of two components which each send to the other and then look have missed
+-- what the other sent there; nor has one component which sends to itself, where c and d are the same
+abbrev pub CrossedLooks : Type 0
+CrossedLooks =
+    (logs : List (List Entry)) (c d p q r s : ℕ) → Misses logs c p q d r → Misses logs d r s c p → ¬ HasOneOrder logs

@@ -7,7 +7,7 @@ pub(crate) struct Course {
     /// The place of the entry that is next.
     pub(crate) places: Vec<usize>,
     /// How many messages had come before that place.
-    pub(crate) known: Vec<usize>,
+    pub(crate) came: Vec<usize>,
     /// How many were sent to the component so far.
     pub(crate) sent: Vec<usize>,
 }

@@ -21,7 +21,7 @@ pub enum RunFault {
     /// 61 Restless: a behaviour ended as waiting, and a branch of it is open in the final queues.
     #[error("a behaviour waits for what has come")]
     Restless,
-    /// 62 NoOrder: no one order of all that the components did gives what each sent and received.
+    /// 62 NoOrder: no one order of all that the components did gives what each did and saw.
     #[error("no one order gives the histories")]
     NoOrder,
 }

@@ -18,7 +18,7 @@ pub(crate) enum Kind {
 pub(crate) struct Due {
     /// The number of its sender.
     pub(crate) source: u32,
-    /// A place in the history of its component: that behind the last look before it came, 0 where there
-    /// is none. It was sent when all before that place was done.
+    /// A place in the history of the component that it came to: that behind the last look before it
+    /// came, 0 where there is none. It was sent when all before that place was done.
     pub(crate) after: usize,
 }

@@ -1,6 +1,6 @@
 //! Laws of what a report promises, each as a function whose contract it is. They do nothing.
 ghost use Rattle.tp_exec.specs.Laws.{RoutesFollow, TracesAreLawful};
-ghost use Rattle.tp_exec.specs.Sights.{LooksSeeSent};
+ghost use Rattle.tp_exec.specs.Sights.{CrossedLooks, LooksSeeSent};
 
 /// The law that what is delivered between two components is delivered on each route from the one to
 /// the other.
@@ -18,4 +18,10 @@ pub fn traces_are_lawful()
 /// messages that were sent to its component before.
 pub fn looks_see_sent()
     ensures { LooksSeeSent }
+{}
+
+/// The law that of two components which each send to the other and then look, not both have missed
+/// the other's message, in any histories that one order gives.
+pub fn crossed_looks()
+    ensures { CrossedLooks }
 {}

@@ -1,11 +1,11 @@
 //! Whether there is one order of all that the components did that gives their histories.
 ghost use Rattle.std.specs.Prelude.{◌≡◌, ◌↔◌, ◌+◌, ◌*◌, ◌<◌, ◌≤◌, ◌^◌, ℕ, List, All};
-ghost use Rattle.std.specs.Prelude.{IfNone, IfOk, IsTrue, MatchOption, OnOk, length, replicate};
+ghost use Rattle.std.specs.Prelude.{IfNone, IfOk, IfSome, IsTrue, OnOk, length, replicate};
 ghost use Rattle.std.specs.Prelude.{slice_index, slice_set, sum};
 ghost use Rattle.tp_report.specs.declared.report.CompReport.{CompReport as Report};
 ghost use Rattle.tp_exec.specs.OneOrder.{HasOneOrder, log_in, logs_of, sources};
 ghost use Rattle.tp_exec.specs.Courses.{HasRoom, HasSize, affected, due_sources};
-ghost use Rattle.tp_exec.specs.Courses.{kind_of as kind_of_entry, known_then, sent_then};
+ghost use Rattle.tp_exec.specs.Courses.{kind_of as kind_of_entry, came_then, sent_then};
 ghost use Rattle.tp_exec.specs.Greedy.{AreAfter, AreDuesOf, CanDo, IsCourse, IsHeld, IsStuck};
 ghost use Rattle.tp_exec.specs.Greedy.{MaySend};
 
@@ -24,7 +24,9 @@ fn kind_of(entry: &Entry) -> Kind
         Entry::Arrive(_, env, _) => Kind::Came(env.sender),
         Entry::Sent(route, _, _) => Kind::Sent(route.to.comp.0),
         Entry::Verdict(_) | Entry::Failed(_) => Kind::Quiet,
-        _ => Kind::Looked,
+        Entry::Took(..) | Entry::Found(..) | Entry::Dropped(..) | Entry::Else => Kind::Looked,
+        Entry::Cleared(_) | Entry::Started(_) => Kind::Looked,
+        Entry::Stopped(_) | Entry::Halted(_) => Kind::Looked,
     }
 }
 
@@ -62,8 +64,7 @@ fn all_dues(alloc: Global, components: &[CompReport]) -> Result<Vec<Vec<Due>>, M
 
 /// Whether the next message to that component is one of this one's, and may be sent.
 fn may_send(dues: &[Vec<Due>], course: &Course, c: usize, to: usize) -> bool
-    requires places { length course.now.places.items ≡ length dues.now }
-    requires sent { length course.now.sent.items ≡ length dues.now }
+    requires { HasSize course.now (length dues.now) }
     ensures can { (components : List Report) → AreDuesOf components dues.now → (IsTrue result
         ↔ MaySend (logs_of components) (slice_index course.now.places.items)
         (slice_index course.now.sent.items) c to) }
@@ -87,19 +88,17 @@ fn may_send(dues: &[Vec<Due>], course: &Course, c: usize, to: usize) -> bool
 
 /// Whether the component can do the next thing, of this kind.
 fn is_possible(dues: &[Vec<Due>], course: &Course, c: usize, kind: Kind) -> bool
-    requires places { length course.now.places.items ≡ length dues.now }
-    requires known { length course.now.known.items ≡ length dues.now }
-    requires sent { length course.now.sent.items ≡ length dues.now }
+    requires size { HasSize course.now (length dues.now) }
     requires within { c < length dues.now }
     ensures can { (components : List Report) → AreDuesOf components dues.now → (IsTrue result
         ↔ CanDo (logs_of components) (slice_index course.now.places.items)
-        (slice_index course.now.known.items) (slice_index course.now.sent.items) c kind) }
+        (slice_index course.now.came.items) (slice_index course.now.sent.items) c kind) }
     ensures room { IsTrue result →
-        HasRoom course.now.known.items course.now.sent.items c kind }
+        HasRoom course.now.came.items course.now.sent.items c kind }
 {
     match kind {
-        Kind::Came(_) => course.known[c] < course.sent[c],
-        Kind::Looked => course.known[c] == course.sent[c],
+        Kind::Came(_) => course.came[c] < course.sent[c],
+        Kind::Looked => course.came[c] == course.sent[c],
         Kind::Quiet => true,
         Kind::Sent(to) => may_send(dues, course, c, to as usize),
     }
@@ -108,21 +107,21 @@ fn is_possible(dues: &[Vec<Due>], course: &Course, c: usize, kind: Kind) -> bool
 /// Goes by the next thing of the component, of this kind, and answers whom it affects.
 fn go_by(course: &mut Course, c: usize, kind: Kind) -> usize
     requires places { c < length course.old.places.items }
-    requires known { c < length course.old.known.items }
-    requires size { length course.old.sent.items ≡ length course.old.known.items }
-    requires room { HasRoom course.old.known.items course.old.sent.items c kind }
+    requires came { c < length course.old.came.items }
+    requires size { length course.old.sent.items ≡ length course.old.came.items }
+    requires room { HasRoom course.old.came.items course.old.sent.items c kind }
     requires next { slice_index course.old.places.items c + 1 < 2 ^ 64 }
     ensures places { course.new.places.items ≡ slice_set course.old.places.items c
         (slice_index course.old.places.items c + 1) }
-    ensures known { course.new.known.items ≡ known_then c kind course.old.known.items }
+    ensures came { course.new.came.items ≡ came_then c kind course.old.came.items }
     ensures sent { course.new.sent.items ≡ sent_then kind course.old.sent.items }
     ensures affected { result ≡ affected c kind }
-    ensures within { result < length course.old.known.items }
+    ensures within { result < length course.old.came.items }
 {
     course.places[c] += 1;
     match kind {
         Kind::Came(_) => {
-            course.known[c] += 1;
+            course.came[c] += 1;
             c
         }
         Kind::Sent(to) => {
@@ -146,11 +145,10 @@ fn step(
     requires course { IsCourse (logs_of components.now) course.old }
     ensures size { HasSize course.new (length components.now) }
     ensures course { IsCourse (logs_of components.now) course.new }
-    ensures ahead { MatchOption result (sum course.new.places.items ≡ sum course.old.places.items)
-        (λ d. (d < length components.now)
+    ensures ahead { IfSome result (λ d. (d < length components.now)
         × (sum course.new.places.items ≡ sum course.old.places.items + 1)) }
     ensures held { IfNone result (IsHeld (logs_of components.now)
-        (slice_index course.old.places.items) (slice_index course.old.known.items)
+        (slice_index course.old.places.items) (slice_index course.old.came.items)
         (slice_index course.old.sent.items) c) }
     ensures same { IfNone result (course.new ≡ course.old) }
 {
@@ -191,7 +189,7 @@ fn wake(
     affected: usize,
     ready: &mut Vec<usize>,
 ) -> Result<(), Memory>
-    requires size { length course.now.sent.items ≡ length dues.now }
+    requires size { HasSize course.now (length dues.now) }
     requires affected { affected < length dues.now }
     requires below { All (λ x. x < length dues.now) ready.old.items }
     ensures below { OnOk result (All (λ x. x < length dues.now) ready.new.items) }
@@ -209,7 +207,8 @@ fn wake(
     Ok(())
 }
 
-/// Goes on with the component as far as it can, and puts in the list who may be able to go on then.
+/// Does all that the component can do next, one thing after the other, and puts in the list who may
+/// be able to go on then.
 ///
 /// 50 `Memory` where an allocation was refused.
 fn go_far(
@@ -237,7 +236,8 @@ fn go_far(
     Ok(())
 }
 
-/// Goes on with those in the list, and with those who can go on then, one after the other.
+/// Takes one after the other out of the list, and has it do all that it can, until nobody is left
+/// there.
 ///
 /// 50 `Memory` where an allocation was refused.
 fn go_on(
@@ -276,7 +276,7 @@ fn go_all(
     ensures size { HasSize course.new (length components.now) }
     ensures course { IsCourse (logs_of components.now) course.new }
     ensures stuck { OnOk result (IsStuck (logs_of components.now)
-        (slice_index course.new.places.items) (slice_index course.new.known.items)
+        (slice_index course.new.places.items) (slice_index course.new.came.items)
         (slice_index course.new.sent.items)) }
 {
     let mut ready = Vec::new(alloc);
@@ -295,20 +295,14 @@ fn go_all(
     Ok(())
 }
 
-/// Whether all is done, and all that came was sent.
-fn is_ended(components: &[CompReport], dues: &[Vec<Due>], course: &Course) -> bool
-    requires size { HasSize course.now (length components.now) }
-    requires dues { AreDuesOf components.now dues.now }
+/// Whether all is done.
+fn is_ended(components: &[CompReport], course: &Course) -> bool
+    requires { HasSize course.now (length components.now) }
     ensures { IsTrue result ↔ ((c : ℕ) → c < length components.now
-        → (slice_index course.now.places.items c ≡ length (log_in (logs_of components.now) c))
-        × (slice_index course.now.sent.items c
-        ≡ length (sources (log_in (logs_of components.now) c)))) }
+        → slice_index course.now.places.items c ≡ length (log_in (logs_of components.now) c)) }
 {
     for c in 0..components.len() {
         if course.places[c] != components[c].desk.log().len() {
-            return false;
-        }
-        if course.sent[c] != dues[c].len() {
             return false;
         }
     }
@@ -320,21 +314,18 @@ fn is_ended(components: &[CompReport], dues: &[Vec<Due>], course: &Course) -> bo
 /// 50 `Memory` where an allocation was refused.
 fn begin(alloc: Global, size: usize) -> Result<Course, Memory>
     ensures { IfOk result (λ course. (course.places.items ≡ replicate size 0)
-        × (course.known.items ≡ replicate size 0)
+        × (course.came.items ≡ replicate size 0)
         × (course.sent.items ≡ replicate size 0)) }
 {
     let places = vec![in alloc; 0; size]?;
-    let known = vec![in alloc; 0; size]?;
+    let came = vec![in alloc; 0; size]?;
     let sent = vec![in alloc; 0; size]?;
-    Ok(Course {
-        places,
-        known,
-        sent,
-    })
+    Ok(Course { places, came, sent })
 }
 
 /// Whether there is one order of all that the components did that gives their histories, each
-/// message in its queue at once when it was sent. It is found in time linear in the histories.
+/// message in its queue at once when it was sent. It takes time linear in the histories, as long as
+/// `wake` forgets nobody; no clause says so.
 ///
 /// 50 `Memory` where an allocation was refused.
 pub(crate) fn has_one_order(alloc: Global, components: &[CompReport]) -> Result<bool, Memory>
@@ -343,5 +334,5 @@ pub(crate) fn has_one_order(alloc: Global, components: &[CompReport]) -> Result<
     let dues = all_dues(alloc, components)?;
     let mut course = begin(alloc, components.len())?;
     go_all(alloc, components, &dues, &mut course)?;
-    Ok(is_ended(components, &dues, &course))
+    Ok(is_ended(components, &course))
 }

@@ -37,8 +37,8 @@ fn count_living(test_case: &TestCase) -> u32
 /// 51 `NoThread` where the starting of a thread was refused; else 50 `Memory` where an allocation
 /// was refused before all messages had come; else 61 `Restless` where a behaviour waits and one of
 /// its branches is open in its final queues; else 50 `Memory` where there was no memory for the
-/// report; else 62 `NoOrder` where no one order of all that the components did gives what each
-/// sent and received.
+/// report, or for its order; else 62 `NoOrder` where no one order of all that the components did
+/// gives what each did and saw.
 pub fn run<R: Threads + Wait + Sync, G: Gate>(
     rt: &R,
     alloc: Global,
@@ -47,7 +47,7 @@ pub fn run<R: Threads + Wait + Sync, G: Gate>(
 ) -> Result<Report, RunFault>
     ensures report { IfOk result (IsReportOf test_case.now) }
     ensures one_order { IfOk result IsInOneOrder }
-    ensures order { IfOk result NoCircle }
+    ensures no_circle { IfOk result NoCircle }
     ensures overtaking { IfOk result NoneOvertakes }
     ensures text { IfOk result (IsReportable test_case.now.config) }
     ensures fault { IfErr result (IsRunFault test_case.now) }

@@ -21,13 +21,13 @@ pub reported : (text : Made → Report → List ℕ) (made : Made) (report : Rep
     → NoCircle report
     → IfSome status (λ s. s ≡ 0)
     → Appends old mid (text made report) → Keeps mid new → IfSome status (IsRunOf text made old new)
-reported text made report None old mid new delivery one_order order code added kept = tt
-reported text made report (Some s) old mid new delivery one_order order code added kept =
+reported text made report None old mid new delivery one_order no_circle code added kept = tt
+reported text made report (Some s) old mid new delivery one_order no_circle code added kept =
     inl (record {
       report = report;
       delivery = delivery;
       one_order = one_order;
-      order = order;
+      no_circle = no_circle;
       code = code;
       printed = added_and_kept old mid new (text made report) added kept;
     })

@@ -20,7 +20,7 @@ pub record IsReported (text : Made → Report → List ℕ) (made : Made) (old n
   pub report : Report
   pub delivery : IsReportOf made report
   pub one_order : IsInOneOrder report
-  pub order : NoCircle report
+  pub no_circle : NoCircle report
   pub code : status ≡ 0
   pub printed : Appends old new (text made report)
 

@@ -64,8 +64,8 @@ fn answer_test_case<T: Threads + Wait + Sync, W: Write, G: Gate>(
 /// `answer_check`; 3 where there is no report: `fault 51 NoThread` where the starting of a thread
 /// was refused, `fault 50 Memory` where memory was, `fault 61 Restless` where a behaviour was ended
 /// as waiting and one of its branches was open, `fault 62 NoOrder` where no one order of all that
-/// was done gives what each sent and received. `None` where the writer failed; how much is printed
-/// then is open. It may wait for good.
+/// was done gives what each component did and saw. `None` where the writer failed; how much is
+/// printed then is open. It may wait for good.
 pub fn answer_run<T: Threads + Wait + Sync, R: Read, W: Write, G: Gate>(
     rt: &T,
     alloc: Global,

@@ -18,7 +18,7 @@ pub record IsReportWritten (made : Made) (old new : Option (List ℕ)) : Type 0 
   pub report : Report
   pub delivery : IsReportOf made report
   pub one_order : IsInOneOrder report
-  pub order : NoCircle report
+  pub no_circle : NoCircle report
   pub written : Appends old new (report_text made report)
 
 -- the line of a gate that gave up was added, or that of a fault by which a run of the test case has no report

@@ -7,7 +7,7 @@ pub loop-c-smaller : goal.loop-c-smaller
 loop-c-smaller c =
     let all = sum (map (λ x. length x.desk.log) c.args.components.now) in
     let new = c.go_on.new.course in
-    let within = places_within c.args.components.now new.places.items new.known.items new.sent.items c.in_ok-go_on-in-Some.ensures.size.places
+    let within = places_within c.args.components.now new.places.items new.came.items new.sent.items c.in_ok-go_on-in-Some.ensures.size.places
     c.in_ok-go_on-in-Some.ensures.course in
     let ahead = c.in-Some.ensures.ahead.1 in
     let grown = c.in_ok-go_on-in-Some.ensures.grown in

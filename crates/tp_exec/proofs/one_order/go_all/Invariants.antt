@@ -10,7 +10,7 @@ invariant-loop-c l = record {
   ready : All (λ x. x < length l.components) l.ready.items;
   size : HasSize l.course (length l.components);
   course : IsCourse (logs_of l.components) l.course;
-  held : (k : ℕ) → k < l.c → IsHeld (logs_of l.components) (slice_index l.course.places.items) (slice_index l.course.known.items)
+  held : (k : ℕ) → k < l.c → IsHeld (logs_of l.components) (slice_index l.course.places.items) (slice_index l.course.came.items)
       (slice_index l.course.sent.items) k;
 }
 

@@ -6,6 +6,6 @@ use Rattle.tp_exec.proofs.one_order.go_far.Goals as goal
 pub loop-affected-smaller : goal.loop-affected-smaller
 loop-affected-smaller c =
     let new = c.step.new.course in
-    let within = places_within c.args.components.now new.places.items new.known.items new.sent.items c.step.ensures.size.places c.step.ensures.course in
+    let within = places_within c.args.components.now new.places.items new.came.items new.sent.items c.step.ensures.size.places c.step.ensures.course in
     let ahead = c.in-Some.ensures.ahead.1 in
     omega (arith, within, ahead)

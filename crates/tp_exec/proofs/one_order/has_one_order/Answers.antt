@@ -3,7 +3,7 @@ use Rattle.std.proofs.Common.{ℕ, List, length, replicate, slice_index, sym, su
 use Rattle.tp_exec.specs.OneOrder.{logs_of}
 use Rattle.tp_exec.specs.Greedy.{IsCourseBy}
 use Rattle.tp_exec.proofs.Courses.{begun, ended}
-use Rattle.tp_exec.proofs.Stuck.{all_gone, all_out}
+use Rattle.tp_exec.proofs.Stuck.{all_gone}
 use Rattle.tp_exec.proofs.one_order.has_one_order.Goals as goal
 
 pub go_all-requires-clause-course : goal.go_all-requires-clause-course
@@ -13,7 +13,7 @@ go_all-requires-clause-course c =
     let none = replicate n 0 in
     let new = c.in_ok-course.course in
     let is = c.in_ok-course.ensures in
-    subst (λ (s : List ℕ). IsCourseBy logs new.places.items new.known.items s) (sym is.2)
+    subst (λ (s : List ℕ). IsCourseBy logs new.places.items new.came.items s) (sym is.2)
     (subst (λ (s : List ℕ). IsCourseBy logs new.places.items s none) (sym is.1)
     (subst (λ (s : List ℕ). IsCourseBy logs s none none) (sym is.0) (begun logs n n n)))
 
@@ -25,11 +25,8 @@ returns c =
     let stuck = c.in_ok-go_all.ensures.stuck in
     let logs = logs_of c.args.components.now in
     let at = slice_index new.places.items in
-    let came = slice_index new.known.items in
+    let came = slice_index new.came.items in
     let out = slice_index new.sent.items in (
-      λ all. ended c.args.components.now new.places.items new.known.items new.sent.items course size.places size.sent (c.is_ended.ensures.0 all),
-      λ has. c.is_ended.ensures.1 (λ k low. (
-        all_gone logs at came out course.0 course.1 course.2 stuck has.0 has.1 k,
-        all_out logs at came out course.0 course.1 course.2 stuck has.0 has.1 k,
-      )),
+      λ all. ended c.args.components.now new.places.items new.came.items new.sent.items course size.places (c.is_ended.ensures.0 all),
+      λ has. c.is_ended.ensures.1 (λ k low. all_gone logs at came out course.0 course.1 course.2 stuck has.0 has.1 k),
     )

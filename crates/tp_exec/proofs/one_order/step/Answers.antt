@@ -16,7 +16,7 @@ returns-clause-course c =
     let logs = logs_of c.args.components.now in
     let was = c.args.course.now in
     let places = was.places.items in
-    let known = was.known.items in
+    let known = was.came.items in
     let sent = was.sent.items in
     let n = c.args.c in
     let p = slice_index places n in
@@ -31,11 +31,11 @@ returns-clause-course c =
     (slice_get_read c.log-log.result.now (length c.log-log.result.now) c.index-place.result.now e refl c.if-place-log.false c.index-log-place.is) in
     let can = (c.if-not-is_possible.ensures.can c.args.components.now c.requires.dues).0 refl in
     let count : length logs ≡ length c.args.components.now = length-map c.args.components.now (λ (x : CompReport). x.desk.log) in
-    let low_known : n < length known = omega (arith, size.known, c.requires.within) in
+    let low_known : n < length known = omega (arith, size.came, c.requires.within) in
     let r = done logs places known sent n e k (sym c.kind_of-kind.ensures) (ap (λ l. slice_get l p) log ∙ at) low low_known
     (size.sent ∙ sym count) can c.requires.course in
     let then = set places n (p + 1) in
     let new = c.go_by.new.course in
-    subst (λ (s : List ℕ). IsCourseBy logs s new.known.items new.sent.items) (sym c.go_by.ensures.places)
-    (subst (λ (s : List ℕ). IsCourseBy logs then new.known.items s) (sym c.go_by.ensures.sent)
-    (subst (λ (s : List ℕ). IsCourseBy logs then s (sent_then k sent)) (sym c.go_by.ensures.known) r))
+    subst (λ (s : List ℕ). IsCourseBy logs s new.came.items new.sent.items) (sym c.go_by.ensures.places)
+    (subst (λ (s : List ℕ). IsCourseBy logs then new.came.items s) (sym c.go_by.ensures.sent)
+    (subst (λ (s : List ℕ). IsCourseBy logs then s (sent_then k sent)) (sym c.go_by.ensures.came) r))

@@ -20,8 +20,8 @@ make_report-requires g c =
 pub returns-clause-overtaking : goal.returns-clause-overtaking
 returns-clause-overtaking g c = keeps_order c.args.test_case.now c.make_report.result c.make_report.ensures.report
 
-pub returns-clause-order : goal.returns-clause-order
-returns-clause-order g c = ordered c.args.test_case.now c.make_report.result c.make_report.ensures.report
+pub returns-clause-no_circle : goal.returns-clause-no_circle
+returns-clause-no_circle g c = ordered c.args.test_case.now c.make_report.result c.make_report.ensures.report
 
 pub returns-in_err-played-clause-fault : goal.returns-in_err-played-clause-fault
 returns-in_err-played-clause-fault g c =

@@ -8,6 +8,6 @@ returns-in-Ok-write_report g c =
       report = c.in-Ok-outcome.report;
       delivery = c.in-Ok-outcome.ensures.report;
       one_order = c.in-Ok-outcome.ensures.one_order;
-      order = c.in-Ok-outcome.ensures.order;
+      no_circle = c.in-Ok-outcome.ensures.no_circle;
       written = c.in-Ok-write_report.ensures;
     })
