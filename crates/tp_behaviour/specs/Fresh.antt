@@ -9,11 +9,18 @@ use Rattle.tp_behaviour.specs.Moments.{Moment, moments}
 
 -- the entry looks at the ports' queues, or works on one
 abbrev pub LooksAtPorts : Entry → Type 0
+LooksAtPorts (entry.Arrive p e s) = ⊥
+LooksAtPorts (entry.Took p e b) = Unit {0}
+LooksAtPorts (entry.Found p e b) = Unit {0}
+LooksAtPorts (entry.Dropped p e b) = Unit {0}
+LooksAtPorts (entry.Cleared p) = Unit {0}
+LooksAtPorts (entry.Started p) = Unit {0}
+LooksAtPorts (entry.Stopped p) = Unit {0}
+LooksAtPorts (entry.Halted p) = Unit {0}
 LooksAtPorts (entry.Sent r n m) = ⊥
+LooksAtPorts entry.Else = Unit {0}
 LooksAtPorts (entry.Verdict v) = ⊥
 LooksAtPorts (entry.Failed c) = ⊥
-LooksAtPorts (entry.Arrive p e s) = ⊥
-LooksAtPorts _ = Unit {0}
 
 -- as much has come to the component from itself, on each route, as it has sent to itself
 abbrev pub HasOwn : CompId → List Entry → Type 0

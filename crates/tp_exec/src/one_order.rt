@@ -71,6 +71,7 @@ fn may_send(dues: &[Vec<Due>], course: &Course, c: usize, to: usize) -> bool
     ensures room { IsTrue result → (to < length course.now.sent.items)
         × (slice_index course.now.sent.items to + 1 < 2 ^ 64) }
 {
+    // Nothing comes to a component that isn't there.
     if to >= dues.len() {
         return false;
     }
@@ -200,6 +201,7 @@ fn wake(
     }
     if let Some(due) = dues[affected].get(course.sent[affected]) {
         let next = due.source as usize;
+        // A component that isn't there does nothing.
         if next != c && next < dues.len() {
             put_in(next, &mut *ready)?;
         }

@@ -46,15 +46,19 @@ is_own _ = true
 
 -- whether its component looked at ports
 abbrev pub is_looking : Act → Bool
+is_looking (act.Sent m) = false
+is_looking (act.Came m) = false
 is_looking (act.Took m) = true
 is_looking (act.Found m) = true
 is_looking (act.Dropped m) = true
+is_looking (act.Left m) = false
 is_looking (act.Cleared port) = true
 is_looking (act.Started port) = true
 is_looking (act.Stopped port) = true
 is_looking (act.Halted port) = true
 is_looking act.Else = true
-is_looking _ = false
+is_looking act.End = false
+is_looking act.Other = false
 
 abbrev pub sent_mention : Act → Option Mention
 sent_mention (act.Sent m) = Some m
