@@ -13,3 +13,15 @@ pub mod Typing
 pub mod Fitting
 pub mod Listed
 pub mod Played
+pub mod Breaking
+pub mod Matched
+pub mod Entered
+pub mod FieldTables
+pub mod ValueInversions
+pub mod Misplaced
+pub mod TemplateInversions
+pub mod Fixed
+pub mod Handing
+pub mod OperationInversions
+pub mod Declaring
+pub mod StatementInversions

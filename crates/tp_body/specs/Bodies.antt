@@ -1,6 +1,6 @@
 -- What the statements of the text stand for, a case for each line of the grammar. A statement in which a fault
 -- stands stands for nothing.
-use Rattle.std.specs.Prelude.{◌≡◌, ◌≢◌, ℕ, List, [], ◌∷◌, ◌++◌, Option, None, Some, Contains, string_bytes, slice_get}
+use Rattle.std.specs.Prelude.{◌≡◌, ◌≢◌, ◌<◌, ℕ, List, length, [], ◌∷◌, ◌++◌, Option, None, Some, Contains, string_bytes, slice_get}
 use Rattle.std.specs.declared.vec.Vec.{Vec}
 use Rattle.std.specs.declared.alloc.Global.{Global}
 use Rattle.std.specs.declared.string.String.{String}
@@ -8,6 +8,7 @@ use Rattle.tp_value.specs.declared.types.Ty.{Ty}
 use Rattle.tp_value.specs.declared.types.Ty.TheVariants as ty
 use Rattle.tp_value.specs.declared.verdict.Verdict.{Verdict}
 use Rattle.tp_value.specs.declared.verdict.Verdict.TheVariants as verdict
+use Rattle.tp_value.specs.Types.{type_number}
 use Rattle.tp_config.specs.declared.port_type.PortType.{PortType}
 use Rattle.tp_tree.specs.declared.message.TypeName.TheVariants as type_name
 use Rattle.tp_tree.specs.declared.message.TypeName.{TypeName}
@@ -199,17 +200,19 @@ mutual
         → AreBranches scope variables turns xs ys → IsBranch scope variables turns x y
         → AreBranches scope variables turns (xs ++ x ∷ []) (ys ++ y ∷ [])
 
--- the type of a variable: a type of messages, or a component type
+-- the type of a variable: a type of messages, or a component type where no type of messages has the name
 pub data IsHeld (scope : Scope) : TypeName → VariableType → Type 0 where
   message : (x : TypeName) (u : Ty) → IsType scope.types.now x u → IsHeld scope x (variable_type.Message u)
-  component : (n : String Global) (k : ℕ) → IsPlace scope.component_types.now (string_bytes n) k
+  component : (n : String Global) (k : ℕ) → type_number scope.types.now (string_bytes n) ≡ None
+      → IsPlace scope.component_types.now (string_bytes n) k
       → IsHeld scope (type_name.Named n) variable_type.Component
 
--- the variables of a body, each with a new name
+-- the variables of a body, each with a new name: 4,294,967,295 at most
 pub data AreVariables (scope : Scope) : List Variable → Variables → Type 0 where
   no_variable : (vs : Variables) → vs.names ≡ [] → vs.types ≡ [] → AreVariables scope [] vs
   one_variable_more : (xs : List Variable) (vs ws : Variables) (x : Variable) (held : VariableType)
-      → AreVariables scope xs vs → IsHeld scope x.type_name held → IsNew scope vs [] (string_bytes x.name)
+      → AreVariables scope xs vs → length vs.names < 4294967295 → IsHeld scope x.type_name held
+      → IsNew scope vs [] (string_bytes x.name)
       → ws.names ≡ vs.names ++ string_bytes x.name ∷ [] → ws.types ≡ vs.types ++ held ∷ []
       → AreVariables scope (xs ++ x ∷ []) ws
 

@@ -1,5 +1,5 @@
 -- Which entry stands for which field.
-use Rattle.std.specs.Prelude.{◌≡◌, ◌<◌, ℕ, List, map, Some, length, slice_get, Contains}
+use Rattle.std.specs.Prelude.{◌≡◌, ◌<◌, ◌⊎◌, ℕ, List, [], map, Some, length, slice_get, All, Contains}
 use Rattle.tp_value.specs.declared.types.Field.{Field}
 
 -- the names of the fields, in declared order
@@ -13,3 +13,12 @@ pub record IsPlacing (fields : List Field) (names : List (List ℕ)) (places : L
   pub as_many : length places ≡ length names
   pub same_name : (i k : ℕ) → slice_get places i ≡ Some k → slice_get (field_names fields) k ≡ slice_get names i
   pub each : (k : ℕ) → k < length fields → Contains places k
+
+-- there are as many entries of these names as fields, and each field has an entry of its name
+pub record HaveEntries (fields : List Field) (names : List (List ℕ)) : Type 0 where
+  pub count : length names ≡ length fields
+  pub each : All (Contains names) (field_names fields)
+
+-- a table of the names of the fields: it holds none yet, or all of them in declared order
+abbrev pub IsTable : List Field → List (List ℕ) → Type 0
+IsTable fields names = (names ≡ []) ⊎ (names ≡ field_names fields)

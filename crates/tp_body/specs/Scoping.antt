@@ -1,11 +1,13 @@
 -- What the names of a body stand for.
-use Rattle.std.specs.Prelude.{◌≡◌, ℕ, ◌+◌, List, length, map, Some, slice_get, string_bytes, ◌++◌}
+use Rattle.std.specs.Prelude.{◌≡◌, ℕ, ◌+◌, ◌≤◌, List, length, map, Some, slice_get, string_bytes, ◌++◌}
 use Rattle.std.specs.declared.string.String.{String}
 use Rattle.std.specs.declared.alloc.Global.{Global}
 use Rattle.tp_value.specs.declared.types.Ty.{Ty}
 use Rattle.tp_value.specs.declared.types.Ty.TheVariants as ty
 use Rattle.tp_value.specs.declared.types.Types.{Types}
-use Rattle.tp_value.specs.Types.{type_number}
+use Rattle.tp_value.specs.declared.types.Field.{Field}
+use Rattle.tp_value.specs.declared.types.TypeDef.TheVariants as type_def
+use Rattle.tp_value.specs.Types.{named, type_number}
 use Rattle.tp_config.specs.declared.port_type.PortType.{PortType}
 use Rattle.tp_config.specs.declared.port_type.CompType.{CompType}
 use Rattle.tp_tree.specs.declared.message.TypeName.{TypeName}
@@ -18,6 +20,8 @@ use Rattle.tp_body.specs.declared.scope.BehaviourKind.TheVariants as behaviour_k
 use Rattle.tp_body.specs.declared.scope.Scope.{Scope}
 use Rattle.tp_body.specs.declared.scope.Variables.{Variables}
 use Rattle.tp_name.specs.Named.{IsPlace, IsAbsent}
+use Rattle.tp_name.specs.Tables.{AreDistinct}
+use Rattle.tp_body.specs.Placing.{field_names}
 
 -- the names of the ports of a component type, in declared order
 abbrev pub declared_port_names : CompType → List (List ℕ)
@@ -81,3 +85,14 @@ pub record IsNew (scope : Scope) (variables : Variables) (turns : List (List ℕ
 -- variables
 abbrev pub reference_count : Scope → ℕ
 reference_count scope = length scope.parameters.now + length scope.components.now + 2
+
+-- what the checks of a body rely on in its scope: a component type has at most 64 ports, and no two fields of a
+-- record type have one name
+pub record IsSoundScope (scope : Scope) : Type 0 where
+  pub few_ports : length scope.ports.now.ports.entries ≤ 64
+  pub own_names : (u : Ty) (fields : List Field) → named scope.types.now u ≡ Some (type_def.Record fields)
+      → AreDistinct (field_names fields)
+
+-- each variable has a type
+pub record AreTyped (variables : Variables) : Type 0 where
+  pub as_many : length variables.types ≡ length variables.names

@@ -23,6 +23,7 @@ pub struct Context<'a, 'v, 'm> {
 
 impl<'a, 'v, 'm> Context<'a, 'v, 'm> {
     ghost use Rattle.std.specs.Prelude.{◌≡◌, ◌≢◌, Contains, IfErr, OnErr, OnOk};
+    ghost use Rattle.tp_name.specs.Refused.{Breaks};
 
     /// 11 `Unknown`.
     pub fn unknown(&self) -> ScriptFault
@@ -70,6 +71,8 @@ impl<'a, 'v, 'm> Context<'a, 'v, 'm> {
         ensures ok { OnOk result (self.now.scope.now.behaviour ≢ BehaviourKind.SystemUnderTest) }
         ensures err { IfErr result (λ fault.
             fault ≡ ScriptFault.Refused Refusal.NotInSut self.now.line) }
+        ensures refused { IfErr result
+            (Breaks (self.now.scope.now.behaviour ≢ BehaviourKind.SystemUnderTest)) }
     {
         if self.scope.behaviour == BehaviourKind::SystemUnderTest {
             return Err(refused(Refusal::NotInSut, self.line));

@@ -1,7 +1,7 @@
 //! Looking names up.
-ghost use Rattle.std.specs.Prelude.{◌≡◌, ◌++◌, ◌↔◌, Contains, IsTrue, IfNone, IfSome};
+ghost use Rattle.std.specs.Prelude.{◌≡◌, ◌++◌, ◌↔◌, ◌≤◌, ◌<◌, ◌^◌, ℕ, Contains, IsTrue, IfNone, IfSome, length};
 ghost use Rattle.tp_name.specs.Named.{IsAbsent, IsPlace, texts};
-ghost use Rattle.tp_body.specs.Scoping.{IsPortNamed, IsReference, IsType, IsVariable, declared_port_names, receives, sends};
+ghost use Rattle.tp_body.specs.Scoping.{AreTyped, IsPortNamed, IsReference, IsType, IsVariable, declared_port_names, receives, sends};
 
 use crate::context::Context;
 use crate::scope::{BehaviourKind, Scope, Variables};
@@ -27,7 +27,9 @@ pub fn place_of_port(ports: &CompType, name: &str) -> Option<usize>
 
 /// The port of this name: its place, and its type. Takes no memory.
 pub fn find_port<'p>(ports: &'p CompType, name: &str) -> Option<(u32, &'p PortType)>
-    ensures { IfSome result (λ found. IsPortNamed ports.now name.now found.0 found.1.now) }
+    ensures there { IfSome result (λ found. IsPortNamed ports.now name.now found.0 found.1.now) }
+    ensures absent { length ports.now.ports.entries ≤ 64 → IfNone result
+        ((k : ℕ) (port : PortType) → IsPortNamed ports.now name.now k port → ⊥) }
 {
     let place = place_of_port(ports, name)?;
     let Some((_, port)) = ports.ports.get_index(place) else {
@@ -69,7 +71,8 @@ pub fn lists(types: &TypeList, ty: Ty) -> bool
 /// The type of values that a name stands for. Takes no memory.
 #[tactic(auto, using(crate::proofs::Rules::cases))]
 pub fn find_type(types: &Types, name: &TypeName) -> Option<Ty>
-    ensures { IfSome result (IsType types.now name.now) }
+    ensures there { IfSome result (IsType types.now name.now) }
+    ensures absent { IfNone result ((u : Ty) → IsType types.now name.now u → ⊥) }
 {
     match name {
         TypeName::Integer => Some(Ty::Integer),
@@ -84,7 +87,9 @@ pub fn find_type(types: &Types, name: &TypeName) -> Option<Ty>
 
 /// The variable of this name: its place, and what it holds. Takes no memory.
 pub fn find_variable(variables: &Variables, name: &str) -> Option<(usize, VariableType)>
-    ensures { IfSome result (λ found. IsVariable variables.now name.now found.0 found.1) }
+    ensures there { IfSome result (λ found. IsVariable variables.now name.now found.0 found.1) }
+    ensures absent { AreTyped variables.now → IfNone result
+        ((k : ℕ) (held : VariableType) → IsVariable variables.now name.now k held → ⊥) }
 {
     let place = variables.names.find(name)? as usize;
     let held = variables.types.get(place)?;
@@ -93,8 +98,11 @@ pub fn find_variable(variables: &Variables, name: &str) -> Option<(usize, Variab
 
 /// The place of a name among the references, from the third on. Takes no memory.
 fn find_component(scope: &Scope, name: &str) -> Option<usize>
-    ensures { IfSome result
+    ensures there { IfSome result
         (IsPlace (scope.now.parameters.now ++ scope.now.components.now) name.now) }
+    ensures absent { IfNone result
+        (IsAbsent (scope.now.parameters.now ++ scope.now.components.now) name.now) }
+    ensures few { IfSome result (λ place. place < 2 ^ 33) }
 {
     if let Some(place) = scope.parameters.find(name) {
         return Some(place as usize);
@@ -106,9 +114,12 @@ fn find_component(scope: &Scope, name: &str) -> Option<usize>
 /// The place of a component among the references. Takes no memory.
 #[tactic(auto, using(crate::proofs::Rules::cases))]
 pub fn find_reference(context: &Context, component: &ComponentName) -> Option<usize>
-    ensures { IfSome result (IsReference
+    ensures there { IfSome result (IsReference
         context.now.scope.now context.now.variables.now (texts context.now.turns.now)
         component.now) }
+    ensures absent { IfNone result ((k : ℕ) → IsReference
+        context.now.scope.now context.now.variables.now (texts context.now.turns.now)
+        component.now k → ⊥) }
 {
     match component {
         ComponentName::Mtc => Some(0),

@@ -1,7 +1,12 @@
 //! What the values of messages stand for.
-ghost use Rattle.std.specs.Prelude.{◌≡◌, IfOk, length};
+ghost use Rattle.std.specs.Prelude.{◌≡◌, List, IfErr, IfOk, length};
 ghost use Rattle.tp_name.specs.Named.{texts};
+ghost use Rattle.tp_name.specs.Refused.{Breaks};
+ghost use Rattle.tp_name.specs.Tables.{AreDistinct};
 ghost use Rattle.tp_body.specs.Messages.{AreElements, AreFields, AreNamed, IsValue};
+ghost use Rattle.tp_body.specs.Placing.{field_names};
+ghost use Rattle.tp_body.specs.Scoping.{IsSoundScope};
+ghost use Rattle.tp_play.specs.declared.body.SendValue.{SendValue};
 
 use crate::context::Context;
 use crate::placing::field_places;
@@ -27,8 +32,11 @@ pub fn resolve_value(
     ty: Ty,
     value: &Value,
 ) -> Result<SendValue, ScriptFault>
-    ensures { IfOk result
+    ensures stands { IfOk result
         (IsValue context.now.scope.now.types.now (texts context.now.turns.now) ty value.now) }
+    ensures refused { IsSoundScope context.now.scope.now
+        → IfErr result (Breaks ((y : SendValue) × IsValue context.now.scope.now.types.now
+        (texts context.now.turns.now) ty value.now y)) }
 {
     match value {
         Value::Int(number) => {
@@ -79,8 +87,12 @@ fn resolve_elements(
     ty: Ty,
     values: &[Value],
 ) -> Result<Items<SendValue>, ScriptFault>
-    ensures { IfOk result
+    ensures stand { IfOk result
         (AreElements context.now.scope.now.types.now (texts context.now.turns.now) ty values.now) }
+    ensures refused { IsSoundScope context.now.scope.now
+        → IfErr result (Breaks ((ys : List SendValue)
+        × AreElements context.now.scope.now.types.now (texts context.now.turns.now)
+        ty values.now ys)) }
 {
     let mut made = Items::new(alloc);
     for value in values {
@@ -99,9 +111,13 @@ fn resolve_fields(
     fields: &[Field],
     values: &[Value],
 ) -> Result<Items<SendValue>, ScriptFault>
-    ensures { IfOk result
+    ensures stand { IfOk result
         (AreFields context.now.scope.now.types.now (texts context.now.turns.now)
         fields.now values.now) }
+    ensures refused { IsSoundScope context.now.scope.now
+        → IfErr result (Breaks ((ys : List SendValue)
+        × AreFields context.now.scope.now.types.now (texts context.now.turns.now)
+        fields.now values.now ys)) }
 {
     if fields.len() != values.len() {
         return Err(context.wrong_type());
@@ -126,6 +142,10 @@ fn resolve_named(
     ensures named { IfOk result (λ made. AreNamed
         context.now.scope.now.types.now (texts context.now.turns.now) entries.now fields.now made) }
     ensures count { IfOk result (λ _. length entries.now ≡ length fields.now) }
+    ensures refused { IsSoundScope context.now.scope.now → AreDistinct (field_names fields.now)
+        → IfErr result (Breaks ((ys : List SendValue) × (length entries.now ≡ length fields.now)
+        × AreNamed context.now.scope.now.types.now (texts context.now.turns.now)
+        entries.now fields.now ys)) }
 {
     let places = field_places(alloc, fields, entries, context.line)?;
     let mut made = Vec::new(alloc);

@@ -1,7 +1,8 @@
 //! What sends and receiving operations stand for.
-ghost use Rattle.std.specs.Prelude.{◌≡◌, Contains, IfErr, IfOk};
+ghost use Rattle.std.specs.Prelude.{◌≡◌, ℕ, Contains, IfErr, IfOk, Option, Some};
 ghost use Rattle.tp_name.specs.Named.{IsAbsent, texts};
-ghost use Rattle.tp_body.specs.Scoping.{IsVariable};
+ghost use Rattle.tp_name.specs.Refused.{Breaks};
+ghost use Rattle.tp_body.specs.Scoping.{AreTyped, IsSoundScope, IsVariable};
 ghost use Rattle.tp_body.specs.Messages.{IsMessage};
 ghost use Rattle.tp_body.specs.Bodies.{IsReceive, IsReceiver, IsSend, IsFrom, IsSenderTarget, IsSent, IsValueTarget, IsVerdict, IsWanted};
 
@@ -36,6 +37,9 @@ fn resolve_written(
     ensures message { IfOk result
         (IsMessage context.now.scope.now.types.now (texts context.now.turns.now) message.now) }
     ensures listed { IfOk result (λ m. Contains sendable.now m.ty) }
+    ensures refused { IsSoundScope context.now.scope.now → IfErr result
+        (Breaks ((m : SendMsg) × IsMessage context.now.scope.now.types.now
+        (texts context.now.turns.now) message.now m × Contains sendable.now m.ty)) }
 {
     let Some(ty) = find_type(context.scope.types, &message.type_name) else {
         return Err(context.unknown());
@@ -56,6 +60,7 @@ fn resolve_counter(
     ensures value { IfOk result (λ m.
         m ≡ record { ty = Ty.Integer; value = SendValue.Turn place }) }
     ensures listed { IfOk result (λ _. Contains sendable.now Ty.Integer) }
+    ensures refused { IfErr result (Breaks (Contains sendable.now Ty.Integer)) }
 {
     if !lists(sendable, Ty::Integer) {
         return Err(context.direction());
@@ -72,6 +77,9 @@ fn variable_named(context: &Context, name: &str) -> Result<(usize, VariableType)
     ensures no_turn { IfOk result (λ _. IsAbsent (texts context.now.turns.now) name.now) }
     ensures held { IfOk result (λ found.
         IsVariable context.now.variables.now name.now found.0 found.1) }
+    ensures refused { AreTyped context.now.variables.now → IfErr result
+        (Breaks ((k : ℕ) × (held : VariableType) × IsAbsent (texts context.now.turns.now) name.now
+        × IsVariable context.now.variables.now name.now k held)) }
 {
     let None = find(context.turns, name) else {
         return Err(context.wrong_type());
@@ -88,6 +96,9 @@ fn message_variable(context: &Context, name: &str) -> Result<(usize, Ty), Script
     ensures no_turn { IfOk result (λ _. IsAbsent (texts context.now.turns.now) name.now) }
     ensures held { IfOk result (λ found.
         IsVariable context.now.variables.now name.now found.0 (VariableType.Message found.1)) }
+    ensures refused { AreTyped context.now.variables.now → IfErr result
+        (Breaks ((k : ℕ) × (ty : Ty) × IsAbsent (texts context.now.turns.now) name.now
+        × IsVariable context.now.variables.now name.now k (VariableType.Message ty))) }
 {
     let (place, held) = variable_named(context, name)?;
     match held {
@@ -102,6 +113,9 @@ fn component_variable(context: &Context, name: &str) -> Result<usize, ScriptFaul
     ensures no_turn { IfOk result (λ _. IsAbsent (texts context.now.turns.now) name.now) }
     ensures held { IfOk result (λ place.
         IsVariable context.now.variables.now name.now place VariableType.Component) }
+    ensures refused { AreTyped context.now.variables.now → IfErr result
+        (Breaks ((k : ℕ) × IsAbsent (texts context.now.turns.now) name.now
+        × IsVariable context.now.variables.now name.now k VariableType.Component)) }
 {
     let (place, held) = variable_named(context, name)?;
     match held {
@@ -119,9 +133,13 @@ fn resolve_sent(
     sendable: &TypeList,
     sent: &tree::Sent,
 ) -> Result<Sent, ScriptFault>
-    ensures { IfOk result (IsSent
+    ensures stands { IfOk result (IsSent
         context.now.scope.now context.now.variables.now (texts context.now.turns.now)
         sendable.now sent.now) }
+    ensures refused { IsSoundScope context.now.scope.now → AreTyped context.now.variables.now
+        → IfErr result (Breaks ((y : Sent) × IsSent
+        context.now.scope.now context.now.variables.now (texts context.now.turns.now)
+        sendable.now sent.now y)) }
 {
     match sent {
         tree::Sent::Message(message) => {
@@ -147,9 +165,13 @@ fn resolve_sent(
 /// messages, 11 `Unknown` for any other name that is no component.
 #[tactic(auto, using(crate::proofs::OperationRules::cases))]
 fn resolve_component(context: &Context, component: &ComponentName) -> Result<Receiver, ScriptFault>
-    ensures { IfOk result (IsReceiver
+    ensures stands { IfOk result (IsReceiver
         context.now.scope.now context.now.variables.now (texts context.now.turns.now)
         (Some (Destination.Component component.now))) }
+    ensures refused { AreTyped context.now.variables.now → IfErr result
+        (Breaks ((y : Receiver) × IsReceiver
+        context.now.scope.now context.now.variables.now (texts context.now.turns.now)
+        (Some (Destination.Component component.now)) y)) }
 {
     if let ComponentName::Named(name) = component {
         let name = name.as_str();
@@ -167,8 +189,12 @@ fn resolve_component(context: &Context, component: &ComponentName) -> Result<Rec
 /// To whom is sent.
 #[tactic(auto, using(crate::proofs::OperationRules::cases))]
 fn resolve_receiver(context: &Context, to: &Option<Destination>) -> Result<Receiver, ScriptFault>
-    ensures { IfOk result (IsReceiver
+    ensures stands { IfOk result (IsReceiver
         context.now.scope.now context.now.variables.now (texts context.now.turns.now) to.now) }
+    ensures refused { AreTyped context.now.variables.now → IfErr result
+        (Breaks ((y : Receiver) × IsReceiver
+        context.now.scope.now context.now.variables.now (texts context.now.turns.now)
+        to.now y)) }
 {
     match to {
         None => Ok(Receiver::Nobody),
@@ -187,8 +213,12 @@ pub fn resolve_send(
     context: &Context,
     send: &tree::Send,
 ) -> Result<SendOperation, ScriptFault>
-    ensures { IfOk result (IsSend
+    ensures stands { IfOk result (IsSend
         context.now.scope.now context.now.variables.now (texts context.now.turns.now) send.now) }
+    ensures refused { IsSoundScope context.now.scope.now → AreTyped context.now.variables.now
+        → IfErr result (Breaks ((y : SendOperation) × IsSend
+        context.now.scope.now context.now.variables.now (texts context.now.turns.now)
+        send.now y)) }
 {
     let Some((place, port)) = find_port(context.scope.ports, send.port.as_str()) else {
         return Err(context.unknown());
@@ -212,8 +242,11 @@ fn resolve_wanted(
     receivable: &TypeList,
     template: &Option<MessageTemplate>,
 ) -> Result<RecvMsg, ScriptFault>
-    ensures { IfOk result (IsWanted
+    ensures stands { IfOk result (IsWanted
         context.now.scope.now (texts context.now.turns.now) receivable.now template.now) }
+    ensures refused { IsSoundScope context.now.scope.now → IfErr result
+        (Breaks ((y : RecvMsg) × IsWanted
+        context.now.scope.now (texts context.now.turns.now) receivable.now template.now y)) }
 {
     let Some(template) = template else {
         return Ok(RecvMsg::Any);
@@ -235,8 +268,11 @@ fn resolve_sender(
     context: &Context,
     sender: &Option<ComponentName>,
 ) -> Result<Option<usize>, ScriptFault>
-    ensures { IfOk result (IsFrom
+    ensures stands { IfOk result (IsFrom
         context.now.scope.now context.now.variables.now (texts context.now.turns.now) sender.now) }
+    ensures refused { IfErr result (Breaks ((y : Option ℕ) × IsFrom
+        context.now.scope.now context.now.variables.now (texts context.now.turns.now)
+        sender.now y)) }
 {
     let Some(component) = sender else {
         return Ok(None);
@@ -255,8 +291,11 @@ fn resolve_value_target(
     wanted: &RecvMsg,
     target: &Option<String>,
 ) -> Result<Option<usize>, ScriptFault>
-    ensures { IfOk result (IsValueTarget
+    ensures stands { IfOk result (IsValueTarget
         context.now.variables.now (texts context.now.turns.now) wanted.now target.now) }
+    ensures refused { AreTyped context.now.variables.now → IfErr result
+        (Breaks ((y : Option ℕ) × IsValueTarget
+        context.now.variables.now (texts context.now.turns.now) wanted.now target.now y)) }
 {
     let Some(name) = target else {
         return Ok(None);
@@ -280,8 +319,11 @@ fn resolve_sender_target(
     context: &Context,
     target: &Option<String>,
 ) -> Result<Option<usize>, ScriptFault>
-    ensures { IfOk result (IsSenderTarget
+    ensures stands { IfOk result (IsSenderTarget
         context.now.variables.now (texts context.now.turns.now) target.now) }
+    ensures refused { AreTyped context.now.variables.now → IfErr result
+        (Breaks ((y : Option ℕ) × IsSenderTarget
+        context.now.variables.now (texts context.now.turns.now) target.now y)) }
 {
     let Some(name) = target else {
         return Ok(None);
@@ -300,8 +342,12 @@ pub fn resolve_receive(
     context: &Context,
     receive: &tree::Receive,
 ) -> Result<Receiving, ScriptFault>
-    ensures { IfOk result (IsReceive
+    ensures stands { IfOk result (IsReceive
         context.now.scope.now context.now.variables.now (texts context.now.turns.now) receive.now) }
+    ensures refused { IsSoundScope context.now.scope.now → AreTyped context.now.variables.now
+        → IfErr result (Breaks ((y : Receiving) × IsReceive
+        context.now.scope.now context.now.variables.now (texts context.now.turns.now)
+        receive.now y)) }
 {
     let Some((place, port)) = find_port(context.scope.ports, receive.port.as_str()) else {
         return Err(context.unknown());
@@ -329,6 +375,7 @@ pub fn resolve_verdict(context: &Context, name: VerdictName) -> Result<Verdict, 
     ensures verdict { IfOk result (IsVerdict name) }
     ensures error { IfErr result (λ fault.
         fault ≡ ScriptFault.Refused Refusal.WrongType context.now.line) }
+    ensures refused { IfErr result (Breaks ((verdict : Verdict) × IsVerdict name verdict)) }
 {
     match name {
         VerdictName::NoVerdict => Ok(Verdict::None),

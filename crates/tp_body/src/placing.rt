@@ -1,6 +1,10 @@
 //! Which entry stands for which field.
-ghost use Rattle.std.specs.Prelude.{◌≡◌, ◌<◌, ℕ, List, true, IfOk, IfSome, IsTrue, length, map, slice_get, slice_set, string_bytes};
-ghost use Rattle.tp_body.specs.Placing.{IsPlacing, field_names};
+ghost use Rattle.std.specs.Prelude.{◌≡◌, ◌<◌, ◌↔◌, ◌⊎◌, ℕ, List, [], true, IfErr, IfNone, IfOk, IfSome, IsTrue, OnOk, length, map, slice_get, slice_set, string_bytes};
+ghost use Rattle.std.specs.Bool.{OnFalse};
+ghost use Rattle.tp_name.specs.Named.{IsAbsent};
+ghost use Rattle.tp_name.specs.Refused.{Breaks};
+ghost use Rattle.tp_name.specs.Tables.{AreDistinct};
+ghost use Rattle.tp_body.specs.Placing.{HaveEntries, IsPlacing, IsTable, field_names};
 
 use indexmap::IndexSet;
 use std::alloc::Global;
@@ -39,7 +43,7 @@ impl NamedField for TemplateField {
 
 /// Whether the field at this place has this name.
 fn is_field(fields: &[Field], place: usize, name: &str) -> bool
-    ensures { IsTrue result → slice_get (field_names fields.now) place ≡ Some name.now }
+    ensures { IsTrue result ↔ (slice_get (field_names fields.now) place ≡ Some name.now) }
 {
     match fields.get(place) {
         Some(field) => field.name.as_slice() == name.as_bytes(),
@@ -63,7 +67,12 @@ impl Drop for FieldTable<'_> {
 
 /// Puts the names of the fields into the table, in declared order. A name that stands twice is put
 /// in once. 50 `Memory` only where an allocation was refused.
-fn list_names<'f>(table: &mut FieldTable<'f>, fields: &'f [Field]) -> Result<(), ScriptFault> {
+fn list_names<'f>(table: &mut FieldTable<'f>, fields: &'f [Field]) -> Result<(), ScriptFault>
+    requires { table.old.names.keys ≡ [] }
+    ensures ok { AreDistinct (field_names fields.now)
+        → OnOk result (map (λ n. n.now) table.new.names.keys ≡ field_names fields.now) }
+    ensures err { IfErr result (λ fault. fault ≡ ScriptFault.Memory (record {})) }
+{
     for field in fields {
         let Ok(_) = table.names.insert(field.name.as_slice()) else {
             return Err(ScriptFault::Memory(Memory));
@@ -82,8 +91,15 @@ fn find_field<'f>(
     likely: usize,
     name: &str,
 ) -> Result<Option<usize>, ScriptFault>
-    ensures { IfOk result (λ found. IfSome found (λ place.
+    requires { AreDistinct (field_names fields.now)
+        → IsTable fields.now (map (λ n. n.now) table.old.names.keys) }
+    ensures found { IfOk result (λ found. IfSome found (λ place.
         slice_get (field_names fields.now) place ≡ Some name.now)) }
+    ensures absent { AreDistinct (field_names fields.now)
+        → IfOk result (λ found. IfNone found (IsAbsent (field_names fields.now) name.now)) }
+    ensures table { AreDistinct (field_names fields.now)
+        → OnOk result (IsTable fields.now (map (λ n. n.now) table.new.names.keys)) }
+    ensures err { IfErr result (λ fault. fault ≡ ScriptFault.Memory (record {})) }
 {
     if is_field(fields, likely, name) {
         return Ok(Some(likely));
@@ -102,7 +118,9 @@ fn find_field<'f>(
 
 /// Takes the place, and says whether it was free.
 fn occupy(taken: &mut Vec<bool>, place: usize) -> bool
-    ensures { IsTrue result → taken.new.items ≡ slice_set taken.old.items place true }
+    ensures free { IsTrue result → taken.new.items ≡ slice_set taken.old.items place true }
+    ensures taken { OnFalse result (place < length taken.old.items
+        → slice_get taken.old.items place ≡ Some true) }
 {
     if place < taken.len() && !taken[place] {
         taken[place] = true;
@@ -113,7 +131,8 @@ fn occupy(taken: &mut Vec<bool>, place: usize) -> bool
 
 /// Whether all places are taken.
 fn are_all(taken: &[bool]) -> bool
-    ensures { IsTrue result → (k : ℕ) → k < length taken.now → slice_get taken.now k ≡ Some true }
+    ensures { IsTrue result
+        ↔ ((k : ℕ) → k < length taken.now → slice_get taken.now k ≡ Some true) }
 {
     for place in taken {
         if !*place {
@@ -133,7 +152,10 @@ pub fn field_places<E: NamedField>(
     entries: &[E],
     line: u32,
 ) -> Result<Vec<usize>, ScriptFault>
-    ensures { IfOk result (λ places. IsPlacing fields.now (map E.name entries.now) places.items) }
+    ensures placed { IfOk result (λ places.
+        IsPlacing fields.now (map E.name entries.now) places.items) }
+    ensures refused { AreDistinct (field_names fields.now)
+        → IfErr result (Breaks (HaveEntries fields.now (map E.name entries.now))) }
 {
     if entries.len() != fields.len() {
         return Err(refused(Refusal::WrongType, line));

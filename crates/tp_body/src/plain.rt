@@ -1,6 +1,7 @@
 //! What a text and the name of a loop variable stand for, in values and in templates.
-ghost use Rattle.std.specs.Prelude.{◌≡◌, IfOk, OnOk};
+ghost use Rattle.std.specs.Prelude.{◌≡◌, ℕ, IfErr, IfOk, OnOk};
 ghost use Rattle.tp_name.specs.Named.{IsPlace, texts};
+ghost use Rattle.tp_name.specs.Refused.{Breaks};
 ghost use Rattle.tp_value.specs.HasType.{ArePrintable};
 
 use crate::context::Context;
@@ -22,6 +23,7 @@ pub fn resolve_text(
     ensures text { IfOk result (λ made. made ≡ text.now) }
     ensures charstring { OnOk result (ty ≡ Ty.Charstring) }
     ensures printable { OnOk result (ArePrintable text.now) }
+    ensures refused { IfErr result (Breaks ((ty ≡ Ty.Charstring) × ArePrintable text.now)) }
 {
     context.check_type(ty, Ty::Charstring)?;
     if !are_printable(text) {
@@ -37,6 +39,8 @@ pub fn resolve_text(
 pub fn resolve_turn(context: &Context, ty: Ty, name: &str) -> Result<usize, ScriptFault>
     ensures place { IfOk result (IsPlace (texts context.now.turns.now) name.now) }
     ensures integer { OnOk result (ty ≡ Ty.Integer) }
+    ensures refused { IfErr result (Breaks ((place : ℕ) × (ty ≡ Ty.Integer)
+        × IsPlace (texts context.now.turns.now) name.now place)) }
 {
     let Some(place) = find(context.turns, name) else {
         return Err(context.no_turn(name));

@@ -1,9 +1,10 @@
 //! What statements stand for.
-ghost use Rattle.std.specs.Prelude.{◌≡◌, ◌∷◌, ◌++◌, [], IfOk, length};
+ghost use Rattle.std.specs.Prelude.{◌≡◌, ◌≢◌, ◌∷◌, ◌++◌, [], IfErr, IfOk, List, OnOk, length};
 ghost use Rattle.tp_name.specs.Named.{texts};
+ghost use Rattle.tp_name.specs.Refused.{Breaks};
 ghost use Rattle.tp_body.specs.Bodies.{AreBranches, IsAfter, IsBlock, IsBody, IsBranch, IsStatement};
 ghost use Rattle.tp_body.specs.Closed.{needed_around_all};
-ghost use Rattle.tp_body.specs.Scoping.{reference_count};
+ghost use Rattle.tp_body.specs.Scoping.{AreTyped, IsSoundScope, reference_count};
 ghost use Rattle.tp_play.specs.Playable.{IsPlayable};
 
 use crate::context::Context;
@@ -29,7 +30,8 @@ fn turns_inside<'m>(
     turns: &[Name<'m>],
     name: &'m str,
 ) -> Result<Vec<Name<'m>>, ScriptFault>
-    ensures { IfOk result (λ inside. texts inside.items ≡ texts turns.now ++ name.now ∷ []) }
+    ensures inside { IfOk result (λ inside. texts inside.items ≡ texts turns.now ++ name.now ∷ []) }
+    ensures memory { IfErr result (λ fault. fault ≡ ScriptFault.Memory (record {})) }
 {
     let mut inside = Vec::from_slice(alloc, turns)?;
     inside.push(Name { text: name })?;
@@ -47,9 +49,13 @@ fn counted_for(turns: &Turns, block: Items<Statement>) -> Statement
 /// 11 `Unknown` for the port.
 #[tactic(auto, using(crate::proofs::StatementRules::cases))]
 fn resolve_control(context: &Context, control: &Control) -> Result<Statement, ScriptFault>
-    ensures { IfOk result (IsStatement
+    ensures stands { IfOk result (IsStatement
         context.now.scope.now context.now.variables.now (texts context.now.turns.now)
         (Action.Control control.now)) }
+    ensures refused { IsSoundScope context.now.scope.now → IfErr result
+        (Breaks ((y : Statement) × IsStatement
+        context.now.scope.now context.now.variables.now (texts context.now.turns.now)
+        (Action.Control control.now) y)) }
 {
     context.check_not_in_sut()?;
     let Some((place, _)) = find_port(context.scope.ports, control.port.as_str()) else {
@@ -61,9 +67,12 @@ fn resolve_control(context: &Context, control: &Control) -> Result<Statement, Sc
 /// What an operation on all ports stands for: 16 `NotInSut` in the system under test.
 #[tactic(auto, using(crate::proofs::StatementRules::cases))]
 fn resolve_all_ports(context: &Context, operation: PortOperation) -> Result<Statement, ScriptFault>
-    ensures { IfOk result (IsStatement
+    ensures stands { IfOk result (IsStatement
         context.now.scope.now context.now.variables.now (texts context.now.turns.now)
         (Action.AllPorts operation)) }
+    ensures refused { IfErr result (Breaks ((y : Statement) × IsStatement
+        context.now.scope.now context.now.variables.now (texts context.now.turns.now)
+        (Action.AllPorts operation) y)) }
 {
     context.check_not_in_sut()?;
     Ok(Statement::AllPorts(operation))
@@ -73,9 +82,12 @@ fn resolve_all_ports(context: &Context, operation: PortOperation) -> Result<Stat
 /// `error`.
 #[tactic(auto, using(crate::proofs::StatementRules::cases))]
 fn resolve_set_verdict(context: &Context, name: VerdictName) -> Result<Statement, ScriptFault>
-    ensures { IfOk result (IsStatement
+    ensures stands { IfOk result (IsStatement
         context.now.scope.now context.now.variables.now (texts context.now.turns.now)
         (Action.SetVerdict name)) }
+    ensures refused { IfErr result (Breaks ((y : Statement) × IsStatement
+        context.now.scope.now context.now.variables.now (texts context.now.turns.now)
+        (Action.SetVerdict name) y)) }
 {
     context.check_not_in_sut()?;
     let verdict = resolve_verdict(context, name)?;
@@ -95,8 +107,12 @@ fn resolve_statement<'m>(
     context: &Context<'_, '_, 'm>,
     action: &'m Action,
 ) -> Result<Statement, ScriptFault>
-    ensures { IfOk result (IsStatement
+    ensures stands { IfOk result (IsStatement
         context.now.scope.now context.now.variables.now (texts context.now.turns.now) action.now) }
+    ensures refused { IsSoundScope context.now.scope.now → AreTyped context.now.variables.now
+        → IfErr result (Breaks ((y : Statement) × IsStatement
+        context.now.scope.now context.now.variables.now (texts context.now.turns.now)
+        action.now y)) }
 {
     match action {
         Action::Send(send) => {
@@ -131,9 +147,13 @@ fn resolve_for<'m>(
     context: &Context<'_, '_, 'm>,
     looped: &'m Counted,
 ) -> Result<Statement, ScriptFault>
-    ensures { IfOk result (IsStatement
+    ensures stands { IfOk result (IsStatement
         context.now.scope.now context.now.variables.now (texts context.now.turns.now)
         (Action.For looped.now)) }
+    ensures refused { IsSoundScope context.now.scope.now → AreTyped context.now.variables.now
+        → IfErr result (Breaks ((y : Statement) × IsStatement
+        context.now.scope.now context.now.variables.now (texts context.now.turns.now)
+        (Action.For looped.now) y)) }
 {
     let name = looped.turns.name.as_str();
     if !is_new(context, name) {
@@ -156,8 +176,12 @@ fn resolve_block<'m>(
     context: &Context<'_, '_, 'm>,
     block: &'m [tree::Statement],
 ) -> Result<Items<Statement>, ScriptFault>
-    ensures { IfOk result (IsBlock
+    ensures stands { IfOk result (IsBlock
         context.now.scope.now context.now.variables.now (texts context.now.turns.now) block.now) }
+    ensures refused { IsSoundScope context.now.scope.now → AreTyped context.now.variables.now
+        → IfErr result (Breaks ((y : List Statement) × IsBlock
+        context.now.scope.now context.now.variables.now (texts context.now.turns.now)
+        block.now y)) }
 {
     let mut made = Items::new(alloc);
     for statement in block {
@@ -179,8 +203,12 @@ fn resolve_after<'m>(
     context: &Context<'_, '_, 'm>,
     body: &'m BranchBody,
 ) -> Result<Items<Statement>, ScriptFault>
-    ensures { IfOk result (IsAfter
+    ensures stands { IfOk result (IsAfter
         context.now.scope.now context.now.variables.now (texts context.now.turns.now) body.now) }
+    ensures refused { IsSoundScope context.now.scope.now → AreTyped context.now.variables.now
+        → IfErr result (Breaks ((y : List Statement) × IsAfter
+        context.now.scope.now context.now.variables.now (texts context.now.turns.now)
+        body.now y)) }
 {
     match body {
         BranchBody::Nothing => Ok(Items::new(alloc)),
@@ -196,8 +224,12 @@ fn resolve_branch<'m>(
     context: &Context<'_, '_, 'm>,
     branch: &'m tree::Branch,
 ) -> Result<Branch, ScriptFault>
-    ensures { IfOk result (IsBranch
+    ensures stands { IfOk result (IsBranch
         context.now.scope.now context.now.variables.now (texts context.now.turns.now) branch.now) }
+    ensures refused { IsSoundScope context.now.scope.now → AreTyped context.now.variables.now
+        → IfErr result (Breaks ((y : Branch) × IsBranch
+        context.now.scope.now context.now.variables.now (texts context.now.turns.now)
+        branch.now y)) }
 {
     let here = Context {
         line: branch.line,
@@ -216,9 +248,13 @@ fn resolve_branches<'m>(
     context: &Context<'_, '_, 'm>,
     branches: &'m [tree::Branch],
 ) -> Result<Items<Branch>, ScriptFault>
-    ensures { IfOk result (AreBranches
+    ensures stands { IfOk result (AreBranches
         context.now.scope.now context.now.variables.now (texts context.now.turns.now)
         branches.now) }
+    ensures refused { IsSoundScope context.now.scope.now → AreTyped context.now.variables.now
+        → IfErr result (Breaks ((y : List Branch) × AreBranches
+        context.now.scope.now context.now.variables.now (texts context.now.turns.now)
+        branches.now y)) }
 {
     let mut made = Items::new(alloc);
     for branch in branches {
@@ -235,6 +271,9 @@ fn resolve_branches<'m>(
 /// variables; then those of the statements; 50. A body's statements speak of no loop variables but
 /// those around them, and of no other place that isn't there: the ports of the component type, the
 /// references and the variables.
+///
+/// Where the component type has at most 64 ports, and no two fields of a record type have one name,
+/// whatever is answered but 50 says that the body breaks a rule.
 pub fn resolve_body(
     alloc: Global,
     scope: &Scope,
@@ -243,6 +282,8 @@ pub fn resolve_body(
     statements: &[tree::Statement],
 ) -> Result<Body, ScriptFault>
     ensures body { IfOk result (IsBody scope.now declared.now statements.now) }
+    ensures refused { IsSoundScope scope.now → IfErr result
+        (Breaks ((body : Body) × IsBody scope.now declared.now statements.now body)) }
     ensures closed { IfOk result (λ body. needed_around_all body.statements ≡ 0) }
     ensures playable { let ports = length scope.now.ports.now.ports.entries in
         IfOk result (IsPlayable scope.now.types.now ports (reference_count scope.now)) }

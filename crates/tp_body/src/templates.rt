@@ -1,7 +1,12 @@
 //! What the templates of receiving operations stand for.
-ghost use Rattle.std.specs.Prelude.{◌≡◌, IfOk, length, map};
+ghost use Rattle.std.specs.Prelude.{◌≡◌, List, IfErr, IfOk, length, map};
 ghost use Rattle.tp_name.specs.Named.{texts};
-ghost use Rattle.tp_body.specs.Messages.{AreElementTemplates, AreFieldTemplates, AreMembers, AreNamedTemplates, IsElementTemplate, IsListTemplate, IsRecordTemplate, IsTemplate, part_of};
+ghost use Rattle.tp_name.specs.Refused.{Breaks};
+ghost use Rattle.tp_name.specs.Tables.{AreDistinct};
+ghost use Rattle.tp_body.specs.Messages.{AreElementTemplates, AreFieldTemplates, AreMembers, AreNamedTemplates, IsElementTemplate, IsListTemplate, IsRecordTemplate, IsTemplate, StandsAsList, StandsAsRecord, part_of};
+ghost use Rattle.tp_body.specs.Placing.{field_names};
+ghost use Rattle.tp_body.specs.Scoping.{IsSoundScope};
+ghost use Rattle.tp_play.specs.declared.body.RecvTemplate.{RecvTemplate};
 
 use crate::context::Context;
 use crate::placing::field_places;
@@ -30,7 +35,8 @@ fn pattern_part(character: u8) -> PatternPart
 
 /// The parts of a pattern.
 fn parts(alloc: Global, text: &[u8]) -> Result<Items<PatternPart>, ScriptFault>
-    ensures { IfOk result (λ parts. parts ≡ map part_of text.now) }
+    ensures parts { IfOk result (λ parts. parts ≡ map part_of text.now) }
+    ensures refused { IfErr result (λ fault. fault ≡ ScriptFault.Memory (record {})) }
 {
     let mut parts = Items::new(alloc);
     for character in text {
@@ -48,9 +54,12 @@ fn resolve_range(
     lower: Option<i64>,
     upper: Option<i64>,
 ) -> Result<RecvTemplate, ScriptFault>
-    ensures { IfOk result
+    ensures stands { IfOk result
         (IsTemplate context.now.scope.now.types.now (texts context.now.turns.now)
         ty (Template.Range lower upper)) }
+    ensures refused { IfErr result (Breaks ((r : RecvTemplate)
+        × IsTemplate context.now.scope.now.types.now (texts context.now.turns.now)
+        ty (Template.Range lower upper) r)) }
 {
     context.check_type(ty, Ty::Integer)?;
     if !are_ordered(lower, upper) {
@@ -74,8 +83,12 @@ pub fn resolve_template(
     ty: Ty,
     template: &Template,
 ) -> Result<RecvTemplate, ScriptFault>
-    ensures { IfOk result
+    ensures stands { IfOk result
         (IsTemplate context.now.scope.now.types.now (texts context.now.turns.now) ty template.now) }
+    ensures refused { IsSoundScope context.now.scope.now
+        → IfErr result (Breaks ((r : RecvTemplate)
+        × IsTemplate context.now.scope.now.types.now (texts context.now.turns.now)
+        ty template.now r)) }
 {
     match template {
         Template::Int(number) => {
@@ -127,8 +140,11 @@ fn resolve_list(
     ty: Ty,
     members: &[Template],
 ) -> Result<RecvTemplate, ScriptFault>
-    ensures { IfOk result (IsListTemplate
+    ensures stands { IfOk result (IsListTemplate
         context.now.scope.now.types.now (texts context.now.turns.now) ty members.now) }
+    ensures refused { IsSoundScope context.now.scope.now
+        → IfErr result (Breaks (StandsAsList context.now.scope.now.types.now
+        (texts context.now.turns.now) ty members.now)) }
 {
     match context.scope.types.definition(ty) {
         Some(TypeDef::ListOf(element)) => {
@@ -153,8 +169,11 @@ fn resolve_record(
     ty: Ty,
     entries: &[TemplateField],
 ) -> Result<RecvTemplate, ScriptFault>
-    ensures { IfOk result (IsRecordTemplate
+    ensures stands { IfOk result (IsRecordTemplate
         context.now.scope.now.types.now (texts context.now.turns.now) ty entries.now) }
+    ensures refused { IsSoundScope context.now.scope.now
+        → IfErr result (Breaks (StandsAsRecord context.now.scope.now.types.now
+        (texts context.now.turns.now) ty entries.now)) }
 {
     let Some(TypeDef::Record(fields)) = context.scope.types.definition(ty) else {
         return Err(context.wrong_type());
@@ -172,8 +191,12 @@ fn resolve_members(
     ty: Ty,
     members: &[Template],
 ) -> Result<Items<RecvTemplate>, ScriptFault>
-    ensures { IfOk result
+    ensures stand { IfOk result
         (AreMembers context.now.scope.now.types.now (texts context.now.turns.now) ty members.now) }
+    ensures refused { IsSoundScope context.now.scope.now
+        → IfErr result (Breaks ((rs : List RecvTemplate)
+        × AreMembers context.now.scope.now.types.now (texts context.now.turns.now)
+        ty members.now rs)) }
 {
     let mut made = Items::new(alloc);
     for member in members {
@@ -192,9 +215,13 @@ fn resolve_element_template(
     ty: Ty,
     member: &Template,
 ) -> Result<RecvTemplate, ScriptFault>
-    ensures { IfOk result
+    ensures stands { IfOk result
         (IsElementTemplate context.now.scope.now.types.now (texts context.now.turns.now)
         ty member.now) }
+    ensures refused { IsSoundScope context.now.scope.now
+        → IfErr result (Breaks ((r : RecvTemplate)
+        × IsElementTemplate context.now.scope.now.types.now (texts context.now.turns.now)
+        ty member.now r)) }
 {
     if let Template::AnyOrNone = member {
         return Ok(RecvTemplate::AnyOrNone);
@@ -211,9 +238,13 @@ fn resolve_element_templates(
     ty: Ty,
     members: &[Template],
 ) -> Result<Items<RecvTemplate>, ScriptFault>
-    ensures { IfOk result
+    ensures stand { IfOk result
         (AreElementTemplates context.now.scope.now.types.now (texts context.now.turns.now)
         ty members.now) }
+    ensures refused { IsSoundScope context.now.scope.now
+        → IfErr result (Breaks ((rs : List RecvTemplate)
+        × AreElementTemplates context.now.scope.now.types.now (texts context.now.turns.now)
+        ty members.now rs)) }
 {
     let mut made = Items::new(alloc);
     for member in members {
@@ -232,9 +263,13 @@ fn resolve_field_templates(
     fields: &[Field],
     members: &[Template],
 ) -> Result<Items<RecvTemplate>, ScriptFault>
-    ensures { IfOk result (AreFieldTemplates
+    ensures stand { IfOk result (AreFieldTemplates
         context.now.scope.now.types.now (texts context.now.turns.now)
         fields.now members.now) }
+    ensures refused { IsSoundScope context.now.scope.now
+        → IfErr result (Breaks ((rs : List RecvTemplate) × AreFieldTemplates
+        context.now.scope.now.types.now (texts context.now.turns.now)
+        fields.now members.now rs)) }
 {
     if fields.len() != members.len() {
         return Err(context.wrong_type());
@@ -260,6 +295,10 @@ fn resolve_named_templates(
     ensures named { IfOk result (λ made. AreNamedTemplates
         context.now.scope.now.types.now (texts context.now.turns.now) entries.now fields.now made) }
     ensures count { IfOk result (λ _. length entries.now ≡ length fields.now) }
+    ensures refused { IsSoundScope context.now.scope.now → AreDistinct (field_names fields.now)
+        → IfErr result (Breaks ((rs : List RecvTemplate) × (length entries.now ≡ length fields.now)
+        × AreNamedTemplates context.now.scope.now.types.now (texts context.now.turns.now)
+        entries.now fields.now rs)) }
 {
     let places = field_places(alloc, fields, entries, context.line)?;
     let mut made = Vec::new(alloc);

@@ -1,6 +1,8 @@
 //! The variables of a body, and which names are new.
-ghost use Rattle.std.specs.Prelude.{◌≡◌, ◌∷◌, ◌++◌, [], ℕ, List, IfOk, IfSome, IsTrue, OnOk, Some, slice_get};
+ghost use Rattle.std.specs.Prelude.{◌≡◌, ◌∷◌, ◌++◌, ◌↔◌, [], ℕ, List, IfErr, IfNone, IfOk, IfSome, IsTrue, OnOk, Some, slice_get};
 ghost use Rattle.tp_name.specs.Named.{IsAbsent, texts};
+ghost use Rattle.tp_name.specs.Refused.{Breaks};
+ghost use Rattle.tp_name.specs.Tables.{IsNumbered};
 ghost use Rattle.tp_body.specs.Scoping.{IsNew, declared_port_names};
 ghost use Rattle.tp_body.specs.Bodies.{AreVariables, IsHeld};
 
@@ -19,7 +21,7 @@ use tp_value::items::Items;
 /// Whether the name is new: no port, parameter, variable or loop variable has it, and in the test
 /// case no component variable. Takes no memory.
 pub fn is_new(context: &Context, name: &str) -> bool
-    ensures { IsTrue result →
+    ensures { IsTrue result ↔
         IsNew context.now.scope.now context.now.variables.now (texts context.now.turns.now)
         name.now }
 {
@@ -49,7 +51,8 @@ pub fn is_new(context: &Context, name: &str) -> bool
 /// no component type. Takes no memory.
 #[tactic(auto, using(crate::proofs::VariableRules::cases))]
 fn find_held(scope: &Scope, name: &TypeName) -> Option<VariableType>
-    ensures { IfSome result (IsHeld scope.now name.now) }
+    ensures there { IfSome result (IsHeld scope.now name.now) }
+    ensures absent { IfNone result ((held : VariableType) → IsHeld scope.now name.now held → ⊥) }
 {
     if let Some(ty) = find_type(scope.types, name) {
         return Some(VariableType::Message(ty));
@@ -73,6 +76,9 @@ fn add_variable<'m>(
 ) -> Result<(), ScriptFault>
     ensures names { OnOk result (variables.new.names ≡ variables.old.names ++ name.now ∷ []) }
     ensures types { OnOk result (variables.new.types ≡ variables.old.types ++ held ∷ []) }
+    ensures numbered { IsNumbered variables.new.names }
+    ensures refused { IfErr result
+        (Breaks (IsNumbered (variables.old.names ++ name.now ∷ []))) }
 {
     if let Err(fault) = variables.names.add(name) {
         return Err(fault.at(line));
@@ -90,7 +96,9 @@ pub fn resolve_variables<'m>(
     scope: &Scope,
     declared: &'m [Variable],
 ) -> Result<Variables<'m>, ScriptFault>
-    ensures { IfOk result (AreVariables scope.now declared.now) }
+    ensures declared { IfOk result (AreVariables scope.now declared.now) }
+    ensures refused { IfErr result
+        (Breaks ((vs : Variables) × AreVariables scope.now declared.now vs)) }
 {
     let mut variables = Variables {
         names: NameSet::new(alloc),
@@ -118,9 +126,9 @@ pub fn resolve_variables<'m>(
 
 /// Whether no parameter has the name of a port. Takes no memory.
 pub fn are_no_ports(scope: &Scope) -> bool
-    ensures { IsTrue result → (k : ℕ) (name : List ℕ)
+    ensures { IsTrue result ↔ ((k : ℕ) (name : List ℕ)
         → slice_get (declared_port_names scope.now.ports.now) k ≡ Some name
-        → IsAbsent scope.now.parameters.now name }
+        → IsAbsent scope.now.parameters.now name) }
 {
     for place in 0..scope.ports.ports.len() {
         let Some((name, _)) = scope.ports.ports.get_index(place) else {

@@ -39,8 +39,12 @@ impl Drop for NameSet<'_> {
 }
 
 impl NameFault {
+    ghost use Rattle.std.specs.Prelude.{◌≡◌};
+
     /// This fault at a line.
-    pub fn at(self, line: u32) -> ScriptFault {
+    pub fn at(self, line: u32) -> ScriptFault
+        ensures memory { self ≡ NameFault.Memory → result ≡ ScriptFault.Memory (record {}) }
+    {
         match self {
             NameFault::Duplicate => refused(Refusal::Duplicate, line),
             NameFault::Limit => refused(Refusal::Limit, line),
@@ -61,13 +65,14 @@ impl<'m> Model for NameSet<'m> {
 }
 
 impl<'m> NameSet<'m> {
-    ghost use Rattle.std.specs.Prelude.{◌≡◌, ◌<◌, ◌≤◌, ◌∷◌, ◌++◌, ◌↔◌, [], length, Contains, IfNone, IfSome, OnOk, IsErrOf, IsSome, IsTrue, OnErr, is_some};
-    ghost use Rattle.tp_name.specs.Tables.{AreDistinct, place_of};
+    ghost use Rattle.std.specs.Prelude.{◌≡◌, ◌<◌, ◌≤◌, ◌∷◌, ◌++◌, ◌^◌, ◌↔◌, ◌⊎◌, [], length, Contains, IfErr, IfNone, IfSome, OnOk, IsErrOf, IsSome, IsTrue, OnErr, is_some};
+    ghost use Rattle.tp_name.specs.Tables.{AreDistinct, IsNumbered, place_of};
     ghost use Rattle.tp_name.specs.Named.{IsAbsent, IsPlace};
 
     /// No names. Takes no memory; a later [`NameSet::add`] takes it from `alloc`.
     pub fn new(alloc: Global) -> NameSet<'m>
         ensures empty { result ≡ [] }
+        ensures numbered { IsNumbered result }
         ensures distinct { AreDistinct result }
     {
         NameSet {
@@ -91,7 +96,10 @@ impl<'m> NameSet<'m> {
         ensures ok { OnOk result (self.new ≡ self.old ++ name.now ∷ []) }
         ensures duplicate { IsErrOf result NameFault.Duplicate ↔ Contains self.old name.now }
         ensures limit { IsErrOf result NameFault.Limit → 4294967295 ≤ length self.old }
+        ensures refused { IfErr result (λ fault. (fault ≡ NameFault.Memory)
+            ⊎ (IsNumbered (self.old ++ name.now ∷ []) → ⊥)) }
         ensures err { OnErr result (self.new ≡ self.old) }
+        ensures numbered { IsNumbered self.new }
         ensures distinct { AreDistinct self.new }
     {
         if self.find(name).is_some() {
@@ -113,6 +121,7 @@ impl<'m> NameSet<'m> {
         ensures there { IfSome result (λ place. IsPlace self.now name.now place) }
         ensures absent { IfNone result (IsAbsent self.now name.now) }
         ensures distinct { AreDistinct self.now }
+        ensures few { length self.now < 2 ^ 32 }
     {
         match self.names.get_index_of(name) {
             Some(place) => Some(place as u32),

@@ -13,6 +13,7 @@ use Rattle.tp_tree.specs.declared.tree.SetupStatement.{SetupStatement}
 use Rattle.tp_tree.specs.declared.tree.SetupAction.{SetupAction}
 use Rattle.tp_tree.specs.declared.tree.SetupAction.TheVariants as a
 use Rattle.tp_config.specs.Setup.{Setup}
+use Rattle.tp_config.specs.Shape.{ports_of}
 use Rattle.tp_name.proofs.Numbering.{place_there, place_unknown}
 use Rattle.tp_setup.specs.declared.prepared.Prepared.{Prepared}
 use Rattle.tp_setup.specs.Definitions.{component_type_names, functions}
@@ -84,14 +85,13 @@ module _ (m : Module) (p : Prepared) (of : IsPreparedOf m p) where
       ∙ ap (λ (v : List (List ℕ)). record { types = p.types; component_types = component_type_names m; ports = p.config.types; components = v })
       of.variables_are
 
+  pub kinds_are : p.config.types ≡ map ports_of of.config.types
+  kinds_are =
+      (makes_keeps (interface_number p.case.case.now) of.config.set_up.start p.case.case.now.setups.items p.config of.config.set_up.makes).0
+      ∙ of.config.set_up.types_are
+
   pub kinds : AreKinds m p.config.types
-  kinds = record {
-    types = of.config.types;
-    of_module = of.config.types_are;
-    kinds_are =
-        (makes_keeps (interface_number p.case.case.now) of.config.set_up.start p.case.case.now.setups.items p.config of.config.set_up.makes).0
-        ∙ of.config.set_up.types_are;
-  }
+  kinds = record { types = of.config.types; of_module = of.config.types_are; kinds_are = kinds_are }
 
   places_count : length p.starts.places.items ≡ length (creations p.case.case.now.setups.items)
   places_count =

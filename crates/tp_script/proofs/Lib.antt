@@ -4,3 +4,12 @@ pub mod Totals
 pub mod Assembling
 pub mod Readiness
 pub mod Faults
+pub mod TextSizes
+pub mod Fixed
+pub mod Views
+pub mod SameSizes
+pub mod Refusing
+pub mod Sound
+pub mod Declared
+pub mod BodyRules
+pub mod Whole

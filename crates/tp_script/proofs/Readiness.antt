@@ -52,6 +52,7 @@ use Rattle.tp_play.specs.TestCases.{Made}
 use Rattle.tp_script.specs.TestCases.{IsTestCaseOf, known_of}
 use Rattle.tp_play.specs.Ready.{CanDo, IsReady, port_count}
 use Rattle.tp_script.proofs.Assembling.{mapped_from, zip_from}
+use Rattle.tp_script.proofs.Fixed.{once}
 
 -- a setup statement leaves the component types and the components
 step_leaves : (s t : Setup) (names : List (List ℕ)) (system : Option ℕ) (x : SetupAction) → IsStep s names system x t
@@ -76,23 +77,13 @@ unfolding ports_at
 ports_by_kind config k m ports here there =
     ap (λ o. option_map_or (λ (m : Member). get_or config.types m.kind []) o []) here ∙ get_or_from_slice_get config.types m.kind ports [] there
 
-port_declarations : (t : CompType) → length (ports_of t) ≡ length t.ports.entries
+pub port_declarations : (t : CompType) → length (ports_of t) ≡ length t.ports.entries
 unfolding ports_of
 port_declarations t = length-map t.ports.entries decl_of
 
--- a name stands at one place
+-- a name that has a place stands nowhere else
 placed_once : (names : List (List ℕ)) (name : List ℕ) (j k : ℕ) → AreDistinct names → place_of names name ≡ Some j → slice_get names k ≡ Some name → j ≡ k
-placed_once names name j k apart first there = by (cases_lt j k) (cases_lt k j) where
-  is_j : get_or names j name ≡ name
-  is_j = get_or_from_slice_get names j name name (place_there names name j (sym first))
-
-  is_k : get_or names k name ≡ name
-  is_k = get_or_from_slice_get names k name name there
-
-  by : (j < k) ⊎ (k ≤ j) → (k < j) ⊎ (j ≤ k) → j ≡ k
-  by (inl before) other = absurd (apart j k name before (slice_get_within names k name there) (is_j ∙ sym is_k))
-  by (inr above) (inl after) = absurd (apart k j name after (slice_get_within names j name (place_there names name j (sym first))) (is_k ∙ sym is_j))
-  by (inr above) (inr below) = omega (arith, above, below)
+placed_once names name j k apart first there = once names name j k apart (place_there names name j (sym first)) there
 
 by_none : {A B : Type 0} {x : A} → None ≡ Some x → B
 by_none e = absurd (cc)
@@ -105,7 +96,7 @@ at_place {A} xs k x e = by (cases_lt k (length xs)) where
   by (inr past) = by_none (sym (get_or-eq_default xs None past) ∙ e)
 
 -- a function among the definitions
-function_defined : (x : Defined) (f : Function) → function_of x ≡ Some f → x ≡ definition.Function f
+pub function_defined : (x : Defined) (f : Function) → function_of x ≡ Some f → x ≡ definition.Function f
 function_defined (definition.Record r) f e = absurd (cc)
 function_defined (definition.List l) f e = absurd (cc)
 function_defined (definition.Port p) f e = absurd (cc)
@@ -179,7 +170,7 @@ module _ (m : Module) (made : Made) (rules : IsWellDeclared m) (of : IsTestCaseO
   abbrev tested : List Declared
   tested = main_component case ∷ map created (creations case.setups.items)
 
-  all_of_them : length config.components ≡ count + 1 + length (interface case)
+  pub all_of_them : length config.components ≡ count + 1 + length (interface case)
   all_of_them =
       let long = AllZip-long (IsMember (component_type_names m)) (component_list case) config.components members in
       omega (arith, long, length-append tested (interface case), length-map (creations case.setups.items) created)

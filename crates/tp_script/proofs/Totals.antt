@@ -7,7 +7,7 @@ use Rattle.std.proofs.lemmas.List.Sums.{sum-map, sum_by-cons}
 use Rattle.tp_config.proofs.Look.{get_or_mapped}
 use Rattle.tp_play.specs.declared.body.Body.{Body}
 use Rattle.tp_play.specs.Sizes.{limit, capped, size_of_body}
-use Rattle.tp_body.proofs.Counting.{cap_add, cap_above}
+use Rattle.tp_body.proofs.Counting.{cap_add, cap_above, cap_below}
 use Rattle.tp_play.specs.declared.bodies.Bodies.{Bodies}
 use Rattle.tp_play.specs.declared.instance.Instance.{Instance}
 use Rattle.tp_play.specs.declared.instance.Source.{Source}
@@ -16,7 +16,7 @@ use Rattle.tp_play.specs.Behaviours.{size_of_behaviour}
 use Rattle.tp_play.specs.Instances.{body_in, behaviour_of}
 use Rattle.tp_script.specs.Instances.{size_from, size_of_instance}
 
-sum_cons : {X : Type 0} (f : X → ℕ) (x : X) (xs : List X) → sum (map f (x ∷ xs)) ≡ f x + sum (map f xs)
+pub sum_cons : {X : Type 0} (f : X → ℕ) (x : X) (xs : List X) → sum (map f (x ∷ xs)) ≡ f x + sum (map f xs)
 sum_cons f x xs = sum-map f (x ∷ xs) ∙ sum_by-cons f x xs ∙ ap (λ n. f x + n) (sym (sum-map f xs))
 
 cap_twice : (n : ℕ) → capped (capped n) ≡ capped n
@@ -57,3 +57,6 @@ few n lt = by (cases_lt n limit) where
   by : (n < limit) ⊎ (limit ≤ n) → n ≤ 100000
   by (inl below) = omega (arith, below)
   by (inr above) = absurd (omega (arith, cap_above n above, lt))
+
+pub many : (n : ℕ) → limit ≤ capped n → n ≤ 100000 → ⊥
+many n le few = omega (arith, cap_below n (omega (arith, few)), le)

@@ -1,5 +1,6 @@
 -- Which instances of bodies the components of a test case have.
-use Rattle.std.specs.Prelude.{◌≡◌, ◌+◌, ℕ, Option, Some, None, List, [], map, slice_get, length, IsSome, is_some, if◌then◌else◌}
+use Rattle.std.specs.Prelude.{◌≡◌, ◌<◌, ◌≤◌, ◌+◌, ℕ, Option, Some, None, List, [], All, map, slice_get, length, IsSome, is_some}
+use Rattle.std.specs.Prelude.{if◌then◌else◌}
 use Rattle.std.specs.List.{slice_index_or}
 use Rattle.tp_setup.specs.declared.prepared.Prepared.{Prepared}
 use Rattle.tp_setup.specs.declared.starts.Started.{Started}
@@ -55,3 +56,9 @@ size_from own functions (source.Function place) = slice_index_or functions place
 abbrev pub size_of_instance : ℕ → List ℕ → Option Instance → ℕ
 size_of_instance own functions None = 0
 size_of_instance own functions (Some instance) = size_from own functions instance.source
+
+-- there are few component variables, and each is started
+pub record AreFew (p : Prepared) : Type 0 where
+  pub few : length p.variables ≤ 63
+  pub as_many : length p.starts.places.items ≡ length p.variables
+  pub started : All (λ place. place < length p.starts.starts.items) p.starts.places.items

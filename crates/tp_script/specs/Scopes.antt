@@ -1,21 +1,28 @@
 -- What the bodies of a module may speak of.
-use Rattle.std.specs.Prelude.{◌≡◌, ℕ, List, [], Some, map, slice_get, string_bytes, if◌then◌else◌}
+use Rattle.std.specs.Prelude.{◌≡◌, ◌≤◌, ℕ, List, [], Some, All, length, map, slice_get, string_bytes, if◌then◌else◌}
+use Rattle.std.specs.List.{AllZip}
 use Rattle.std.specs.Str.{bytes_eq}
+use Rattle.tp_tree.specs.declared.tree.Definition.{Definition}
 use Rattle.tp_tree.specs.declared.tree.Function.{Function}
 use Rattle.tp_tree.specs.declared.tree.Statement.{Statement}
 use Rattle.tp_tree.specs.declared.tree.TestCase.{TestCase}
 use Rattle.tp_tree.specs.declared.tree.Variable.{Variable}
+use Rattle.tp_value.specs.declared.types.Ty.{Ty}
+use Rattle.tp_value.specs.declared.types.Field.{Field}
+use Rattle.tp_value.specs.declared.types.TypeDef.TheVariants as type_def
 use Rattle.tp_value.specs.declared.types.Types.{Types}
+use Rattle.tp_value.specs.Types.{named}
 use Rattle.tp_config.specs.Setup.{PortDecl}
 use Rattle.tp_config.specs.Shape.{ports_of}
-use Rattle.tp_name.specs.Tables.{place_of}
-use Rattle.tp_setup.specs.Definitions.{declared}
+use Rattle.tp_name.specs.Tables.{AreDistinct, IsNumbered, place_of}
+use Rattle.tp_setup.specs.Definitions.{declared, inner_names}
 use Rattle.tp_setup.specs.Rules.{sut}
 use Rattle.tp_play.specs.declared.body.Body.{Body}
 use Rattle.tp_body.specs.declared.scope.BehaviourKind.{BehaviourKind}
 use Rattle.tp_body.specs.declared.scope.BehaviourKind.TheVariants as behaviour_kind
 use Rattle.tp_body.specs.declared.scope.Scope.{Scope}
 use Rattle.tp_body.specs.Bodies.{IsBody}
+use Rattle.tp_body.specs.Placing.{field_names}
 
 -- what each body of a module may speak of: the types of messages, the component types by their names, with their
 -- ports, and the component variables of the test case
@@ -60,3 +67,21 @@ abbrev pub IsFunctionBody : Known → Function → Body → Type 0
 IsFunctionBody known f body =
     StandsFor known (plays_of f) (string_bytes f.runs_on) (map (λ p. declared p.name) f.parameters.items)
     f.variables.items f.statements.items body
+
+-- the test case's own body and those of the functions stand for something, where bodies may speak of this
+pub record HasBodies (known : Known) (case : TestCase) (functions : List Function) : Type 0 where
+  pub main : Body
+  pub main_body : IsMainBody known case main
+  pub bodies : List Body
+  pub function_bodies : AllZip (IsFunctionBody known) functions bodies
+
+-- what the checks of bodies rely on: a component type has at most 64 ports, and no two fields of a record type have
+-- one name
+pub record IsSoundKnown (known : Known) : Type 0 where
+  pub few_ports : All (λ (ports : List PortDecl). length ports ≤ 64) known.ports
+  pub own_names : (u : Ty) (fields : List Field) → named known.types u ≡ Some (type_def.Record fields)
+      → AreDistinct (field_names fields)
+
+-- within each definition no two fields, ports or parameters have one name
+abbrev pub HaveOwnNames : List Definition → Type 0
+HaveOwnNames definitions = All (λ (x : Definition). IsNumbered (inner_names x.defined)) definitions

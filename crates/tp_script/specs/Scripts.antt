@@ -2,6 +2,7 @@
 use Rattle.std.specs.Prelude.{◌≤◌, ◌⊎◌, ℕ, List}
 use Rattle.tp_tree.specs.declared.tree.Module.{Module}
 use Rattle.tp_token.specs.declared.fault.ScriptFault.{ScriptFault}
+use Rattle.tp_name.specs.Refused.{Breaks}
 use Rattle.tp_syntax.specs.Definitions.{IsReadAs}
 use Rattle.tp_syntax.specs.Nesting.{module_depth}
 use Rattle.tp_syntax.specs.Refusals.{HasTokens, IsUnread}
@@ -21,7 +22,8 @@ pub record IsScriptOf (text : List ℕ) (made : Made) : Type 0 where
   pub well_formed : WellFormed parsed
   pub test_case : IsTestCaseOf parsed made
 
--- the text is refused so: for a fault that `parse` may answer for it, or where it is read as a module, within the
--- limits, for any fault
+-- the text is refused so: for a fault that `parse` may answer for it; or it is read as a module, within the limits,
+-- and refused for want of memory, or since the module doesn't obey the rules
 abbrev pub IsScriptFaultOf : List ℕ → ScriptFault → Type 0
-IsScriptFaultOf text fault = IsUnread text fault ⊎ ((parsed : Module) × IsModuleOf text parsed)
+IsScriptFaultOf text fault =
+    IsUnread text fault ⊎ ((parsed : Module) × IsModuleOf text parsed × Breaks (WellFormed parsed) fault)

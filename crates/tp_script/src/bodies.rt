@@ -1,9 +1,12 @@
 //! The fourth pass of the checks: the bodies.
-ghost use Rattle.std.specs.Prelude.{◌≡◌, IfOk};
+ghost use Rattle.std.specs.Prelude.{◌≡◌, IfErr, IfOk, List, map};
 ghost use Rattle.std.specs.List.{AllZip};
-ghost use Rattle.tp_setup.specs.Definitions.{among, function_of, functions};
+ghost use Rattle.tp_name.specs.Refused.{Breaks};
+ghost use Rattle.tp_name.specs.Tables.{IsNumbered};
+ghost use Rattle.tp_play.specs.declared.body.Body.{Body};
+ghost use Rattle.tp_setup.specs.Definitions.{among, declared, function_of, functions};
 ghost use Rattle.tp_script.specs.Instances.{known_in};
-ghost use Rattle.tp_script.specs.Scopes.{IsFunctionBody, IsMainBody, plays_of};
+ghost use Rattle.tp_script.specs.Scopes.{HasBodies, HaveOwnNames, IsFunctionBody, IsMainBody, IsSoundKnown, plays_of};
 
 use crate::scopes::{parameter_names, scope_of};
 use std::alloc::Global;
@@ -31,7 +34,9 @@ fn plays(function: &Function) -> BehaviourKind
 
 /// The test case's own body.
 fn resolve_main(alloc: Global, prepared: &Prepared) -> Result<Body, ScriptFault>
-    ensures { IfOk result (IsMainBody (known_in prepared.now) prepared.now.case.case.now) }
+    ensures body { IfOk result (IsMainBody (known_in prepared.now) prepared.now.case.case.now) }
+    ensures refused { IsSoundKnown (known_in prepared.now) → IfErr result (Breaks ((body : Body)
+        × IsMainBody (known_in prepared.now) prepared.now.case.case.now body)) }
 {
     let case = prepared.case.case;
     let line = prepared.case.line;
@@ -54,7 +59,11 @@ fn resolve_function<'m>(
     function: &'m Function,
     line: u32,
 ) -> Result<Body, ScriptFault>
-    ensures { IfOk result (IsFunctionBody (known_in prepared.now) function.now) }
+    ensures body { IfOk result (IsFunctionBody (known_in prepared.now) function.now) }
+    ensures refused { IsSoundKnown (known_in prepared.now)
+        → IsNumbered (map (λ p. declared p.name) function.now.parameters.items)
+        → IfErr result (Breaks ((body : Body)
+        × IsFunctionBody (known_in prepared.now) function.now body)) }
 {
     let parameters = parameter_names(alloc, &function.parameters)?;
     let runs_on = function.runs_on.as_str();
@@ -74,8 +83,11 @@ fn resolve_functions<'m>(
     definitions: &'m [Definition],
     prepared: &Prepared<'m>,
 ) -> Result<Vec<Body>, ScriptFault>
-    ensures { IfOk result (λ bodies. AllZip (IsFunctionBody (known_in prepared.now))
+    ensures bodies { IfOk result (λ bodies. AllZip (IsFunctionBody (known_in prepared.now))
         (among function_of definitions.now) bodies.items) }
+    ensures refused { IsSoundKnown (known_in prepared.now) → HaveOwnNames definitions.now
+        → IfErr result (Breaks ((bodies : List Body) × AllZip
+        (IsFunctionBody (known_in prepared.now)) (among function_of definitions.now) bodies)) }
 {
     let mut bodies = Vec::new(alloc);
     for definition in definitions {
@@ -104,6 +116,9 @@ pub fn resolve_bodies<'m>(
         IsMainBody (known_in prepared.now) prepared.now.case.case.now b.main) }
     ensures functions { IfOk result (λ b. AllZip (IsFunctionBody (known_in prepared.now))
         (functions parsed.now) b.functions.items) }
+    ensures refused { IsSoundKnown (known_in prepared.now)
+        → HaveOwnNames parsed.now.definitions.items → IfErr result (Breaks (HasBodies
+        (known_in prepared.now) prepared.now.case.case.now (functions parsed.now))) }
 {
     let main = resolve_main(alloc, prepared)?;
     let functions = resolve_functions(alloc, &parsed.definitions, prepared)?;

@@ -1,7 +1,9 @@
 //! The checks of a module, pass by pass.
-ghost use Rattle.std.specs.Prelude.{◌≡◌, ◌≤◌, IfOk, OnOk, length, map, sum};
+ghost use Rattle.std.specs.Prelude.{◌≡◌, ◌≤◌, IfErr, IfOk, OnOk, length, map, sum};
 ghost use Rattle.std.specs.List.{AllZip};
+ghost use Rattle.tp_name.specs.Refused.{Breaks};
 ghost use Rattle.tp_setup.specs.Definitions.{functions};
+ghost use Rattle.tp_setup.specs.Prepared.{IsPreparedOf, IsWellDeclared};
 ghost use Rattle.tp_play.specs.Behaviours.{size_of_behaviour};
 ghost use Rattle.tp_play.specs.Instances.{behaviour_of};
 ghost use Rattle.tp_play.specs.Ready.{IsReady};
@@ -35,6 +37,8 @@ fn resolve_behaviours<'m>(
     ensures count { IfOk result (λ b. length b.instances.items ≡ instance_count prepared.now) }
     ensures few { IfOk result (λ b.
         sum (map size_of_behaviour (map (behaviour_of b.bodies) b.instances.items)) ≤ 100000) }
+    ensures refused { IsPreparedOf parsed.now prepared.now → IsWellDeclared parsed.now
+        → IfErr result (Breaks (WellFormed parsed.now)) }
 {
     let bodies = resolve_bodies(alloc, parsed, prepared)?;
     let instances = make_instances(alloc, prepared)?;
@@ -67,10 +71,12 @@ fn assemble(prepared: Prepared<'_>, behaviours: Behaviours) -> TestCase
 /// setup and the starts, 11, 12, 13 `WrongType`, 15, 16, 17 `NoDone`, 18 `NotStarted` and the
 /// refusals of [`Config::connect`](tp_config::config::Config::connect) and
 /// [`Config::map`](tp_config::config::Config::map), 20 to 28; the bodies, 11, 12, 13,
-/// 14 `Direction` and 16; and the size, 15. 50 `Memory` only where an allocation was refused.
+/// 14 `Direction` and 16; and the size, 15. 50 `Memory` only where an allocation was refused;
+/// whatever else is answered, the module breaks a rule.
 pub fn check(alloc: Global, parsed: &Module) -> Result<TestCase, ScriptFault>
     ensures well_formed { OnOk result (WellFormed parsed.now) }
     ensures made { IfOk result (IsTestCaseOf parsed.now) }
+    ensures refused { IfErr result (Breaks (WellFormed parsed.now)) }
 {
     let prepared = prepare(alloc, parsed)?;
     let behaviours = resolve_behaviours(alloc, parsed, &prepared)?;

@@ -1,9 +1,9 @@
 //! What the components of a test case do.
-ghost use Rattle.std.specs.Prelude.{◌≡◌, ◌<◌, ◌+◌, [], Some, IfOk, IfSome, IsSome, OnOk, length, map, slice_get};
+ghost use Rattle.std.specs.Prelude.{◌≡◌, ◌<◌, ◌≤◌, ◌+◌, [], Some, IfErr, IfNone, IfOk, IfSome, IsSome, OnOk, length, map, slice_get};
 ghost use Rattle.std.specs.Option.{option_copied};
 ghost use Rattle.tp_play.specs.declared.instance.Source.TheVariants as source;
 ghost use Rattle.tp_script.specs.Behaviours.{AreReferences, Numbers};
-ghost use Rattle.tp_script.specs.Instances.{AreInstances, IsInstance, instance_count};
+ghost use Rattle.tp_script.specs.Instances.{AreFew, AreInstances, IsInstance, instance_count};
 
 use std::alloc::Global;
 use tp_config::port_type::CompId;
@@ -16,8 +16,9 @@ use tp_token::fault::ScriptFault;
 
 /// Adds the components of so many component variables, which are numbered from 1.
 fn add_variables(references: &mut Vec<CompId>, count: u32) -> Result<(), ScriptFault>
-    ensures { OnOk result (Numbers count
+    ensures numbers { OnOk result (Numbers count
         (map (λ c. c.0) references.old.items) (map (λ c. c.0) references.new.items)) }
+    ensures refused { IfErr result (λ fault. fault ≡ ScriptFault.Memory (record {})) }
 {
     for place in 0..count {
         references.push(CompId(place + 1))?;
@@ -32,8 +33,9 @@ fn references(
     arguments: &[CompId],
     count: u32,
 ) -> Result<Vec<CompId>, ScriptFault>
-    ensures { IfOk result (λ made. AreReferences
+    ensures references { IfOk result (λ made. AreReferences
         itself.0 (map (λ c. c.0) arguments.now) count (map (λ c. c.0) made.items)) }
+    ensures refused { IfErr result (λ fault. fault ≡ ScriptFault.Memory (record {})) }
 {
     let mut made = Vec::new(alloc);
     made.push(CompId(0))?;
@@ -45,7 +47,8 @@ fn references(
 
 /// How many component variables there are. 15 `Limit` where there are more than 4,294,967,295.
 fn variable_count(prepared: &Prepared) -> Result<u32, ScriptFault>
-    ensures { IfOk result (λ count. count ≡ length prepared.now.variables) }
+    ensures count { IfOk result (λ count. count ≡ length prepared.now.variables) }
+    ensures refused { IfErr result (λ _. 4294967295 < length prepared.now.variables) }
 {
     let count = prepared.variables.len();
     if count > u32::MAX as usize {
@@ -56,7 +59,8 @@ fn variable_count(prepared: &Prepared) -> Result<u32, ScriptFault>
 
 /// The component behind this many others after `mtc`, or `None` where its number is too large.
 fn component_behind(others: usize) -> Option<CompId>
-    ensures { IfSome result (λ comp. comp.0 ≡ others + 1) }
+    ensures number { IfSome result (λ comp. comp.0 ≡ others + 1) }
+    ensures many { IfNone result (4294967295 ≤ others) }
 {
     if others >= u32::MAX as usize {
         return None;
@@ -83,6 +87,7 @@ fn main_instance(alloc: Global, count: u32) -> Result<Instance, ScriptFault>
     ensures source { IfOk result (λ instance. instance.source ≡ source.TestCase) }
     ensures references { IfOk result (λ instance.
         AreReferences 0 [] count (map (λ c. c.0) instance.references.items)) }
+    ensures refused { IfErr result (λ fault. fault ≡ ScriptFault.Memory (record {})) }
 {
     let references = references(alloc, CompId(0), &[], count)?;
     Ok(Instance {
@@ -101,7 +106,10 @@ fn started_instance(
 ) -> Result<Instance, ScriptFault>
     requires count { count ≡ length prepared.now.variables }
     requires start { slice_get prepared.now.starts.places.items place ≡ Some start }
-    ensures { IfOk result (λ instance. IsInstance prepared.now (place + 1) (Some instance)) }
+    ensures instance { IfOk result (λ instance.
+        IsInstance prepared.now (place + 1) (Some instance)) }
+    ensures refused { AreFew prepared.now
+        → IfErr result (λ fault. fault ≡ ScriptFault.Memory (record {})) }
 {
     let Some(itself) = component_behind(place) else {
         return Err(ScriptFault::limit(prepared.case.line));
@@ -125,7 +133,10 @@ fn system_instance(
 ) -> Result<Option<Instance>, ScriptFault>
     requires count { count ≡ length prepared.now.variables }
     requires system { IsSome prepared.now.case.case.now.system }
-    ensures { IfOk result (IsInstance prepared.now (length prepared.now.starts.places.items + 1)) }
+    ensures instance { IfOk result (IsInstance
+        prepared.now (length prepared.now.starts.places.items + 1)) }
+    ensures refused { AreFew prepared.now
+        → IfErr result (λ fault. fault ≡ ScriptFault.Memory (record {})) }
 {
     let Some(place) = prepared.sorted.function_names.find("sut") else {
         return Ok(None);
@@ -150,6 +161,8 @@ fn test_instances(
     ensures instances { IfOk result (λ instances. AreInstances prepared.now instances.items) }
     ensures count { IfOk result (λ instances.
         length instances.items ≡ length prepared.now.starts.places.items + 1) }
+    ensures refused { AreFew prepared.now
+        → IfErr result (λ fault. fault ≡ ScriptFault.Memory (record {})) }
 {
     let mut instances = Vec::new(alloc);
     let main = main_instance(alloc, count)?;
@@ -174,6 +187,8 @@ pub fn make_instances(
     ensures instances { IfOk result (λ instances. AreInstances prepared.now instances.items) }
     ensures count { IfOk result (λ instances.
         length instances.items ≡ instance_count prepared.now) }
+    ensures refused { AreFew prepared.now
+        → IfErr result (λ fault. fault ≡ ScriptFault.Memory (record {})) }
 {
     let count = variable_count(prepared)?;
     let mut instances = test_instances(alloc, prepared, count)?;

@@ -1,6 +1,9 @@
 //! What the bodies of a module may speak of.
-ghost use Rattle.std.specs.Prelude.{◌≡◌, IfOk, map, slice_get};
+ghost use Rattle.std.specs.Prelude.{◌≡◌, IfErr, IfOk, map, slice_get};
 ghost use Rattle.std.specs.Option.{option_copied};
+ghost use Rattle.tp_body.specs.declared.scope.Scope.{Scope};
+ghost use Rattle.tp_name.specs.Refused.{Breaks};
+ghost use Rattle.tp_name.specs.Tables.{IsNumbered};
 ghost use Rattle.tp_setup.specs.Definitions.{declared};
 ghost use Rattle.tp_script.specs.Instances.{known_in};
 ghost use Rattle.tp_script.specs.Scopes.{IsScope};
@@ -26,7 +29,9 @@ fn kind_at(kinds: &[CompType], place: u32) -> Option<&CompType>
 /// The names of the parameters, in their order. 12 `Duplicate` at the line of the second of two
 /// that are equal, 15 `Limit` at the line of one behind 4,294,967,295 others; 50.
 pub fn parameter_names(alloc: Global, parameters: &[Parameter]) -> Result<NameSet<'_>, ScriptFault>
-    ensures { IfOk result (λ names. names ≡ map (λ p. declared p.name) parameters.now) }
+    ensures names { IfOk result (λ names. names ≡ map (λ p. declared p.name) parameters.now) }
+    ensures refused { IfErr result (Breaks (IsNumbered
+        (map (λ p. declared p.name) parameters.now))) }
 {
     let mut names = NameSet::new(alloc);
     declare_parameters(&mut names, parameters)?;
@@ -42,7 +47,10 @@ pub fn scope_of<'m>(
     parameters: &'m NameSet<'m>,
     line: u32,
 ) -> Result<Scope<'m>, ScriptFault>
-    ensures { IfOk result (IsScope (known_in prepared.now) behaviour runs_on.now parameters.now) }
+    ensures scope { IfOk result (IsScope
+        (known_in prepared.now) behaviour runs_on.now parameters.now) }
+    ensures refused { IfErr result (Breaks ((scope : Scope)
+        × IsScope (known_in prepared.now) behaviour runs_on.now parameters.now scope)) }
 {
     let Some(place) = prepared.sorted.component_names.find(runs_on) else {
         return Err(refused(Refusal::Unknown, line));

@@ -1,6 +1,7 @@
 //! The fifth pass of the checks: how many statements there are.
-ghost use Rattle.std.specs.Prelude.{◌≡◌, ◌≤◌, IfOk, OnOk, map, sum};
+ghost use Rattle.std.specs.Prelude.{◌≡◌, ◌≤◌, IfErr, IfOk, OnOk, map, sum};
 ghost use Rattle.std.specs.List.{slice_index_or};
+ghost use Rattle.tp_name.specs.Refused.{Breaks};
 ghost use Rattle.tp_play.specs.Sizes.{capped, size_of_body};
 ghost use Rattle.tp_play.specs.Behaviours.{size_of_behaviour};
 ghost use Rattle.tp_play.specs.Instances.{behaviour_of};
@@ -15,7 +16,9 @@ use tp_token::fault::ScriptFault;
 
 /// How many statements each body has, up to [`COUNTED`].
 fn count_bodies(alloc: Global, bodies: &[Body]) -> Result<Vec<u64>, ScriptFault>
-    ensures { IfOk result (λ sizes. sizes.items ≡ map (λ b. capped (size_of_body b)) bodies.now) }
+    ensures sizes { IfOk result (λ sizes.
+        sizes.items ≡ map (λ b. capped (size_of_body b)) bodies.now) }
+    ensures refused { IfErr result (λ fault. fault ≡ ScriptFault.Memory (record {})) }
 {
     let mut sizes = Vec::new(alloc);
     for body in bodies {
@@ -67,8 +70,10 @@ pub fn check_size(
     instances: &[Option<Instance>],
     line: u32,
 ) -> Result<(), ScriptFault>
-    ensures { OnOk result (
+    ensures few { OnOk result (
         sum (map size_of_behaviour (map (behaviour_of bodies.now) instances.now)) ≤ 100000) }
+    ensures refused { IfErr result (Breaks (
+        sum (map size_of_behaviour (map (behaviour_of bodies.now) instances.now)) ≤ 100000)) }
 {
     let main = count_body(&bodies.main);
     let functions = count_bodies(alloc, &bodies.functions)?;

@@ -5,8 +5,9 @@ use Rattle.std.specs.List.{AllZip}
 use Rattle.std.proofs.lemmas.List.{map_push, length-map}
 use Rattle.tp_tree.specs.declared.tree.Creation.{Creation}
 use Rattle.tp_tree.specs.declared.tree.SetupStatement.{SetupStatement}
-use Rattle.tp_config.specs.Setup.{Setup}
+use Rattle.tp_config.specs.Setup.{Setup, Member, names}
 use Rattle.tp_name.specs.Tables.{AreDistinct}
+use Rattle.tp_name.proofs.Numbering.{distinct_more}
 use Rattle.tp_setup.specs.Components.{Adds, AddsAll, Declared, HasSoundVariables, IsMember, creation_of, creations, variable}
 use Rattle.tp_setup.proofs.Steps.{all_push, kept_more, zip_push}
 
@@ -38,6 +39,12 @@ pub adds_more : (types : List (List ℕ)) (xs : List Declared) (d : Declared) (o
 adds_more types xs d old mid new before one = rw one.added (record {
   components = λ first h. subst (λ l. AllZip (IsMember types) l (mid.components ++ one.member ∷ [])) (append_assoc first xs (d ∷ []))
       (zip_push (IsMember types) (first ++ xs) mid.components d one.member (before.components first h) one.is_member);
+  names_more = map_push (λ (m : Member). m.name) mid.components one.member ∙ ap (λ l. l ++ one.member.name ∷ []) before.names_more
+      ∙ append_assoc (names old) (map (λ (x : Declared). x.name) xs) (one.member.name ∷ [])
+      ∙ ap (λ n. names old ++ (map (λ (x : Declared). x.name) xs ++ n ∷ [])) one.is_member.name
+      ∙ ap (λ l. names old ++ l) (sym (map_push (λ (x : Declared). x.name) xs d));
+  apart = λ h. subst AreDistinct (sym (map_push (λ (m : Member). m.name) mid.components one.member))
+      (distinct_more (names mid) one.member.name (before.apart h) one.new_name);
   types_stay = before.types_stay;
   connected_stay = before.connected_stay;
   mapped_stay = before.mapped_stay;
@@ -46,6 +53,8 @@ adds_more types xs d old mid new before one = rw one.added (record {
 pub adds_none : (types : List (List ℕ)) (s : Setup) → AddsAll types [] s s
 adds_none types s = record {
   components = λ first h. subst (λ l. AllZip (IsMember types) l s.components) (sym (append-nil first)) h;
+  names_more = sym (append-nil (names s));
+  apart = λ h. h;
   types_stay = refl;
   connected_stay = refl;
   mapped_stay = refl;

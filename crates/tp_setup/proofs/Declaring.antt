@@ -1,5 +1,5 @@
 -- A port that is added to a component type.
-use Rattle.std.proofs.Common.{◌≡◌, ℕ, ◌+◌, Bool, true, false, cond, List, [], ◌∷◌, ◌++◌, None, map, position, Contains, refl, ap, sym, ◌∙◌, subst, arith, add-one, Global, string_bytes}
+use Rattle.std.proofs.Common.{◌≡◌, ℕ, ◌+◌, Bool, true, false, cond, List, [], ◌∷◌, ◌++◌, None, Some, map, position, Contains, refl, ap, sym, ◌∙◌, subst, arith, add-one, Global, string_bytes}
 use Rattle.std.specs.declared.string.String.{String}
 use Rattle.std.specs.Str.{bytes_eq}
 use Rattle.std.proofs.lemmas.Slice.Eq.{bytes_eq-Decides}
@@ -8,7 +8,7 @@ use Rattle.tp_value.specs.declared.types.Ty.{Ty}
 use Rattle.tp_config.specs.declared.port_type.PortType.{PortType}
 use Rattle.tp_config.specs.Setup.{PortDecl}
 use Rattle.tp_config.specs.Shape.{decl_of}
-use Rattle.tp_name.proofs.Numbering.{position_map, place_unknown}
+use Rattle.tp_name.proofs.Numbering.{place_known, place_unknown, position_map}
 
 abbrev pub Entries : Type 0
 Entries = List (String Global × PortType)
@@ -45,3 +45,13 @@ declaration name ins outs = record { name = name; ins = ins; outs = outs }
 
 pub same_declaration : (a b : List ℕ) (i j o p : List Ty) → a ≡ b → i ≡ j → o ≡ p → declaration a i o ≡ declaration b j p
 same_declaration a b i j o p e f g = rw (e, f, g)
+
+-- a look-up that finds a name
+pub is_there : (es : Entries) (name : List ℕ) (n : ℕ) → Some n ≡ position (λ k. bytes_eq name (string_bytes k)) (map (λ e. e.0) es) → Contains (names_in es) name
+is_there es name n e =
+    subst (λ l. Contains l name) (keys_in es)
+    (place_known (map string_bytes (map (λ e. e.0) es)) name n (e ∙ position_map string_bytes (bytes_eq name) (map (λ e. e.0) es)))
+
+pub names_declared : (es : Entries) → map (λ (p : PortDecl). p.name) (map decl_of es) ≡ names_in es
+names_declared [] = refl
+names_declared (e ∷ es) = ap (λ l. string_bytes e.0 ∷ l) (names_declared es)

@@ -7,3 +7,16 @@ pub mod Made
 pub mod Creating
 pub mod Connecting
 pub mod Setting
+pub mod Refusing
+pub mod Naming
+pub mod OfKinds
+pub mod Zips
+pub mod Lookups
+pub mod Adding
+pub mod Ends
+pub mod Making
+pub mod TypePorts
+pub mod Ready
+pub mod Renaming
+pub mod Stopping
+pub mod OneModule

@@ -1,5 +1,5 @@
 -- A definition that obeys the rules.
-use Rattle.std.proofs.Common.{◌≡◌, ◌≤◌, ℕ, true, List, [], Option, Some, All, Contains, IfSome, is_some, length, string_bytes}
+use Rattle.std.proofs.Common.{◌≡◌, ◌≤◌, inl, inr, arith, subst, ℕ, true, List, [], Option, Some, All, Contains, IfSome, is_some, length, string_bytes}
 use Rattle.std.specs.List.{list_all}
 use Rattle.tp_tree.specs.declared.tree.Definition.{Definition}
 use Rattle.tp_tree.specs.declared.tree.Defined.{Defined}
@@ -10,11 +10,12 @@ use Rattle.tp_tree.specs.declared.tree.PortType.{PortType}
 use Rattle.tp_tree.specs.declared.tree.ComponentType.{ComponentType}
 use Rattle.tp_tree.specs.declared.tree.Function.{Function}
 use Rattle.tp_tree.specs.declared.tree.TestCase.{TestCase}
+use Rattle.tp_token.specs.declared.fault.ScriptFault.{ScriptFault}
 use Rattle.tp_name.specs.Tables.{place_of}
 use Rattle.tp_setup.specs.Definitions.{declared_ports}
 use Rattle.tp_setup.specs.Resolved.{ty_of}
-use Rattle.tp_setup.specs.Rules.{IsSound, NamesType, sut}
-use Rattle.tp_setup.proofs.Known.{each_known}
+use Rattle.tp_setup.specs.Rules.{ArePortTypesKnown, AreTypesKnown, HasFewPorts, IsComponentFault, IsSound, NamesType, has_known_messages, sut}
+use Rattle.tp_setup.proofs.Known.{each_known, each_there, messages_known, messages_there}
 
 module _ (types ports components : List (List ℕ)) (system : Option (List ℕ)) (x : Defined) where
   pub sound_record : (r : RecordType) → x ≡ d.Record r → All (λ f. NamesType types f.type_name) r.fields.items → IsSound types ports components system x
@@ -23,8 +24,9 @@ module _ (types ports components : List (List ℕ)) (system : Option (List ℕ))
   pub sound_list : (l : ListType) → x ≡ d.List l → is_some (ty_of types l.element) ≡ true → IsSound types ports components system x
   sound_list l e known = rw e (record { types_known = known; port_types_known = tt; component_types_known = tt; few_ports = tt; plays_system = tt })
 
-  pub sound_port : (p : PortType) → x ≡ d.Port p → All (λ w. All (NamesType types) w.types.items) p.directions.items → IsSound types ports components system x
-  sound_port p e known = rw e (record { types_known = known; port_types_known = tt; component_types_known = tt; few_ports = tt; plays_system = tt })
+  pub sound_port : (p : PortType) → x ≡ d.Port p → has_known_messages types p.directions.items ≡ true → IsSound types ports components system x
+  sound_port p e known =
+      rw e (record { types_known = messages_known types p.directions.items known; port_types_known = tt; component_types_known = tt; few_ports = tt; plays_system = tt })
 
   pub sound_component : (c : ComponentType) → x ≡ d.Component c → list_all (λ p. is_some (place_of ports (string_bytes p.type_name))) c.ports.items ≡ true
       → length (declared_ports c.ports.items) ≤ 64 → IsSound types ports components system x
@@ -54,7 +56,19 @@ module _ (types ports components : List (List ℕ)) (system : Option (List ℕ))
   sound_case c e runs known =
       rw e (record { types_known = tt; port_types_known = tt; component_types_known = (runs, known); few_ports = tt; plays_system = tt })
 
-pub ruleset soundness = (sound_record, sound_list, sound_port, sound_component, sound_function, sound_case)
+  -- a component type that is refused, and a port type with an unknown message type
+  pub unsound_component : (c : ComponentType) (line : ℕ) (fault : ScriptFault) → x ≡ d.Component c → IsComponentFault ports c line fault
+      → IsSound types ports components system x → ⊥
+  unsound_component c line fault e (inl isnt) h =
+      isnt.0 (each_there ports (λ p. string_bytes p.type_name) c.ports.items (subst (ArePortTypesKnown ports) e h.port_types_known))
+  unsound_component c line fault e (inr many) h =
+      let few : HasFewPorts (d.Component c) = subst HasFewPorts e h.few_ports in
+      omega (arith, few, many.1)
+
+  pub unsound_port : (p : PortType) → x ≡ d.Port p → ¬ (has_known_messages types p.directions.items ≡ true) → IsSound types ports components system x → ⊥
+  unsound_port p e isnt h = isnt (messages_there types p.directions.items (subst (AreTypesKnown types) e h.types_known))
+
+pub ruleset soundness = (sound_record, sound_list, sound_port, sound_component, sound_function, sound_case, unsound_port)
 
 -- the same rules, under other names for the lists
 pub sound_all : (t u p q c d : List (List ℕ)) (system : Option (List ℕ)) (xs : List Definition) → t ≡ u → p ≡ q → c ≡ d

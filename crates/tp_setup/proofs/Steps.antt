@@ -96,3 +96,11 @@ zip_append R (a ∷ xs) more (b ∷ ys) others each rest = (each.0, zip_append R
 pub zip_maps : {A B C : Type 0} (R : B → C → Type 0) (f : A → B) (g : A → C) (xs : List A) → ((x : A) → R (f x) (g x)) → AllZip R (map f xs) (map g xs)
 zip_maps R f g [] each = tt
 zip_maps R f g (x ∷ xs) each = (each x, zip_maps R f g xs each)
+
+-- what stands at a place of the first list, in the other
+pub zip_there : {A B : Type 0} (R : A → B → Type 0) (xs : List A) (ys : List B) (k : ℕ) (x : A) → AllZip R xs ys → slice_get xs k ≡ Some x
+    → None ≡ slice_get ys k → ⊥
+zip_there R [] ys k x each e none = absurd (cc)
+zip_there R (a ∷ xs) [] k x each e none = absurd each
+zip_there R (a ∷ xs) (b ∷ ys) zero x each e none = absurd (cc)
+zip_there R (a ∷ xs) (b ∷ ys) (suc k) x each e none = zip_there R xs ys k x each.1 e none

@@ -1,5 +1,5 @@
 -- The components of a test case.
-use Rattle.std.specs.Prelude.{◌≡◌, ◌≤◌, ℕ, Option, Some, None, List, ◌∷◌, ◌++◌, All, Contains}
+use Rattle.std.specs.Prelude.{◌≡◌, ◌≤◌, ◌<◌, ◌+◌, true, ℕ, Option, Some, None, List, [], ◌∷◌, ◌++◌, All, Contains}
 use Rattle.std.specs.Prelude.{codes, length, map, option_to_list, string_bytes}
 use Rattle.std.specs.Option.{option_map}
 use Rattle.std.specs.List.{AllZip, filter_map}
@@ -12,8 +12,9 @@ use Rattle.tp_tree.specs.declared.tree.TestCase.{TestCase}
 use Rattle.tp_config.specs.declared.port_type.CompId.{CompId}
 use Rattle.tp_config.specs.declared.port_type.Role.{Role}
 use Rattle.tp_config.specs.declared.port_type.Role.TheVariants as role
-use Rattle.tp_config.specs.Setup.{Setup, Member, creating}
-use Rattle.tp_name.specs.Tables.{AreDistinct, place_of}
+use Rattle.tp_config.specs.Setup.{Setup, Member, creating, is_system_role, names}
+use Rattle.tp_config.specs.Causes.{HasSystem}
+use Rattle.tp_name.specs.Tables.{AreDistinct, IsNumbered, place_of}
 use Rattle.tp_setup.specs.Definitions.{declared_ports}
 
 abbrev pub creation_in : SetupAction → Option Creation
@@ -74,6 +75,16 @@ pub record Adds (types : List (List ℕ)) (x : Declared) (old new : Setup) : Typ
   pub member : Member
   pub is_member : IsMember types x member
   pub added : new ≡ creating old member
+  -- no other component has the name
+  pub new_name : Contains (names old) member.name → ⊥
+
+-- a component can be added to the configuration, where its component types have these names
+pub record CanAdd (types : List (List ℕ)) (x : Declared) (s : Setup) : Type 0 where
+  pub typed : length types ≡ length s.types
+  pub known : Contains types x.type_name
+  pub new_name : Contains (names s) x.name → ⊥
+  pub one_interface : is_system_role x.role ≡ true → HasSystem s.components → ⊥
+  pub room : length s.components < 64
 
 -- the names of the ports of the component type of this name
 pub record HasPorts (types : List ComponentType) (name : List ℕ) (ports : List (List ℕ)) : Type 0 where
@@ -96,10 +107,37 @@ pub record HasSoundVariables (types ports : List (List ℕ)) (most : ℕ) (xs : 
   -- there are at most 64 components, `mtc` and `system` counted
   pub few : length xs ≤ most
 
+-- the rules on one more component variable, where those before it have these names
+pub record IsSoundVariable (types ports names : List (List ℕ)) (most : ℕ) (c : Creation) : Type 0 where
+  pub numbered : IsNumbered (names ++ variable c ∷ [])
+  pub no_port : Contains ports (variable c) → ⊥
+  pub known : Contains types (string_bytes c.type_name)
+  pub same : string_bytes c.type_name ≡ string_bytes c.created
+  pub few : length (names ++ variable c ∷ []) ≤ most
+
+-- test components of these names can be added to the configuration, where its component types have these names
+pub record CanAddAll (types added : List (List ℕ)) (s : Setup) : Type 0 where
+  pub typed : length types ≡ length s.types
+  pub distinct : AreDistinct (names s ++ added)
+  pub room : length s.components + length added ≤ 64
+
 -- components were added to the configuration as they are declared, one after the other, and nothing else was changed
 pub record AddsAll (types : List (List ℕ)) (xs : List Declared) (old new : Setup) : Type 0 where
   pub components : (before : List Declared) → AllZip (IsMember types) before old.components
       → AllZip (IsMember types) (before ++ xs) new.components
+  pub names_more : names new ≡ names old ++ map (λ (x : Declared). x.name) xs
+  -- no two of them have one name, if no two had before
+  pub apart : AreDistinct (names old) → AreDistinct (names new)
   pub types_stay : new.types ≡ old.types
   pub connected_stay : new.connected ≡ old.connected
   pub mapped_stay : new.mapped ≡ old.mapped
+
+-- the components of the first of these setup statements were added, and those of the rest were not
+pub record HasStopped (types : List (List ℕ)) (setups before : List SetupStatement) (old new : Setup) : Type 0 where
+  pub rest : List SetupStatement
+  pub all : setups ≡ before ++ rest
+  pub added : AddsAll types (map created (creations before)) old new
+
+-- the ports of each component type have names of their own
+abbrev pub AreNumbered : List ComponentType → Type 0
+AreNumbered types = All (λ (c : ComponentType). IsNumbered (declared_ports c.ports.items)) types

@@ -1,6 +1,6 @@
 -- What the setup statements of a test case make (ES 201 873-1, 21.1).
-use Rattle.std.specs.Prelude.{◌≡◌, ℕ, ◌+◌, Option, Some, List, [], ◌∷◌, ◌++◌, if◌then◌else◌}
-use Rattle.std.specs.Prelude.{is_some, length, slice_get, string_bytes}
+use Rattle.std.specs.Prelude.{◌≡◌, ℕ, ◌+◌, Option, Some, List, [], ◌∷◌, ◌++◌, if◌then◌else◌, All}
+use Rattle.std.specs.Prelude.{is_some, length, map, slice_get, string_bytes}
 use Rattle.std.specs.Option.{option_map}
 use Rattle.std.specs.List.{AllZip}
 use Rattle.tp_tree.specs.declared.tree.PairEnd.{PairEnd}
@@ -12,10 +12,12 @@ use Rattle.tp_tree.specs.declared.tree.SetupAction.TheVariants as setup_action
 use Rattle.tp_tree.specs.declared.tree.TestCase.{TestCase}
 use Rattle.tp_tree.specs.declared.tree.ComponentType.{ComponentType}
 use Rattle.tp_config.specs.declared.port_type.PortRef.{PortRef}
-use Rattle.tp_config.specs.Setup.{Setup, PortDecl, IsPort, connecting, mapping, port_names}
+use Rattle.tp_config.specs.Setup.{Setup, PortDecl, IsPort, empty_setup, connecting, mapping, port_names}
 use Rattle.tp_config.specs.Allowed.{CanConnect, CanMap}
-use Rattle.tp_name.specs.Tables.{place_of}
-use Rattle.tp_setup.specs.Components.{HasPorts, HasSoundVariables, IsMember, component_list, creations, variables}
+use Rattle.tp_name.specs.Tables.{AreDistinct, place_of}
+use Rattle.tp_setup.specs.Definitions.{declared_ports}
+use Rattle.tp_setup.specs.Components.{AddsAll, AreNumbered, Declared, HasPorts, HasSoundVariables, IsMember}
+use Rattle.tp_setup.specs.Components.{component_list, created, creations, main_component, variables}
 
 -- the number of the component that a setup statement names, where the component variables before it have these names
 -- and the test system interface has this number, if there is a `system` clause
@@ -74,6 +76,8 @@ pub record IsSetUp (names : List (List ℕ)) (types : List (List PortDecl)) (cas
   pub start : Setup
   pub types_are : start.types ≡ types
   pub components_are : AllZip (IsMember names) (component_list case) start.components
+  -- no two components have one name: no variable is named `mtc`, or `system` beside a test system interface
+  pub apart : AreDistinct (map (λ (x : Declared). x.name) (component_list case))
   pub not_connected : start.connected ≡ []
   pub not_mapped : start.mapped ≡ []
   pub makes : Makes (interface_number case) start case.setups.items config
@@ -84,3 +88,40 @@ pub record AreSoundVariables (names : List (List ℕ)) (types : List ComponentTy
   -- these are the ports of the component type behind `runs on`
   pub has_ports : HasPorts types (string_bytes case.runs_on) ports
   pub sound : HasSoundVariables names ports (most_variables case) (creations case.setups.items)
+
+-- the test case obeys the rules on setup, where the component types have these names and ports
+pub record CanSetUp (names : List (List ℕ)) (types : List ComponentType) (ports : List (List PortDecl))
+    (case : TestCase) : Type 0 where
+  pub variables : AreSoundVariables names types case
+  pub config : Setup
+  pub is_set_up : IsSetUp names ports case config
+
+-- the names of ports
+abbrev pub names_of_ports : List PortDecl → List (List ℕ)
+names_of_ports ports = map (λ (d : PortDecl). d.name) ports
+
+-- no two ports of one component type have one name
+abbrev pub HaveOwnPorts : List (List PortDecl) → Type 0
+HaveOwnPorts made = All (λ (ports : List PortDecl). AreDistinct (names_of_ports ports)) made
+
+-- each component type has its ports, no two of them of one name
+pub record HavePorts (names : List (List ℕ)) (made : List (List PortDecl)) : Type 0 where
+  pub typed : length names ≡ length made
+  pub own : HaveOwnPorts made
+
+-- the test case obeys the rules on setup, where the ports of the main component have these names
+pub record CanSetUpBeside (names ports : List (List ℕ)) (made : List (List PortDecl)) (case : TestCase) : Type 0 where
+  pub sound : HasSoundVariables names ports (most_variables case) (creations case.setups.items)
+  pub config : Setup
+  pub is_set_up : IsSetUp names made case config
+
+-- the configuration has `mtc` and the components of the first of the setup statements, and nothing else
+pub record HasFirst (names : List (List ℕ)) (case : TestCase) (before : List SetupStatement) (s : Setup) : Type 0 where
+  pub rest : List SetupStatement
+  pub all : case.setups.items ≡ before ++ rest
+  pub added : AddsAll names (main_component case ∷ map created (creations before)) (empty_setup s.types) s
+
+-- these are the ports of the component types, as far as their names go, and no two ports of one have one name
+pub record AreOwnPorts (types : List ComponentType) (made : List (List PortDecl)) : Type 0 where
+  pub same : map names_of_ports made ≡ map (λ (c : ComponentType). declared_ports c.ports.items) types
+  pub numbered : AreNumbered types

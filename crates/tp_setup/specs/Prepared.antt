@@ -45,7 +45,8 @@ pub record IsWellDeclared (m : Module) : Type 0 where
   pub definitions : HasSoundDefinitions m case
   -- the component variables have names of their own, known types, and are few
   pub variables : AreSoundVariables (component_type_names m) (component_types m) case
-  -- the ports of each `connect` and `map` are known, and each is allowed where it stands
+  -- no two components have one name, the ports of each `connect` and `map` are known, and each is allowed where it
+  -- stands
   pub config : Setup
   pub connections : IsConfigOf m case config
   -- each component is started once, by a function of its type, with arguments of the parameters' types, and

@@ -1,6 +1,6 @@
 -- The rules on names and definitions.
 use Rattle.std.specs.Prelude.{◌≡◌, ◌<◌, ◌≤◌, ◌⊎◌, ℕ, Bool, Option, Some, List, [], All, Contains}
-use Rattle.std.specs.Prelude.{IfSome, IsSome, IsTrue, codes, is_some, length, string_bytes}
+use Rattle.std.specs.Prelude.{◌∷◌, IfSome, IsSome, IsTrue, codes, is_some, length, map, string_bytes}
 use Rattle.tp_tree.specs.declared.tree.Module.{Module}
 use Rattle.tp_tree.specs.declared.tree.Definition.{Definition}
 use Rattle.tp_tree.specs.declared.tree.Defined.{Defined}
@@ -8,20 +8,35 @@ use Rattle.tp_tree.specs.declared.tree.Defined.TheVariants as defined
 use Rattle.tp_tree.specs.declared.message.TypeName.{TypeName}
 use Rattle.tp_tree.specs.declared.tree.ComponentType.{ComponentType}
 use Rattle.tp_tree.specs.declared.tree.Function.{Function}
+use Rattle.tp_tree.specs.declared.tree.Direction.{Direction}
+use Rattle.tp_tree.specs.declared.tree.PortType.{PortType}
+use Rattle.tp_tree.specs.declared.tree.TestCase.{TestCase}
 use Rattle.tp_refusal.specs.declared.refusal.Refusal.TheVariants.{Unknown, Limit}
 use Rattle.tp_token.specs.declared.fault.ScriptFault.{ScriptFault}
 use Rattle.tp_token.specs.declared.fault.ScriptFault.TheVariants.{Refused}
 use Rattle.std.specs.List.{list_all}
-use Rattle.tp_name.specs.Tables.{AreDistinct, place_of}
-use Rattle.tp_setup.specs.Definitions.{definition_names, inner_names, declared_ports}
+use Rattle.tp_name.specs.Tables.{AreDistinct, IsNumbered, place_of}
+use Rattle.tp_setup.specs.Definitions.{among, case_of, declared_ports, definition_names, inner_names, name_of}
+use Rattle.tp_setup.specs.Definitions.{test_cases, type_of}
 use Rattle.tp_setup.specs.Resolved.{ty_of}
 
--- no name is given twice
+-- no name is given twice, and each has a number of 32 bits
 pub record HasUniqueNames (m : Module) : Type 0 where
-  -- no two definitions have one name
-  pub definitions : AreDistinct (definition_names m)
-  -- no two fields of a record type, ports of a component type or parameters of a function have one name
-  pub inner : All (λ (x : Definition). AreDistinct (inner_names x.defined)) m.definitions.items
+  -- no two definitions have one name, and they are fewer than 2 ^ 32
+  pub definitions : IsNumbered (definition_names m)
+  -- no two fields of a record type, ports of a component type or parameters of a function have one name, and they are
+  -- fewer than 2 ^ 32
+  pub inner : All (λ (x : Definition). IsNumbered (inner_names x.defined)) m.definitions.items
+
+-- there is one test case
+abbrev pub HasOneTestCase : Module → Type 0
+HasOneTestCase m = (case : TestCase) × (test_cases m ≡ case ∷ [])
+
+-- no name of these definitions is given twice, and there is at most one test case among them
+pub record AreNamed (definitions : List Definition) : Type 0 where
+  pub names : IsNumbered (map (λ (x : Definition). name_of x.defined) definitions)
+  pub inner : All (λ (x : Definition). IsNumbered (inner_names x.defined)) definitions
+  pub one_case : length (among case_of definitions) ≤ 1
 
 -- a type name names a type
 abbrev pub NamesType : List (List ℕ) → TypeName → Type 0
@@ -66,6 +81,11 @@ HasFewPorts (defined.Component c) = length (declared_ports c.ports.items) ≤ 64
 HasFewPorts (defined.Function f) = Unit {0}
 HasFewPorts (defined.TestCase c) = Unit {0}
 
+-- whether each message type of the directions is known
+abbrev pub has_known_messages : List (List ℕ) → List Direction → Bool
+has_known_messages types directions =
+    list_all (λ w. list_all (λ n. is_some (ty_of types n)) w.types.items) directions
+
 -- whether the type of each port of a component type is among these names
 abbrev pub has_known_ports : List (List ℕ) → ComponentType → Bool
 has_known_ports ports c = list_all (λ p. is_some (place_of ports (string_bytes p.type_name))) c.ports.items
@@ -99,6 +119,11 @@ PlaysSystem system (defined.Component c) = Unit {0}
 PlaysSystem system (defined.Function f) = string_bytes f.name ≡ sut → CanPlaySystem system f
 PlaysSystem system (defined.TestCase c) = Unit {0}
 
+-- the rules on a function, where the component types have these names, and this name stands behind `system`
+abbrev pub IsSoundFunction : List (List ℕ) → Option (List ℕ) → Function → Type 0
+IsSoundFunction components system f =
+    AreComponentTypesKnown components (defined.Function f) × PlaysSystem system (defined.Function f)
+
 -- the rules on one definition, where the types, port types and component types have these names, and this name stands
 -- behind `system`
 pub record IsSound (types ports components : List (List ℕ)) (system : Option (List ℕ)) (x : Defined) : Type 0 where
@@ -107,3 +132,20 @@ pub record IsSound (types ports components : List (List ℕ)) (system : Option (
   pub component_types_known : AreComponentTypesKnown components x
   pub few_ports : HasFewPorts x
   pub plays_system : PlaysSystem system x
+
+-- each is a record or record-of type whose types are known, no two have one name, and they are fewer than 2 ^ 32
+pub record AreSoundTypes (types : List (List ℕ)) (xs : List Defined) : Type 0 where
+  pub kinds : All (λ x. IsSome (type_of x)) xs
+  pub known : All (AreTypesKnown types) xs
+  pub names : IsNumbered (map name_of xs)
+
+-- each message type of a port type is known
+abbrev pub AreMessagesKnown : List (List ℕ) → PortType → Type 0
+AreMessagesKnown types p = AreTypesKnown types (defined.Port p)
+
+-- the rules on a component type, where the port types have these names
+pub record IsSoundComponent (ports : List (List ℕ)) (c : ComponentType) : Type 0 where
+  pub known : ArePortTypesKnown ports (defined.Component c)
+  pub few : HasFewPorts (defined.Component c)
+  -- no two ports have one name
+  pub distinct : AreDistinct (declared_ports c.ports.items)

@@ -9,7 +9,7 @@ use Rattle.tp_tree.specs.declared.tree.Function.{Function}
 use Rattle.tp_setup.specs.declared.sorted.Sorted.{Sorted}
 use Rattle.tp_config.specs.declared.port_type.CompType.{CompType}
 use Rattle.tp_config.specs.declared.port_type.PortType.{PortType as PortLists}
-use Rattle.tp_setup.specs.Rules.{IsSound}
+use Rattle.tp_setup.specs.Rules.{AreMessagesKnown, AreSoundTypes, IsSound, IsSoundComponent}
 use Rattle.tp_setup.specs.Resolved.{IsComponentType, IsMade}
 use Rattle.std.specs.List.{AllZip}
 use Rattle.tp_tree.specs.declared.tree.TestCase.{TestCase}
@@ -65,6 +65,12 @@ IsSoundIn s system x = IsSound s.type_names s.port_names s.component_names syste
 -- each definition obeys these rules
 abbrev pub AreSound : Sorted → Option (List ℕ) → List Definition → Type 0
 AreSound s system definitions = All (IsSoundIn s system) definitions
+
+-- the definitions that were sorted out obey the rules, each kind by itself
+pub record IsSortedSound (s : Sorted) : Type 0 where
+  pub types : AreSoundTypes s.type_names (types_in s)
+  pub ports : All (AreMessagesKnown s.type_names) (port_types_in s)
+  pub components : All (IsSoundComponent s.port_names) (component_types_in s)
 
 -- these are what the port types receive and send
 pub record HasMade (s : Sorted) (made : List PortLists) : Type 0 where

@@ -13,7 +13,7 @@ use Rattle.tp_tree.specs.declared.tree.TestCase.{TestCase}
 use Rattle.tp_config.specs.declared.port_type.CompId.{CompId}
 use Rattle.tp_setup.specs.declared.starts.Started.{Started}
 use Rattle.tp_setup.specs.declared.starts.Starts.{Starts}
-use Rattle.tp_name.specs.Tables.{AreDistinct, place_of}
+use Rattle.tp_name.specs.Tables.{IsNumbered, place_of}
 use Rattle.tp_setup.specs.Rules.{sut}
 use Rattle.tp_setup.specs.Components.{creations, variables}
 
@@ -64,8 +64,8 @@ IsStartPlace started name k = place_of started name ≡ Some k
 pub record AreStarts (functions : List Function) (case : TestCase) (made : Starts) : Type 0 where
   pub starts : AllZip (IsStartOf functions (variables case.setups.items) (type_names_of case))
       case.starts.items made.starts.items
-  -- no component is started twice
-  pub once : AreDistinct (started_names case.starts.items)
+  -- no component is started twice, and the starts are fewer than 2 ^ 32
+  pub once : IsNumbered (started_names case.starts.items)
   -- each component is started
   pub all : AllZip (IsStartPlace (started_names case.starts.items)) (variables case.setups.items) made.places.items
   -- a test case that makes components ends with `all component.done`

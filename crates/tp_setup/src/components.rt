@@ -1,8 +1,9 @@
 //! The third pass of the checks: the components of the test case.
-ghost use Rattle.std.specs.Prelude.{◌≡◌, ◌≢◌, ◌≤◌, ◌+◌, ◌++◌, ◌∷◌, [], Contains, IfOk, IfSome, OnErr, OnOk, Some, length, map, option_map, slice_get, string_bytes};
+ghost use Rattle.std.specs.Prelude.{◌≡◌, All, ◌≢◌, ◌≤◌, ◌+◌, ◌++◌, ◌∷◌, [], List, ℕ, Contains, IfErr, IfNone, IfOk, IfSome, None, OnErr, OnOk, Some, length, map, option_map, slice_get, string_bytes};
 ghost use Rattle.std.specs.Option.{option_copied};
-ghost use Rattle.tp_name.specs.Tables.{AreDistinct, place_of};
-ghost use Rattle.tp_setup.specs.Components.{Adds, AddsAll, HasPorts, HasSoundVariables, created, creation_of, creations, interface, component_number, variable};
+ghost use Rattle.tp_name.specs.Tables.{AreDistinct, IsNumbered, place_of};
+ghost use Rattle.tp_name.specs.Refused.{Breaks};
+ghost use Rattle.tp_setup.specs.Components.{Adds, AddsAll, AreNumbered, CanAdd, CanAddAll, HasPorts, HasSoundVariables, HasStopped, IsSoundVariable, component_number, created, creation_of, creations, interface, variable, variables};
 ghost use Rattle.tp_setup.specs.Sorted.{AreComponentsNamed, component_types_in};
 
 use crate::sorted::{Sorted, definition_at};
@@ -59,6 +60,12 @@ pub(crate) fn add_component(
         }) config.old config.new) }
     ensures number { IfOk result (λ comp. comp.0 ≡ length config.old.components) }
     ensures err { OnErr result (config.new ≡ config.old) }
+    ensures refused { IfErr result (Breaks (CanAdd types.now
+        (record {
+          name = component.now.name.now;
+          type_name = component.now.type_name.now;
+          role = component.now.role;
+        }) config.old)) }
 {
     let Some(kind) = types.find(component.type_name) else {
         return Err(refused(Refusal::Unknown, component.line));
@@ -67,9 +74,10 @@ pub(crate) fn add_component(
         return Err(refused(Refusal::Unknown, component.line));
     }
     let name = String::from_str(alloc, component.name)?;
-    config
-        .create(name, kind, component.role)
-        .map_err(|fault| fault_at(fault.refusal(), component.line))
+    match config.create(name, kind, component.role) {
+        Ok(comp) => Ok(comp),
+        Err(fault) => Err(fault_at(fault.refusal(), component.line)),
+    }
 }
 
 /// What a component variable of a test case must obey.
@@ -93,13 +101,15 @@ fn check_variable<'m>(
     line: u32,
 ) -> Result<(), ScriptFault>
     ensures added { OnOk result (variables.new ≡ variables.old ++ variable creation.now ∷ []) }
-    ensures distinct { AreDistinct variables.new }
+    ensures numbered { IsNumbered variables.new }
     ensures no_port { OnOk result (Contains rules.now.ports.now (variable creation.now) → ⊥) }
     ensures known { OnOk result (
         Contains rules.now.types.now (string_bytes creation.now.type_name)) }
     ensures same { OnOk result (
         string_bytes creation.now.type_name ≡ string_bytes creation.now.created) }
     ensures few { OnOk result (length variables.new ≤ rules.now.most) }
+    ensures refused { IfErr result (Breaks (IsSoundVariable rules.now.types.now rules.now.ports.now
+        variables.old rules.now.most creation.now)) }
 {
     if let Err(fault) = variables.add(creation.name.as_str()) {
         return Err(fault.at(line));
@@ -142,8 +152,10 @@ pub(crate) fn as_creation(setup: &SetupStatement) -> Option<&Creation>
 /// The component of the component variable of this name, where the component variables have these
 /// names, or `None` where there is none. Takes no memory.
 pub(crate) fn variable_component(variables: &NameSet, name: &str) -> Option<CompId>
-    ensures { IfSome result (λ comp.
+    ensures known { IfSome result (λ comp.
         option_map (λ k. k + 1) (place_of variables.now name.now) ≡ Some comp.0) }
+    ensures absent { IsNumbered variables.now
+        → IfNone result (place_of variables.now name.now ≡ None) }
 {
     let Some(place) = variables.find(name) else {
         return None;
@@ -173,7 +185,7 @@ fn create<'m>(
 ) -> Result<(), ScriptFault>
     ensures added { OnOk result (
         variables.new ≡ variables.old ++ variable at.entry.creation.now ∷ []) }
-    ensures distinct { AreDistinct variables.new }
+    ensures numbered { IsNumbered variables.new }
     ensures no_port { OnOk result (
         Contains rules.now.ports.now (variable at.entry.creation.now) → ⊥) }
     ensures known { OnOk result (
@@ -183,6 +195,11 @@ fn create<'m>(
     ensures few { OnOk result (length variables.new ≤ rules.now.most) }
     ensures component { OnOk result (
         Adds rules.now.types.now (created at.entry.creation.now) config.old config.new) }
+    ensures err { OnErr result (config.new ≡ config.old) }
+    ensures refused { IfErr result (Breaks (
+        IsSoundVariable rules.now.types.now rules.now.ports.now variables.old rules.now.most
+        at.entry.creation.now
+        × CanAdd rules.now.types.now (created at.entry.creation.now) config.old)) }
 {
     check_variable(variables, rules, at.creation, at.line)?;
     let component = DeclaredComponent {
@@ -211,6 +228,12 @@ pub(crate) fn create_components<'m>(
         rules.now.most (creations setups.now)) }
     ensures added { OnOk result (AddsAll rules.now.types.now
         (map created (creations setups.now)) config.old config.new) }
+    ensures stopped { IfErr result (λ stopped. HasStopped rules.now.types.now setups.now
+        stopped.before.now config.old config.new) }
+    ensures refused { IfErr result (λ stopped. Breaks (
+        HasSoundVariables rules.now.types.now rules.now.ports.now rules.now.most
+        (creations setups.now)
+        × CanAddAll rules.now.types.now (variables setups.now) config.old) stopped.fault) }
 {
     let mut variables = NameSet::new(alloc);
     for (i, setup) in setups.iter().enumerate() {
@@ -237,7 +260,11 @@ pub(crate) fn ports_of_type<'m>(
     line: u32,
 ) -> Result<NameSet<'m>, ScriptFault>
     requires { AreComponentsNamed sorted.now }
-    ensures { IfOk result (HasPorts (component_types_in sorted.now) name.now) }
+    ensures ports { IfOk result (HasPorts (component_types_in sorted.now) name.now) }
+    ensures distinct { AreDistinct sorted.now.component_names }
+    ensures refused { AreNumbered (component_types_in sorted.now)
+        → IfErr result (Breaks ((ports : List (List ℕ))
+        × HasPorts (component_types_in sorted.now) name.now ports)) }
 {
     let Some(place) = sorted.component_names.find(name) else {
         return Err(refused(Refusal::Unknown, line));
@@ -263,6 +290,8 @@ pub(crate) fn add_interface(
     ensures added { OnOk result (AddsAll types.now (interface case.now) config.old config.new) }
     ensures number { IfOk result (λ found. component_number found
         ≡ option_map (λ _. length config.old.components) case.now.system) }
+    ensures refused { IfErr result (Breaks (
+        All (λ x. CanAdd types.now x config.old) (interface case.now))) }
 {
     let Some(system) = &case.system else {
         return Ok(None);

@@ -1,10 +1,12 @@
 //! The second pass of the checks: what definitions name is defined.
 ghost use Rattle.std.specs.Prelude.{◌≡◌, ◌≤◌, ◌↔◌, All, Contains, IfErr, IfOk, IfSome, IsTrue, OnOk, is_some, length, option_map, string_bytes};
 ghost use Rattle.std.specs.List.{AllZip, list_all};
+ghost use Rattle.tp_tree.specs.declared.tree.Defined.{Defined};
 ghost use Rattle.tp_setup.specs.Definitions.{declared_ports};
-ghost use Rattle.tp_setup.specs.Rules.{CanPlaySystem, IsComponentFault, NamesType, has_known_parameters, has_known_ports, sut};
+ghost use Rattle.tp_name.specs.Refused.{Breaks};
+ghost use Rattle.tp_setup.specs.Rules.{AreComponentTypesKnown, CanPlaySystem, HasUniqueNames, IsComponentFault, IsSoundFunction, NamesType, has_known_messages, has_known_parameters, has_known_ports, sut};
 ghost use Rattle.tp_name.specs.Tables.{place_of};
-ghost use Rattle.tp_setup.specs.Sorted.{AreComponentTypesIn, AreSorted, AreSound, ArePortsNamed, HasSoundDefinitions, IsSoundIn, types_in};
+ghost use Rattle.tp_setup.specs.Sorted.{AreComponentTypesIn, AreSorted, AreSound, ArePortsNamed, HasSoundDefinitions, IsSortedSound, IsSoundIn, types_in};
 ghost use Rattle.tp_setup.specs.Resolved.{IsNamedType};
 ghost use Rattle.tp_setup.specs.Defining.{IsDefined};
 
@@ -39,14 +41,14 @@ pub struct Definitions<'m> {
 
 /// Whether the type of each field is known.
 fn are_fields_known(types: &NameSet, fields: &[FieldType]) -> bool
-    ensures { IsTrue result → All (λ f. NamesType types.now f.type_name) fields.now }
+    ensures { IsTrue result ↔ All (λ f. NamesType types.now f.type_name) fields.now }
 {
     fields.iter().all(|field| is_type(types, &field.type_name))
 }
 
 /// Whether each message type of the directions is known.
 fn are_messages_known(types: &NameSet, directions: &[Direction]) -> bool
-    ensures { IsTrue result → All (λ w. All (NamesType types.now) w.types.items) directions.now }
+    ensures { result ≡ has_known_messages types.now directions.now }
 {
     directions
         .iter()
@@ -89,7 +91,8 @@ fn are_ports_few(ports: &[PortDeclaration]) -> bool
 
 /// Nothing, or 11 `Unknown` at the line where not everything is known.
 fn known(is_known: bool, line: u32) -> Result<(), ScriptFault>
-    ensures { OnOk result (IsTrue is_known) }
+    ensures known { OnOk result (IsTrue is_known) }
+    ensures refused { IfErr result (λ _. ¬ IsTrue is_known) }
 {
     if is_known {
         Ok(())
@@ -121,7 +124,7 @@ fn check_component(
 /// Whether a function can play the system under test, for which this component type stands behind
 /// `system`.
 fn plays_system(system: &Option<String>, function: &Function) -> bool
-    ensures { IsTrue result → CanPlaySystem (option_map string_bytes system.now) function.now }
+    ensures { IsTrue result ↔ CanPlaySystem (option_map string_bytes system.now) function.now }
 {
     let Some(system) = system else {
         return false;
@@ -140,6 +143,8 @@ fn check_function(
     ensures parameters { OnOk result (IsTrue (has_known_parameters components.now function.now)) }
     ensures sut { OnOk result (string_bytes function.now.name ≡ sut
         → CanPlaySystem (option_map string_bytes system.now) function.now) }
+    ensures refused { IfErr result (λ _. ¬ IsSoundFunction components.now
+        (option_map string_bytes system.now) function.now) }
 {
     known(components.has(function.runs_on.as_str()), line)?;
     known(are_parameters_known(components, &function.parameters), line)?;
@@ -161,6 +166,8 @@ fn check_case(components: &NameSet, case: &TestCase, line: u32) -> Result<(), Sc
     ensures runs_on { OnOk result (Contains components.now (string_bytes case.now.runs_on)) }
     ensures system { OnOk result (
         IfSome case.now.system (λ s. Contains components.now (string_bytes s))) }
+    ensures refused { IfErr result (λ _.
+        ¬ AreComponentTypesKnown components.now (Defined.TestCase case.now)) }
 {
     known(components.has(case.runs_on.as_str()), line)?;
     match &case.system {
@@ -176,8 +183,10 @@ fn check_definition(
     system: &Option<String>,
     definition: &Definition,
 ) -> Result<(), ScriptFault>
-    ensures { OnOk result (
+    ensures sound { OnOk result (
         IsSoundIn sorted.now (option_map string_bytes system.now) definition.now) }
+    ensures refused { IfErr result (λ _.
+        ¬ IsSoundIn sorted.now (option_map string_bytes system.now) definition.now) }
 {
     let line = definition.line;
     let types = &sorted.type_names;
@@ -204,8 +213,10 @@ fn check_definitions(
     system: &Option<String>,
     definitions: &[Definition],
 ) -> Result<(), ScriptFault>
-    ensures { OnOk result (
+    ensures sound { OnOk result (
         AreSound sorted.now (option_map string_bytes system.now) definitions.now) }
+    ensures refused { IfErr result (λ _.
+        ¬ AreSound sorted.now (option_map string_bytes system.now) definitions.now) }
 {
     for definition in definitions {
         check_definition(sorted, system, definition)?;
@@ -222,6 +233,8 @@ fn sort_sound<'m>(
 ) -> Result<Sorted<'m>, ScriptFault>
     ensures sorted { IfOk result (AreSorted parsed.now) }
     ensures sound { OnOk result (HasSoundDefinitions parsed.now case.now) }
+    ensures refused { IfErr result (
+        Breaks (HasUniqueNames parsed.now × HasSoundDefinitions parsed.now case.now)) }
 {
     let sorted = sort(alloc, parsed)?;
     check_definitions(&sorted, &case.system, &parsed.definitions)?;
@@ -242,6 +255,7 @@ fn make_component_types(alloc: Global, sorted: &Sorted) -> Result<Vec<CompType>,
     requires { ArePortsNamed sorted.now }
     ensures components { IfOk result (λ r. AreComponentTypesIn sorted.now r.items) }
     ensures few { IfOk result (λ r. All (λ t. length t.ports.entries ≤ 64) r.items) }
+    ensures refused { IfErr result (Breaks (IsSortedSound sorted.now)) }
 {
     let made = make_port_types(alloc, &sorted.type_names, &sorted.ports)?;
     make_components(alloc, sorted, &made)
@@ -256,6 +270,7 @@ fn make(alloc: Global, sorted: &Sorted) -> Result<MadeTypes, ScriptFault>
         AreComponentTypesIn sorted.now made.components.items) }
     ensures few { IfOk result (λ made.
         All (λ t. length t.ports.entries ≤ 64) made.components.items) }
+    ensures refused { IfErr result (Breaks (IsSortedSound sorted.now)) }
 {
     let types = make_types(alloc, &sorted.type_names, &sorted.types)?;
     let components = make_component_types(alloc, sorted)?;
@@ -279,6 +294,8 @@ pub fn define<'m>(
     ensures defined { IfOk result (IsDefined parsed.now) }
     ensures sound { OnOk result (HasSoundDefinitions parsed.now case.entry.case.now) }
     ensures case { IfOk result (λ d. d.case.case.now ≡ case.entry.case.now) }
+    ensures refused { IfErr result (Breaks (HasUniqueNames parsed.now
+        × HasSoundDefinitions parsed.now case.entry.case.now)) }
 {
     let sorted = sort_sound(alloc, parsed, case.case)?;
     let MadeTypes { types, components } = make(alloc, &sorted)?;

@@ -1,11 +1,15 @@
 //! The component types that a module defines, with what their ports receive and send.
-ghost use Rattle.std.specs.Prelude.{◌≡◌, ◌+◌, ◌≤◌, ◌↔◌, ◌++◌, ◌∷◌, [], IfOk, IfSome, IsTrue, OnOk, All, length, map, slice_get};
+ghost use Rattle.std.specs.Prelude.{◌≡◌, ◌+◌, ◌≤◌, ◌↔◌, ◌++◌, ◌∷◌, [], Contains, IfErr, IfNone, IfOk, IfSome, IsTrue, OnOk, All, length, map, slice_get, string_bytes};
 ghost use Rattle.std.specs.Option.{option_copied};
 ghost use Rattle.tp_value.specs.declared.types.Ty.{Ty};
 ghost use Rattle.std.specs.List.{AllZip, flat_map};
 ghost use Rattle.tp_config.specs.Shape.{ports_of};
+ghost use Rattle.tp_name.specs.Refused.{Breaks};
+ghost use Rattle.tp_name.specs.Tables.{AreDistinct};
+ghost use Rattle.tp_setup.specs.Definitions.{declared};
+ghost use Rattle.tp_setup.specs.Rules.{AreMessagesKnown, IsSoundComponent, NamesType};
 ghost use Rattle.tp_setup.specs.Resolved.{Appends, IsComponentType, IsMade, IsMadeOf, port_decl, IsPortType, Names, goes_in, goes_out, received, sent};
-ghost use Rattle.tp_setup.specs.Sorted.{AreComponentTypesIn, HasMade, port_types_in};
+ghost use Rattle.tp_setup.specs.Sorted.{AreComponentTypesIn, HasMade, component_types_in, port_types_in};
 
 use crate::resolving::resolve;
 use crate::sorted::Sorted;
@@ -44,7 +48,8 @@ fn goes_out(way: Way) -> bool
 
 /// Adds the types that these names name. 11 `Unknown` at line 0 where one names none.
 fn add_types(types: &NameSet, names: &[TypeName], made: &mut Items<Ty>) -> Result<(), ScriptFault>
-    ensures { OnOk result (Appends types.now names.now made.old made.new) }
+    ensures added { OnOk result (Appends types.now names.now made.old made.new) }
+    ensures refused { IfErr result (Breaks (All (NamesType types.now) names.now)) }
 {
     for name in names {
         let Some(ty) = resolve(types, name) else {
@@ -61,7 +66,9 @@ fn received(
     types: &NameSet,
     directions: &[Direction],
 ) -> Result<Items<Ty>, ScriptFault>
-    ensures { IfOk result (AllZip (Names types.now) (flat_map received directions.now)) }
+    ensures made { IfOk result (AllZip (Names types.now) (flat_map received directions.now)) }
+    ensures refused { IfErr result (
+        Breaks (All (λ w. All (NamesType types.now) w.types.items) directions.now)) }
 {
     let mut made = Items::new(alloc);
     for direction in directions {
@@ -75,7 +82,9 @@ fn received(
 
 /// The types that a port with these directions sends.
 fn sent(alloc: Global, types: &NameSet, directions: &[Direction]) -> Result<Items<Ty>, ScriptFault>
-    ensures { IfOk result (AllZip (Names types.now) (flat_map sent directions.now)) }
+    ensures made { IfOk result (AllZip (Names types.now) (flat_map sent directions.now)) }
+    ensures refused { IfErr result (
+        Breaks (All (λ w. All (NamesType types.now) w.types.items) directions.now)) }
 {
     let mut made = Items::new(alloc);
     for direction in directions {
@@ -93,7 +102,9 @@ fn make_port_type(
     types: &NameSet,
     port_type: &tree::PortType,
 ) -> Result<PortType, ScriptFault>
-    ensures { IfOk result (λ made. IsPortType types.now port_type.now made.ins made.outs) }
+    ensures made { IfOk result (λ made.
+        IsPortType types.now port_type.now made.ins made.outs) }
+    ensures refused { IfErr result (Breaks (AreMessagesKnown types.now port_type.now)) }
 {
     let ins = received(alloc, types, &port_type.directions)?;
     let outs = sent(alloc, types, &port_type.directions)?;
@@ -112,8 +123,10 @@ pub fn make_port_types(
     types: &NameSet,
     port_types: &[&tree::PortType],
 ) -> Result<Vec<PortType>, ScriptFault>
-    ensures { IfOk result (λ made.
+    ensures made { IfOk result (λ made.
         AllZip (IsMade types.now) (map (λ p. p.now) port_types.now) made.items) }
+    ensures refused { IfErr result (
+        Breaks (All (AreMessagesKnown types.now) (map (λ p. p.now) port_types.now))) }
 {
     let mut made = Vec::new(alloc);
     for port_type in port_types {
@@ -125,8 +138,9 @@ pub fn make_port_types(
 
 /// The same lists for one more port, which stand in memory once however many ports share them.
 fn share(port_type: &PortType) -> Result<PortType, ScriptFault>
-    ensures { IfOk result (λ shared.
+    ensures shared { IfOk result (λ shared.
         (shared.ins ≡ port_type.now.ins) × (shared.outs ≡ port_type.now.outs)) }
+    ensures refused { IfErr result (λ fault. fault ≡ ScriptFault.Memory (record {})) }
 {
     let ins = port_type.ins.share()?;
     let outs = port_type.outs.share()?;
@@ -140,8 +154,10 @@ fn add_port(
     name: &DeclaredName,
     port_type: &PortType,
 ) -> Result<(), ScriptFault>
-    ensures { OnOk result (ports_of component.new
+    ensures added { OnOk result (ports_of component.new
         ≡ ports_of component.old ++ port_decl port_type.now name.now ∷ []) }
+    ensures refused { IfErr result (Breaks (
+        AreDistinct (map (λ p. p.name) (ports_of component.old) ++ declared name.now ∷ []))) }
 {
     let None = component.ports.get_index_of(name.name.as_str()) else {
         return Err(refused(Refusal::Duplicate, name.line));
@@ -159,8 +175,10 @@ fn add_ports(
     names: &[DeclaredName],
     port_type: &PortType,
 ) -> Result<(), ScriptFault>
-    ensures { OnOk result (ports_of component.new
+    ensures added { OnOk result (ports_of component.new
         ≡ ports_of component.old ++ map (port_decl port_type.now) names.now) }
+    ensures refused { IfErr result (Breaks (
+        AreDistinct (map (λ p. p.name) (ports_of component.old) ++ map declared names.now))) }
 {
     for name in names {
         add_port(alloc, component, name, port_type)?;
@@ -178,8 +196,9 @@ fn made_at(made: &[PortType], place: u32) -> Option<&PortType>
 /// What the port type of this name receives and sends, or `None` where no port type has it.
 fn find_made<'p>(sorted: &Sorted, made: &'p [PortType], name: &str) -> Option<&'p PortType>
     requires { HasMade sorted.now made.now }
-    ensures { IfSome result (λ found.
+    ensures found { IfSome result (λ found.
         IsMadeOf sorted.now.type_names (port_types_in sorted.now) name.now found.now) }
+    ensures unknown { IfNone result (Contains sorted.now.port_names name.now → ⊥) }
 {
     let Some(place) = sorted.port_names.find(name) else {
         return None;
@@ -210,6 +229,8 @@ fn make_component(
     ensures ports { IfOk result (
         IsComponentType sorted.now.type_names (port_types_in sorted.now) component.now) }
     ensures few { IfOk result (λ t. length t.ports.entries ≤ 64) }
+    ensures refused { IfErr result (
+        Breaks (IsSoundComponent sorted.now.port_names component.now)) }
 {
     let mut ports = CompType {
         ports: IndexMap::new(alloc),
@@ -240,6 +261,8 @@ pub fn make_components(
     requires { HasMade sorted.now made.now }
     ensures components { IfOk result (λ r. AreComponentTypesIn sorted.now r.items) }
     ensures few { IfOk result (λ r. All (λ t. length t.ports.entries ≤ 64) r.items) }
+    ensures refused { IfErr result (
+        Breaks (All (IsSoundComponent sorted.now.port_names) (component_types_in sorted.now))) }
 {
     let mut components = Vec::new(alloc);
     for component in &sorted.components {

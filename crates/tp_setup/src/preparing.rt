@@ -1,14 +1,16 @@
 //! The first three passes of the checks.
-ghost use Rattle.std.specs.Prelude.{◌≡◌, ◌≤◌, ◌∷◌, [], All, IfOk, OnOk, length, map};
+ghost use Rattle.std.specs.Prelude.{◌≡◌, ◌≤◌, ◌∷◌, [], All, IfErr, IfOk, OnOk, length, map};
 ghost use Rattle.tp_config.specs.Shape.{ports_of};
+ghost use Rattle.tp_name.specs.Refused.{Breaks};
 ghost use Rattle.tp_setup.specs.Components.{variables};
-ghost use Rattle.tp_setup.specs.Configuring.{AreSoundVariables, IsSetUp};
+ghost use Rattle.tp_setup.specs.Configuring.{AreOwnPorts, AreSoundVariables, CanSetUp, IsSetUp};
 ghost use Rattle.tp_setup.specs.Defining.{IsDefined};
 ghost use Rattle.tp_setup.specs.Definitions.{test_cases};
 ghost use Rattle.tp_setup.specs.Prepared.{IsPreparedOf, IsWellDeclared};
 ghost use Rattle.tp_setup.specs.Rules.{HasUniqueNames};
 ghost use Rattle.tp_setup.specs.Sorted.{AreComponentsNamed, AreFunctionsNamed, HasSoundDefinitions, component_types_in, functions_in};
 ghost use Rattle.tp_setup.specs.Starting.{AreStarts};
+ghost use Rattle.tp_setup.specs.declared.starts.Starts.{Starts};
 
 use crate::definitions::{Definitions, define};
 use crate::prepared::Prepared;
@@ -28,6 +30,7 @@ fn find_definitions(alloc: Global, parsed: &Module) -> Result<Definitions<'_>, S
     ensures case { IfOk result (λ d. test_cases parsed.now ≡ d.case.case.now ∷ []) }
     ensures sound { IfOk result (λ d. HasSoundDefinitions parsed.now d.case.case.now) }
     ensures defined { IfOk result (IsDefined parsed.now) }
+    ensures refused { IfErr result (Breaks (IsWellDeclared parsed.now)) }
 {
     let case = check_names(alloc, parsed)?;
     define(alloc, parsed, case)
@@ -61,6 +64,11 @@ fn set_up_and_start<'m>(
         (component_types_in sorted.now) case.entry.case.now) }
     ensures starts { IfOk result (λ c.
         AreStarts (functions_in sorted.now) case.entry.case.now c.starts) }
+    ensures refused { AreOwnPorts (component_types_in sorted.now) (map ports_of components.items)
+        → IfErr result (Breaks (CanSetUp sorted.now.component_names (component_types_in sorted.now)
+        (map ports_of components.items) case.entry.case.now
+        × ((starts : Starts)
+        × AreStarts (functions_in sorted.now) case.entry.case.now starts))) }
 {
     let made = set_up(alloc, sorted, case, components)?;
     let starts = check_starts(alloc, sorted, case, &made.variables)?;
@@ -71,10 +79,11 @@ fn set_up_and_start<'m>(
 ///
 /// The first fault of the first pass that finds one is the answer, each with its line: see
 /// [`check_names`], [`define`], [`set_up`] and [`check_starts`]. 50 `Memory` only where an
-/// allocation was refused.
+/// allocation was refused; whatever else is answered, the module breaks a rule of these passes.
 pub fn prepare(alloc: Global, parsed: &Module) -> Result<Prepared<'_>, ScriptFault>
     ensures rules { OnOk result (IsWellDeclared parsed.now) }
     ensures made { IfOk result (IsPreparedOf parsed.now) }
+    ensures refused { IfErr result (Breaks (IsWellDeclared parsed.now)) }
 {
     let Definitions {
         case,

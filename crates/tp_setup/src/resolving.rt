@@ -1,6 +1,10 @@
 //! The types that type names name, and the types of messages that a module defines.
-ghost use Rattle.std.specs.Prelude.{◌≡◌, ◌∷◌, ◌++◌, [], ℕ, List, IfOk, OnOk, map, is_some};
+ghost use Rattle.std.specs.Prelude.{◌≡◌, ◌∷◌, ◌++◌, [], ℕ, All, List, IfErr, IfOk, IsSome, OnOk, map, is_some};
 ghost use Rattle.std.specs.List.{AllZip, list_all};
+ghost use Rattle.tp_name.specs.Refused.{Breaks};
+ghost use Rattle.tp_name.specs.Tables.{IsNumbered};
+ghost use Rattle.tp_setup.specs.Definitions.{name_of, type_of};
+ghost use Rattle.tp_setup.specs.Rules.{AreSoundTypes, AreTypesKnown, NamesType};
 ghost use Rattle.tp_setup.specs.Resolved.{IsField, IsNamedType, IsTypeDef, ty_of};
 ghost use Rattle.tp_value.specs.declared.types.TypeDef.{TypeDef};
 
@@ -53,7 +57,8 @@ fn make_field(
     field: &FieldType,
     line: u32,
 ) -> Result<Field, ScriptFault>
-    ensures { IfOk result (IsField types.now field.now) }
+    ensures made { IfOk result (IsField types.now field.now) }
+    ensures refused { IfErr result (Breaks (NamesType types.now field.now.type_name)) }
 {
     let Some(ty) = resolve(types, &field.type_name) else {
         return Err(refused(Refusal::Unknown, line));
@@ -69,7 +74,9 @@ fn make_fields(
     fields: &[FieldType],
     line: u32,
 ) -> Result<Items<Field>, ScriptFault>
-    ensures { IfOk result (AllZip (IsField types.now) fields.now) }
+    ensures made { IfOk result (AllZip (IsField types.now) fields.now) }
+    ensures refused { IfErr result (
+        Breaks (All (λ f. NamesType types.now f.type_name) fields.now)) }
 {
     let mut made = Items::new(alloc);
     for field in fields {
@@ -86,7 +93,9 @@ fn make_type(
     defined: &Defined,
     line: u32,
 ) -> Result<TypeDef, ScriptFault>
-    ensures { IfOk result (IsTypeDef types.now defined.now) }
+    ensures made { IfOk result (IsTypeDef types.now defined.now) }
+    ensures refused { IfErr result (
+        Breaks (IsSome (type_of defined.now) × AreTypesKnown types.now defined.now)) }
 {
     match defined {
         Defined::Record(record) => {
@@ -115,7 +124,10 @@ pub fn make_types(
     names: &NameSet,
     definitions: &[&Defined],
 ) -> Result<Types, ScriptFault>
-    ensures { IfOk result (AllZip (IsNamedType names.now) (map (λ x. x.now) definitions.now)) }
+    ensures made { IfOk result (
+        AllZip (IsNamedType names.now) (map (λ x. x.now) definitions.now)) }
+    ensures refused { IfErr result (
+        Breaks (AreSoundTypes names.now (map (λ x. x.now) definitions.now))) }
 {
     let mut types = Types::new(alloc);
     for defined in definitions {
@@ -131,8 +143,11 @@ fn add_type(
     defined: &Defined,
     types: &mut Types,
 ) -> Result<(), ScriptFault>
-    ensures { OnOk result ((t : List ℕ × TypeDef) × IsNamedType names.now defined.now t
+    ensures added { OnOk result ((t : List ℕ × TypeDef) × IsNamedType names.now defined.now t
         × (types.new ≡ types.old ++ t ∷ [])) }
+    ensures refused { IfErr result (
+        Breaks (IsSome (type_of defined.now) × AreTypesKnown names.now defined.now
+        × IsNumbered (map (λ t. t.0) types.old ++ name_of defined.now ∷ []))) }
 {
     let definition = make_type(alloc, names, defined, 0)?;
     let name = String::from_str(alloc, defined_name(defined))?;

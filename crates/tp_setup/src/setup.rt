@@ -1,11 +1,14 @@
 //! The third pass of the checks: the connections and mappings of the test case.
-ghost use Rattle.std.specs.Prelude.{◌≡◌, ◌≤◌, ◌++◌, ◌∷◌, All, IfOk, IfSome, OnOk, length, map};
-ghost use Rattle.tp_config.specs.Setup.{empty_setup};
+ghost use Rattle.std.specs.Prelude.{◌≡◌, ◌≤◌, ◌++◌, ◌∷◌, [], All, IfErr, IfNone, IfOk, IfSome, None, OnOk, length, map};
+ghost use Rattle.tp_name.specs.Refused.{Breaks};
+ghost use Rattle.tp_name.specs.Tables.{IsNumbered};
+ghost use Rattle.tp_config.specs.declared.port_type.PortRef.{PortRef};
+ghost use Rattle.tp_config.specs.Setup.{Setup, empty_setup};
 ghost use Rattle.tp_config.specs.Shape.{ports_of};
 ghost use Rattle.tp_setup.specs.Sorted.{AreComponentsNamed, component_types_in};
 ghost use Rattle.std.specs.Option.{option_map, option_to_list};
 ghost use Rattle.tp_setup.specs.Components.{AddsAll, HasSoundVariables, created, creation_of, creations, main_component, component_number, variable, variables};
-ghost use Rattle.tp_setup.specs.Configuring.{AreSoundVariables, IsEnd, IsSetUp, IsStep, Makes, component_at, most_variables};
+ghost use Rattle.tp_setup.specs.Configuring.{AreOwnPorts, AreSoundVariables, CanSetUp, CanSetUpBeside, Connects, HasFirst, HaveOwnPorts, HavePorts, IsEnd, IsSetUp, IsStep, Makes, Maps, component_at, most_variables};
 
 use crate::components::{
     DeclaredComponent, Stopped, VariableRules, add_component, add_interface, create_components,
@@ -29,8 +32,10 @@ fn find_end_component(
     system: Option<CompId>,
     component: &EndComponent,
 ) -> Option<CompId>
-    ensures { IfSome result (λ comp.
+    ensures known { IfSome result (λ comp.
         component_at known.now (component_number system) component.now ≡ Some comp.0) }
+    ensures absent { IsNumbered known.now → IfNone result (
+        component_at known.now (component_number system) component.now ≡ None) }
 {
     match component {
         EndComponent::Mtc | EndComponent::SelfComponent => Some(CompId(0)),
@@ -47,7 +52,9 @@ fn find_end(
     end: &PairEnd,
     line: u32,
 ) -> Result<PortRef, ScriptFault>
-    ensures { IfOk result (IsEnd config.now known.now (component_number system) end.now) }
+    ensures end { IfOk result (IsEnd config.now known.now (component_number system) end.now) }
+    ensures refused { IsNumbered known.now → IfErr result (Breaks ((p : PortRef)
+        × IsEnd config.now known.now (component_number system) end.now p)) }
 {
     let Some(comp) = find_end_component(known, system, &end.component) else {
         return Err(refused(Refusal::Unknown, line));
@@ -70,10 +77,57 @@ fn find_ends(
         IsEnd config.now known.now (component_number system) ends.entry.0.now ports.0) }
     ensures second { IfOk result (λ ports.
         IsEnd config.now known.now (component_number system) ends.entry.1.now ports.1) }
+    ensures refused { IsNumbered known.now → IfErr result (Breaks ((p : PortRef) × (q : PortRef)
+        × IsEnd config.now known.now (component_number system) ends.entry.0.now p
+        × IsEnd config.now known.now (component_number system) ends.entry.1.now q)) }
 {
     let p = find_end(config, known, system, ends.0, line)?;
     let q = find_end(config, known, system, ends.1, line)?;
     Ok((p, q))
+}
+
+/// Connects the two ports that are named. 11 `Unknown` where one is unknown, and then the refusals
+/// of [`Config::connect`], at the line.
+fn connect_ends(
+    config: &mut Config,
+    known: &NameSet,
+    system: Option<CompId>,
+    ends: (&PairEnd, &PairEnd),
+    line: u32,
+) -> Result<(), ScriptFault>
+    ensures connected { OnOk result (Connects config.old known.now (component_number system)
+        ends.entry.0.now ends.entry.1.now config.new) }
+    ensures refused { IsNumbered known.now → HaveOwnPorts config.old.types
+        → IfErr result (Breaks ((t : Setup) × Connects config.old known.now
+        (component_number system) ends.entry.0.now ends.entry.1.now t)) }
+{
+    let (p, q) = find_ends(config, known, system, ends, line)?;
+    match config.connect(p, q) {
+        Ok(()) => Ok(()),
+        Err(fault) => Err(fault_at(fault.refusal(), line)),
+    }
+}
+
+/// Maps the two ports that are named. 11 `Unknown` where one is unknown, and then the refusals of
+/// [`Config::map`], at the line.
+fn map_ends(
+    config: &mut Config,
+    known: &NameSet,
+    system: Option<CompId>,
+    ends: (&PairEnd, &PairEnd),
+    line: u32,
+) -> Result<(), ScriptFault>
+    ensures mapped { OnOk result (Maps config.old known.now (component_number system)
+        ends.entry.0.now ends.entry.1.now config.new) }
+    ensures refused { IsNumbered known.now → HaveOwnPorts config.old.types
+        → IfErr result (Breaks ((t : Setup) × Maps config.old known.now
+        (component_number system) ends.entry.0.now ends.entry.1.now t)) }
+{
+    let (p, q) = find_ends(config, known, system, ends, line)?;
+    match config.map(p, q) {
+        Ok(()) => Ok(()),
+        Err(fault) => Err(fault_at(fault.refusal(), line)),
+    }
 }
 
 /// Does what one setup statement says, in a configuration whose components are all there: adds a
@@ -89,6 +143,12 @@ fn add_setup<'m>(
         IsStep config.old known.old (component_number system) setup.now.action config.new) }
     ensures known { OnOk result (known.new
         ≡ known.old ++ option_to_list (option_map variable (creation_of setup.now))) }
+    ensures numbered { IsNumbered known.old → IsNumbered known.new }
+    ensures refused { IsNumbered known.old → HaveOwnPorts config.old.types
+        → IfErr result (Breaks (((t : Setup)
+        × IsStep config.old known.old (component_number system) setup.now.action t)
+        × IsNumbered (known.old
+        ++ option_to_list (option_map variable (creation_of setup.now))))) }
 {
     let line = setup.line;
     match &setup.action {
@@ -97,16 +157,10 @@ fn add_setup<'m>(
             Err(fault) => Err(fault.at(line)),
         },
         SetupAction::Connect(first, second) => {
-            let (p, q) = find_ends(config, known, system, (first, second), line)?;
-            config
-                .connect(p, q)
-                .map_err(|fault| fault_at(fault.refusal(), line))
+            connect_ends(config, known, system, (first, second), line)
         }
         SetupAction::Map(first, second) => {
-            let (p, q) = find_ends(config, known, system, (first, second), line)?;
-            config
-                .map(p, q)
-                .map_err(|fault| fault_at(fault.refusal(), line))
+            map_ends(config, known, system, (first, second), line)
         }
     }
 }
@@ -127,6 +181,10 @@ pub fn connect_all<'m>(
 ) -> Result<NameSet<'m>, ScriptFault>
     ensures known { IfOk result (λ known. known ≡ variables setups.now) }
     ensures makes { OnOk result (Makes (component_number system) config.old setups.now config.new) }
+    ensures numbered { IfOk result (λ known. IsNumbered known) }
+    ensures refused { HaveOwnPorts config.old.types → IfErr result (Breaks (((t : Setup)
+        × Makes (component_number system) config.old setups.now t)
+        × IsNumbered (variables setups.now))) }
 {
     let mut known = NameSet::new(alloc);
     for setup in setups {
@@ -162,11 +220,19 @@ fn most_variables(case: &TestCase) -> usize
 fn first_fault(
     alloc: Global,
     config: &mut Config,
-    types: &NameSet,
+    rules: &VariableRules,
     case: CaseAt<'_>,
     stopped: Stopped<'_>,
-) -> ScriptFault {
-    let system = match add_interface(alloc, config, types, case.case, case.line) {
+) -> ScriptFault
+    requires first { HasFirst rules.now.types.now case.case.now stopped.before.now config.old }
+    requires broken { HavePorts rules.now.types.now config.old.types
+        → Breaks (CanSetUpBeside rules.now.types.now rules.now.ports.now config.old.types
+        case.case.now) stopped.fault }
+    ensures { HavePorts rules.now.types.now config.old.types
+        → Breaks (CanSetUpBeside rules.now.types.now rules.now.ports.now config.old.types
+        case.entry.case.now) result }
+{
+    let system = match add_interface(alloc, config, rules.types, case.case, case.line) {
         Ok(system) => system,
         Err(fault) => return fault,
     };
@@ -185,10 +251,14 @@ fn create_beside(
     ports: &NameSet,
     case: CaseAt<'_>,
 ) -> Result<(), ScriptFault>
+    requires main { AddsAll types.now (main_component case.case.now ∷ [])
+        (empty_setup config.old.types) config.old }
     ensures sound { OnOk result (HasSoundVariables types.now ports.now
         (most_variables case.entry.case.now) (creations case.entry.case.now.setups.items)) }
     ensures added { OnOk result (AddsAll types.now
         (map created (creations case.entry.case.now.setups.items)) config.old config.new) }
+    ensures refused { HavePorts types.now config.old.types → IfErr result (Breaks (CanSetUpBeside
+        types.now ports.now config.old.types case.entry.case.now)) }
 {
     let rules = VariableRules {
         types,
@@ -197,7 +267,7 @@ fn create_beside(
     };
     match create_components(alloc, &mut *config, &rules, &case.case.setups) {
         Ok(()) => Ok(()),
-        Err(stopped) => Err(first_fault(alloc, config, types, case, stopped)),
+        Err(stopped) => Err(first_fault(alloc, config, &rules, case, stopped)),
     }
 }
 
@@ -208,11 +278,16 @@ fn create_all(
     sorted: &Sorted,
     case: CaseAt<'_>,
 ) -> Result<(), ScriptFault>
-    requires { AreComponentsNamed sorted.now }
+    requires named { AreComponentsNamed sorted.now }
+    requires main { AddsAll sorted.now.component_names (main_component case.case.now ∷ [])
+        (empty_setup config.old.types) config.old }
     ensures sound { OnOk result (AreSoundVariables sorted.now.component_names
         (component_types_in sorted.now) case.entry.case.now) }
     ensures added { OnOk result (AddsAll sorted.now.component_names
         (map created (creations case.entry.case.now.setups.items)) config.old config.new) }
+    ensures refused { AreOwnPorts (component_types_in sorted.now) config.old.types
+        → IfErr result (Breaks (CanSetUp sorted.now.component_names
+        (component_types_in sorted.now) config.old.types case.entry.case.now)) }
 {
     let runs_on = case.case.runs_on.as_str();
     let ports = ports_of_type(alloc, sorted, runs_on, case.line)?;
@@ -226,13 +301,17 @@ fn add_components(
     sorted: &Sorted,
     case: CaseAt<'_>,
 ) -> Result<(), ScriptFault>
-    requires { AreComponentsNamed sorted.now }
+    requires named { AreComponentsNamed sorted.now }
+    requires empty { config.old ≡ empty_setup config.old.types }
     ensures added { OnOk result (AddsAll sorted.now.component_names
         (main_component case.entry.case.now
         ∷ map created (creations case.entry.case.now.setups.items))
         config.old config.new) }
     ensures sound { OnOk result (AreSoundVariables sorted.now.component_names
         (component_types_in sorted.now) case.entry.case.now) }
+    ensures refused { AreOwnPorts (component_types_in sorted.now) config.old.types
+        → IfErr result (Breaks (CanSetUp sorted.now.component_names
+        (component_types_in sorted.now) config.old.types case.entry.case.now)) }
 {
     let main = DeclaredComponent {
         name: "mtc",
@@ -257,8 +336,12 @@ fn configure<'m>(
     ensures config { OnOk result (IsSetUp sorted.now.component_names config.old.types
         case.entry.case.now config.new) }
     ensures variables { IfOk result (λ known. known ≡ variables case.entry.case.now.setups.items) }
+    ensures numbered { IfOk result (λ known. IsNumbered known) }
     ensures sound { OnOk result (AreSoundVariables sorted.now.component_names
         (component_types_in sorted.now) case.entry.case.now) }
+    ensures refused { AreOwnPorts (component_types_in sorted.now) config.old.types
+        → IfErr result (Breaks (CanSetUp sorted.now.component_names
+        (component_types_in sorted.now) config.old.types case.entry.case.now)) }
 {
     add_components(alloc, &mut *config, sorted, case)?;
     let types = &sorted.component_names;
@@ -289,8 +372,12 @@ pub fn set_up<'m>(
         (map ports_of components.items) case.entry.case.now s.config) }
     ensures variables { IfOk result (λ s. s.variables
         ≡ variables case.entry.case.now.setups.items) }
+    ensures numbered { IfOk result (λ s. IsNumbered s.variables) }
     ensures sound { OnOk result (AreSoundVariables sorted.now.component_names
         (component_types_in sorted.now) case.entry.case.now) }
+    ensures refused { AreOwnPorts (component_types_in sorted.now) (map ports_of components.items)
+        → IfErr result (Breaks (CanSetUp sorted.now.component_names
+        (component_types_in sorted.now) (map ports_of components.items) case.entry.case.now)) }
 {
     let mut config = Config::new(alloc, components);
     let variables = configure(alloc, &mut config, sorted, case)?;

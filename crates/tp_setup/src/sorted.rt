@@ -1,8 +1,11 @@
 //! The definitions of a module, sorted by their kinds.
-ghost use Rattle.std.specs.Prelude.{◌≡◌, ℕ, List, Option, IfOk, map, slice_get, string_bytes};
+ghost use Rattle.std.specs.Prelude.{◌≡◌, ℕ, List, Option, IfErr, IfOk, map, slice_get, string_bytes};
 ghost use Rattle.std.specs.Option.{option_copied};
 ghost use Rattle.tp_tree.specs.declared.tree.Defined.{Defined};
-ghost use Rattle.tp_setup.specs.Definitions.{component_of, function_of, name_of, port_of, type_of};
+ghost use Rattle.tp_name.specs.Refused.{Breaks};
+ghost use Rattle.tp_name.specs.Tables.{IsNumbered};
+ghost use Rattle.tp_setup.specs.Definitions.{among, component_of, function_of, name_of, port_of, type_of};
+ghost use Rattle.tp_setup.specs.Rules.{HasUniqueNames};
 ghost use Rattle.tp_setup.specs.Sorted.{AreOfKind, AreSorted};
 
 use crate::unique_names::defined_name;
@@ -140,8 +143,10 @@ fn sort_kind<'m, K: DefinitionKind>(
     alloc: Global,
     definitions: &'m [Definition],
 ) -> Result<(NameSet<'m>, Vec<&'m K>), ScriptFault>
-    ensures { IfOk result (λ r.
+    ensures sorted { IfOk result (λ r.
         AreOfKind K.as_kind K.name definitions.now r.0 (map (λ x. x.now) r.1.items)) }
+    ensures refused { IfErr result (Breaks (
+        IsNumbered (map K.name (among K.as_kind definitions.now)))) }
 {
     let mut names = NameSet::new(alloc);
     let mut sorted = Vec::new(alloc);
@@ -163,7 +168,8 @@ fn sort_kind<'m, K: DefinitionKind>(
 /// line of one behind 4,294,967,295 others of its kind. 50 `Memory` only where an allocation was
 /// refused.
 pub fn sort(alloc: Global, parsed: &Module) -> Result<Sorted<'_>, ScriptFault>
-    ensures { IfOk result (AreSorted parsed.now) }
+    ensures sorted { IfOk result (AreSorted parsed.now) }
+    ensures refused { IfErr result (Breaks (HasUniqueNames parsed.now)) }
 {
     let definitions = parsed.definitions.as_slice();
     let (type_names, types) = sort_kind(alloc, definitions)?;

@@ -1,11 +1,15 @@
 //! The third pass of the checks: whether the starts obey their rules.
-ghost use Rattle.std.specs.Prelude.{◌≡◌, ◌∷◌, ◌++◌, [], ◌<◌, IfOk, IfSome, IsSome, IsTrue, OnOk, Some, length, map, slice_get, string_bytes};
+ghost use Rattle.std.specs.Prelude.{◌≡◌, ◌∷◌, ◌++◌, ◌↔◌, [], ◌<◌, ℕ, List, Contains, IfErr, IfNone, IfOk, IfSome, IsSome, IsTrue, None, OnOk, Some, length, map, slice_get, string_bytes};
 ghost use Rattle.std.specs.Option.{option_copied};
 ghost use Rattle.std.specs.List.{AllZip};
 ghost use Rattle.tp_setup.specs.Sorted.{AreFunctionsNamed, functions_in};
-ghost use Rattle.tp_name.specs.Tables.{AreDistinct};
+ghost use Rattle.tp_name.specs.Tables.{IsNumbered};
+ghost use Rattle.tp_name.specs.Refused.{Breaks};
+ghost use Rattle.tp_config.specs.declared.port_type.CompId.{CompId};
+ghost use Rattle.tp_setup.specs.declared.starts.Started.{Started};
+ghost use Rattle.tp_setup.specs.declared.starts.Starts.{Starts};
 ghost use Rattle.tp_setup.specs.Components.{creations, variables};
-ghost use Rattle.tp_setup.specs.Starting.{AreStarts, HasParameterType, IsArgument, IsStartPlace, IsStartOf, started_names, type_names_of};
+ghost use Rattle.tp_setup.specs.Starting.{AreStarts, HasParameterType, IsArgument, IsStartPlace, IsStartOf, component_named, started_names, type_names_of};
 
 use crate::components::{as_creation, variable_component};
 use crate::definitions::is_sut;
@@ -22,7 +26,9 @@ use tp_tree::tree::{ComponentName, ComponentStart, Function, Parameter, SetupSta
 
 /// The component that the argument names, or `None` where there is none. Takes no memory.
 fn find_argument(variables: &NameSet, argument: &ComponentName) -> Option<CompId>
-    ensures { IfSome result (IsArgument variables.now argument.now) }
+    ensures known { IfSome result (IsArgument variables.now argument.now) }
+    ensures absent { IsNumbered variables.now
+        → IfNone result (component_named variables.now argument.now ≡ None) }
 {
     match argument {
         ComponentName::Mtc | ComponentName::SelfComponent => Some(CompId(0)),
@@ -43,7 +49,7 @@ fn type_name_at<'m>(types: &[&'m str], number: u32) -> Option<&'m str>
 
 /// Whether the component has the type of this name, where the components have types of these names.
 fn is_of_type(types: &[&str], comp: CompId, name: &str) -> bool
-    ensures { IsTrue result → slice_get (map (λ t. t.now) types.now) comp.0 ≡ Some name.now }
+    ensures { IsTrue result ↔ (slice_get (map (λ t. t.now) types.now) comp.0 ≡ Some name.now) }
 {
     match type_name_at(types, comp.0) {
         Some(other) => other == name,
@@ -62,6 +68,9 @@ fn check_argument(
 ) -> Result<CompId, ScriptFault>
     ensures known { IfOk result (IsArgument variables.now argument.now) }
     ensures fits { IfOk result (HasParameterType (map (λ t. t.now) types.now) parameter.now) }
+    ensures refused { IsNumbered variables.now → IfErr result (Breaks ((comp : CompId)
+        × IsArgument variables.now argument.now comp
+        × HasParameterType (map (λ t. t.now) types.now) parameter.now comp)) }
 {
     let Some(comp) = find_argument(variables, argument) else {
         return Err(refused(Refusal::Unknown, line));
@@ -84,6 +93,9 @@ fn check_arguments(
         AllZip (IsArgument variables.now) start.now.arguments.items made.items) }
     ensures fits { IfOk result (λ made.
         AllZip (HasParameterType (map (λ t. t.now) types.now)) parameters.now made.items) }
+    ensures refused { IsNumbered variables.now → IfErr result (Breaks ((made : List CompId)
+        × AllZip (IsArgument variables.now) start.now.arguments.items made
+        × AllZip (HasParameterType (map (λ t. t.now) types.now)) parameters.now made)) }
 {
     let arguments = start.arguments.as_slice();
     if arguments.len() != parameters.len() {
@@ -106,8 +118,11 @@ fn check_start(
     start: &ComponentStart,
 ) -> Result<Started, ScriptFault>
     requires { AreFunctionsNamed sorted.now }
-    ensures { IfOk result (IsStartOf (functions_in sorted.now) variables.now
+    ensures start { IfOk result (IsStartOf (functions_in sorted.now) variables.now
         (map (λ t. t.now) types.now) start.now) }
+    ensures refused { IsNumbered variables.now → IfErr result (Breaks ((made : Started)
+        × IsStartOf (functions_in sorted.now) variables.now (map (λ t. t.now) types.now)
+        start.now made)) }
 {
     let line = start.line;
     let Some(comp) = variable_component(variables, start.component.as_str()) else {
@@ -134,7 +149,8 @@ fn check_start(
 
 /// The names of the types of `mtc` and of the components that are made.
 fn component_types(alloc: Global, case: &TestCase) -> Result<Vec<&str>, ScriptFault>
-    ensures { IfOk result (λ made. map (λ t. t.now) made.items ≡ type_names_of case.now) }
+    ensures types { IfOk result (λ made. map (λ t. t.now) made.items ≡ type_names_of case.now) }
+    ensures refused { IfErr result (λ fault. fault ≡ ScriptFault.Memory (record {})) }
 {
     let mut types = Vec::new(alloc);
     types.push(case.runs_on.as_str())?;
@@ -156,7 +172,10 @@ fn add_started<'m>(
 ) -> Result<(), ScriptFault>
     ensures added { OnOk result (started.new
         ≡ started.old ++ string_bytes start.now.component ∷ []) }
-    ensures distinct { OnOk result (AreDistinct started.new) }
+    ensures numbered { OnOk result (IsNumbered started.new) }
+    ensures refused { IfErr result (Breaks (
+        Contains variables.now (string_bytes start.now.component)
+        × IsNumbered (started.old ++ string_bytes start.now.component ∷ []))) }
 {
     if !variables.has(start.component.as_str()) {
         return Err(refused(Refusal::Unknown, start.line));
@@ -175,8 +194,10 @@ fn find_starts(
     started: &NameSet,
     setups: &[SetupStatement],
 ) -> Result<Vec<u32>, ScriptFault>
-    ensures { IfOk result (λ places.
+    ensures places { IfOk result (λ places.
         AllZip (IsStartPlace started.now) (variables setups.now) places.items) }
+    ensures refused { IfErr result (Breaks ((places : List ℕ)
+        × AllZip (IsStartPlace started.now) (variables setups.now) places)) }
 {
     let mut places = Vec::new(alloc);
     for setup in setups {
@@ -194,7 +215,8 @@ fn find_starts(
 /// 17 `NoDone` at the line where the test case starts components and does not end with
 /// `all component.done`.
 fn check_done(case: &TestCase, places: &[u32], line: u32) -> Result<(), ScriptFault>
-    ensures { OnOk result (0 < length places.now → IsSome case.now.all_done) }
+    ensures done { OnOk result (0 < length places.now → IsSome case.now.all_done) }
+    ensures refused { IfErr result (Breaks (0 < length places.now → IsSome case.now.all_done)) }
 {
     if case.all_done.is_some() || places.is_empty() {
         return Ok(());
@@ -215,7 +237,10 @@ fn check_each<'m>(
         (IsStartOf (functions_in sorted.now) variables.now (map (λ t. t.now) types.now))
         starts.now r.1.items) }
     ensures names { IfOk result (λ r. r.0 ≡ started_names starts.now) }
-    ensures distinct { IfOk result (λ r. AreDistinct r.0) }
+    ensures numbered { IfOk result (λ r. IsNumbered r.0) }
+    ensures refused { IsNumbered variables.now → IfErr result (Breaks ((made : List Started)
+        × AllZip (IsStartOf (functions_in sorted.now) variables.now (map (λ t. t.now) types.now))
+        starts.now made × IsNumbered (started_names starts.now))) }
 {
     let mut names = NameSet::new(alloc);
     let mut started = Vec::new(alloc);
@@ -239,7 +264,10 @@ fn start_all<'m>(
         (IsStartOf (functions_in sorted.now) names.now (type_names_of case.now))
         case.now.starts.items r.1.items) }
     ensures names { IfOk result (λ r. r.0 ≡ started_names case.now.starts.items) }
-    ensures distinct { IfOk result (λ r. AreDistinct r.0) }
+    ensures numbered { IfOk result (λ r. IsNumbered r.0) }
+    ensures refused { IsNumbered names.now → IfErr result (Breaks ((made : List Started)
+        × AllZip (IsStartOf (functions_in sorted.now) names.now (type_names_of case.now))
+        case.now.starts.items made × IsNumbered (started_names case.now.starts.items))) }
 {
     let types = component_types(alloc, case)?;
     check_each(alloc, sorted, names, &types, &case.starts)
@@ -251,6 +279,10 @@ fn place_starts(alloc: Global, started: &NameSet, case: CaseAt<'_>) -> Result<Ve
         (variables case.entry.case.now.setups.items) places.items) }
     ensures done { OnOk result (0 < length (creations case.entry.case.now.setups.items)
         → IsSome case.entry.case.now.all_done) }
+    ensures refused { IfErr result (Breaks (((places : List ℕ) × AllZip (IsStartPlace started.now)
+        (variables case.entry.case.now.setups.items) places)
+        × (0 < length (creations case.entry.case.now.setups.items)
+        → IsSome case.entry.case.now.all_done))) }
 {
     let places = find_starts(alloc, started, &case.case.setups)?;
     check_done(case.case, &places, case.line)?;
@@ -276,7 +308,9 @@ pub fn check_starts(
 ) -> Result<Starts, ScriptFault>
     requires named { AreFunctionsNamed sorted.now }
     requires variables { names.now ≡ variables case.case.now.setups.items }
-    ensures { IfOk result (AreStarts (functions_in sorted.now) case.entry.case.now) }
+    ensures starts { IfOk result (AreStarts (functions_in sorted.now) case.entry.case.now) }
+    ensures refused { IsNumbered names.now → IfErr result (Breaks ((starts : Starts)
+        × AreStarts (functions_in sorted.now) case.entry.case.now starts)) }
 {
     let (started, starts) = start_all(alloc, sorted, case.case, names)?;
     let places = place_starts(alloc, &started, case)?;

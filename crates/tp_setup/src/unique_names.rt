@@ -1,9 +1,11 @@
 //! The first pass of the checks: names are given once, and there is one test case.
-ghost use Rattle.std.specs.Prelude.{◌≡◌, ◌∷◌, ◌++◌, [], All, IfOk, OnOk, map};
+ghost use Rattle.std.specs.Prelude.{◌≡◌, ◌<◌, ◌∷◌, ◌++◌, [], All, IfErr, IfOk, OnOk, is_some, length, map};
+ghost use Rattle.std.specs.List.{list_any};
 ghost use Rattle.std.specs.Option.{option_to_list};
-ghost use Rattle.tp_name.specs.Tables.{AreDistinct};
+ghost use Rattle.tp_name.specs.Refused.{Breaks};
+ghost use Rattle.tp_name.specs.Tables.{AreDistinct, IsNumbered};
 ghost use Rattle.tp_setup.specs.Definitions.{among, case_of, name_of, declared, declared_ports, inner_names, test_cases};
-ghost use Rattle.tp_setup.specs.Rules.{HasUniqueNames};
+ghost use Rattle.tp_setup.specs.Rules.{AreNamed, HasOneTestCase, HasUniqueNames};
 ghost use Rattle.tp_setup.specs.Cases.{cases_of};
 ghost use Rattle.tp_tree.specs.declared.tree.Definition.{Definition};
 
@@ -28,7 +30,8 @@ pub struct CaseAt<'m> {
 /// Adds the name that is declared. 12 `Duplicate` at its line.
 fn add_name<'m>(names: &mut NameSet<'m>, name: &'m DeclaredName) -> Result<(), ScriptFault>
     ensures names { OnOk result (names.new ≡ names.old ++ declared name.now ∷ []) }
-    ensures distinct { AreDistinct names.new }
+    ensures numbered { IsNumbered names.new }
+    ensures refused { IfErr result (Breaks (IsNumbered (names.old ++ declared name.now ∷ []))) }
 {
     match names.add(name.name.as_str()) {
         Ok(()) => Ok(()),
@@ -38,9 +41,10 @@ fn add_name<'m>(names: &mut NameSet<'m>, name: &'m DeclaredName) -> Result<(), S
 
 /// Adds the names that are declared.
 fn declare_all<'m>(names: &mut NameSet<'m>, list: &'m [DeclaredName]) -> Result<(), ScriptFault>
-    requires { AreDistinct names.old }
+    requires { IsNumbered names.old }
     ensures names { OnOk result (names.new ≡ names.old ++ map declared list.now) }
-    ensures distinct { AreDistinct names.new }
+    ensures numbered { IsNumbered names.new }
+    ensures refused { IfErr result (Breaks (IsNumbered (names.old ++ map declared list.now))) }
 {
     for name in list {
         add_name(names, name)?;
@@ -57,9 +61,11 @@ pub(crate) fn declare_ports<'m>(
     names: &mut NameSet<'m>,
     ports: &'m [PortDeclaration],
 ) -> Result<(), ScriptFault>
-    requires { AreDistinct names.old }
+    requires { IsNumbered names.old }
     ensures names { OnOk result (names.new ≡ names.old ++ declared_ports ports.now) }
+    ensures numbered { IsNumbered names.new }
     ensures distinct { AreDistinct names.new }
+    ensures refused { IfErr result (Breaks (IsNumbered (names.old ++ declared_ports ports.now))) }
 {
     for port in ports {
         declare_all(names, &port.names)?;
@@ -69,9 +75,11 @@ pub(crate) fn declare_ports<'m>(
 
 /// Adds the names of the fields.
 fn declare_fields<'m>(names: &mut NameSet<'m>, fields: &'m [FieldType]) -> Result<(), ScriptFault>
-    requires { AreDistinct names.old }
+    requires { IsNumbered names.old }
     ensures names { OnOk result (names.new ≡ names.old ++ map (λ f. declared f.name) fields.now) }
-    ensures distinct { AreDistinct names.new }
+    ensures numbered { IsNumbered names.new }
+    ensures refused { IfErr result (Breaks (IsNumbered (
+        names.old ++ map (λ f. declared f.name) fields.now))) }
 {
     for field in fields {
         add_name(names, &field.name)?;
@@ -92,6 +100,9 @@ pub fn declare_parameters<'m>(
     ensures names { OnOk result (names.new
         ≡ names.old ++ map (λ p. declared p.name) parameters.now) }
     ensures distinct { AreDistinct names.new }
+    ensures numbered { IsNumbered names.old → IsNumbered names.new }
+    ensures refused { IfErr result (Breaks (IsNumbered (
+        names.old ++ map (λ p. declared p.name) parameters.now))) }
 {
     for parameter in parameters {
         add_name(names, &parameter.name)?;
@@ -102,8 +113,10 @@ pub fn declare_parameters<'m>(
 /// Adds the names of the fields, ports or parameters of a definition, behind no others. 12
 /// `Duplicate` at the line of the second of two that are equal.
 fn declare_inner<'m>(names: &mut NameSet<'m>, defined: &'m Defined) -> Result<(), ScriptFault>
-    requires { names.old ≡ [] }
-    ensures { OnOk result (AreDistinct (inner_names defined.now)) }
+    requires empty { names.old ≡ [] }
+    requires numbered { IsNumbered names.old }
+    ensures numbered { OnOk result (IsNumbered (inner_names defined.now)) }
+    ensures refused { IfErr result (Breaks (IsNumbered (inner_names defined.now))) }
 {
     match defined {
         Defined::Record(record) => declare_fields(names, &record.fields),
@@ -116,7 +129,8 @@ fn declare_inner<'m>(names: &mut NameSet<'m>, defined: &'m Defined) -> Result<()
 /// Looks at the names of the fields, ports or parameters of a definition. 12 `Duplicate` at the
 /// line of the second of two that are equal.
 fn check_inner(alloc: Global, definition: &Definition) -> Result<(), ScriptFault>
-    ensures { OnOk result (AreDistinct (inner_names definition.now.defined)) }
+    ensures numbered { OnOk result (IsNumbered (inner_names definition.now.defined)) }
+    ensures refused { IfErr result (Breaks (IsNumbered (inner_names definition.now.defined))) }
 {
     let mut names = NameSet::new(alloc);
     declare_inner(&mut names, &definition.defined)
@@ -142,8 +156,10 @@ fn next_case<'m>(
     before: Option<CaseAt<'m>>,
     definition: &'m Definition,
 ) -> Result<Option<CaseAt<'m>>, ScriptFault>
-    ensures { IfOk result (λ after. cases_of after
+    ensures case { IfOk result (λ after. cases_of after
         ≡ cases_of before.entry ++ option_to_list (case_of definition.now.defined)) }
+    ensures refused { IfErr result (λ _.
+        1 < length (cases_of before.entry ++ option_to_list (case_of definition.now.defined))) }
 {
     let Defined::TestCase(case) = &definition.defined else {
         return Ok(before);
@@ -158,8 +174,18 @@ fn next_case<'m>(
 }
 
 /// Whether it is a test case.
-fn is_case(definition: &Definition) -> bool {
+fn is_case(definition: &Definition) -> bool
+    ensures { result ≡ is_some (case_of definition.now.defined) }
+{
     matches!(&definition.defined, Defined::TestCase(_))
+}
+
+/// Whether there is a test case among the definitions.
+fn has_case(definitions: &[Definition]) -> bool
+    ensures { result ≡ list_any (λ (x : Definition). is_some (case_of x.defined))
+        definitions.now }
+{
+    definitions.iter().any(is_case)
 }
 
 /// Adds the name of a definition, and looks at the names in it. 12 `Duplicate` at its line where
@@ -170,8 +196,11 @@ fn check_name<'m>(
     definition: &'m Definition,
 ) -> Result<(), ScriptFault>
     ensures names { OnOk result (names.new ≡ names.old ++ name_of definition.now.defined ∷ []) }
-    ensures distinct { OnOk result (AreDistinct names.new) }
-    ensures inner { OnOk result (AreDistinct (inner_names definition.now.defined)) }
+    ensures numbered { OnOk result (IsNumbered names.new) }
+    ensures inner { OnOk result (IsNumbered (inner_names definition.now.defined)) }
+    ensures refused { IfErr result (Breaks (
+        IsNumbered (names.old ++ name_of definition.now.defined ∷ [])
+        × IsNumbered (inner_names definition.now.defined))) }
 {
     if let Err(fault) = names.add(defined_name(&definition.defined)) {
         return Err(fault.at(definition.line));
@@ -187,9 +216,10 @@ fn find_case<'m>(
 ) -> Result<Option<CaseAt<'m>>, ScriptFault>
     ensures case { IfOk result (λ case. cases_of case ≡ among case_of definitions.now) }
     ensures names { OnOk result (
-        AreDistinct (map (λ (x : Definition). name_of x.defined) definitions.now)) }
+        IsNumbered (map (λ (x : Definition). name_of x.defined) definitions.now)) }
     ensures inner { OnOk result (
-        All (λ (x : Definition). AreDistinct (inner_names x.defined)) definitions.now) }
+        All (λ (x : Definition). IsNumbered (inner_names x.defined)) definitions.now) }
+    ensures refused { IfErr result (Breaks (AreNamed definitions.now)) }
 {
     let mut names = NameSet::new(alloc);
     let mut case = None;
@@ -210,8 +240,10 @@ fn find_case<'m>(
 pub fn check_names(alloc: Global, parsed: &Module) -> Result<CaseAt<'_>, ScriptFault>
     ensures case { IfOk result (λ found. test_cases parsed.now ≡ found.case.now ∷ []) }
     ensures names { OnOk result (HasUniqueNames parsed.now) }
+    ensures refused { IfErr result (
+        Breaks (HasUniqueNames parsed.now × HasOneTestCase parsed.now)) }
 {
-    if !parsed.definitions.iter().any(is_case) {
+    if !has_case(&parsed.definitions) {
         return Err(refused(Refusal::Unknown, parsed.line));
     }
     match find_case(alloc, &parsed.definitions)? {

@@ -3,7 +3,8 @@ use Rattle.std.proofs.Common.{arith, sym, subst}
 use Rattle.std.specs.List.{AllZip}
 use Rattle.tp_script.specs.Instances.{known_in}
 use Rattle.tp_script.specs.Scopes.{IsFunctionBody}
-use Rattle.tp_script.proofs.Functions.{no_function, one_function}
+use Rattle.tp_script.proofs.Functions.{no_function, one_function, one_refused}
+use Rattle.tp_script.proofs.Refusing.{handed_on}
 use Rattle.tp_script.proofs.bodies.resolve_functions.Goals as goal
 
 pub loop-definition-preserved-in_default : goal.loop-definition-preserved-in_default
@@ -17,4 +18,11 @@ loop-definition-preserved c =
     subst (AllZip (IsFunctionBody (known_in c.args.prepared.now)) _) (sym c.in_ok-push.ensures.items)
     (one_function (IsFunctionBody (known_in c.args.prepared.now)) c.args.definitions.now c.loop-definition.bodies.items c.loop-definition.definition-index
     c.definition-item.result (omega arith) c.definition-item.is
-    c.loop-definition.invariant c.in-Some.function.now c.in_ok-body.body c.in-Some.ensures c.in_ok-body.ensures)
+    c.loop-definition.invariant c.in-Some.function.now c.in_ok-body.body c.in-Some.ensures c.in_ok-body.ensures.body)
+
+pub returns-in_err-body-clause-refused : goal.returns-in_err-body-clause-refused
+returns-in_err-body-clause-refused c = λ sound own.
+    let fault = c.in_err-body.field-0.0 in
+    handed_on c.from_residual.result fault c.from_residual.ensures.1 (λ all. all)
+    (one_refused (known_in c.args.prepared.now) c.args.definitions.now c.loop-definition.definition-index c.definition-item.result c.in-Some.function.now
+    (omega arith) c.definition-item.is c.in-Some.ensures own fault (c.in_err-body.ensures.refused sound))

@@ -35,6 +35,6 @@ loop-place-preserved c =
     record {
       instances =
           instances_more p c.loop-place.instances.items next (Some instance) c.loop-place.invariant.instances
-          (subst (λ n. IsInstance p n (Some instance)) (sym c.loop-place.invariant.count) c.in_ok-instance.ensures) c.in_ok-push-2.ensures.items;
+          (subst (λ n. IsInstance p n (Some instance)) (sym c.loop-place.invariant.count) c.in_ok-instance.ensures.instance) c.in_ok-push-2.ensures.items;
       count = ap length c.in_ok-push-2.ensures.items ∙ length_push c.loop-place.instances.items (Some instance) ∙ ap (λ n. n + 1) c.loop-place.invariant.count;
     }

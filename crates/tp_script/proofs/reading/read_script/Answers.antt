@@ -1,9 +1,10 @@
--- Whatever the checks refuse was read as a module.
-use Rattle.tp_script.proofs.Faults.{any_fault}
+-- Whatever the checks refuse was read as a module, and doesn't obey the rules, or memory was wanting.
+use Rattle.tp_script.proofs.Faults.{checked_fault}
 use Rattle.tp_script.proofs.reading.read_script.Goals as goal
 
 pub returns-in_err-test_case-clause-fault : goal.returns-in_err-test_case-clause-fault
 returns-in_err-test_case-clause-fault c =
     let read = c.in_ok-parsed.ensures in
-    any_fault c.from_residual-in_err-test_case.result c.args.text.now c.in_ok-parsed.parsed
-    (record { read = read.read; within = read.within; nested = read.nested })
+    checked_fault c.from_residual-in_err-test_case.result c.in_err-test_case.field-0.0 c.args.text.now c.in_ok-parsed.parsed
+    c.from_residual-in_err-test_case.ensures.1 (record { read = read.read; within = read.within; nested = read.nested })
+    c.in_err-test_case.ensures.refused

@@ -1,16 +1,25 @@
 -- What is counted stays below the limit, so that no more statements are to be carried out.
-use Rattle.std.proofs.Common.{◌≡◌, ◌∙◌, ap, map, sum, arith}
+use Rattle.std.proofs.Common.{◌≡◌, ◌∙◌, inr, ap, map, sum, arith}
 use Rattle.tp_play.specs.Sizes.{capped, size_of_body}
 use Rattle.tp_play.specs.Behaviours.{size_of_behaviour}
 use Rattle.tp_play.specs.Instances.{behaviour_of}
-use Rattle.tp_script.proofs.Totals.{sums, few}
+use Rattle.tp_script.proofs.Totals.{sums, few, many}
 use Rattle.tp_script.proofs.total.check_size.Goals as goal
 
-pub returns : goal.returns
-returns c =
+pub returns-clause-few : goal.returns-clause-few
+returns-clause-few c =
     let bodies = c.args.bodies.now in
     let total = sum (map size_of_behaviour (map (behaviour_of bodies) c.args.instances.now)) in
     let is : c.count_instances.result ≡ capped total =
     c.count_instances.ensures ∙ sums bodies c.count_body-main.result c.deref-2.result.now c.count_body-main.ensures
-    (c.deref-2.ensures.value ∙ c.in_ok-functions.ensures ∙ ap (map (λ b. capped (size_of_body b))) c.deref.ensures.value) c.args.instances.now in
+    (c.deref-2.ensures.value ∙ c.in_ok-functions.ensures.sizes ∙ ap (map (λ b. capped (size_of_body b))) c.deref.ensures.value) c.args.instances.now in
     few total (omega (arith, is, c.if-count_instances-ge-COUNTED.false))
+
+pub returns-then-count_instances-ge-COUNTED-clause-refused : goal.returns-then-count_instances-ge-COUNTED-clause-refused
+returns-then-count_instances-ge-COUNTED-clause-refused c =
+    let bodies = c.args.bodies.now in
+    let total = sum (map size_of_behaviour (map (behaviour_of bodies) c.args.instances.now)) in
+    let is : c.count_instances.result ≡ capped total =
+    c.count_instances.ensures ∙ sums bodies c.count_body-main.result c.deref-2.result.now c.count_body-main.ensures
+    (c.deref-2.ensures.value ∙ c.in_ok-functions.ensures.sizes ∙ ap (map (λ b. capped (size_of_body b))) c.deref.ensures.value) c.args.instances.now in
+    inr (many total (omega (arith, is, c.if-count_instances-ge-COUNTED.true)))

@@ -1,6 +1,9 @@
 -- A statement that makes no component leaves all as it is, and the next `var` adds a sound one.
-use Rattle.std.proofs.Common.{◌++◌, ◌∷◌, [], ◌∙◌, ap, arith, map, subst, sym, take}
-use Rattle.std.proofs.lemmas.List.{map_push}
+use Rattle.std.proofs.Common.{◌+◌, ◌++◌, ◌∷◌, [], ◌∙◌, ap, arith, drop, map, subst, sym, take}
+use Rattle.std.proofs.lemmas.List.{map_push, take-append-drop}
+use Rattle.tp_setup.proofs.Adding.{create_part}
+use Rattle.tp_setup.proofs.Lookups.{creation_among}
+use Rattle.tp_setup.proofs.Refusing.{breaks_part}
 use Rattle.tp_setup.specs.Components.{AddsAll, created, creations, variable}
 use Rattle.tp_setup.proofs.Creating.{adds_more, no_creation, one_creation, sound_more}
 use Rattle.tp_setup.proofs.components.create_components.Goals as goal
@@ -16,12 +19,30 @@ loop-i-preserved c =
     rw (one_creation c.args.setups.now c.loop-i.i c.index-setups-i.result (omega arith) c.index-setups-i.is one c.in-Some.ensures)
     (record {
       names = c.in_default-create.ensures.added ∙ ap (λ l. l ++ variable one ∷ []) c.loop-i.invariant.names ∙ sym (map_push variable before one);
-      distinct = c.in_default-create.ensures.distinct;
+      numbered = c.in_default-create.ensures.numbered;
       sound = sound_more c.args.rules.now.types.now c.args.rules.now.ports.now c.loop-i.variables c.create.new.variables c.args.rules.now.most before one
           c.loop-i.invariant.sound c.loop-i.invariant.names c.in_default-create.ensures.added
-          c.in_default-create.ensures.distinct c.in_default-create.ensures.no_port c.in_default-create.ensures.known c.in_default-create.ensures.same
+          c.in_default-create.ensures.numbered.distinct c.in_default-create.ensures.no_port c.in_default-create.ensures.known c.in_default-create.ensures.same
           c.in_default-create.ensures.few;
       added = subst (λ l. AddsAll c.args.rules.now.types.now l c.args.config.now c.create.new.config) (sym (map_push created before one))
           (adds_more c.args.rules.now.types.now (map created before) (created one) c.args.config.now c.loop-i.config c.create.new.config
           c.loop-i.invariant.added c.in_default-create.ensures.component);
     })
+
+pub returns-in-Err-clause-stopped : goal.returns-in-Err-clause-stopped
+returns-in-Err-clause-stopped c = record {
+  rest = drop c.loop-i.i c.args.setups.now;
+  all = sym (take-append-drop c.loop-i.i c.args.setups.now);
+  added = subst (λ s. AddsAll c.args.rules.now.types.now (map created (creations (take c.loop-i.i c.args.setups.now))) c.args.config.now s)
+      (sym c.in-Err.ensures.err) c.loop-i.invariant.added;
+}
+
+pub returns-in-Err-clause-refused : goal.returns-in-Err-clause-refused
+returns-in-Err-clause-refused c =
+    let xs = c.args.setups.now in
+    let i = c.loop-i.i in
+    breaks_part _ _ c.in-Err.fault
+    (create_part c.args.rules.now.types.now c.args.rules.now.ports.now c.loop-i.variables c.args.rules.now.most (creations (take i xs))
+    (creations (drop (i + 1) xs)) (creations xs) c.in-Some.creation.now c.args.config.now c.loop-i.config
+    (creation_among xs i c.index-setups-i.result (omega arith) c.index-setups-i.is c.in-Some.creation.now c.in-Some.ensures) c.loop-i.invariant.names
+    c.loop-i.invariant.added) c.in-Err.ensures.refused

@@ -1,17 +1,36 @@
 -- A component type and a function that were looked at obey the rules on definitions.
-use Rattle.std.proofs.Common.{option_map, string_bytes}
-use Rattle.tp_setup.proofs.Sound.{sound_component, sound_function}
+use Rattle.std.proofs.Common.{◌≡◌, ◌∙◌, true, option_map, string_bytes}
+use Rattle.std.proofs.lemmas.Result.{IfErr-weaker}
+use Rattle.tp_setup.specs.Sorted.{IsSoundIn}
+use Rattle.tp_setup.proofs.Refusing.{handed_fact}
+use Rattle.tp_setup.proofs.Sound.{sound_component, sound_function, unsound_component, unsound_port}
 use Rattle.tp_setup.proofs.definitions.check_definition.Goals as goal
 
-pub returns-in_ok-check_component-in-Component : goal.returns-in_ok-check_component-in-Component
-returns-in_ok-check_component-in-Component c =
+pub returns-in_ok-check_component-in-Component-clause-sound : goal.returns-in_ok-check_component-in-Component-clause-sound
+returns-in_ok-check_component-in-Component-clause-sound c =
     sound_component c.args.sorted.now.type_names c.args.sorted.now.port_names c.args.sorted.now.component_names (option_map string_bytes c.args.system.now)
     c.args.definition.now.defined
     c.in-Component.component c.in-Component.is c.in_ok-check_component-in-Component.ensures.known c.in_ok-check_component-in-Component.ensures.few
 
-pub returns-in_ok-check_function-in-Function : goal.returns-in_ok-check_function-in-Function
-returns-in_ok-check_function-in-Function c =
+pub returns-in_ok-check_function-in-Function-clause-sound : goal.returns-in_ok-check_function-in-Function-clause-sound
+returns-in_ok-check_function-in-Function-clause-sound c =
     sound_function c.args.sorted.now.type_names c.args.sorted.now.port_names c.args.sorted.now.component_names (option_map string_bytes c.args.system.now)
     c.args.definition.now.defined
     c.in-Function.function c.in-Function.is c.in_ok-check_function-in-Function.ensures.runs_on c.in_ok-check_function-in-Function.ensures.parameters
     c.in_ok-check_function-in-Function.ensures.sut
+
+pub returns-in_err-check_component-in-Component-clause-refused : goal.returns-in_err-check_component-in-Component-clause-refused
+returns-in_err-check_component-in-Component-clause-refused c =
+    handed_fact _ c.from_residual.result _ c.from_residual.ensures.1
+    (unsound_component c.args.sorted.now.type_names c.args.sorted.now.port_names c.args.sorted.now.component_names
+    (option_map string_bytes c.args.system.now) c.args.definition.now.defined
+    c.in-Component.component c.args.definition.now.line _ c.in-Component.is c.in_err-check_component-in-Component.ensures.refused)
+
+pub returns-in-Port-clause-refused : goal.returns-in-Port-clause-refused
+returns-in-Port-clause-refused c =
+    IfErr-weaker c.known-in-Port.result (λ _. ¬ (c.are_messages_known.result ≡ true))
+    (λ _. ¬ IsSoundIn c.args.sorted.now (option_map string_bytes c.args.system.now) c.args.definition.now)
+    (λ y isnt. unsound_port c.args.sorted.now.type_names c.args.sorted.now.port_names c.args.sorted.now.component_names
+    (option_map string_bytes c.args.system.now) c.args.definition.now.defined c.in-Port.port c.in-Port.is
+    (λ e. isnt (c.are_messages_known.ensures ∙ rw c.deref-in-Port.ensures.value e)))
+    c.known-in-Port.ensures.refused

@@ -1,6 +1,7 @@
 -- The next definition obeys the rules, and at the end each does.
 use Rattle.std.proofs.Common.{arith, option_map, string_bytes}
-use Rattle.tp_setup.specs.Sorted.{IsSoundIn}
+use Rattle.tp_setup.specs.Sorted.{AreSound, IsSoundIn}
+use Rattle.tp_setup.proofs.Refusing.{all_at, handed_fact}
 use Rattle.tp_setup.proofs.Steps.{all_more, all_whole}
 use Rattle.tp_setup.proofs.definitions.check_definitions.Goals as goal
 
@@ -8,9 +9,16 @@ pub loop-definition-preserved : goal.loop-definition-preserved
 loop-definition-preserved c =
     all_more (IsSoundIn c.args.sorted.now (option_map string_bytes c.args.system.now))
     c.args.definitions.now c.loop-definition.definition-index c.definition-item.result (omega arith) c.definition-item.is c.loop-definition.invariant
-    c.in_ok-check_definition.ensures
+    c.in_ok-check_definition.ensures.sound
 
-pub returns : goal.returns
-returns c =
+pub returns-clause-sound : goal.returns-clause-sound
+returns-clause-sound c =
     all_whole (IsSoundIn c.args.sorted.now (option_map string_bytes c.args.system.now))
     c.args.definitions.now c.loop-definition.definition-index (omega arith) c.loop-definition.invariant
+
+pub returns-in_err-check_definition-clause-refused : goal.returns-in_err-check_definition-clause-refused
+returns-in_err-check_definition-clause-refused c =
+    handed_fact _ c.from_residual.result _ c.from_residual.ensures.1
+    (λ (h : AreSound c.args.sorted.now (option_map string_bytes c.args.system.now) c.args.definitions.now). c.in_err-check_definition.ensures.refused
+    (all_at (IsSoundIn c.args.sorted.now (option_map string_bytes c.args.system.now)) c.args.definitions.now c.loop-definition.definition-index
+    c.definition-item.result (omega arith) c.definition-item.is h))

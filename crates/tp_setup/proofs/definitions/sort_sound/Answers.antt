@@ -1,7 +1,9 @@
 -- The names that were sorted out are the module's, so its definitions obey the rules.
-use Rattle.std.proofs.Common.{option_map, string_bytes, subst}
+use Rattle.std.proofs.Common.{option_map, string_bytes, subst, sym}
 use Rattle.tp_setup.specs.Definitions.{type_names, port_type_names, component_type_names}
-use Rattle.tp_setup.specs.Sorted.{AreSound}
+use Rattle.tp_setup.specs.Rules.{HasUniqueNames}
+use Rattle.tp_setup.specs.Sorted.{AreSound, HasSoundDefinitions}
+use Rattle.tp_setup.proofs.Refusing.{handed_break, handed_on}
 use Rattle.tp_setup.proofs.Sound.{sound_all}
 use Rattle.tp_setup.proofs.definitions.sort_sound.Goals as goal
 
@@ -11,5 +13,21 @@ returns-clause-sound c =
     let m = c.args.parsed.now in
     sound_all s.type_names (type_names m) s.port_names (port_type_names m) s.component_names (component_type_names m)
     (option_map string_bytes c.args.case.now.system) m.definitions.items
-    c.in_ok-sorted.ensures.types.names_are c.in_ok-sorted.ensures.ports.names_are c.in_ok-sorted.ensures.components.names_are
-    (subst (AreSound s (option_map string_bytes c.args.case.now.system)) c.deref.ensures.value c.in_ok-check_definitions.ensures)
+    c.in_ok-sorted.ensures.sorted.types.names_are c.in_ok-sorted.ensures.sorted.ports.names_are c.in_ok-sorted.ensures.sorted.components.names_are
+    (subst (AreSound s (option_map string_bytes c.args.case.now.system)) c.deref.ensures.value c.in_ok-check_definitions.ensures.sound)
+
+pub returns-in_err-sorted-clause-refused : goal.returns-in_err-sorted-clause-refused
+returns-in_err-sorted-clause-refused c =
+    handed_on c.from_residual.result _ c.from_residual.ensures.1 c.in_err-sorted.ensures.refused
+    (λ (h : HasUniqueNames c.args.parsed.now × HasSoundDefinitions c.args.parsed.now c.args.case.now). h.0)
+
+pub returns-in_err-check_definitions-clause-refused : goal.returns-in_err-check_definitions-clause-refused
+returns-in_err-check_definitions-clause-refused c =
+    let s = c.in_ok-sorted.sorted in
+    let m = c.args.parsed.now in
+    handed_break _ c.from_residual-in_err-check_definitions.result _ c.from_residual-in_err-check_definitions.ensures.1
+    (λ (h : HasUniqueNames m × HasSoundDefinitions m c.args.case.now). c.in_err-check_definitions.ensures.refused
+    (subst (AreSound s (option_map string_bytes c.args.case.now.system)) (sym c.deref.ensures.value)
+    (sound_all (type_names m) s.type_names (port_type_names m) s.port_names (component_type_names m) s.component_names
+    (option_map string_bytes c.args.case.now.system) m.definitions.items (sym c.in_ok-sorted.ensures.sorted.types.names_are)
+    (sym c.in_ok-sorted.ensures.sorted.ports.names_are) (sym c.in_ok-sorted.ensures.sorted.components.names_are) h.1)))

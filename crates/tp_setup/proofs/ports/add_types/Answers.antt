@@ -17,7 +17,7 @@ loop-name-preserved c = λ before h.
     (zip_push (Names c.args.types.now) (before ++ take c.loop-name.name-index c.args.names.now) c.loop-name.made c.name-item.result c.in-Some.ty
     (c.loop-name.invariant before h) (sym c.in-Some.ensures)))
 
-pub returns : goal.returns
-returns c =
+pub returns-clause-added : goal.returns-clause-added
+returns-clause-added c =
     λ before h. subst (λ l. AllZip (Names c.args.types.now) (before ++ l) c.loop-name.made) (take_all c.loop-name.name-index c.args.names.now (omega arith))
     (c.loop-name.invariant before h)

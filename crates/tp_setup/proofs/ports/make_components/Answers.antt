@@ -1,7 +1,10 @@
 -- The next component type has its ports, of which there are at most 64.
-use Rattle.std.proofs.Common.{◌≤◌, arith, length}
+use Rattle.std.proofs.Common.{◌≤◌, All, arith, length}
 use Rattle.tp_setup.specs.Resolved.{IsComponentType}
 use Rattle.tp_setup.specs.Sorted.{port_types_in}
+use Rattle.tp_setup.specs.Rules.{IsSoundComponent}
+use Rattle.tp_setup.specs.Sorted.{component_types_in}
+use Rattle.tp_setup.proofs.Refusing.{all_at_map, handed_on}
 use Rattle.tp_setup.proofs.Steps.{all_push, zip_map_more}
 use Rattle.tp_setup.proofs.ports.make_components.Goals as goal
 
@@ -15,3 +18,11 @@ loop-component-preserved c =
       few = all_push (λ t. length t.ports.entries ≤ 64) c.loop-component.components.items c.in_ok-one.one c.loop-component.invariant.few
           c.in_ok-one.ensures.few;
     })
+
+pub returns-in_err-one-clause-refused : goal.returns-in_err-one-clause-refused
+returns-in_err-one-clause-refused c =
+    handed_on c.from_residual.result _ c.from_residual.ensures.1 c.in_err-one.ensures.refused
+    (λ (h : All (IsSoundComponent c.args.sorted.now.port_names) (component_types_in c.args.sorted.now)).
+    all_at_map (IsSoundComponent c.args.sorted.now.port_names) (λ x. x.now) c.deref-component-items.result.now c.loop-component.component-index
+    c.component-item.result (omega arith) c.component-item.is
+    (rw c.deref-component-items.ensures.value h))

@@ -7,6 +7,8 @@ use Rattle.tp_setup.specs.Definitions.{component_types}
 use Rattle.tp_setup.specs.Configuring.{AreSoundVariables, IsSetUp}
 use Rattle.tp_setup.specs.Starting.{AreStarts}
 use Rattle.tp_setup.specs.Prepared.{IsConfigOf}
+use Rattle.tp_setup.proofs.OneModule.{declared_part, own_made}
+use Rattle.tp_setup.proofs.Refusing.{handed_on}
 use Rattle.tp_setup.proofs.preparing.prepare.Goals as goal
 
 pub set_up_and_start-requires-clause-components : goal.set_up_and_start-requires-clause-components
@@ -64,3 +66,12 @@ returns-clause-made c =
       variables_are = c.in_ok-configured.ensures.variables;
       starts = subst (λ l. AreStarts l case c.in_ok-configured.configured.starts) made.sorted.functions.items_are c.in_ok-configured.ensures.starts;
     }
+
+pub returns-in_err-configured-clause-refused : goal.returns-in_err-configured-clause-refused
+returns-in_err-configured-clause-refused c =
+    let m = c.args.parsed.now in
+    let d = c.in_ok-case.field-0 in
+    let made = c.in_ok-case.ensures.defined in
+    handed_on c.from_residual-in_err-configured.result _ c.from_residual-in_err-configured.ensures.1
+    (c.in_err-configured.ensures.refused (own_made m d made c.in_ok-case.ensures.names))
+    (declared_part m d made c.in_ok-case.ensures.case)

@@ -8,4 +8,4 @@ pub loop-field-preserved : goal.loop-field-preserved
 loop-field-preserved c =
     rw c.in_ok-push.ensures.ok
     (zip_more (IsField c.args.types.now) c.args.fields.now c.loop-field.made c.loop-field.field-index c.field-item.result c.in_ok-one.one (omega arith)
-    c.field-item.is c.loop-field.invariant c.in_ok-one.ensures)
+    c.field-item.is c.loop-field.invariant c.in_ok-one.ensures.made)

@@ -1,6 +1,15 @@
 -- First `mtc` is added, and behind it the components of the setup statements.
+use Rattle.std.proofs.Common.{ap, subst}
+use Rattle.std.specs.Prelude.{IfErr}
+use Rattle.tp_name.specs.Refused.{Breaks}
 use Rattle.indexmap.proofs.MapLemmas.{OnOk-map}
+use Rattle.tp_setup.specs.Components.{main_component}
+use Rattle.tp_setup.specs.Configuring.{AreOwnPorts, CanSetUp}
+use Rattle.tp_setup.specs.Sorted.{component_types_in}
+use Rattle.tp_setup.proofs.Ready.{main_added, main_can}
+use Rattle.tp_setup.proofs.Refusing.{handed_on}
 use Rattle.tp_setup.proofs.Setting.{adds_main}
+use Rattle.tp_setup.proofs.TypePorts.{have_ports}
 use Rattle.tp_setup.proofs.setup.add_components.Goals as goal
 
 pub returns-clause-added : goal.returns-clause-added
@@ -8,3 +17,24 @@ returns-clause-added c =
     OnOk-map c.create_all.result _ _
     (adds_main c.args.sorted.now.component_names c.args.case.case.now c.args.config.now c.add_component.new.config c.create_all.new.config
     (rw c.as_str.ensures.value at c.in_ok-add_component.ensures.added)) c.create_all.ensures.added
+
+pub create_all-requires-clause-main : goal.create_all-requires-clause-main
+create_all-requires-clause-main c =
+    main_added c.args.sorted.now.component_names (main_component c.args.case.case.now) c.args.config.now c.add_component.new.config c.requires.empty
+    (rw c.as_str.ensures.value at c.in_ok-add_component.ensures.added)
+
+pub returns-in_err-add_component-clause-refused : goal.returns-in_err-add_component-clause-refused
+returns-in_err-add_component-clause-refused c = λ own.
+    let types = component_types_in c.args.sorted.now in
+    let names = c.args.sorted.now.component_names in
+    handed_on c.from_residual.result _ c.from_residual.ensures.1 c.in_err-add_component.ensures.refused
+    (λ r. rw c.as_str.ensures.value
+    (main_can names c.args.config.now.types c.args.case.case.now r.config r.is_set_up
+    (have_ports types names c.args.config.now.types c.requires.named own) c.args.config.now c.requires.empty))
+
+pub returns-clause-refused : goal.returns-clause-refused
+returns-clause-refused c =
+    let types = component_types_in c.args.sorted.now in
+    let names = c.args.sorted.now.component_names in
+    subst (λ t. AreOwnPorts types t → IfErr c.create_all.result (Breaks (CanSetUp names types t c.args.case.case.now)))
+    (ap (λ s. s.types) c.in_ok-add_component.ensures.added.added) c.create_all.ensures.refused

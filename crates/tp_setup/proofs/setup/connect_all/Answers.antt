@@ -1,19 +1,34 @@
 -- Before the first statement there are no variables, and each statement is one step more.
-use Rattle.std.proofs.Common.{arith}
+use Rattle.std.proofs.Common.{arith, subst, sym, take}
 use Rattle.tp_setup.specs.Components.{component_number}
 use Rattle.tp_setup.specs.Configuring.{nothing}
 use Rattle.tp_setup.proofs.Connecting.{makes_more, variables_more}
+use Rattle.tp_setup.proofs.Making.{makes_types, next_step}
+use Rattle.tp_setup.proofs.Refusing.{handed_on}
+use Rattle.tp_setup.specs.Configuring.{HaveOwnPorts}
 use Rattle.tp_setup.proofs.setup.connect_all.Goals as goal
 
 pub loop-setup-init : goal.loop-setup-init
-loop-setup-init c = record { known = c.new-known.ensures.empty; makes = nothing }
+loop-setup-init c = record { known = c.new-known.ensures.empty; numbered = c.new-known.ensures.numbered; makes = nothing }
 
 pub loop-setup-preserved : goal.loop-setup-preserved
 loop-setup-preserved c = record {
   known = variables_more c.args.setups.now c.loop-setup.setup-index c.setup-item.result (omega arith) c.setup-item.is c.loop-setup.known c.add_setup.new.known
       c.loop-setup.invariant.known c.in_ok-add_setup.ensures.known;
+  numbered = c.in_ok-add_setup.ensures.numbered c.loop-setup.invariant.numbered;
   makes = makes_more c.args.setups.now c.loop-setup.setup-index c.setup-item.result (omega arith) c.setup-item.is
       (component_number c.args.system) c.args.config.now
       c.loop-setup.config c.add_setup.new.config c.loop-setup.known
       c.loop-setup.invariant.makes c.loop-setup.invariant.known c.in_ok-add_setup.ensures.step;
 }
+
+pub returns-in_err-add_setup-clause-refused : goal.returns-in_err-add_setup-clause-refused
+returns-in_err-add_setup-clause-refused c = λ own.
+    let xs = c.args.setups.now in
+    let i = c.loop-setup.setup-index in
+    let system = component_number c.args.system in
+    handed_on c.from_residual.result _ c.from_residual.ensures.1
+    (c.in_err-add_setup.ensures.refused c.loop-setup.invariant.numbered
+    (subst HaveOwnPorts (sym (makes_types system c.args.config.now (take i xs) c.loop-setup.config c.loop-setup.invariant.makes)) own))
+    (next_step system c.args.config.now own xs i c.setup-item.result c.loop-setup.config c.loop-setup.known (omega arith) c.setup-item.is
+    c.loop-setup.invariant.makes c.loop-setup.invariant.known)

@@ -1,7 +1,10 @@
 -- The next argument names a component that there is, which has its parameter's type.
-use Rattle.std.proofs.Common.{arith, map}
+use Rattle.std.proofs.Common.{ap, arith, inr, length, map}
+use Rattle.std.proofs.lemmas.Slice.Zip.{AllZip-long}
 use Rattle.tp_setup.specs.Starting.{HasParameterType, IsArgument}
+use Rattle.tp_setup.proofs.Refusing.{handed_on}
 use Rattle.tp_setup.proofs.Steps.{zip_more}
+use Rattle.tp_setup.proofs.Zips.{zip_both}
 use Rattle.tp_setup.proofs.starting.check_arguments.Goals as goal
 
 pub loop-i-preserved : goal.loop-i-preserved
@@ -13,3 +16,20 @@ loop-i-preserved c =
       fits = zip_more (HasParameterType (map (λ t. t.now) c.args.types.now)) c.args.parameters.now c.loop-i.made.items c.loop-i.i c.index-parameters-i.result
           c.in_ok-comp.comp (omega arith) c.index-parameters-i.is c.loop-i.invariant.fits c.in_ok-comp.ensures.fits;
     })
+
+pub returns-then-arguments-parameters-clause-refused : goal.returns-then-arguments-parameters-clause-refused
+returns-then-arguments-parameters-clause-refused c = λ few. inr (λ r. c.if-arguments-parameters.true
+    (omega (
+      arith,
+      ap length c.as_slice-arguments.ensures.value,
+      AllZip-long (IsArgument c.args.variables.now) c.args.start.now.arguments.items r.0 r.1,
+      AllZip-long (HasParameterType (map (λ t. t.now) c.args.types.now)) c.args.parameters.now r.0 r.2,
+    )))
+
+pub returns-in_err-comp-clause-refused : goal.returns-in_err-comp-clause-refused
+returns-in_err-comp-clause-refused c = λ few.
+    handed_on c.from_residual.result _ c.from_residual.ensures.1 (c.in_err-comp.ensures.refused few)
+    (λ r. zip_both (IsArgument c.args.variables.now) (HasParameterType (map (λ t. t.now) c.args.types.now)) c.args.start.now.arguments.items
+    c.args.parameters.now r.0 c.loop-i.i c.index-arguments-i.result c.index-parameters-i.result r.1 r.2
+    (omega (arith, ap length c.as_slice-arguments.ensures.value))
+    (rw (← c.as_slice-arguments.ensures.value) c.index-arguments-i.is) c.index-parameters-i.is)

@@ -1,10 +1,15 @@
 -- The next start obeys its rules, and its component was not started before.
-use Rattle.std.proofs.Common.{◌++◌, ◌∷◌, [], ◌∙◌, ap, arith, map, string_bytes, sym, take}
+use Rattle.std.proofs.Common.{◌+◌, ◌++◌, ◌∷◌, [], ◌∙◌, ap, arith, drop, map, string_bytes, subst, sym, take}
 use Rattle.std.proofs.lemmas.List.{map_push}
 use Rattle.tp_tree.specs.declared.tree.ComponentStart.{ComponentStart}
 use Rattle.tp_setup.specs.Sorted.{functions_in}
 use Rattle.tp_setup.specs.Starting.{IsStartOf}
+use Rattle.tp_name.specs.Tables.{IsNumbered}
+use Rattle.tp_name.proofs.Numbering.{place_known}
+use Rattle.tp_setup.proofs.Naming.{numbered_first}
+use Rattle.tp_setup.proofs.Refusing.{handed_on, mapped_behind}
 use Rattle.tp_setup.proofs.Steps.{pushed, zip_more}
+use Rattle.tp_setup.proofs.Zips.{zip_here}
 use Rattle.tp_setup.proofs.starting.check_each.Goals as goal
 
 pub loop-start-preserved : goal.loop-start-preserved
@@ -17,9 +22,29 @@ loop-start-preserved c =
     (record {
       started = zip_more (IsStartOf (functions_in c.args.sorted.now) c.args.variables.now (map (λ t. t.now) c.args.types.now)) xs c.loop-start.started.items i x
           c.in_ok-one.one (omega arith) c.start-item.is
-          c.loop-start.invariant.started c.in_ok-one.ensures;
+          c.loop-start.invariant.started c.in_ok-one.ensures.start;
       names = c.in_ok-add_started.ensures.added ∙ ap (λ l. l ++ string_bytes x.component ∷ []) c.loop-start.invariant.names
           ∙ sym (map_push name (take i xs) x)
           ∙ ap (map name) (pushed xs i x (omega arith) c.start-item.is);
-      distinct = c.in_ok-add_started.ensures.distinct;
+      numbered = c.in_ok-add_started.ensures.numbered;
     })
+
+pub returns-in_err-add_started-clause-refused : goal.returns-in_err-add_started-clause-refused
+returns-in_err-add_started-clause-refused c = λ few.
+    let xs = c.args.starts.now in
+    let i = c.loop-start.start-index in
+    let x = c.start-item.result in
+    let name = λ (x : ComponentStart). string_bytes x.component in
+    handed_on c.from_residual.result _ c.from_residual.ensures.1 c.in_err-add_started.ensures.refused
+    (λ r. (
+      let one = zip_here (IsStartOf (functions_in c.args.sorted.now) c.args.variables.now (map (λ t. t.now) c.args.types.now)) xs r.0 i x r.1
+          (omega arith) c.start-item.is in place_known c.args.variables.now (name x) one.1.variable (sym one.1.variable_known),
+      numbered_first _ (map name (drop (i + 1) xs))
+          (subst IsNumbered (mapped_behind name [] c.loop-start.names xs i x (omega arith) c.start-item.is c.loop-start.invariant.names) r.2),
+    ))
+
+pub returns-in_err-one-clause-refused : goal.returns-in_err-one-clause-refused
+returns-in_err-one-clause-refused c = λ few.
+    handed_on c.from_residual-in_err-one.result _ c.from_residual-in_err-one.ensures.1 (c.in_err-one.ensures.refused few)
+    (λ r. zip_here (IsStartOf (functions_in c.args.sorted.now) c.args.variables.now (map (λ t. t.now) c.args.types.now)) c.args.starts.now r.0
+    c.loop-start.start-index c.start-item.result r.1 (omega arith) c.start-item.is)

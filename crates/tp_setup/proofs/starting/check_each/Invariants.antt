@@ -1,7 +1,7 @@
 -- The starts so far obey their rules, and start different components.
 use Rattle.std.proofs.Common.{◌≡◌, map, take}
 use Rattle.std.specs.List.{AllZip}
-use Rattle.tp_name.specs.Tables.{AreDistinct}
+use Rattle.tp_name.specs.Tables.{IsNumbered}
 use Rattle.tp_setup.specs.Sorted.{functions_in}
 use Rattle.tp_setup.specs.Starting.{IsStartOf, started_names}
 use Rattle.tp_setup.proofs.starting.check_each.Given as goal
@@ -10,5 +10,5 @@ abbrev pub invariant-loop-start : goal.invariant-loop-start
 invariant-loop-start l = record {
   started : AllZip (IsStartOf (functions_in l.sorted) l.variables (map (λ t. t.now) l.types)) (take l.start-index l.starts) l.started.items;
   names : l.names ≡ started_names (take l.start-index l.starts);
-  distinct : AreDistinct l.names;
+  numbered : IsNumbered l.names;
 }

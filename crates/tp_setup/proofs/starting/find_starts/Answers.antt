@@ -1,11 +1,12 @@
 -- A statement that makes no component needs no start, and the next `var` has one.
-use Rattle.std.proofs.Common.{◌++◌, ◌∷◌, [], arith, map, subst, sym, take}
+use Rattle.std.proofs.Common.{inr, ◌++◌, ◌∷◌, [], arith, map, subst, sym, take}
 use Rattle.std.specs.List.{AllZip}
 use Rattle.std.proofs.lemmas.List.{map_push}
 use Rattle.tp_setup.specs.Components.{creations, variable}
 use Rattle.tp_setup.specs.Starting.{IsStartPlace}
 use Rattle.tp_setup.proofs.Creating.{no_creation, one_creation}
 use Rattle.tp_setup.proofs.Steps.{zip_push}
+use Rattle.tp_setup.proofs.Lookups.{not_started}
 use Rattle.tp_setup.proofs.starting.find_starts.Goals as goal
 
 pub loop-setup-preserved-in_default : goal.loop-setup-preserved-in_default
@@ -24,3 +25,8 @@ loop-setup-preserved c =
     (subst (λ l. AllZip R l (c.loop-setup.places.items ++ c.in-Some-find.place ∷ [])) (sym (map_push variable before one))
     (zip_push R (map variable before) c.loop-setup.places.items (variable one) c.in-Some-find.place c.loop-setup.invariant
     (rw c.as_str.ensures.value at (sym c.in-Some-find.ensures.place))))
+
+pub returns-in_default-find-clause-refused : goal.returns-in_default-find-clause-refused
+returns-in_default-find-clause-refused c =
+    inr (not_started c.args.setups.now c.loop-setup.setup-index c.setup-item.result (omega arith) c.setup-item.is c.in-Some.creation.now c.in-Some.ensures
+    c.args.started.now (rw c.as_str.ensures.value at c.in_default-find.ensures.place))

@@ -2,7 +2,7 @@
 use Rattle.tp_setup.proofs.starting.start_all.Goals as goal
 
 pub returns-clause-started : goal.returns-clause-started
-returns-clause-started c = rw (← c.in_ok-types.ensures, ← c.deref.ensures.value, ← c.deref-2.ensures.value) c.check_each.ensures.started
+returns-clause-started c = rw (← c.in_ok-types.ensures.types, ← c.deref.ensures.value, ← c.deref-2.ensures.value) c.check_each.ensures.started
 
 pub returns-clause-names : goal.returns-clause-names
 returns-clause-names c = rw (← c.deref-2.ensures.value) c.check_each.ensures.names

@@ -1,12 +1,31 @@
 -- No two definitions of the module have one name, nor any two names within a definition.
-use Rattle.std.proofs.Common.{ap, map, subst, All}
+use Rattle.std.proofs.Common.{◌≡◌, ◌∷◌, [], ◌∙◌, All, ap, arith, inr, length, map, subst, sym}
 use Rattle.tp_tree.specs.declared.tree.Definition.{Definition}
-use Rattle.tp_name.specs.Tables.{AreDistinct}
-use Rattle.tp_setup.specs.Definitions.{inner_names, name_of}
+use Rattle.tp_name.specs.Tables.{IsNumbered}
+use Rattle.tp_setup.specs.Definitions.{among, case_of, inner_names, name_of}
+use Rattle.tp_setup.specs.Rules.{AreNamed, HasOneTestCase, HasUniqueNames}
+use Rattle.tp_setup.proofs.Naming.{no_case}
+use Rattle.tp_setup.proofs.Refusing.{handed_on}
 use Rattle.tp_setup.proofs.unique_names.check_names.Goals as goal
 
 pub returns-in-Some-clause-names : goal.returns-in-Some-clause-names
 returns-in-Some-clause-names c = record {
-  definitions = subst AreDistinct (ap (map (λ (d : Definition). name_of d.defined)) c.deref-2.ensures.value) c.in_ok-found.ensures.names;
-  inner = subst (All (λ (d : Definition). AreDistinct (inner_names d.defined))) c.deref-2.ensures.value c.in_ok-found.ensures.inner;
+  definitions = subst IsNumbered (ap (map (λ (d : Definition). name_of d.defined)) c.deref-2.ensures.value) c.in_ok-found.ensures.names;
+  inner = subst (All (λ (d : Definition). IsNumbered (inner_names d.defined))) c.deref-2.ensures.value c.in_ok-found.ensures.inner;
 }
+
+pub returns-then-not-has_case-clause-refused : goal.returns-then-not-has_case-clause-refused
+returns-then-not-has_case-clause-refused c =
+    let none : among case_of c.args.parsed.now.definitions.items ≡ [] =
+    no_case c.args.parsed.now.definitions.items (rw c.deref.ensures.value at (sym c.has_case.ensures ∙ c.if-not-has_case.true)) in
+    inr (λ h. let other : [] ≡ h.1.0 ∷ [] = sym none ∙ h.1.1 in absurd (cc))
+
+pub returns-in_err-found-clause-refused : goal.returns-in_err-found-clause-refused
+returns-in_err-found-clause-refused c =
+    let m = c.args.parsed.now in
+    handed_on c.from_residual.result _ c.from_residual.ensures.1 c.in_err-found.ensures.refused
+    (λ (h : HasUniqueNames m × HasOneTestCase m). subst AreNamed (sym c.deref-2.ensures.value) (record {
+      names = h.0.definitions;
+      inner = h.0.inner;
+      one_case = omega (arith, ap length h.1.1);
+    }))

@@ -1,10 +1,14 @@
 -- The next definition has a new name and none twice in it, and is a test case or not.
-use Rattle.std.proofs.Common.{◌++◌, ◌∷◌, [], ◌∙◌, ap, arith, map, sym, take, subst, All}
+use Rattle.std.proofs.Common.{◌++◌, ◌∷◌, [], ◌∙◌, ap, arith, drop, ◌+◌, map, sym, take, subst, All}
 use Rattle.std.proofs.lemmas.List.{map_push, take_all}
 use Rattle.std.specs.Option.{option_to_list}
 use Rattle.tp_tree.specs.declared.tree.Definition.{Definition}
-use Rattle.tp_name.specs.Tables.{AreDistinct}
+use Rattle.tp_name.specs.Tables.{IsNumbered}
+use Rattle.tp_setup.specs.Cases.{cases_of}
 use Rattle.tp_setup.specs.Definitions.{among, case_of, inner_names, name_of}
+use Rattle.tp_setup.specs.Rules.{AreNamed}
+use Rattle.tp_setup.proofs.Naming.{many_cases, numbered_first}
+use Rattle.tp_setup.proofs.Refusing.{all_at, handed_break, handed_on, mapped_behind}
 use Rattle.tp_setup.proofs.Steps.{all_more, kept_more, pushed}
 use Rattle.tp_setup.proofs.unique_names.find_case.Goals as goal
 
@@ -18,10 +22,10 @@ loop-definition-preserved c =
           ∙ ap (λ l. l ++ name_of x.defined ∷ []) c.loop-definition.invariant.names
           ∙ sym (map_push (λ (d : Definition). name_of d.defined) (take i items) x)
           ∙ ap (map (λ (d : Definition). name_of d.defined)) (pushed items i x (omega arith) c.definition-item.is);
-      distinct = c.in_ok-check_name.ensures.distinct;
+      numbered = c.in_ok-check_name.ensures.numbered;
       case = kept_more (λ (d : Definition). case_of d.defined) items i x (omega arith) c.definition-item.is
-          ∙ ap (λ l. l ++ option_to_list (case_of x.defined)) c.loop-definition.invariant.case ∙ sym c.in_ok-case.ensures;
-      inner = all_more (λ (d : Definition). AreDistinct (inner_names d.defined)) items i x (omega arith) c.definition-item.is c.loop-definition.invariant.inner
+          ∙ ap (λ l. l ++ option_to_list (case_of x.defined)) c.loop-definition.invariant.case ∙ sym c.in_ok-case.ensures.case;
+      inner = all_more (λ (d : Definition). IsNumbered (inner_names d.defined)) items i x (omega arith) c.definition-item.is c.loop-definition.invariant.inner
           c.in_ok-check_name.ensures.inner;
     }
 
@@ -31,12 +35,32 @@ returns-clause-case c =
 
 pub returns-clause-names : goal.returns-clause-names
 returns-clause-names c =
-    subst AreDistinct
+    subst IsNumbered
     (c.loop-definition.invariant.names
     ∙ ap (map (λ (d : Definition). name_of d.defined)) (take_all c.loop-definition.definition-index c.args.definitions.now (omega arith)))
-    c.loop-definition.invariant.distinct
+    c.loop-definition.invariant.numbered
 
 pub returns-clause-inner : goal.returns-clause-inner
 returns-clause-inner c =
-    subst (All (λ (d : Definition). AreDistinct (inner_names d.defined))) (take_all c.loop-definition.definition-index c.args.definitions.now (omega arith))
+    subst (All (λ (d : Definition). IsNumbered (inner_names d.defined))) (take_all c.loop-definition.definition-index c.args.definitions.now (omega arith))
     c.loop-definition.invariant.inner
+
+pub returns-in_err-check_name-clause-refused : goal.returns-in_err-check_name-clause-refused
+returns-in_err-check_name-clause-refused c =
+    let i = c.loop-definition.definition-index in
+    let items = c.args.definitions.now in
+    let x = c.definition-item.result in
+    handed_on c.from_residual.result _ c.from_residual.ensures.1 c.in_err-check_name.ensures.refused
+    (λ (h : AreNamed items). (
+      numbered_first _ (map (λ (d : Definition). name_of d.defined) (drop (i + 1) items))
+          (subst IsNumbered
+          (mapped_behind (λ (d : Definition). name_of d.defined) [] c.loop-definition.names items i x (omega arith) c.definition-item.is
+          c.loop-definition.invariant.names) h.names),
+      all_at (λ (d : Definition). IsNumbered (inner_names d.defined)) items i x (omega arith) c.definition-item.is h.inner,
+    ))
+
+pub returns-in_err-case-clause-refused : goal.returns-in_err-case-clause-refused
+returns-in_err-case-clause-refused c =
+    handed_break (AreNamed c.args.definitions.now) c.from_residual-in_err-case.result _ c.from_residual-in_err-case.ensures.1
+    (λ h. many_cases c.args.definitions.now c.loop-definition.definition-index c.definition-item.result (cases_of c.loop-definition.case) (omega arith)
+    c.definition-item.is c.loop-definition.invariant.case c.in_err-case.ensures.refused h.one_case)

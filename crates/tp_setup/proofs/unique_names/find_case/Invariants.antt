@@ -1,7 +1,7 @@
 -- No name so far is given twice, and what was found is the only test case so far, if any.
 use Rattle.std.proofs.Common.{◌≡◌, map, take, All}
 use Rattle.tp_tree.specs.declared.tree.Definition.{Definition}
-use Rattle.tp_name.specs.Tables.{AreDistinct}
+use Rattle.tp_name.specs.Tables.{IsNumbered}
 use Rattle.tp_setup.specs.Definitions.{among, case_of, name_of, inner_names}
 use Rattle.tp_setup.specs.Cases.{cases_of}
 use Rattle.tp_setup.proofs.unique_names.find_case.Given as goal
@@ -9,7 +9,7 @@ use Rattle.tp_setup.proofs.unique_names.find_case.Given as goal
 abbrev pub invariant-loop-definition : goal.invariant-loop-definition
 invariant-loop-definition l = record {
   names : l.names ≡ map (λ (x : Definition). name_of x.defined) (take l.definition-index l.definitions);
-  distinct : AreDistinct l.names;
+  numbered : IsNumbered l.names;
   case : among case_of (take l.definition-index l.definitions) ≡ cases_of l.case;
-  inner : All (λ (x : Definition). AreDistinct (inner_names x.defined)) (take l.definition-index l.definitions);
+  inner : All (λ (x : Definition). IsNumbered (inner_names x.defined)) (take l.definition-index l.definitions);
 }

@@ -25,3 +25,6 @@ pub returns-clause-distinct : goal.returns-clause-distinct
 returns-clause-distinct c =
     subst AreDistinct (sym (returns-clause-ok c)) (distinct_more c.args.self.now c.args.name.now c.find.ensures.distinct
     (λ h. true≢false (sym (c.find.ensures.known.1 h) ∙ sym c.is_some.ensures ∙ c.if-is_some.false)))
+
+pub returns-clause-numbered : goal.returns-clause-numbered
+returns-clause-numbered c = invariant_of-self-2 c

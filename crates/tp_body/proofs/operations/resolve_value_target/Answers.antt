@@ -1,0 +1,12 @@
+-- The name behind `value` is that of a variable of messages.
+use Rattle.tp_name.specs.Named.{texts}
+use Rattle.tp_body.proofs.Handing.{handed_on}
+use Rattle.tp_body.proofs.OperationInversions.{value_variable}
+use Rattle.tp_body.proofs.operations.resolve_value_target.Goals as goal
+
+pub returns-in_err-place-clause-refused : goal.returns-in_err-place-clause-refused
+returns-in_err-place-clause-refused c = λ typed.
+    handed_on c.from_residual.result _ c.from_residual.ensures.1 (c.in_err-place.ensures.refused typed) (λ h.
+    let f = value_variable c.args.context.now.scope.now c.args.context.now.variables.now (texts c.args.context.now.turns.now) c.args.wanted.now
+    c.args.target.now c.in-Some.name c.in-Some.is h in
+    rw c.as_str.ensures.value (f.2, f.0, f.4, f.5))

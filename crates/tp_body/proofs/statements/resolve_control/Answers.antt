@@ -1,0 +1,13 @@
+-- An operation on a port stands in no behaviour of the system under test.
+use Rattle.std.proofs.Common.{refl}
+use Rattle.tp_name.specs.Named.{texts}
+use Rattle.tp_tree.specs.declared.tree.Action.TheVariants as action
+use Rattle.tp_body.proofs.Handing.{handed_on}
+use Rattle.tp_body.proofs.StatementInversions.{made_control}
+use Rattle.tp_body.proofs.statements.resolve_control.Goals as goal
+
+pub returns-in_err-check_not_in_sut-clause-refused : goal.returns-in_err-check_not_in_sut-clause-refused
+returns-in_err-check_not_in_sut-clause-refused c = λ sound.
+    handed_on c.from_residual.result _ c.from_residual.ensures.1 c.in_err-check_not_in_sut.ensures.refused (λ h.
+    (made_control c.args.context.now.scope.now c.args.context.now.variables.now (texts c.args.context.now.turns.now) (action.Control c.args.control.now)
+    c.args.control.now refl h).0)

@@ -1,0 +1,14 @@
+-- A test case whose body is refused has none.
+use Rattle.std.proofs.Common.{[], refl, string_bytes}
+use Rattle.tp_body.specs.declared.scope.BehaviourKind.TheVariants as behaviour_kind
+use Rattle.tp_script.specs.Instances.{known_in}
+use Rattle.tp_script.proofs.BodyRules.{body_refused}
+use Rattle.tp_script.proofs.bodies.resolve_main.Goals as goal
+
+pub returns-clause-refused : goal.returns-clause-refused
+returns-clause-refused c = λ sound.
+    let case = c.args.prepared.now.case.case.now in
+    body_refused (known_in c.args.prepared.now) behaviour_kind.TestCase behaviour_kind.TestCase c.as_str-runs_on.result.now (string_bytes case.runs_on)
+    c.new-parameters.result [] c.in_ok-scope.scope c.deref.result.now case.variables.items c.deref-2.result.now case.statements.items c.resolve_body.result
+    refl c.as_str-runs_on.ensures.value c.new-parameters.ensures.empty c.deref.ensures.value c.deref-2.ensures.value sound c.in_ok-scope.ensures.scope
+    c.resolve_body.ensures.refused

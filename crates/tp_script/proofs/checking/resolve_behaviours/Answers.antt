@@ -1,0 +1,34 @@
+-- Bodies that are refused, or a size, are those of a module that doesn't obey the rules.
+use Rattle.std.proofs.Common.{◌≤◌, List, Option, map, sum, subst}
+use Rattle.tp_name.specs.Refused.{Breaks}
+use Rattle.tp_play.specs.Behaviours.{size_of_behaviour}
+use Rattle.tp_play.specs.Instances.{behaviour_of}
+use Rattle.tp_play.specs.declared.instance.Instance.{Instance}
+use Rattle.tp_script.specs.TestCases.{WellFormed}
+use Rattle.tp_script.proofs.Declared.{own_names}
+use Rattle.tp_script.proofs.Refusing.{handed_on, no_memory}
+use Rattle.tp_script.proofs.Sound.{sound_known}
+use Rattle.tp_script.proofs.Whole.{are_few, has_bodies, is_small}
+use Rattle.tp_script.proofs.checking.resolve_behaviours.Goals as goal
+
+pub returns-in_err-bodies-clause-refused : goal.returns-in_err-bodies-clause-refused
+returns-in_err-bodies-clause-refused c = λ of rules.
+    let m = c.args.parsed.now in
+    let own = own_names m rules in
+    handed_on c.from_residual.result c.in_err-bodies.field-0.0 c.from_residual.ensures.1 (has_bodies m c.args.prepared.now of rules)
+    (c.in_err-bodies.ensures.refused (sound_known m c.args.prepared.now of own) own)
+
+pub returns-in_err-instances-clause-refused : goal.returns-in_err-instances-clause-refused
+returns-in_err-instances-clause-refused c = λ of rules.
+    no_memory (WellFormed c.args.parsed.now) c.from_residual-in_err-instances.result c.in_err-instances.field-0.0 c.from_residual-in_err-instances.ensures.1
+    (c.in_err-instances.ensures.refused (are_few c.args.parsed.now c.args.prepared.now of rules))
+
+pub returns-in_err-check_size-clause-refused : goal.returns-in_err-check_size-clause-refused
+returns-in_err-check_size-clause-refused c = λ of rules.
+    let bodies = c.in_ok-bodies.bodies in
+    let instances = c.in_ok-instances.instances.items in
+    handed_on c.from_residual-in_err-check_size.result c.in_err-check_size.field-0.0 c.from_residual-in_err-check_size.ensures.1
+    (is_small c.args.parsed.now c.args.prepared.now of rules bodies c.in_ok-bodies.ensures.main c.in_ok-bodies.ensures.functions instances
+    c.in_ok-instances.ensures.instances c.in_ok-instances.ensures.count)
+    (subst (λ (l : List (Option Instance)). Breaks (sum (map size_of_behaviour (map (behaviour_of bodies) l)) ≤ 100000) c.in_err-check_size.field-0.0)
+    c.deref.ensures.value c.in_err-check_size.ensures.refused)

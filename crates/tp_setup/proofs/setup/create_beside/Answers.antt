@@ -1,0 +1,19 @@
+-- Where making the components stopped, the first fault is told.
+use Rattle.std.proofs.Common.{subst}
+use Rattle.tp_setup.specs.Configuring.{CanSetUpBeside, HavePorts}
+use Rattle.tp_setup.proofs.Ready.{beside_can, has_first}
+use Rattle.tp_setup.proofs.Refusing.{breaks_part}
+use Rattle.tp_setup.proofs.setup.create_beside.Goals as goal
+
+pub first_fault-requires : goal.first_fault-requires
+first_fault-requires c =
+    let stay = c.in-Err.ensures.stopped.added.types_stay in
+    let case = c.args.case.case.now in
+    record {
+      first = has_first c.args.types.now case c.deref.result.now c.in-Err.stopped.before.now c.args.config.now c.create_components.new.config
+          c.deref.ensures.value c.requires.main c.in-Err.ensures.stopped;
+      broken = λ have. breaks_part _ _ c.in-Err.stopped.fault
+          (λ r. beside_can c.args.types.now c.args.ports.now c.args.config.now.types case c.args.config.now c.deref.result.now c.most_variables.result
+          c.deref.ensures.value c.most_variables.ensures (subst (HavePorts c.args.types.now) stay have) c.requires.main
+          (subst (λ t. CanSetUpBeside c.args.types.now c.args.ports.now t case) stay r)) c.in-Err.ensures.refused;
+    }

@@ -1,0 +1,36 @@
+-- The definitions of a kind have names of their own, where no two definitions have one.
+use Rattle.std.proofs.Common.{List, map, string_bytes, subst, sym}
+use Rattle.tp_tree.specs.declared.tree.ComponentType.{ComponentType}
+use Rattle.tp_tree.specs.declared.tree.Definition.{Definition}
+use Rattle.tp_tree.specs.declared.tree.Function.{Function}
+use Rattle.tp_tree.specs.declared.tree.PortType.{PortType}
+use Rattle.tp_name.specs.Tables.{IsNumbered}
+use Rattle.tp_setup.specs.Definitions.{among, component_of, function_of, name_of, port_of, type_of}
+use Rattle.tp_setup.specs.Rules.{HasUniqueNames}
+use Rattle.tp_setup.proofs.Naming.{component_named, function_named, numbered_among, port_named, type_named}
+use Rattle.tp_setup.proofs.Refusing.{handed_on}
+use Rattle.tp_setup.proofs.sorted.sort.Goals as goal
+
+pub returns-in_err-type_names-clause-refused : goal.returns-in_err-type_names-clause-refused
+returns-in_err-type_names-clause-refused c =
+    handed_on c.from_residual.result _ c.from_residual.ensures.1 c.in_err-type_names.ensures.refused
+    (λ (h : HasUniqueNames c.args.parsed.now). subst (λ (l : List Definition). IsNumbered (map name_of (among type_of l))) (sym c.as_slice-definitions.ensures.value)
+    (numbered_among type_of name_of type_named c.args.parsed.now.definitions.items h.definitions))
+
+pub returns-in_err-port_names-clause-refused : goal.returns-in_err-port_names-clause-refused
+returns-in_err-port_names-clause-refused c =
+    handed_on c.from_residual-in_err-port_names.result _ c.from_residual-in_err-port_names.ensures.1 c.in_err-port_names.ensures.refused
+    (λ (h : HasUniqueNames c.args.parsed.now). subst (λ (l : List Definition). IsNumbered (map (λ (p : PortType). string_bytes p.name) (among port_of l))) (sym c.as_slice-definitions.ensures.value)
+    (numbered_among port_of (λ (p : PortType). string_bytes p.name) port_named c.args.parsed.now.definitions.items h.definitions))
+
+pub returns-in_err-component_names-clause-refused : goal.returns-in_err-component_names-clause-refused
+returns-in_err-component_names-clause-refused c =
+    handed_on c.from_residual-in_err-component_names.result _ c.from_residual-in_err-component_names.ensures.1 c.in_err-component_names.ensures.refused
+    (λ (h : HasUniqueNames c.args.parsed.now). subst (λ (l : List Definition). IsNumbered (map (λ (x : ComponentType). string_bytes x.name) (among component_of l))) (sym c.as_slice-definitions.ensures.value)
+    (numbered_among component_of (λ (x : ComponentType). string_bytes x.name) component_named c.args.parsed.now.definitions.items h.definitions))
+
+pub returns-in_err-function_names-clause-refused : goal.returns-in_err-function_names-clause-refused
+returns-in_err-function_names-clause-refused c =
+    handed_on c.from_residual-in_err-function_names.result _ c.from_residual-in_err-function_names.ensures.1 c.in_err-function_names.ensures.refused
+    (λ (h : HasUniqueNames c.args.parsed.now). subst (λ (l : List Definition). IsNumbered (map (λ (f : Function). string_bytes f.name) (among function_of l))) (sym c.as_slice-definitions.ensures.value)
+    (numbered_among function_of (λ (f : Function). string_bytes f.name) function_named c.args.parsed.now.definitions.items h.definitions))

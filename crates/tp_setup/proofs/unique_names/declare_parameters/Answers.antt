@@ -1,0 +1,15 @@
+-- A name that is refused is among those of all parameters.
+use Rattle.std.proofs.Common.{◌+◌, arith, drop, map, subst}
+use Rattle.tp_name.specs.Tables.{IsNumbered}
+use Rattle.tp_setup.specs.Definitions.{declared}
+use Rattle.tp_setup.proofs.Naming.{numbered_first}
+use Rattle.tp_setup.proofs.Refusing.{handed_on, mapped_behind}
+use Rattle.tp_setup.proofs.unique_names.declare_parameters.Goals as goal
+
+pub returns-in_err-add_name-clause-refused : goal.returns-in_err-add_name-clause-refused
+returns-in_err-add_name-clause-refused c =
+    handed_on c.from_residual.result _ c.from_residual.ensures.1 c.in_err-add_name.ensures.refused
+    (λ h. numbered_first _ (map (λ p. declared p.name) (drop (c.loop-parameter.parameter-index + 1) c.args.parameters.now))
+    (subst IsNumbered
+    (mapped_behind (λ p. declared p.name) c.args.names.now c.loop-parameter.names c.args.parameters.now c.loop-parameter.parameter-index c.parameter-item.result (omega arith)
+    c.parameter-item.is c.loop-parameter.invariant.names) h))

@@ -1,0 +1,17 @@
+-- A name that is refused is among those of all ports.
+use Rattle.std.proofs.Common.{◌+◌, arith, drop, map, subst}
+use Rattle.tp_tree.specs.declared.tree.PortDeclaration.{PortDeclaration}
+use Rattle.tp_name.specs.Tables.{IsNumbered}
+use Rattle.tp_setup.specs.Definitions.{declared, declared_ports}
+use Rattle.tp_setup.proofs.Naming.{numbered_first}
+use Rattle.tp_setup.proofs.Refusing.{flat_behind, handed_on}
+use Rattle.tp_setup.proofs.unique_names.declare_ports.Goals as goal
+
+pub returns-in_err-declare_all-clause-refused : goal.returns-in_err-declare_all-clause-refused
+returns-in_err-declare_all-clause-refused c =
+    handed_on c.from_residual.result _ c.from_residual.ensures.1 c.in_err-declare_all.ensures.refused
+    (λ h. rw c.deref.ensures.value
+    (numbered_first _ (declared_ports (drop (c.loop-port.port-index + 1) c.args.ports.now))
+    (subst IsNumbered
+    (flat_behind (λ (p : PortDeclaration). map declared p.names.items) c.args.names.now c.loop-port.names c.args.ports.now c.loop-port.port-index
+    c.port-item.result (omega arith) c.port-item.is c.loop-port.invariant.names) h)))
