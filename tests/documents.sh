@@ -44,11 +44,12 @@ shows() { # DOCUMENT FILE
     fi
 }
 
-# The first example of README.md, and the one with a changed line.
+# The first example of README.md, and the one with a changed line; the report of docs/PROFILE.md.
 first_example() {
     local example=examples/closed_counter_serves_no_order
     shows README.md "$example.ttcn"
     shows README.md "$example.expected"
+    shows docs/PROFILE.md examples/halt_holds_back_what_comes_later.expected
     set_up "line 26 of $example.ttcn is a send at the counter" grep -q '^26:.*counter\.send' \
         <(grep -n . "$example.ttcn") || return
     sed '26s/counter/bell/' "$example.ttcn" >"$room/script"
@@ -131,11 +132,17 @@ named_wrong_bodies() {
     done
 }
 
+# What the documents name is there, and they are as short as they are to be. `told` is that of tests/orders.sh.
+names_in_documents() {
+    told "$room/document_names" tests/document_names.py
+}
+
 documents() {
     at_least 26 refusal_scripts
     at_least 26 construct_scripts
-    at_least 3 first_example
+    at_least 4 first_example
     at_least 1 script_of_the_profile
     at_least 9 quoted_contracts
     at_least 27 named_wrong_bodies
+    at_least 19 names_in_documents
 }

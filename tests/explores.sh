@@ -154,7 +154,7 @@ explored_in_documents() {
     tool_must "what tools/README.md shows" 1 is_shown_in tools/README.md
     run_explore examples/clear_may_discard_the_answer.ttcn
     sed -i '/^  pass: mtc/d; /^  fail: mtc/d' "$room/printed"
-    tool_must "what README.md shows" 1 is_shown_in README.md
+    tool_must "what docs/EXPLORING.md shows" 1 is_shown_in docs/EXPLORING.md
 }
 
 # Components c0, c1 and so on that send to `mtc` one message each, which takes as many.

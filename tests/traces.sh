@@ -222,22 +222,22 @@ traces_of_titan() {
     done
 }
 
-# What docs/TRACES.md and README.md say of logs in tests/titan/.
+# What docs/TRACES.md says of logs in tests/titan/.
 shown_log() {
     local answer='unlawful Lost line 7' line
     line=$(sed -n 7p tests/titan/closing/trace)
     set_up "docs/TRACES.md shows the line of what was lost" \
         grep -qF -- "The answer is \`$answer\`, and line 7 of the trace is \`$line\`." docs/TRACES.md && count 0
     set_up "that is the answer" grep -qx -- "closing => $answer" tests/titan/answers.table && count 0
-    shown_in_readme closing "of a run that Titan calls \`pass\`, it is" 'unlawful Lost line 7'
-    shown_in_readme lost 'Of the two logs `tests/titan/lost/*.log` the answer is' 'unlawful Lost line 4'
-    shown_in_readme two 'of `tests/titan/two/*.log` it is' lawful 'one run'
+    shown_of_logs closing "of a run that Titan calls \`pass\`, it is" 'unlawful Lost line 7'
+    shown_of_logs lost 'Of the two logs `tests/titan/lost/*.log` the answer is' 'unlawful Lost line 4'
+    shown_of_logs two 'of `tests/titan/two/*.log` it is' lawful 'one run'
 }
 
-# README.md says so of these logs, and that is the answer.
-shown_in_readme() { # FOLDER WORDS ANSWER [ANSWER]
+# docs/TRACES.md says so of these logs, and that is the answer.
+shown_of_logs() { # FOLDER WORDS ANSWER [ANSWER]
     local shown="$2 \`$3\`${4:+ and \`$4\`}"
-    set_up "README.md shows the answer to the logs of $1" grep -qF -- "$shown" README.md && count 0
+    set_up "docs/TRACES.md shows the answer to the logs of $1" grep -qF -- "$shown" docs/TRACES.md && count 0
     set_up "that is the answer to the logs of $1" grep -qx -- "$1 => $3${4:+; $4}" tests/titan/answers.table && count 0
 }
 

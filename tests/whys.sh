@@ -58,10 +58,10 @@ $(cat -- tests/whys/causes/waits_behind_the_mark.why)
     tool_must "why: an empty standard input" 2 says_alone "why: /dev/stdin, line 1: "
     why examples/login_is_answered.ttcn
     tool_must "why: a result that is pass has no reason" 0 eval '[[ $(tail -n 1 -- "$room/printed") == *"  result pass" ]]'
-    awk '/^    line +report$/ { is_shown = 1 } /^[^ ]/ { is_shown = 0 } is_shown' README.md | sed 's/^    //;$d' >"$room/why_shown"
-    set_up "README.md shows what why says" [ "$(wc -l <"$room/why_shown")" -ge 15 ]
+    awk '/^    line +report$/ { is_shown = 1 } /^[^ ]/ { is_shown = 0 } is_shown' tools/README.md | sed 's/^    //;$d' >"$room/why_shown"
+    set_up "tools/README.md shows what why says" [ "$(wc -l <"$room/why_shown")" -ge 15 ]
     why examples/halt_holds_back_what_comes_later.ttcn
-    tool_must "why: README.md shows it" 0 cmp -s -- "$room/printed" "$room/why_shown"
+    tool_must "why: tools/README.md shows it" 0 cmp -s -- "$room/printed" "$room/why_shown"
 }
 
 annotated_scripts() {
