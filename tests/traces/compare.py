@@ -1,4 +1,4 @@
-"""Compares a program that judges traces with the judge in referee.py, to the line.
+"""Compares a program that judges traces with the judge in oracle.py, to the line.
 
     compare.py planted TRACE.. -- COMMAND..    each trace, and each fault that planting.py plants in it
     compare.py several TRACE.. -- COMMAND..    each trace, in which two to four of these are planted, by chance
@@ -23,7 +23,7 @@ from concurrent.futures import ProcessPoolExecutor
 from chance import small_history, small_route, small_trace
 from planting import planted_in
 from player import play
-from referee import answers_of
+from oracle import answers_of
 
 SEVERAL, PLAYED, BY_CHANCE = 100, 2, 25
 

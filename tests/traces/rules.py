@@ -1,9 +1,9 @@
-"""Tests the judge of traces in referee.py, and what it stands on.
+"""Tests the judge of traces in oracle.py, and what it stands on.
 
     rules.py planted|forms|titan TABLE [-- COMMAND..]
     rules.py document FILE [-- COMMAND..]
                                   each row of the table, each example of the document, has the answer that was worked
-                                  out by hand: by the judge in referee.py, or by the command with a file behind it
+                                  out by hand: by the judge in oracle.py, or by the command with a file behind it
     rules.py lines FILE           each text has the form of a trace, or its first line of another form is the one that
                                   was found by hand
     rules.py played SCRIPT..      traces of these scripts, played in orders made by chance, are lawful and one run
@@ -30,7 +30,7 @@ from lawful import place_of_port, place_of_route, places_of, places_of_route
 from one_run import delayed_lines, is_one_run_by_trying
 from planting import plant
 from player import play
-from referee import answer_of
+from oracle import answer_of
 
 SEEDS = 3
 
@@ -206,7 +206,7 @@ def routes(number: int) -> str:
 
 
 def judge_of(words: list[str], room: str) -> Callable[[bytes], tuple[str, int]]:
-    """The judge of which the command stands behind `--`, else that of referee.py."""
+    """The judge of which the command stands behind `--`, else that of oracle.py."""
     if "--" not in words:
         return answer_of
     return Judge(words[words.index("--") + 1 :], os.path.join(room, "trace")).answer

@@ -3,7 +3,7 @@
     runs.py PROGRAM SCRIPT.. -- COMMAND..
 
 `PROGRAM trace SCRIPT` is called several times, a part of them on one processor. Each trace without its lines `came`
-must be a report that the script may have, and the trace lawful and one run: by the judge in referee.py, and by the
+must be a report that the script may have, and the trace lawful and one run: by the judge in oracle.py, and by the
 command with a file behind it. For each script and judge a line `passed N SCRIPT by JUDGE` is printed, or lines that
 begin with `FAILED: SCRIPT by JUDGE`.
 """
@@ -14,7 +14,7 @@ import tempfile
 from collections.abc import Callable
 
 from compare import Judge
-from referee import answer_of
+from oracle import answer_of
 
 sys.path.append(os.path.join(os.path.dirname(os.path.realpath(__file__)), "..", "orders"))
 
@@ -89,7 +89,7 @@ def main() -> int:
     end = words.index("--")
     with tempfile.TemporaryDirectory() as room:
         command = Judge(words[end + 1 :], os.path.join(room, "trace"))
-        judges = {"referee.py": answer_of, "the command": command.answer}
+        judges = {"oracle.py": answer_of, "the command": command.answer}
         for script in words[:end]:
             print("\n".join(judged(program, script, judges)), flush=True)
     return 0

@@ -1,0 +1,153 @@
+#!/usr/bin/env python3
+"""What tpr_ordered answers where a read, a write, an allocation or the start of a thread fails.
+
+    tests/forced/failed_orders.py ORDERED FOLDER REFUSED
+
+ORDERED is tpr_ordered, REFUSED the library of tests/program/refused.c, which is loaded before the C library, and files
+are written into FOLDER. Each call of a kind is refused in turn, up to the run that has no such call more. It prints a
+line `passed NAME` for each case, and lines that begin with `FAILED: NAME` for one that is wrong.
+"""
+from __future__ import annotations
+
+import os
+import subprocess
+import sys
+import tempfile
+from collections.abc import Callable, Iterator
+from typing import NamedTuple
+
+from forced import MOST_SECONDS, SCRIPTS, UNREAD, Ended, answers_of, bytes_of
+
+MOST_CALLS = 5000
+MEMORY, NO_THREAD = b"fault 50 Memory\n", b"fault 51 NoThread\n"
+SCRIPT = f"{SCRIPTS}/receive_beside_a_send.ttcn"
+FREE, IN_TURN, _ = answers_of(bytes_of(f"{SCRIPTS}/receive_beside_a_send.answers"))
+
+
+class Wrong(Exception):
+    """A case isn't as it must be."""
+
+
+def must(holds: object, text: str) -> None:
+    if not holds:
+        raise Wrong(text)
+
+
+class Given(NamedTuple):
+    """The program, the library that refuses calls, and where files are written."""
+
+    ordered: str
+    folder: str
+    refused: str
+
+    def run(self, refusals: dict[str, int], orders: bytes) -> tuple[Ended, bool]:
+        """Runs SCRIPT in these orders with such calls refused. Whether it came to the one of the last kind."""
+        path = f"{self.folder}/orders_of_failures"
+        with open(path, "wb") as file:
+            file.write(orders)
+        with tempfile.TemporaryDirectory() as marks:
+            more = {f"REFUSED_{kind}": str(number) for kind, number in refusals.items()}
+            more |= {"REFUSED_MARKS": marks, "LD_PRELOAD": self.refused}
+            done = subprocess.run(
+                [self.ordered, SCRIPT, path],
+                stdin=subprocess.DEVNULL,
+                capture_output=True,
+                timeout=MOST_SECONDS,
+                check=False,
+                env={**os.environ, **more},
+            )
+            came = [*refusals][-1].lower() in os.listdir(marks)
+        return Ended(done.returncode, done.stdout, done.stderr), came
+
+    def in_turn(self, kind: str, orders: bytes, more: dict[str, int]) -> Iterator[tuple[int, Ended]]:
+        """What comes of each call of the kind refused, by its number. In the run that has no such call more all is
+        answered."""
+        for number in range(1, MOST_CALLS):
+            ended, came = self.run({**more, kind: number}, orders)
+            if not came:
+                must(number > 1, "there is no such call")
+                whole = b"".join(FREE if line == b"" else IN_TURN for line in orders.split(b"\n")[:-1])
+                must(ended == Ended(0, whole), f"with nothing refused: {ended}")
+                return
+            yield number, ended
+        raise Wrong(f"there are {MOST_CALLS} such calls")
+
+
+def writes_that_fail(kind: str) -> Callable[[Given], None]:
+    """Each order is answered by one write. Those before it are there, and nothing is written behind it."""
+
+    def fails(given: Given) -> None:
+        for number, ended in given.in_turn(kind, b"a o\n\na o\n", {}):
+            before = b"".join((IN_TURN, FREE)[: number - 1])
+            must(ended == Ended(3, before), f"write {number}: {ended}")
+
+    return fails
+
+
+def writes_of_single_bytes(given: Given) -> None:
+    """The bytes go one by one, and behind so many each write fails."""
+    for number, ended in given.in_turn("WRITES_FROM", b"a o\n", {"SHORT_WRITES_FROM": 1}):
+        must(ended == Ended(3, IN_TURN[: number - 1]), f"behind {number - 1} bytes: {ended}")
+
+
+def reads_that_fail(given: Given) -> None:
+    """The bytes come one by one: those of the script, and then those of the orders."""
+    of_script, of_orders = Ended(2, UNREAD), Ended(2, b"", b"orders: " + UNREAD)
+    found = [ended for _, ended in given.in_turn("READ", b"a o\n", {"SHORT_READS_FROM": 1})]
+    least = len(bytes_of(SCRIPT))
+    script = found.count(of_script)
+    must(script >= least, f"{script} reads of a script of {least} bytes")
+    must(found == [of_script] * script + [of_orders] * (len(found) - script), "they are told otherwise")
+    must(len(found) - script >= len(b"a o\n"), f"{len(found) - script} reads of the orders")
+
+
+def opens_that_fail(given: Given) -> None:
+    """The script is opened first, and then the orders. What the C library opens before comes in neither."""
+    told = [ended for _, ended in given.in_turn("OPEN", b"a o\n", {}) if ended != Ended(0, IN_TURN)]
+    must(told == [Ended(2, UNREAD), Ended(2, b"", b"orders: " + UNREAD)], f"{told}")
+
+
+def allocations_that_fail(given: Given) -> None:
+    """The line of the fault stands in place of the report of that run, or of all, with status 3."""
+    fault = Ended(3, MEMORY)
+    allowed = {fault, Ended(3, b"", b"orders: " + MEMORY), Ended(0, FREE + FREE)}
+    of_runs = [b"order \n" + line + b"\n" for line in (MEMORY, NO_THREAD)]
+    allowed |= {Ended(0, answer) for it in of_runs for answer in (it + FREE, FREE + it)}
+    found = [ended for _, ended in given.in_turn("MEMORY", b"\n\n", {})]
+    for number, ended in enumerate(found, 1):
+        must(ended in allowed, f"allocation {number}: {ended}")
+    for it in (fault, Ended(3, b"", b"orders: " + MEMORY), *(Ended(0, of_runs[0] + FREE), Ended(0, FREE + of_runs[0]))):
+        must(it in found, f"no allocation comes to {it}")
+
+
+def threads_that_fail(given: Given) -> None:
+    """51 stands in place of the report of that run, and the next one has its own."""
+    without = b"order \n" + NO_THREAD + b"\n"
+    found = [ended for _, ended in given.in_turn("THREAD", b"\n\n", {})]
+    half = len(found) // 2
+    must(half > 0 and found == [Ended(0, without + FREE)] * half + [Ended(0, FREE + without)] * half, f"{found}")
+
+
+CASES = (
+    ("each write fails alone", writes_that_fail("WRITE")),
+    ("each write fails, and all behind it", writes_that_fail("WRITES_FROM")),
+    ("a write of a byte fails, and all behind it", writes_of_single_bytes),
+    ("each read of a byte fails", reads_that_fail),
+    ("each opening of a file fails", opens_that_fail),
+    ("each allocation fails", allocations_that_fail),
+    ("each start of a thread fails", threads_that_fail),
+)
+
+
+def main() -> None:
+    given = Given(*sys.argv[1:])
+    for name, attempt in CASES:
+        try:
+            attempt(given)
+            print(f"passed tpr_ordered, where {name}", flush=True)
+        except (Wrong, subprocess.TimeoutExpired) as wrong:
+            print(f"FAILED: tpr_ordered, where {name}: {wrong}", flush=True)
+
+
+if __name__ == "__main__":
+    main()

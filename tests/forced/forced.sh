@@ -1,0 +1,23 @@
+# tpr_ordered: orders that it keeps, refuses or can't hold, among them those in which components must be inside their
+# operations at once; runs that end by themselves (forced.py); and calls that fail (failed_orders.py).
+
+forced_of_each() {
+    local script
+    for script in tests/forced/*.ttcn; do is_another_entry "$script" "$script"; done
+    mkdir -- "$room/forced"
+    told "$room/told_of_forced" tests/forced/forced.py "$tpr" "$ordered" "$room/forced"
+}
+
+failed_of_each() {
+    told "$room/told_of_failed" tests/forced/failed_orders.py "$ordered" "$room/forced" "$room_of_all/refused.so"
+}
+
+forced_orders() {
+    set_up "tpr_ordered is built" [ -x "$ordered" ] || return
+    at_least 60 forced_of_each
+    if is_script "$ordered"; then
+        leave_out "calls that fail in tpr_ordered, since TPR_ORDERED names a script"
+    else
+        at_least 7 failed_of_each
+    fi
+}

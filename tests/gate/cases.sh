@@ -1,0 +1,195 @@
+# What the tests in shell have in common: how a case is run, judged and counted. ./test reads all files
+# tests/FOLDER/NAME.sh, and these variables are its own: `root`, the folder of the repository; `tpr`, the program,
+# `called`, what is called on command lines, and `ordered`, tpr_ordered; `room`, a folder of the part's own, and
+# `room_of_all`, one of all parts; the counters `passed` and `failed`.
+
+# Runs a command, and keeps what it did for `judge`.
+observe() {
+    "$@" >"$room/printed" 2>"$room/said"
+    status=$?
+}
+
+# Whether the last run ended with the STATUS, printed what one of the FILEs holds, and said the
+# text SAID on standard error. Where it didn't, this is told under the NAME.
+judge() { # NAME STATUS SAID FILE..
+    local name=$1 wanted=$2 said=$3 file well=no
+    shift 3
+    for file in "$@"; do
+        if cmp -s -- "$file" "$room/printed"; then well=yes; fi
+    done
+    printf %s "$said" >"$room/to_be_said"
+    if [[ $well == yes && $status == "$wanted" ]] && cmp -s -- "$room/to_be_said" "$room/said"; then
+        return 0
+    fi
+    echo "FAILED: $name"
+    if [[ $status != "$wanted" ]]; then
+        echo "the status was $status, and $wanted is wanted"
+    fi
+    if (($# == 0)); then
+        echo "nothing says what it must print"
+    elif [[ $well == no ]]; then
+        diff -u --label wanted --label printed -- "$1" "$room/printed" | head -n 40
+        if (($# > 1)); then echo "(nor is it one of the other texts that are allowed)"; fi
+    fi
+    diff -u --label 'wanted on standard error' --label 'said on standard error' \
+        -- "$room/to_be_said" "$room/said" | head -n 20
+    return 1
+}
+
+# Counts a case, by the status of the command before it or of the one given.
+count() {
+    if (($1 == 0)); then ((passed += 1)); else ((failed += 1)); fi
+}
+
+# Runs a case, and counts it.
+counted() { # COMMAND..
+    "$@"
+    count $?
+}
+
+# The last run is one case. What it must print is a text.
+must() { # NAME STATUS PRINTED SAID
+    printf %s "$3" >"$room/to_be_printed"
+    judge "$1" "$2" "$4" "$room/to_be_printed"
+    count $?
+}
+
+# The script in $room/script is answered so: `accepted` or `CODE NAME LINE`.
+answered() { # NAME ANSWER
+    local wanted=0
+    if [[ $2 == accepted ]]; then
+        echo accepted >"$room/wanted"
+    else
+        echo "refused ${2% *} line ${2##* }" >"$room/wanted"
+        wanted=2
+    fi
+    is_another_entry "$1" "$room/script"
+    observe "$tpr" check "$room/script" </dev/null
+    judge "$1" "$wanted" '' "$room/wanted"
+    count $?
+}
+
+# Runs the cases of a table, of which there are so many at least: a table that lost its entries, or
+# that isn't found, fails.
+at_least() { # LEAST COMMAND..
+    local least=$1 before=$((passed + failed)) tried
+    shift
+    "$@"
+    tried=$((passed + failed - before))
+    if ((tried < least)); then
+        echo "FAILED: $tried cases of $*, and there are $least at least"
+        count 1
+    fi
+}
+
+# What must hold before a case is tried, or the case would show nothing: told and counted where it
+# doesn't.
+set_up() { # WHAT HOLDS, COMMAND..
+    if "${@:2}"; then return 0; fi
+    echo "FAILED: it doesn't hold that $1"
+    count 1
+    return 1
+}
+
+# Tests in Python
+
+# Counts the lines `passed ..` and the scripts that failed, of which all that is said is told. What is left out is
+# told at the end of all.
+count_told() { # FILE
+    local line
+    while IFS= read -r line; do
+        case $line in
+            'passed '*) count 0 ;;
+            'left out '*) leave_out "${line#left out }" ;;
+            'FAILED: '*)
+                echo "$line"
+                count 1
+                ;;
+            *) echo "$line" ;;
+        esac
+    done <"$1"
+}
+
+# Runs a test in Python, keeps what it tells, and counts it. One that ends with a failure and tells none, as where it
+# breaks off, has failed.
+told() { # FILE WORD..
+    local ended
+    python3 -B "${@:2}" >"$1" 2>&1
+    ended=$?
+    if ((ended != 0)) && ! grep -q '^FAILED: ' "$1"; then
+        echo "FAILED: $2 ended with status $ended, and told no failure" >>"$1"
+    fi
+    count_told "$1"
+}
+
+# The same of one whose lines are `passed RUNS NAME`: the runs are added to `runs_of_all`, or to `refused_of_all`.
+told_of_runs() { # COUNTER WORD..
+    told "$room/told" "${@:2}"
+    declare -g -i "$1+=$(sum_of 2 "$room/told")"
+}
+
+# The sum of the numbers that stand at the place of each line `passed ..`.
+sum_of() { # PLACE FILE
+    awk -v place="$1" '$1 == "passed" { sum += $place } END { print sum + 0 }' "$2"
+}
+
+# Runs of a tool
+
+# The last run of a tool is one case: it ended with the STATUS, and the test given holds of it.
+tool_must() { # NAME STATUS COMMAND..
+    if [[ $status == "$2" ]] && "${@:3}"; then
+        count 0
+        return
+    fi
+    echo "FAILED: $1: the status was $status, and $2 is wanted; it said and printed"
+    head -n 5 -- "$room/said"
+    head -n 20 -- "$room/printed"
+    count 1
+}
+
+says_nothing() { [[ ! -s $room/said ]]; }
+prints_nothing() { [[ ! -s $room/printed ]]; }
+
+# Standard error is one line that begins so, and nothing was printed.
+says_alone() { # BEGINNING
+    local said
+    said=$(cat -- "$room/said")
+    [[ $said == "$1"* && $said != *$'\n'* ]] && prints_nothing
+}
+
+prints() { # TEXT
+    says_nothing && printf %s "$1" | cmp -s -- - "$room/printed"
+}
+
+# Files and processes
+
+# Whether the file has so many bytes.
+has_bytes() { # FILE BYTES
+    [[ -f $1 && $(wc -c <"$1") -eq $2 ]]
+}
+
+# A program that is a script would be refused its shell's calls: its cases of that kind are left out.
+is_script() { # PROGRAM
+    [[ $(head -c 2 -- "$1") == '#!' ]]
+}
+
+# Waits until something stands in the file, as a process writes it once it has begun.
+has_begun() { # FILE
+    local turn
+    for ((turn = 0; turn < 200; turn++)); do
+        if [[ -s $1 ]]; then return 0; fi
+        sleep 0.1
+    done
+    return 1
+}
+
+# Whether the process has ended, or does so at once.
+is_gone() { # FILE OF ITS NUMBER
+    local number turn
+    read -r number <"$1" && [[ $number ]] || return 1
+    for ((turn = 0; turn < 50; turn++)); do
+        if ! kill -0 "$number" 2>/dev/null || grep -q '^State:.*Z' "/proc/$number/status" 2>/dev/null; then return 0; fi
+        sleep 0.1
+    done
+    return 1
+}

@@ -1,0 +1,154 @@
+#!/usr/bin/env python3
+"""Whether each part of ./test fails on the fault that tests/gate/parts has for it.
+
+    tests/gate/faults.py PROGRAM ORDERED [NAME..]
+    tests/gate/faults.py PROGRAM ORDERED --some COUNT SEED TIMES
+
+The first form tries the faults of all parts, or of those named; the second of so many by chance, of those that took
+30 seconds at most in this run, by the file TIMES. Each is planted in a copy of the tree, in which the part is tried
+with `./test part NAME`. There are two kinds of faults:
+
+    says SED         what the program prints goes through `sed -e SED`
+    text FILE SED    a file of the copy is changed so
+
+It prints a line `passed NAME` for each fault that is told, `left out the fault of NAME: WHY`, or a line that begins
+with `FAILED: `. The same seed chooses others where other parts took 30 seconds at most: by their names each is planted
+again.
+"""
+from __future__ import annotations
+
+import os
+import random
+import shutil
+import subprocess
+import sys
+import tempfile
+from typing import NamedTuple, Optional
+
+ROOT = os.path.dirname(os.path.dirname(os.path.dirname(os.path.realpath(__file__))))
+LIST = f"{ROOT}/tests/gate/parts"
+# What these try must be built: TPR names no other program to them.
+OF_THE_BUILT = ("refused_memory", "refused_in_tests", "refused_in_runs", "filled_templates")
+OF_ORDERED = ("orders", "forced_orders", "exploring", "soak")
+ITSELF = "planted_faults"
+MOST_SECONDS_OF_SOME = 30
+
+
+class Fault(NamedTuple):
+    """The fault of a part: its kind, the file that is changed if it is of that kind, and how."""
+
+    part: str
+    kind: str
+    file: str
+    sed: str
+
+
+def listed_faults() -> list[Fault]:
+    faults = []
+    with open(LIST, encoding="utf-8") as file:
+        for line in file:
+            if line.strip() and not line.startswith("#"):
+                part, _, kind, rest = line.rstrip("\n").split(" ", 3)
+                changed, sed = rest.split(" ", 1) if kind == "text" else ("", rest)
+                faults.append(Fault(part, kind, changed, sed))
+    return faults
+
+
+def copy_of_tree(folder: str) -> str:
+    """A copy of the tree, in which what is built is that of the tree itself."""
+    tree = f"{folder}/tree"
+    shutil.copytree(ROOT, tree, symlinks=True, ignore=shutil.ignore_patterns("out", ".git", "__pycache__"))
+    for crate in os.listdir(f"{ROOT}/crates"):
+        if os.path.isdir(f"{ROOT}/crates/{crate}/out"):
+            os.symlink(f"{ROOT}/crates/{crate}/out", f"{tree}/crates/{crate}/out")
+    return tree
+
+
+def write_program(path: str, program: str, sed: str) -> None:
+    """A program that says what this one says, but for the fault."""
+    with open(path, "w", encoding="utf-8") as file:
+        file.write('#!/usr/bin/env bash\n"$FAULTY_PROGRAM" "$@" | sed -e "$FAULT"\nexit "${PIPESTATUS[0]}"\n')
+    os.chmod(path, 0o755)
+    os.environ["FAULTY_PROGRAM"], os.environ["FAULT"] = program, sed
+
+
+def change(path: str, sed: str) -> bool:
+    """Changes a file. Whether that made a difference."""
+    with open(path, "rb") as file:
+        before = file.read()
+    subprocess.run(["sed", "-i", "-e", sed, path], check=True)
+    with open(path, "rb") as file:
+        return file.read() != before
+
+
+def untold(fault: Fault, program: str, ordered: str) -> Optional[str]:
+    """Why the fault isn't told, None where it is."""
+    with tempfile.TemporaryDirectory() as folder:
+        tree = copy_of_tree(folder)
+        if fault.kind == "says":
+            write_program(f"{folder}/faulty", program, fault.sed)
+            program = f"{folder}/faulty"
+        elif not change(f"{tree}/{fault.file}", fault.sed):
+            return f"{fault.sed} changes nothing in {fault.file}"
+        programs = {"TPR": program, **({"TPR_ORDERED": ordered} if os.access(ordered, os.X_OK) else {})}
+        # Not by subprocess.run, which kills where it is interrupted: ./test ends what it has started.
+        done = subprocess.Popen(
+            [f"{tree}/test", "part", fault.part],
+            env={**os.environ, **programs},
+            stdin=subprocess.DEVNULL,
+            stdout=subprocess.PIPE,
+            stderr=subprocess.PIPE,
+        )
+        printed, said = done.communicate()
+    lines = printed.decode("utf-8", "replace").splitlines()
+    told = [line for line in lines if line.startswith("FAILED: ")]
+    if done.returncode == 1 and told and lines[-1].startswith("examples: "):
+        print(f"told of {fault.part}: {len(told)} times, first {told[0][len('FAILED: '):][:200]}")
+        return None
+    return f"status {done.returncode}, and it said {(lines or ['nothing'])[-1]} {said[-300:]!r}"
+
+
+def why_left_out(fault: Fault, ordered: str) -> Optional[str]:
+    if fault.part in OF_THE_BUILT and not os.access(f"{ROOT}/crates/tpr/out/tpr", os.X_OK):
+        return "nothing is built"
+    if fault.part in OF_ORDERED and not os.access(ordered, os.X_OK):
+        return "there is no tpr_ordered"
+    return None
+
+
+def some(faults: list[Fault], count: int, seed: str, times: str) -> list[Fault]:
+    """So many faults by chance, of parts that took little time."""
+    quick = set()
+    if os.path.exists(times):
+        with open(times, encoding="utf-8") as file:
+            words = [line.split() for line in file]
+        quick = {name for name, _, _, seconds in words if int(seconds) <= MOST_SECONDS_OF_SOME}
+    open_to_chance = [it for it in faults if it.part != ITSELF and (it.part in quick or not quick)]
+    return random.Random(seed).sample(open_to_chance, min(count, len(open_to_chance)))
+
+
+def main() -> int:
+    program, ordered, *words = sys.argv[1:]
+    faults = listed_faults()
+    if not os.access(program, os.X_OK):
+        print(f"faults: there is no program {program}", file=sys.stderr)
+        return 4
+    if words[:1] == ["--some"]:
+        faults = some(faults, int(words[1]), words[2], words[3])
+        print(f"planted faults: seed {words[2]}: {', '.join(it.part for it in faults)}", flush=True)
+    elif words:
+        faults = [it for it in faults if it.part in words]
+    failed = 0
+    for fault in faults:
+        if (why := why_left_out(fault, ordered)) is not None:
+            print(f"left out the fault of {fault.part}: {why}", flush=True)
+        elif (wrong := untold(fault, program, ordered)) is not None:
+            failed += 1
+            print(f"FAILED: the fault that is planted for {fault.part} isn't told: {wrong}", flush=True)
+        else:
+            print(f"passed {fault.part}", flush=True)
+    return 1 if failed else 0
+
+
+if __name__ == "__main__":
+    sys.exit(main())

@@ -1,0 +1,30 @@
+# What a whole gate leaves in out/gate where it passes, for tools/release.
+
+# The commit of the work tree, and nothing where that isn't just as committed.
+clean_commit() {
+    if [[ -z $(git status --porcelain 2>&1) ]]; then git rev-parse HEAD 2>/dev/null; fi
+}
+
+# What an earlier gate left isn't left by this one, which may fail.
+begin_gate() {
+    rm -f -- out/gate
+    commit_of_gate=$(clean_commit)
+}
+
+# Only where the sources were those of one commit from the beginning to the end, and the toolchain says which it is.
+keep_gate() { # LAST LINES
+    local toolchain program
+    if [[ -z $commit_of_gate || $commit_of_gate != "$(clean_commit)" ]]; then return; fi
+    if ! toolchain=$(rt version) || ! program=$(sha256sum <crates/tpr/out/tpr); then
+        echo "test: out/gate isn't kept: rt version, or the sum of the program, failed" >&2
+        return 1
+    fi
+    mkdir -p out
+    {
+        echo "commit $commit_of_gate"
+        echo "toolchain $toolchain"
+        echo "program ${program%% *}"
+        echo
+        cat -- "$1"
+    } >out/gate.begun && mv -- out/gate.begun out/gate
+}

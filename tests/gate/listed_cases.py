@@ -1,0 +1,156 @@
+#!/usr/bin/env python3
+"""The list of all examples, of all small scripts and of the tables of texts, tests/gate/cases.list, by which none is
+lost unseen.
+
+    ./test list                           writes the list
+    tests/gate/listed_cases.py compare    whether the folders have what the list has, and nothing else
+    tests/gate/listed_cases.py counts     how many there are of each kind, by the list
+
+A line of the list is `KIND FILE NUMBER`. Of an example the number says how many texts may be printed of it, of a table
+how many texts it has. `compare` prints `passed ..`, or a line that begins with `FAILED: ` for each difference, and for
+each part that tests/README.md doesn't name. `counts` prints lines `NAME=NUMBER`. By these numbers ./test knows how many
+cases a part has at least: so an example is its files, and no number is raised by hand for it.
+"""
+from __future__ import annotations
+
+import argparse
+import re
+import sys
+from collections import Counter
+from collections.abc import Iterator
+from enum import Enum
+from hashlib import sha256
+from pathlib import Path
+from typing import NamedTuple
+
+sys.dont_write_bytecode = True
+ROOT = Path(__file__).resolve().parents[2]
+sys.path.append(str(ROOT / "tests" / "checking"))
+
+import changes  # noqa: E402
+import grammar  # noqa: E402
+
+LIST = ROOT / "tests" / "gate" / "cases.list"
+ENDINGS = (".queue", ".ttcn")
+
+
+class Kind(Enum):
+    """What a listed file is."""
+
+    QUEUE = "queue"  # a queue file of examples/
+    RIGHT = "right"  # a script of examples/ that is run
+    REFUSED = "refused"  # one that is refused
+    SMALL = "small"  # a script of tests/orders/, which is run in every order of its steps
+    CHANGES = "changes"  # a table of changed scripts
+    GRAMMAR = "grammar"  # the table of the grammar
+
+
+class Listed(NamedTuple):
+    """A line of the list."""
+
+    kind: Kind
+    file: str
+    number: int
+
+    def line(self) -> str:
+        return f"{self.kind.value} {self.file} {self.number}"
+
+
+def listed(kind: Kind, file: Path, number: int) -> Listed:
+    return Listed(kind, str(file.relative_to(ROOT)), number)
+
+
+def example(file: Path) -> Listed:
+    """The texts that may be printed of an example are NAME.expected, or NAME.expected.1, .2 and so on."""
+    is_refused = file.with_suffix(".status").exists()
+    kind = Kind.QUEUE if file.suffix == ".queue" else Kind.REFUSED if is_refused else Kind.RIGHT
+    texts = [file.with_suffix(".expected"), *file.parent.glob(f"{file.stem}.expected.[0-9]*")]
+    return listed(kind, file, sum(it.exists() for it in texts))
+
+
+def all_listed() -> list[Listed]:
+    """What is there, in the order of the list."""
+    found = [example(it) for it in (ROOT / "examples").iterdir() if it.suffix in ENDINGS]
+    found += [listed(Kind.SMALL, it, 1) for it in ROOT.glob("tests/orders/*/*.ttcn")]
+    for file in changes.FOLDER.glob("*.changes"):
+        found.append(listed(Kind.CHANGES, file, len([*changes.changes_of(file.name.removesuffix(".changes"))])))
+    found.append(listed(Kind.GRAMMAR, grammar.TEXTS, len([*grammar.texts_of_the_table()])))
+    return sorted(found, key=lambda it: it.file)
+
+
+def strays() -> Iterator[str]:
+    """A file of examples/ that is neither an example nor belongs to one would never be looked at."""
+    for file in sorted((ROOT / "examples").glob("[!.]*")):
+        name, ending, number = file.name.partition(".expected.")
+        base = name if ending and number.isdecimal() else file.stem
+        is_answer = file.suffix in (".expected", ".checked", ".status") or base == name
+        belongs = is_answer and any((file.parent / f"{base}{it}").exists() for it in ENDINGS)
+        if file.name != "README.md" and file.suffix not in ENDINGS and not belongs:
+            yield f"{file.relative_to(ROOT)} belongs to no example"
+
+
+def twins(there: list[Listed]) -> Iterator[str]:
+    """An example of the same text as another shows nothing."""
+    known: dict[str, str] = {}
+    for it in there:
+        other = known.setdefault(sha256((ROOT / it.file).read_bytes()).hexdigest(), it.file)
+        if other != it.file:
+            yield f"{other} and {it.file} are of the same text"
+
+
+def differences(there: list[Listed]) -> Iterator[str]:
+    """What the list has and the folders haven't, and the other way round."""
+    lines, wanted = [it.line() for it in there], LIST.read_text(encoding="utf-8").splitlines()
+    for line in sorted({*lines, *wanted}):
+        if line not in wanted:
+            yield f"{LIST.name} has no line `{line}`: ./test list writes it"
+        elif line not in lines:
+            yield f"{LIST.name} has the line `{line}`, and it isn't so"
+    if not set(lines) ^ set(wanted) and lines != wanted:
+        yield f"{LIST.name} isn't as ./test list writes it"
+
+
+def unnamed_parts() -> Iterator[str]:
+    """A part that tests/README.md doesn't name would be found by chance alone."""
+    named = {*re.findall(r"\w+", (ROOT / "tests" / "README.md").read_text(encoding="utf-8"))}
+    for line in (ROOT / "tests" / "gate" / "parts").read_text(encoding="utf-8").splitlines():
+        part = line.partition(" ")[0]
+        if part and part != "#" and part not in named:
+            yield f"tests/README.md doesn't name the part {part}"
+
+
+def counts() -> dict[str, int]:
+    """How many there are of each kind, by the list."""
+    lines = [line.split() for line in LIST.read_text(encoding="utf-8").splitlines()]
+    kinds = Counter(kind for kind, _, _ in lines)
+    numbers = {kind: [int(it) for value, _, it in lines if value == kind.value] for kind in Kind}
+    return {
+        "queue_examples": kinds[Kind.QUEUE.value],
+        "script_examples": kinds[Kind.RIGHT.value] + kinds[Kind.REFUSED.value],
+        "right_examples": kinds[Kind.RIGHT.value],
+        "reports_of_examples": sum(numbers[Kind.RIGHT]),
+        "open_examples": sum(it > 1 for it in numbers[Kind.RIGHT]),
+        "small_scripts": kinds[Kind.SMALL.value],
+        "changed_scripts": sum(numbers[Kind.CHANGES]),
+        "grammar_texts": sum(numbers[Kind.GRAMMAR]),
+    }
+
+
+def main() -> int:
+    words = argparse.ArgumentParser(description="The list of all examples, small scripts and tables.")
+    words.add_argument("what", choices=("write", "compare", "counts"))
+    asked, there = words.parse_args().what, all_listed()
+    wrong: list[str] = []
+    if asked == "write":
+        LIST.write_text("".join(f"{it.line()}\n" for it in there), encoding="utf-8")
+        print(f"{LIST.relative_to(ROOT)}: {len(there)} lines")
+    elif asked == "counts":
+        print(*(f"{name}={number}" for name, number in counts().items()), sep="\n")
+    else:
+        wrong = [*strays(), *twins(there), *differences(there), *unnamed_parts()]
+        print(*(f"FAILED: {it}" for it in wrong) if wrong else ["passed all that is there is listed"], sep="\n")
+    return 1 if wrong else 0
+
+
+if __name__ == "__main__":
+    sys.exit(main())

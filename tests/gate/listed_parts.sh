@@ -1,0 +1,102 @@
+# The parts of ./test by their list, tests/gate/parts, which stands apart from where they are called. Of each part that
+# has ended a line is kept, with what it tried (side_by_side.sh); and at the end of all ./test fails where a part of the
+# list has no line, or two, or tried fewer cases than the list has for it, or where one isn't in the list. `chosen` and
+# `left_out` are those of ./test.
+
+parts_list=tests/gate/parts
+
+# How many examples there are of each kind, and so on, as numbers of these names, by the list (tests/gate/cases.list).
+read_counts() {
+    local name number
+    while IFS='=' read -r name number; do
+        declare -g -i "$name=$number"
+    done < <(python3 -B tests/gate/listed_cases.py counts)
+    [[ ${small_scripts-} ]]
+}
+
+# The lines of the list: NAME LEAST FAULT. LEAST may be a sum of such numbers.
+listed_parts() {
+    grep -v -e '^#' -e '^$' -- "$parts_list"
+}
+
+is_listed() { # NAME
+    listed_parts | grep -q -- "^$1 "
+}
+
+# Whether the command line names the part, or none.
+is_chosen() { # NAME
+    ((${#chosen[@]} == 0)) || [[ " ${chosen[*]} " == *" $1 "* ]]
+}
+
+# Why a part may be left out as a whole: told at the end. One that the command line names is tried.
+may_leave_out() { # NAME WHY
+    if ((${#chosen[@]} == 0)); then left_out["$1"]=$2; fi
+}
+
+is_tried() { # NAME
+    is_chosen "$1" && [[ ! ${left_out[$1]-} ]]
+}
+
+# What a part leaves out of what it tries, since it can't be tried here: told at the end.
+leave_out() { # WHAT, AND WHY
+    echo "left out: $1" >>"$room_of_all/left_out"
+}
+
+# No other entry of this part has the NAME, and none the same FILE as its input.
+declare -A entries=() inputs=()
+is_another_entry() { # NAME [FILE]
+    local sum=''
+    if (($# > 1)); then read -r sum _ < <(sha256sum <"$2"); fi
+    if [[ ${entries[$1]-} ]]; then
+        echo "FAILED: two entries have the name $1"
+        count 1
+    elif [[ $sum && ${inputs[$sum]-} ]]; then
+        echo "FAILED: the entries ${inputs[$sum]} and $1 are of the same input"
+        count 1
+    fi
+    entries["$1"]=there
+    if [[ $sum ]]; then inputs["$sum"]=$1; fi
+}
+
+# One part of the list: it said once what it tried, and that is enough.
+part_was_tried() { # NAME LEAST
+    local times cases
+    times=$(grep -c -- "^$1 " "$room_of_all/parts")
+    if [[ ${left_out[$1]-} && $times == 0 ]]; then return; fi
+    if ((times != 1)); then
+        echo "FAILED: the part $1 of $parts_list was tried $times times"
+        return 1
+    fi
+    cases=$(awk -v name="$1" '$1 == name { print $2 }' "$room_of_all/parts")
+    if ((cases < $2)); then
+        echo "FAILED: the part $1 tried $cases cases, and there are $(($2)) at least"
+        return 1
+    fi
+}
+
+# That no part is missing. Where the command line names some, only these are looked at.
+all_parts_were_tried() {
+    local name least
+    touch -- "$room_of_all/parts"
+    while read -r name least _; do
+        if is_chosen "$name" && ! part_was_tried "$name" "$least"; then count 1; fi
+    done < <(listed_parts)
+    while read -r name _; do
+        if ! is_listed "$name"; then
+            echo "FAILED: the part $name isn't in $parts_list"
+            count 1
+        fi
+    done <"$room_of_all/parts"
+    if [[ $(listed_parts | cut -d ' ' -f 1 | sort | uniq -d) ]]; then
+        echo "FAILED: a name stands twice in $parts_list"
+        count 1
+    fi
+}
+
+# The table of what each part took, in the order of the list.
+times_of_parts() {
+    echo "the built program, by parts:               cases   failed  seconds"
+    awk 'NR == FNR { place[$1] = NR; next }
+        { printf "%d %-40s %8d %8d %8d\n", ($1 in place) ? place[$1] : NR, $1, $2, $3, $4 }' \
+        <(listed_parts) "$room_of_all/parts" | sort -s -n -k 1,1 | cut -d ' ' -f 2-
+}

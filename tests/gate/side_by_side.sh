@@ -1,0 +1,137 @@
+# Runs the parts of ./test beside each other: as many at once as there are processors, each in a subshell and in a room
+# of its own. What a part prints is kept, and printed whole once it has ended. What it hands back is a line of numbers:
+# a part that ends without it ended early, and has failed. `is_tried` is that of listed_parts.sh.
+
+declare -A at_work=() # by its process, when each part that is at work began, and its room
+ending=(TERM KILL)    # the signals that end what is at work
+takes_signals=(env --default-signal=HUP,INT,PIPE,TERM) # before a command, so that it ignores none of them
+
+# bash ends by SIGTERM and SIGHUP at once, and this comes before; but without a trap it ignores an interrupt that comes
+# to it alone while it waits for a command.
+make_room_of_all() {
+    room_of_all=$(mktemp -d) || exit 1
+    trap leave_nothing EXIT
+    trap 'exit 130' INT
+}
+
+leave_nothing() {
+    trap '' INT TERM HUP
+    end_processes "$room_of_all" "${!at_work[@]}"
+    rm -rf -- "$room_of_all"
+}
+
+# Runs a command that is no part as a group of processes too, so that whatever ends ./test ends all that it has
+# started: by an interrupt first, since rt then gives back what it has set aside, and by another signal doesn't. Its
+# folder for temporary files stays the common one, since rt runs programs there as nobody, who can't get into the room:
+# a variable of its own is what its processes are found by.
+in_a_group() { # COMMAND..
+    local process status
+    ending=(INT TERM KILL)
+    set -m
+    STARTED_IN=$room_of_all "$@" </dev/null &
+    process=$!
+    set +m
+    at_work[$process]="$SECONDS $room_of_all"
+    wait "$process"
+    status=$?
+    unset "at_work[$process]"
+    ending=(TERM KILL)
+    return "$status"
+}
+
+# Runs a part as soon as there is a processor for it.
+part() { # NAME COMMAND..
+    if ! is_tried "$1"; then return; fi
+    while ((${#at_work[@]} >= $(nproc))); do await_a_part; done
+    begin_part "$@"
+}
+
+# Runs a part while no other is at work.
+part_alone() { # NAME COMMAND..
+    if ! is_tried "$1"; then return; fi
+    await_all_parts
+    begin_part "$@"
+    await_all_parts
+}
+
+# Under job control the part is a group of processes, which can be ended as a whole.
+begin_part() { # NAME COMMAND..
+    local its_room
+    its_room=$(mktemp -d -- "$room_of_all/$1.XXXXXX") || exit 1
+    set -m
+    (do_part "$its_room" "${@:2}") </dev/null >"$its_room.printed" 2>&1 &
+    set +m
+    at_work[$!]="$SECONDS $its_room"
+}
+
+# What a part does in its subshell. By its folder for temporary files all that it starts can be found again. It ignores
+# an interrupt and a hangup, as it would where ./test was started in the background of a script, or by nohup: so it is
+# the same however ./test was started, and a test that needs one of them says so by `takes_signals`.
+do_part() { # ROOM COMMAND..
+    room=$1
+    export TMPDIR=$room
+    trap '' INT HUP
+    passed=0 failed=0 runs_of_all=0 refused_of_all=0
+    "${@:2}"
+    echo "$passed $failed $runs_of_all $refused_of_all" >"$room.counts"
+}
+
+# bash forgets which of its jobs have ended, so that `wait -n` can miss one, but not how they ended.
+await_a_part() {
+    local process status begun its_room
+    while sleep 0.1; do
+        for process in "${!at_work[@]}"; do
+            if kill -0 "$process" 2>/dev/null; then continue; fi
+            wait "$process"
+            status=$?
+            read -r begun its_room <<<"${at_work[$process]}"
+            unset "at_work[$process]"
+            take_back "$its_room" "$process" "$status" $((SECONDS - begun))
+            return
+        done
+    done
+}
+
+await_all_parts() {
+    while ((${#at_work[@]} > 0)); do await_a_part; done
+}
+
+# Adds what a part hands back that has ended. Where that is nothing, what it left at work is ended too.
+take_back() { # ROOM PROCESS STATUS SECONDS
+    local name=${1##*/} right=0 wrong=1 runs=0 refused=0
+    name=${name%.*}
+    cat -- "$1.printed"
+    if [[ ! -s $1.counts ]]; then
+        echo "FAILED: the part $name ended early, with status $3"
+        end_processes "$1" "$2"
+    else
+        read -r right wrong runs refused <"$1.counts"
+    fi
+    ((passed += right, failed += wrong, runs_of_all += runs, refused_of_all += refused))
+    echo "$name $((right + wrong)) $wrong $4" >>"$room_of_all/parts"
+    echo "part $name: $((right + wrong)) cases, $wrong failed, $4 seconds"
+}
+
+# The processes that were started by the part of this room, or by all parts, however far they have gone.
+started_in() { # ROOM
+    grep -lsF -e "TMPDIR=$1" -e "STARTED_IN=$1" /proc/[0-9]*/environ | cut -d / -f 3
+}
+
+send_to_all() { # SIGNAL ROOM GROUP..
+    local process
+    for process in "${@:3}"; do kill -s "$1" -- "-$process"; done
+    for process in $(started_in "$2"); do kill -s "$1" -- "$process"; done
+} 2>/dev/null
+
+# Ends them. They are asked to first, since some have to end what they have started, or to take a folder away.
+end_processes() { # ROOM GROUP..
+    local signal turn turns
+    for signal in "${ending[@]}"; do
+        send_to_all "$signal" "$@"
+        if [[ $signal == INT ]]; then turns=200; else turns=50; fi
+        for ((turn = 0; turn < turns; turn += 1)); do
+            if [[ ! $(started_in "$1") ]]; then break; fi
+            sleep 0.1
+        done
+    done
+}

@@ -1,0 +1,185 @@
+#!/usr/bin/env python3
+"""The record of wrong bodies, tests/wrong_bodies/record, and what the gate sees of it.
+
+    tests/gate/wrong_body_record.py [--tried]
+
+A line for each edit that was seen refused: CRATE/NAME, the hash of what it was tried on, and the
+function in which it was refused, or `crate` where only a check of the whole crate tells it. The
+hash is of the edit's text and of what tests/gate/wrong_body_basis.py says. A line whose hash is no
+longer that is stale, and shows nothing.
+
+Prints how many edits there are, how many of them each run of the gate tries (with --tried: this one
+has), how many are recorded, stale and never recorded, and the command that tries what is wanting. The
+status is 1, with a line that begins with FAILED for each fault, where an edit can't be applied,
+names what isn't there (tests/gate/wrong_body_names.py) or can't be found by `./test wrong_bodies`, where a
+crate has edits and each run tries none of them, and where a line of the record has another form, stands
+twice or out of its order, or names no edit. A stale or missing line is no fault.
+"""
+import fcntl
+import os
+import re
+import sys
+
+sys.dont_write_bytecode = True
+
+from wrong_body_basis import basis, sum_of, toolchain  # noqa: E402
+from wrong_body_edits import (  # noqa: E402
+    ROOT, Edit, Unfit, crates, files_of, of_each_run, read, shelves, write,
+)
+from wrong_body_names import Names  # noqa: E402
+
+RECORD = f"{ROOT}/tests/wrong_bodies/record"
+LINE = re.compile(r"(\w+/[\w.-]+) ([0-9a-f]{32}) (\S+)")
+
+
+class Basis:
+    """What edits are tried on in a tree: a hash for each crate, made once."""
+
+    def __init__(self, root):
+        self.root, self.kit, self.uses, self.made = root, toolchain(), crates(), {}
+
+    def sum(self, crate, text):
+        """The hash for an edit of the crate that has this text."""
+        if crate not in self.made:
+            self.made[crate] = basis(self.root, crate, self.uses, self.kit)
+        return sum_of([self.made[crate], text])
+
+
+def read_record():
+    """The lines of the record by their edits, and what is wrong with them."""
+    found, wrong, last = {}, [], ""
+    lines = read(RECORD).splitlines() if os.path.exists(RECORD) else []
+    for number, line in enumerate(lines, 1):
+        it = LINE.fullmatch(line)
+        if not it:
+            wrong.append(f"line {number} is no line of the record: {line}")
+            continue
+        if it[1] in found:
+            wrong.append(f"line {number} stands for {it[1]}, as an earlier one does")
+        elif it[1] < last:
+            wrong.append(f"line {number} stands for {it[1]}, which comes before {last}")
+        last = max(last, it[1])
+        found[it[1]] = (it[2], it[3])
+    return found, wrong
+
+
+def all_edits():
+    """The names of all edits, as CRATE/NAME, each with the files that have it."""
+    of_each = {crate: files_of(crate) for crate in crates()}
+    return {f"{crate}/{name}": files for crate, of in of_each.items() for name, files in of.items()}
+
+
+def update(seen):
+    """Writes the lines of edits that were tried, None for one that wasn't refused, and takes away
+    those of edits that are gone. Another run may write its own meanwhile."""
+    folder = os.open(os.path.dirname(RECORD), os.O_RDONLY)
+    try:
+        fcntl.flock(folder, fcntl.LOCK_EX)
+        lines = {**read_record()[0], **seen}
+        there = all_edits()
+        kept = sorted(name for name, line in lines.items() if line and name in there)
+        texts = [f"{name} {lines[name][0]} {lines[name][1]}\n" for name in kept]
+        write(f"{RECORD}.new", "".join(texts))
+        os.replace(f"{RECORD}.new", RECORD)
+    finally:
+        os.close(folder)
+
+
+def lost_edits():
+    """What lies on the shelves, and no command would try."""
+    wrong = []
+    shelf = f"{ROOT}/tests/wrong_bodies"
+    for name in sorted(os.listdir(shelf)):
+        if name not in ("record", "each_run", *crates()):
+            wrong.append(f"tests/wrong_bodies/{name} belongs to no crate")
+    for name, files in sorted(all_edits().items()):
+        if len(files) > 1:
+            wrong.append(f"{name} stands on both shelves")
+        others = [it for it in files if not it.endswith(".edit")]
+        wrong += [f"{os.path.relpath(it, ROOT)} is no .edit" for it in others]
+    return wrong
+
+
+def state_of(name, files, lines, tried_on):
+    """What the record says of an edit: current, stale, or missing. Raises Unfit where it can't be
+    applied."""
+    crate = name.partition("/")[0]
+    edit = Edit(files[0], f"{ROOT}/crates/{crate}")
+    if name not in lines:
+        return "missing"
+    return "current" if lines[name][0] == tried_on.sum(crate, edit.text) else "stale"
+
+
+def states(lines):
+    """What the record says of each edit, by its name, and what is wrong with the edits."""
+    found, wrong, tried_on = {}, lost_edits(), Basis(ROOT)
+    for name, files in sorted(all_edits().items()):
+        try:
+            found[name] = state_of(name, files, lines, tried_on)
+        except Unfit as why:
+            wrong.append(f"{name} can't be applied: {why}")
+    return found, wrong
+
+
+def gone_names(found):
+    """The edits that can't be compiled, since they name what isn't there. One with a current line was
+    refused on these very sources, so it can, whatever it names."""
+    wrong, names, there = [], Names(ROOT, crates()), all_edits()
+    for name in [name for name, state in found.items() if state != "current"]:
+        crate = name.partition("/")[0]
+        gone = names.unknown(crate, Edit(there[name][0], f"{ROOT}/crates/{crate}"))
+        wrong += [f"{name} can't be compiled: nothing that it can see is named {it}" for it in gone]
+    return wrong
+
+
+def wanting():
+    """The edits that have no line, or a stale one."""
+    return [name for name, state in states(read_record()[0])[0].items() if state != "current"]
+
+
+def tried_by_each_run():
+    """The edits that each run of the gate tries, those of `rt ci` among them."""
+    first = {shelves(crate)[0] for crate in crates()}
+    of_rt = [it for it, files in all_edits().items() if os.path.dirname(files[0]) in first]
+    return [*of_rt, *of_each_run()[0]]
+
+
+def faults_of_the_list():
+    """What is wrong with the list of the edits that each run tries, and which crates lack one."""
+    tried = {name.partition("/")[0] for name in tried_by_each_run()}
+    wrong = [f"tests/wrong_bodies/each_run: {it} is no edit and its function" for it in of_each_run()[1]]
+    lacking = [crate for crate in crates() if files_of(crate) and crate not in tried]
+    return wrong + [f"no run of the gate would try a wrong body of {crate}" for crate in lacking]
+
+
+def faults():
+    """What is wrong with the record and with the edits, and what the record says of each edit."""
+    lines, wrong = read_record()
+    found, more = states(lines)
+    there = all_edits()
+    gone = [f"{name} is no edit" for name in sorted(lines) if name not in there]
+    of_record = [f"tests/wrong_bodies/record: {it}" for it in wrong + gone]
+    return of_record + faults_of_the_list() + more + gone_names(found), found
+
+
+def main(words):
+    if words not in ([], ["--tried"]):
+        sys.exit("usage: tests/gate/wrong_body_record.py [--tried]")
+    wrong, found = faults()
+    for it in wrong:
+        print(f"FAILED: {it}")
+    of_each = [*found.values()]
+    current, stale, missing = (of_each.count(it) for it in ("current", "stale", "missing"))
+    tried = "tried in this run" if words else "for a whole run of the gate"
+    recorded = f"{current} current, {stale} stale, {missing} never"
+    print(f"wrong bodies: {len(all_edits())}, {len(tried_by_each_run())} {tried}; recorded: {recorded}")
+    if not toolchain():
+        print("no line counts as current without the command rt, which says what toolchain this is")
+    elif stale + missing:
+        renews = "./test wrong_bodies stale tries them and writes their lines"
+        print(f"{stale + missing} wrong bodies have no current line: {renews}")
+    return 1 if wrong else 0
+
+
+if __name__ == "__main__":
+    sys.exit(main(sys.argv[1:]))

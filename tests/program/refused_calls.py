@@ -1,0 +1,158 @@
+#!/usr/bin/env python3
+"""Each call of a kind refused in turn: what the program answers, and whether the tests of a crate pass.
+
+    refused_calls.py program LIBRARY    each allocation of the program, and each read and write of its judge: it answers
+                                        that it was refused and nothing else, or what it answers with ample memory
+    refused_calls.py tests LIBRARY      each allocation of the tests that are right under refused memory: they pass
+
+LIBRARY is that of refused.c. It prints `passed REFUSED NAME` or `FAILED: NAME: ..` for each case.
+"""
+from __future__ import annotations
+
+import argparse
+import functools
+import os
+import subprocess
+import sys
+import tempfile
+from collections.abc import Iterator
+from pathlib import Path
+from typing import NamedTuple
+
+sys.dont_write_bytecode = True
+
+from refusing import NO_MEMORY, NO_READ, PROGRAM, ROOT, Case, Ran, Refusing, Wrong, try_each  # noqa: E402
+
+sys.path.append(str(ROOT / "tests" / "traces"))
+
+from oracle import answer_of  # noqa: E402
+
+MOST_CALLS, MOST_CALLS_OF_A_TEST = 5000, 500
+QUEUES = (
+    "clear_keeps_the_port_halted",
+    "trigger_discards_what_does_not_match",
+    "check_and_receive_from_a_sender",
+    "integer_too_large_is_refused",
+)
+SCRIPTS = ("system_under_test_answers", "login_is_answered", "replies_go_to_their_senders")
+# How many tests of each crate are right under refused memory, at least. They are found by their names, so that one
+# which is given another name is missed here.
+LEAST_TESTS = {"tp_tests": 10}
+
+
+class Asked(NamedTuple):
+    """A text for a mode, and its answer with ample memory."""
+
+    mode: str
+    file: Path
+    status: int
+    answer: bytes
+
+    def words(self) -> list[str]:
+        return [str(PROGRAM), self.mode, str(self.file)]
+
+    def is_answered(self, ran: Ran) -> bool:
+        return ran.is_so(self.status, self.answer)
+
+
+def example(mode: str, file: str, ending: str) -> Asked:
+    """An example in a mode, and what it prints there."""
+    path = ROOT / "examples" / file
+    status = path.with_suffix(".status")
+    wanted = int(status.read_text(encoding="ascii")) if status.exists() else 0
+    return Asked(mode, path, wanted, path.with_suffix(ending).read_bytes())
+
+
+def traces(folder: Path) -> Iterator[Asked]:
+    """A lawful trace, one that isn't lawful in many lines, and one that has a bad line."""
+    lawful = (ROOT / "tests" / "traces" / "lawful" / "ask_and_answer.trace").read_bytes()
+    unlawful = "".join(f"component a{number}\ntook p b 0 m\n" for number in range(1, 401)).encode()
+    for name, text in (("lawful", lawful), ("unlawful", unlawful), ("bad", lawful + b"sent\n")):
+        file = folder / f"{name}.trace"
+        file.write_bytes(text)
+        answer, status = answer_of(text)
+        if (status == 0) != (name == "lawful"):
+            raise Wrong(f"the {name} trace has status {status}")
+        yield Asked("judge", file, status, answer.encode())
+
+
+def each_allocation(refusing: Refusing, asked: Asked) -> None:
+    """Where one is refused, that is the answer, or the one with ample memory."""
+    refusals = 0
+    for number, ran in refusing.each(asked.words(), "MEMORY", MOST_CALLS):
+        is_told = "MEMORY" in ran.refused and ran.is_fault(NO_MEMORY)
+        if not is_told and not asked.is_answered(ran):
+            raise ran.wrong(f"with allocation {number} refused")
+        refusals += is_told
+    if refusals == 0 or not asked.is_answered(ran):
+        raise ran.wrong(f"{refusals} allocations were refused, and the last run")
+
+
+def each_read(refusing: Refusing, asked: Asked) -> None:
+    """Where one is refused, the answer is 2."""
+    for number, ran in refusing.each(asked.words(), "READ", MOST_CALLS):
+        if "READ" in ran.refused and not ran.is_so(2, NO_READ):
+            raise ran.wrong(f"with read {number} refused")
+    if number == 1 or not asked.is_answered(ran):
+        raise ran.wrong(f"{number - 1} reads, and the last run")
+
+
+def each_write(refusing: Refusing, asked: Asked) -> None:
+    """Where one is refused, the status is 3, and what was written before is the beginning."""
+    for number, ran in refusing.each(asked.words(), "WRITE", MOST_CALLS):
+        is_cut = ran.status == 3 and asked.answer.startswith(ran.printed) and ran.said == b""
+        if "WRITE" in ran.refused and not is_cut:
+            raise ran.wrong(f"with write {number} refused")
+    if number == 1 or not asked.is_answered(ran):
+        raise ran.wrong(f"{number - 1} writes, and the last run")
+
+
+def of_the_program(refusing: Refusing, folder: Path) -> Iterator[Case]:
+    asked = [example("queue", f"{it}.queue", ".expected") for it in QUEUES]
+    asked += [example("check", f"{it}.ttcn", ".checked") for it in SCRIPTS]
+    for it in asked:
+        yield f"each allocation of {it.mode} {it.file.name}", functools.partial(each_allocation, refusing, it)
+    for it in traces(folder):
+        for name, attempt in (("allocation", each_allocation), ("read", each_read), ("write", each_write)):
+            yield f"each {name} of judge {it.file.name}", functools.partial(attempt, refusing, it)
+
+
+def each_allocation_of_a_test(refusing: Refusing, words: list[str]) -> None:
+    for number, ran in refusing.each(words, "MEMORY", MOST_CALLS_OF_A_TEST):
+        if ran.status != 0:
+            raise ran.wrong(f"with allocation {number} refused")
+    if number == 1:
+        raise Wrong("no allocation was refused")
+
+
+def names_of_tests(tests: Path) -> list[str]:
+    done = subprocess.run([str(tests), "--list"], capture_output=True, text=True, timeout=60, check=False)
+    names = [line.removesuffix(": test") for line in done.stdout.splitlines() if line.endswith(": test")]
+    return [it for it in names if "refused_memory" in it]
+
+
+def of_the_tests(refusing: Refusing) -> Iterator[Case]:
+    """The tests of each crate that `rt ci` has built."""
+    built = {it.name.removesuffix("_tests"): it for it in ROOT.glob("crates/*/out/*_tests") if os.access(it, os.X_OK)}
+    for crate in sorted({*built, *LEAST_TESTS}):
+        names = names_of_tests(built[crate]) if crate in built else []
+        if len(names) < LEAST_TESTS.get(crate, 0):
+            print(f"FAILED: {len(names)} tests of {crate} refuse memory, and there are {LEAST_TESTS[crate]} at least")
+        for name in names:
+            words = [str(built[crate]), name]
+            yield f"each allocation of {name}", functools.partial(each_allocation_of_a_test, refusing, words)
+
+
+def main() -> int:
+    words = argparse.ArgumentParser(description="Each call of a kind refused in turn.")
+    words.add_argument("what", choices=("program", "tests"))
+    words.add_argument("library", metavar="LIBRARY", help="the library of refused.c")
+    asked = words.parse_args()
+    with tempfile.TemporaryDirectory() as name:
+        refusing = Refusing(asked.library, Path(name))
+        cases = of_the_program(refusing, Path(name)) if asked.what == "program" else of_the_tests(refusing)
+        return try_each(cases, refusing)
+
+
+if __name__ == "__main__":
+    sys.exit(main())

@@ -1,0 +1,103 @@
+"""Runs in which a call is refused, by the library of refused.c, which is loaded before the C library.
+
+The program is the built one itself, since a shell before it would be refused calls too.
+"""
+from __future__ import annotations
+
+import os
+import subprocess
+from collections.abc import Callable, Iterable, Iterator, Mapping, Sequence
+from pathlib import Path
+from typing import NamedTuple, Optional
+
+ROOT = Path(__file__).resolve().parents[2]
+PROGRAM = ROOT / "crates" / "tpr" / "out" / "tpr"
+MOST_SECONDS = 20
+SHOWN = 400  # of what was printed, where it is wrong
+NO_MEMORY, NO_THREAD, NO_READ = b"fault 50 Memory\n", b"fault 51 NoThread\n", b"refused 2 Read\n"
+
+
+class Wrong(Exception):
+    """A case isn't as it must be."""
+
+
+class Ran(NamedTuple):
+    """How a run ended, None where it didn't, what it printed and said, and the kinds of calls that were refused."""
+
+    status: Optional[int]
+    printed: bytes
+    said: bytes
+    refused: frozenset[str] = frozenset()
+
+    def is_so(self, status: int, printed: bytes) -> bool:
+        return self[:3] == (status, printed, b"")
+
+    def is_fault(self, fault: bytes) -> bool:
+        return self.is_so(3, fault)
+
+    def wrong(self, what: str) -> Wrong:
+        return Wrong(f"{what}: status {self.status}, printed {self.printed[:SHOWN]!r}, said {self.said[:SHOWN]!r}")
+
+
+Before = Optional[Callable[[], None]]
+
+
+def run(words: Sequence[str], before: Before = None, more: Optional[Mapping[str, str]] = None) -> Ran:
+    """Runs a command with further variables, and `before` in its process before it begins."""
+    try:
+        done = subprocess.run(
+            words,
+            stdin=subprocess.DEVNULL,
+            capture_output=True,
+            env={**os.environ, **(more or {})},
+            preexec_fn=before,
+            timeout=MOST_SECONDS,
+            check=False,
+        )
+    except subprocess.TimeoutExpired as late:
+        return Ran(None, late.stdout or b"", late.stderr or b"")
+    return Ran(done.returncode, done.stdout, done.stderr)
+
+
+class Refusing:
+    """Runs commands with calls refused, and counts the runs in which one was."""
+
+    def __init__(self, library: str, folder: Path):
+        self.library, self.marks, self.refused = library, folder / "marks", 0
+        self.marks.mkdir()
+
+    def run(self, words: Sequence[str], **calls: int) -> Ran:
+        """Runs it with the call of this number refused, of each kind: MEMORY, THREAD, READ, WRITE."""
+        more = {f"REFUSED_{kind}": str(number) for kind, number in calls.items()}
+        ran = run(words, more={**more, "REFUSED_MARKS": str(self.marks), "LD_PRELOAD": self.library})
+        refused = frozenset(mark.name.upper() for mark in self.marks.iterdir())
+        for mark in self.marks.iterdir():
+            mark.unlink()
+        self.refused += bool(refused)
+        return ran._replace(refused=refused)
+
+    def each(self, words: Sequence[str], kind: str, most: int, **others: int) -> Iterator[tuple[int, Ran]]:
+        """Runs it with each call of a kind refused in turn. The last run is the first that made fewer of them."""
+        for number in range(1, most + 1):
+            ran = self.run(words, **{kind: number}, **others)
+            yield number, ran
+            if kind not in ran.refused:
+                return
+        raise Wrong(f"{most} calls of the kind {kind}")
+
+
+Case = tuple[str, Callable[[], None]]
+
+
+def try_each(cases: Iterable[Case], refusing: Refusing) -> int:
+    """Tries each case, and prints a line `passed REFUSED NAME` or `FAILED: NAME: ..` for it."""
+    failed = False
+    for name, attempt in cases:
+        refused = refusing.refused
+        try:
+            attempt()
+            print(f"passed {refusing.refused - refused} {name}", flush=True)
+        except (Wrong, OSError) as wrong:
+            failed = True
+            print(f"FAILED: {name}: {wrong}", flush=True)
+    return 1 if failed else 0

@@ -1,0 +1,34 @@
+"""The examples that are run, and the reports that each may have."""
+from __future__ import annotations
+
+import sys
+from functools import cache
+from pathlib import Path
+
+ROOT = Path(__file__).resolve().parents[2]
+sys.path.append(str(ROOT / "tests" / "program"))
+
+from refusing import Ran  # noqa: E402
+
+
+def names() -> list[str]:
+    """Those that are right."""
+    scripts = sorted((ROOT / "examples").glob("*.ttcn"))
+    return [it.stem for it in scripts if not it.with_suffix(".status").exists()]
+
+
+def script(name: str) -> str:
+    return str(ROOT / "examples" / f"{name}.ttcn")
+
+
+@cache
+def reports(name: str) -> frozenset[bytes]:
+    return frozenset(it.read_bytes() for it in (ROOT / "examples").glob(f"{name}.expected*"))
+
+
+def is_report(ran: Ran, allowed: frozenset[bytes], mode: str = "run") -> bool:
+    """Whether it ended with a report that it may have, in mode `trace` with the arrivals in it."""
+    report = ran.printed
+    if mode == "trace":
+        report = b"".join(it for it in report.splitlines(keepends=True) if not it.startswith(b"came "))
+    return ran.is_so(0, ran.printed) and report in allowed

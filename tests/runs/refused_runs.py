@@ -1,0 +1,143 @@
+#!/usr/bin/env python3
+"""Runs of examples with calls refused, and how often a template is filled.
+
+    refused_runs.py runs LIBRARY         each allocation, start of a thread and read of runs refused in turn
+    refused_runs.py templates LIBRARY    a template in which no loop variable stands is filled once for a behaviour
+
+LIBRARY is that of tests/program/refused.c. It prints `passed REFUSED NAME` or `FAILED: NAME: ..` for each case.
+"""
+from __future__ import annotations
+
+import argparse
+import functools
+import sys
+import tempfile
+from collections.abc import Iterator
+from pathlib import Path
+
+sys.dont_write_bytecode = True
+
+from examples import is_report, reports, script  # noqa: E402
+from refusing import NO_MEMORY, NO_READ, NO_THREAD, PROGRAM, Case, Ran, Refusing, try_each  # noqa: E402
+
+MOST_CALLS = 5000
+OF_EACH_ALLOCATION = (
+    "trigger_skips_to_what_matches",
+    "two_senders_to_one_that_ended",
+    "halt_holds_back_what_comes_later",
+    "system_under_test_answers",
+    "closed_counter_serves_no_order",
+    "everyone_is_told_to_stop",
+)
+TURNS = """module Turns {
+    type record of integer Row;
+    type record of Row Table;
+    type port Tables message { inout Table; }
+    type component Looker { port Tables tables; }
+    testcase looks() runs on Looker {
+        for (var integer turn := 0; turn < 500; turn := turn + 1) {
+            alt {
+                [] tables.receive(Table:{LISTS{1, ELEMENT}}) { }
+                [else] { }
+            }
+        }
+    }
+}
+"""
+# More than a filling takes, and less than one at each turn would: an allocation at least for each of its lists, 50,000.
+MANY_ALLOCATIONS = 20000
+
+
+class Example:
+    """An example in a mode, `run` or `trace`."""
+
+    def __init__(self, refusing: Refusing, mode: str, name: str):
+        self.refusing, self.mode, self.words = refusing, mode, [str(PROGRAM), mode, script(name)]
+        self.reports = reports(name)
+
+    def is_report(self, ran: Ran) -> bool:
+        return is_report(ran, self.reports, self.mode)
+
+    def each_allocation(self) -> None:
+        """In whatever thread it falls: memory or a thread was refused, or there is a report."""
+        refusals = 0
+        for number, ran in self.refusing.each(self.words, "MEMORY", MOST_CALLS):
+            is_fault = ran.is_fault(NO_MEMORY) or ran.is_fault(NO_THREAD)
+            if not is_fault and not self.is_report(ran):
+                raise ran.wrong(f"with allocation {number} refused")
+            refusals += is_fault
+        if refusals == 0 or not self.is_report(ran):
+            raise ran.wrong(f"{refusals} runs were refused memory, and the last")
+
+    def each_thread(self, threads: int) -> None:
+        """Each of so many starts: 51 each time, and the other threads end."""
+        for number in range(1, threads + 1):
+            ran = self.refusing.run(self.words, THREAD=number)
+            if "THREAD" not in ran.refused or not ran.is_fault(NO_THREAD):
+                raise ran.wrong(f"with thread {number} refused")
+
+    def thread_and_each_allocation(self, thread: int) -> None:
+        """Where it came to the thread, the answer is 51, whatever else was refused. A thread's start takes memory too,
+        so where it didn't, 51 is right as well as 50."""
+        both = 0
+        for number, ran in self.refusing.each(self.words, "MEMORY", MOST_CALLS, THREAD=thread):
+            is_early = "THREAD" not in ran.refused and ran.is_fault(NO_MEMORY)
+            if not ran.is_fault(NO_THREAD) and not is_early:
+                raise ran.wrong(f"with thread {thread} and allocation {number} refused")
+            both += {"THREAD", "MEMORY"} <= ran.refused
+        if both == 0:
+            raise ran.wrong("no run was refused both a thread and memory, and the last")
+
+    def each_read(self) -> None:
+        """The answer is 2, and nothing is run."""
+        for number, ran in self.refusing.each(self.words, "READ", MOST_CALLS):
+            if "READ" in ran.refused and not (ran.status == 2 and ran.printed == NO_READ):
+                raise ran.wrong(f"with read {number} refused")
+        if number == 1 or not self.is_report(ran):
+            raise ran.wrong(f"{number - 1} reads, and the last run")
+
+
+def of_runs(refusing: Refusing) -> Iterator[Case]:
+    for name in OF_EACH_ALLOCATION:
+        yield f"each allocation of {name}", Example(refusing, "run", name).each_allocation
+    for name in ("login_is_answered", "all_wait_for_each_other"):
+        yield f"each read of {name}", Example(refusing, "run", name).each_read
+    for name, threads in (("two_senders_to_one_that_ended", 4), ("all_wait_for_each_other", 2)):
+        yield f"each thread of {name}", functools.partial(Example(refusing, "run", name).each_thread, threads)
+    for name, thread in (
+        ("two_senders_to_one_that_ended", 1),
+        ("two_senders_to_one_that_ended", 4),
+        ("all_wait_for_each_other", 2),
+    ):
+        both = functools.partial(Example(refusing, "run", name).thread_and_each_allocation, thread)
+        yield f"thread {thread} and each allocation of {name}", both
+    for name in ("halt_holds_back_what_comes_later", "two_senders_to_one_that_ended"):
+        yield f"each allocation of the trace of {name}", Example(refusing, "trace", name).each_allocation
+    yield "each read of a trace", Example(refusing, "trace", "login_is_answered").each_read
+    trace = Example(refusing, "trace", "two_senders_to_one_that_ended")
+    yield "each thread of a trace", functools.partial(trace.each_thread, 4)
+
+
+def fills_once(refusing: Refusing, folder: Path) -> None:
+    """500 turns, each with an alt over a template of 100 lists: with a loop variable in it, and without."""
+    for element, is_often in (("turn", True), ("2", False)):
+        file = folder / f"{element}.ttcn"
+        file.write_text(TURNS.replace("LISTS", "{1, 2}," * 99).replace("ELEMENT", element), encoding="ascii")
+        ran = refusing.run([str(PROGRAM), "run", str(file)], MEMORY=MANY_ALLOCATIONS)
+        if ("MEMORY" in ran.refused) != is_often or not is_often and ran.status != 0:
+            raise ran.wrong(f"500 turns over a template with {element}, with allocation {MANY_ALLOCATIONS} refused")
+
+
+def main() -> int:
+    words = argparse.ArgumentParser(description="Runs with calls refused, and how often a template is filled.")
+    words.add_argument("what", choices=("runs", "templates"))
+    words.add_argument("library", metavar="LIBRARY", help="the library of tests/program/refused.c")
+    asked = words.parse_args()
+    with tempfile.TemporaryDirectory() as name:
+        refusing = Refusing(asked.library, Path(name))
+        once: Case = ("a template that is filled once", functools.partial(fills_once, refusing, Path(name)))
+        return try_each(of_runs(refusing) if asked.what == "runs" else [once], refusing)
+
+
+if __name__ == "__main__":
+    sys.exit(main())

@@ -1,0 +1,158 @@
+#!/usr/bin/env python3
+"""The rules on what tools/explain says, as far as a shell can't see them.
+
+    explain_rules.py answers JSON FOLDER      each script of the folder is told as NAME.answer has it
+    explain_rules.py columns JSON             nine of ten that are refused at a line have a column
+    explain_rules.py table JSON TABLE LEAST   each script of a table is told so
+    explain_rules.py words                    the tool's words are those of the documents
+    explain_rules.py numbers                  each number has its name, in tools/, the documents and the program
+
+Each prints what is wrong and ends with status 1, or prints nothing and ends with status 0.
+"""
+import json
+import os
+import re
+import sys
+
+ROOT = os.path.dirname(os.path.dirname(os.path.dirname(os.path.realpath(__file__))))
+sys.dont_write_bytecode = True
+sys.path.insert(0, os.path.join(ROOT, "tools"))
+
+from library.constructs import Construct  # noqa: E402
+from library.refusal_rules import BEYOND_SCRIPTS, RULES_OF  # noqa: E402
+from library.refusals import SEND_FAULTS, Refusal  # noqa: E402
+from library.words import RESERVED, RESERVED_ELSEWHERE  # noqa: E402
+
+
+class Wrong(Exception):
+    """A rule is broken."""
+
+
+def must(holds, text):
+    if not holds:
+        raise Wrong(text)
+
+
+def read(file):
+    with open(file, encoding="utf-8") as opened:
+        return opened.read()
+
+
+def told_in(file):
+    """What is told of each script, by its name without folder and ending."""
+    told = json.loads(read(file))
+    must(told, "nothing is told")
+    return {os.path.basename(one["file"]).removesuffix(".ttcn"): one for one in told}
+
+
+def check_answers(file, folder):
+    told = told_in(file)
+    names = [name.removesuffix(".answer") for name in sorted(os.listdir(folder)) if name.endswith(".answer")]
+    must(len(names) == len(told), f"{len(told)} scripts are told of, and there are {len(names)}")
+    for name in names:
+        one, wanted = told[name], read(os.path.join(folder, f"{name}.answer")).split()
+        if wanted == ["accepted"]:
+            must(one["answer"] == "accepted" and not one["places"], f"{name}: {one}")
+            continue
+        number, word, line = int(wanted[0]), wanted[1], int(wanted[2])
+        is_told = [one["number"], one["name"], one["line"]] == [number, word, line]
+        must(is_told, f"{name}: {wanted}, and {one}")
+        check_places(os.path.join(folder, f"{name}.ttcn"), one)
+
+
+def check_places(file, one):
+    """The column is one of its line, and each line is shown as it is."""
+    with open(file, "rb") as opened:
+        lines = opened.read().decode("utf-8", "replace").split("\n")
+    must(one["sentence"] and len(one["can_stand"]) <= 6, f"{file}: {one}")
+    must(one["rules"] or one["number"] == 10, f"{file}: no rule is told")
+    if one["column"] is not None:
+        last = len(lines[one["line"] - 1]) + 1
+        must(1 <= one["column"] <= last, f"{file}: there is no column {one['column']}")
+        must(one["places"], f"{file}: a column, and no place")
+    for place in one["places"]:
+        line = lines[place["line"] - 1].rstrip("\r")
+        must(len(line) == len(place["text"]), f"{file}: line {place['line']} isn't shown as it is")
+
+
+def check_columns(file):
+    told = [one for one in told_in(file).values() if one["answer"] == "refused" and one["line"]]
+    have = sum(one["column"] is not None for one in told)
+    must(len(told) >= 600, f"{len(told)} scripts alone are refused")
+    must(have * 10 >= len(told) * 9, f"{have} of {len(told)} have a column")
+
+
+def check_table(file, table, least):
+    """`NAME|NUMBER|LINE|WHAT STANDS AT THE COLUMN|CONSTRUCT|CLAUSE`, or `NUMBER|LINE|..|SENTENCE`."""
+    told = told_in(file)
+    rows = [line.split("|") for line in read(table).splitlines() if not line.startswith("#")]
+    must(len(rows) >= int(least), f"{table} has {len(rows)} rows, and {least} at least are wanted")
+    for row in rows:
+        name, number, line, behind = row[:4] if len(row) == 6 else [row[0], *row[:3]]
+        must(name in told, f"there is no script {name}")
+        one = told[name]
+        must([one["number"], one["line"]] == [int(number), int(line)], f"{row}: {one}")
+        must(one["column"], f"{row}: there is no column")
+        place = [it for it in one["places"] if it["line"] == one["line"]][0]
+        must(place["text"][one["column"] - 1 :] == behind, f"{row}: the column is {one['column']}")
+        if len(row) == 6:
+            found = [one["construct"], one["clause"]]
+            must(found == row[4:], f"{row}: {found}")
+            must(one["instead"] and one["construct"] in one["sentence"], f"{row}: {one}")
+        else:
+            must(one["sentence"] == row[3], f"{row}: {one['sentence']}")
+
+
+def check_words():
+    """Each rule stands in a document, each construct has its row with the same words."""
+    refusals, profile = read(f"{ROOT}/docs/REFUSALS.md"), read(f"{ROOT}/docs/PROFILE.md")
+    beyond = [it.rule for it in BEYOND_SCRIPTS.values()]
+    for rule in (rule for rules in (*RULES_OF.values(), beyond) for rule in rules):
+        must(rule.value in refusals or rule.value in profile, f"no document says: {rule.value}")
+    reserved = set(profile.replace("`", " ").split())
+    must(reserved >= RESERVED_ELSEWHERE | RESERVED, "docs/PROFILE.md hasn't each reserved word")
+    page = read(f"{ROOT}/docs/FROM_TTCN3.md").splitlines()
+    rows = [row.split(" | ") for row in page if row.startswith("| ")]
+    told = {(row[0].removeprefix("| "), row[1]): row[2] for row in rows if len(row) == 4}
+    for construct in Construct:
+        title = construct.title.replace("the type {word}", "another base type, as `verdicttype`")
+        title = title.replace("the operation {word}", "`match`, `valueof`")
+        here = told.get((construct.clause, title))
+        must(here, f"docs/FROM_TTCN3.md has no row for {title}, {construct.clause}")
+        is_missing = construct.instead.startswith("nothing: ")
+        must(here.startswith("no, because " if is_missing else "write instead: "), f"{title}: {here}")
+        words = construct.instead.removeprefix("nothing: ").partition("{")[0]
+        must(words in here, f"docs/FROM_TTCN3.md doesn't say of {title}: {words}")
+
+
+def check_numbers():
+    """The numbers and names are those of the document's table, and of the one by which the program prints; each that is
+    ever printed has rules, in one place; the faults of a send stand in their order."""
+    table = [(str(it.value), it.word) for it in Refusal]
+    page = read(f"{ROOT}/docs/REFUSALS.md").partition("\n## Numbers and names\n")[2].partition("\n## ")[0]
+    rows = "\n".join(line for line in page.splitlines() if line.startswith("|"))
+    listed = re.findall("([0-9]+) ([A-Za-z]+)", rows)
+    must(listed == table, f"docs/REFUSALS.md has {listed}, and tools/library/refusals.py {table}")
+    source = read(f"{ROOT}/crates/tp_refusal/src/refusal.rt")
+    printed = re.findall(r'Refusal::\w+ => \(([0-9]+), "(\w+)"\)', source)
+    must(printed == table, f"the program prints {printed}, and tools/library/refusals.py has {table}")
+    with_rules = sorted([*RULES_OF, *BEYOND_SCRIPTS])
+    wanted = [it for it in Refusal if it != Refusal.WRITE]
+    must(with_rules == wanted, f"{with_rules} have rules, and all but {Refusal.WRITE} are printed")
+    order = f"the first in the order {', '.join(f'{fault:d}' for fault in SEND_FAULTS)} counts"
+    must(order in read(f"{ROOT}/docs/PROFILE.md"), f"docs/PROFILE.md doesn't say: {order}")
+
+
+CHECKS = {
+    "answers": check_answers,
+    "columns": check_columns,
+    "table": check_table,
+    "words": check_words,
+    "numbers": check_numbers,
+}
+
+if __name__ == "__main__":
+    try:
+        CHECKS[sys.argv[1]](*sys.argv[2:])
+    except (Wrong, ValueError, KeyError, IndexError) as wrong:
+        sys.exit(f"{' '.join(sys.argv[1:])[:200]}: {type(wrong).__name__} {str(wrong)[:600]}")

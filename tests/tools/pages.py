@@ -1,0 +1,219 @@
+#!/usr/bin/env python3
+"""Charts as pages, in a real browser: what tools/chart --html makes of reports, looked at, clicked and typed in.
+
+    pages.py FOLDER          each case is told by a line, `well NAME` or `wrong NAME: WHY`
+
+The folder is for the pages. Where there is no browser the status is 3.
+"""
+import os
+import subprocess
+import sys
+
+sys.dont_write_bytecode = True
+ROOT = os.path.dirname(os.path.dirname(os.path.dirname(os.path.realpath(__file__))))
+
+sys.path[:0] = [os.path.join(ROOT, "tools")]
+
+from browser import Browser, program  # noqa: E402
+from library.page import page_of  # noqa: E402
+from library.reader import read_report  # noqa: E402
+from library.sequence import sequence_of  # noqa: E402
+
+ALL = "[...document.querySelectorAll('{}')]"
+NAMES = ALL.format(".name") + ".map((it) => it.dataset.name).join()"
+TEXTS = ALL.format("#view text") + ".map((it) => it.textContent)"
+SIGNS = '</script><img src=x onerror=alert(1)> & ""'
+
+
+def report_of_signs():
+    message = f'charstring:"{SIGNS}"'
+    return (
+        f"component mtc\nsent a.p 0 {message}\nset fail\nend done\nverdict fail\ncomponent a\n"
+        f"took p mtc 0 {message}\nelse\nfailed 41\nend error 41\nverdict error\nresult error\n"
+    )
+
+
+def report_of_many(components, rounds):
+    """All send to mtc, which takes the messages in turn, and the last waits for good."""
+    names = [f"c{number}" for number in range(1, components)]
+    lines = ["component mtc"]
+    for turn in range(rounds):
+        lines += [f"took p {name} {turn} integer:{turn}" for name in names]
+    lines += ["end done", "verdict none"]
+    for name in names:
+        lines += [f"component {name}", *(f"sent mtc.p {turn} integer:{turn}" for turn in range(rounds))]
+        lines += ["end waiting" if name == names[-1] else "end done", "verdict none"]
+    return "\n".join([*lines, "result error", ""])
+
+
+class Pages:
+    """The cases, each on a page that was opened for it."""
+
+    def __init__(self, folder):
+        self.folder = folder
+        self.browser = Browser()
+        self.wrong = 0
+
+    def page(self, name, report):
+        """The file of a page of a report, which is a file or a text."""
+        file = os.path.join(self.folder, f"{name}.html")
+        if "\n" not in report:
+            with open(os.path.join(ROOT, "examples", report), encoding="utf-8") as opened:
+                report = opened.read()
+        words = [os.path.join(ROOT, "tools", "chart"), "--html", "--title", f"{name} <&>"]
+        made = subprocess.run(words, input=report.encode(), stdout=subprocess.PIPE, check=True)
+        with open(file, "wb") as opened:
+            opened.write(made.stdout)
+        return file
+
+    def open(self, name, report):
+        file = self.page(name, report)
+        self.browser.console.clear()
+        self.browser.requests.clear()
+        self.browser.open(file)
+        return file
+
+    def case(self, name, seen, wanted):
+        if seen == wanted:
+            print(f"well {name}")
+        else:
+            self.wrong += 1
+            print(f"wrong {name}: {seen!r}, and {wanted!r} is wanted")
+
+    def is_quiet(self, name, file):
+        """Nothing on the console, and nothing asked for but the page itself."""
+        self.browser.drawn()
+        self.case(f"{name}: the console is empty", self.browser.console, [])
+        self.case(f"{name}: nothing is loaded", self.browser.requests, [f"file://{file}"])
+
+    # The cases
+
+    def elements(self):
+        ask = self.browser.value
+        file = self.open("elements", "closed_counter_serves_no_order.expected")
+        self.case("the title", ask("document.title + get('title').textContent"), "elements <&>elements <&>")
+        self.case("the result", ask("get('result').textContent"), "result pass")
+        self.case("the names", ask(NAMES), "mtc,chef")
+        kinds = ask("Object.fromEntries(['took', 'found', 'dropped', 'left', 'discarded'].map((kind) => "
+                    "[kind, document.querySelectorAll('#view .arrow.' + kind).length]))")
+        wanted = {"took": 3, "found": 0, "dropped": 0, "left": 1, "discarded": 0}
+        self.case("an arrow for each message", kinds, wanted)
+        shown = ask(f"['halted counter', 'else', 'set pass', 'end done'].every((text) => {TEXTS}.includes(text))")
+        self.case("what each does by itself", shown, True)
+        off = ALL.format("#jumps button") + ".filter((it) => it.disabled).map((it) => it.textContent).join()"
+        self.case("only what there is can be jumped to", ask(off), "set fail,failed,end waiting,dropped")
+        self.is_quiet("elements", file)
+
+    def hiding(self):
+        ask, browser = self.browser.value, self.browser
+        file = self.open("hiding", "everyone_is_told_to_stop.expected.1")
+        rows = ask("state.rows.length")
+        browser.click_on(".name[data-name=north] .hide")
+        self.case("hiding hides the life line", ask(NAMES), "mtc,south")
+        fewer = ask(f"0 < state.rows.length && state.rows.length < {rows}")
+        self.case("hiding keeps rows of others", fewer, True)
+        named = ask(f"{TEXTS}.some((text) => /(to|from) north/.test(text))")
+        self.case("what goes to a hidden component names it", named, True)
+        browser.click_on("#list")
+        browser.click_on("#components li:nth-child(2) input")
+        self.case("it is shown again", ask(NAMES + " + state.rows.length"), f"mtc,north,south{rows}")
+        browser.click_on(".name[data-name=mtc] button[title$=right]")
+        self.case("another order", ask(NAMES), "north,mtc,south")
+        wide = ask("state.width")
+        browser.click_on(".name[data-name=mtc] .fold")
+        self.case("folding makes a life line narrow", ask(f"state.width < {wide} && state.folded.size"), 1)
+        browser.click_on(".name[data-name=mtc] .fold")
+        self.case("and unfolding wide", ask("state.width"), wide)
+        self.is_quiet("hiding", file)
+
+    def choosing(self):
+        ask, browser = self.browser.value, self.browser
+        file = self.open("choosing", "orders_of_two_senders_and_a_halt.expected.3")
+        place = ask("told.rows.findIndex((row) => row[0] === 0 && row[2] === '')")
+        box = ask("((box) => [box.left, box.top])(scroll.getBoundingClientRect())")
+        browser.click(box[0] + 300, box[1] + 26 * place + 13)
+        said = ask("panel.innerText.replace(/\\s+/g, ' ')")
+        for part in ("message 0 from a to o.p", "integer:1", "from a", "to o, port p", "sent row 1 report line",
+                     "took row 4 report line"):
+            self.case(f"a click shows '{part}'", part in said, True)
+        self.case("its other end is marked", ask("document.querySelectorAll('.band.other').length"), 1)
+        browser.key("Enter")
+        self.case("Enter goes to the other end", ask("state.chosen"), 3)
+        browser.key("ArrowUp")
+        self.case("up", ask("get('told').textContent"), "row 3: o: halted p")
+        browser.key("Escape")
+        self.case("Escape closes", ask("panel.hidden"), True)
+        self.is_quiet("choosing", file)
+
+    def script_lines(self):
+        """Whoever knows the lines of the script has them shown beside those of the report."""
+        with open(os.path.join(ROOT, "examples", "login_is_answered.expected"), "rb") as opened:
+            sequence = sequence_of(read_report(opened.read()), "script")
+        file = os.path.join(self.folder, "script.html")
+        with open(file, "w", encoding="utf-8") as opened:
+            opened.write(page_of(sequence, {2: "line 19"}))
+        self.browser.open(file)
+        self.browser.key("ArrowDown")
+        self.case("a line of the script", "report line 2, script line 19" in
+                  self.browser.value("panel.innerText"), True)
+
+    def searching(self):
+        ask, browser = self.browser.value, self.browser
+        file = self.open("searching", report_of_signs())
+        self.case("signs are no elements", ask("document.querySelectorAll('img, #view img').length"), 0)
+        browser.key("/")
+        browser.write("ONERROR")
+        self.case("search finds", ask("get('found').textContent"), "1 row")
+        browser.key("Enter")
+        self.case("and goes there", ask("[get('found').textContent, state.chosen].join()"), "1 of 1,0")
+        self.case("the message is whole", ask("panel.querySelector('pre').textContent"), f'charstring:"{SIGNS}"')
+        browser.click_on("#words")
+        browser.value("get('words').value = ''")
+        browser.write("nowhere")
+        self.case("what isn't there isn't found", ask("get('found').textContent"), "nothing")
+        browser.key("Escape")
+        for key, wanted in (("f", "mtc: set fail"), ("e", "a: failed 41 NoRoute"), ("o", "a: else")):
+            browser.key(key)
+            self.case(f"{key} goes to {wanted}", ask("get('told').textContent.replace(/^row \\d+: /, '')"), wanted)
+        self.is_quiet("searching", file)
+
+    def many(self):
+        ask, browser = self.browser.value, self.browser
+        file = self.open("many", report_of_many(62, 410))
+        self.case("many rows", ask("told.rows.length"), 61 * 410)
+        self.case("few are drawn", ask("document.querySelectorAll('#view *').length < 1500"), True)
+        browser.value("scroll.scrollTop = 20000 * ROW")
+        browser.drawn()
+        self.case("as one scrolls", ask(f"{TEXTS}.includes('20003')"), True)
+        above = "document.elementFromPoint(200, get('names').getBoundingClientRect().top + 12)"
+        self.case("names stay in sight", ask(f"{above}.closest('.name') !== null"), True)
+        took = ask("(() => { const began = performance.now(); for (let turn = 0; turn < 50; turn++) "
+                   "{ scroll.scrollTop = turn * 9000; drawNow(); } return (performance.now() - began) / 50; })()")
+        self.case("a window is drawn in 100 milliseconds", took < 100 or took, True)
+        browser.key("w")
+        self.case("the one that waits", ask("panel.querySelector('h2').textContent"), "c61")
+        visible = ask("((box) => box.left >= 0 && box.right <= innerWidth)"
+                      "(document.querySelector('.name[data-name=c61]').getBoundingClientRect())")
+        self.case("it is in sight", visible, True)
+        browser.key("/")
+        browser.write("c7 #409")
+        browser.value("search('c7')")
+        took = ask("(() => { const began = performance.now(); search('c7 '); return performance.now() - began; })()")
+        self.case("a search in a second", took < 1000 or took, True)
+        self.is_quiet("many", file)
+
+
+def main(folder):
+    if program() is None:
+        return 3
+    pages = Pages(os.path.abspath(folder))
+    try:
+        for case in (pages.elements, pages.hiding, pages.choosing, pages.script_lines, pages.searching, pages.many):
+            case()
+    finally:
+        pages.browser.end()
+    return 1 if pages.wrong else 0
+
+
+if __name__ == "__main__":
+    sys.exit(main(sys.argv[1]))

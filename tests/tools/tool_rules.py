@@ -1,0 +1,378 @@
+#!/usr/bin/env python3
+"""The rules on what tools/ prints, told apart from its own code, as far as a shell can't see them.
+
+    tool_rules.py chart REPORT SVG ..      each chart is well-formed, and shows what its report says
+    tool_rules.py orders REPORT..          played on the ports, the rows do what the report says
+    tool_rules.py played NUMBER            so do those of so many reports at random
+    tool_rules.py tried NUMBER             of so many small reports, right or changed, those are refused
+                                           of which no order at all is one that the ports allow
+    tool_rules.py cuts REPORT..            cut after any byte, a report is refused at that line
+    tool_rules.py random NUMBER            so many reports at random are read, drawn and compared
+    tool_rules.py parts NUMBER             so do parts of the charts of so many reports
+    tool_rules.py linear                   the time of an order goes with the lines, not the components
+    tool_rules.py junit XML T F E          valid, with so many tests, failures and errors
+    tool_rules.py interrupted FILE COMMAND.. what it prints if Ctrl-C comes once there is the file
+    tool_rules.py terminal COMMAND..       what the command says on a terminal, its status at the end
+
+Each prints what is wrong and ends with status 1, or prints nothing and ends with status 0.
+"""
+import functools
+import os
+import pty
+import random
+import re
+import signal
+import subprocess
+import sys
+import time
+import xml.etree.ElementTree as xml
+
+ROOT = os.path.dirname(os.path.dirname(os.path.dirname(os.path.realpath(__file__))))
+sys.dont_write_bytecode = True
+sys.path[:0] = [os.path.join(ROOT, "tools"), os.path.dirname(os.path.realpath(__file__))]
+
+from library.deliveries import deliveries_of  # noqa: E402
+from library.differences import EQUAL, compare  # noqa: E402
+from library.letters import letters_of  # noqa: E402
+from library.order import rows_of  # noqa: E402
+from library.part import Asked, part_of  # noqa: E402
+from library.reader import read_report  # noqa: E402
+from library.report import NotAReport  # noqa: E402
+from library.sequence import sequence_of  # noqa: E402
+from library.svg import svg_of  # noqa: E402
+from pages import report_of_many  # noqa: E402
+from played import Played, Small, Unplayable, changed, has_order  # noqa: E402
+from random_reports import Run  # noqa: E402
+
+SVG = "{http://www.w3.org/2000/svg}"
+ENDS = ("took", "found", "dropped", "left")
+
+
+class Wrong(Exception):
+    """A rule is broken."""
+
+
+def must(holds, text):
+    if not holds:
+        raise Wrong(text)
+
+
+def read(file):
+    with open(file, encoding="utf-8") as opened:
+        return opened.read()
+
+
+def check_charts(*files):
+    for report, svg in zip(files[::2], files[1::2]):
+        try:
+            check_drawing(read(report), read(svg))
+        except (Wrong, xml.ParseError) as wrong:
+            raise Wrong(f"{svg}: {wrong}") from None
+
+
+def check_drawing(report, svg):
+    """A chart of a report: both are texts."""
+    root = xml.fromstring(svg.encode())
+    must(root.tag == f"{SVG}svg" and root.get("role") == "img", "it is no picture")
+    for part in ("title", "desc"):
+        element = root.find(f"{SVG}{part}")
+        must(element is not None and element.text and element.get("id"), f"it has no {part}")
+        must(element.get("id") in root.get("aria-labelledby").split(), f"its {part} isn't named")
+    lines = report.splitlines()
+    for word in ENDS:
+        arrows = [path for path in root.iter(f"{SVG}path") if path.get("class") == word]
+        wanted = sum(line.startswith(f"{word} ") for line in lines)
+        must(len(arrows) == wanted, f"{len(arrows)} arrows, and {wanted} lines {word}")
+        must(all(arrow.get("marker-end") for arrow in arrows), f"an arrow {word} has no end")
+    check_texts(root, lines)
+
+
+def check_inside(root):
+    """No text leaves the picture."""
+    width, height = float(root.get("width")), float(root.get("height"))
+    for text in root.iter(f"{SVG}text"):
+        must(0 < float(text.get("y")) < height, f"{text.text!r} stands outside")
+        check_width(text, width)
+
+
+def check_texts(root, lines):
+    """The texts are there, none leaves the picture, and each row that shows something tells it."""
+    check_inside(root)
+    texts = list(root.iter(f"{SVG}text"))
+    shown = [text.text for text in texts]
+    for line in lines:
+        if re.match("component|set|result|end|verdict", line):
+            word = line.removeprefix("component ")
+            must(any(is_shown(word, text) for text in shown), f"{line!r} isn't shown")
+    told = "\n".join(title.text for title in root.iter(f"{SVG}title"))
+    for line in lines:
+        must(line.startswith(("component ", "result ")) or line in told, f"{line!r} isn't told")
+    groups = [group for group in root.iter(f"{SVG}g") if group.get("aria-hidden") != "true"]
+    must(all(group.get("aria-label") for group in groups), "a group has no label")
+
+
+def is_shown(word, text):
+    """Whole, or with its end or middle left out. Behind a number its name may stand."""
+    before, cut, behind = text.partition("…")
+    return text.startswith(word) or (cut and word.startswith(before) and word.endswith(behind))
+
+
+def check_width(text, width):
+    letter = 11.2 if text.get("class") == "head" else 7.25
+    if "small" in (text.get("class") or "") or "strip" in (text.get("class") or ""):
+        letter = 6.65
+    x, long = float(text.get("x")), len(text.text) * letter
+    left = x - long if "end" in (text.get("class") or "").split() else x
+    left = x - long / 2 if "middle" in (text.get("class") or "").split() else left
+    must(left >= -2 and left + long <= width + 2, f"{text.text!r} is clipped")
+
+
+def check_orders(*files):
+    for file in files:
+        check_order(read(file).encode(), file)
+
+
+def check_order(data, file):
+    """The rows are an order of all entries that the ports allow, and each message is discarded where it is
+    told to be."""
+    deliveries = deliveries_of(read_report(data))
+    rows = rows_of(deliveries)
+    places = [tuple(place) for row in rows for place in (row.first, row.second) if place]
+    discarded = {
+        tuple(place): [(message.route.sender, str(message.number)) for message in messages]
+        for place, messages in deliveries.discarded.items()
+    }
+    try:
+        Played(data.decode().splitlines()).play(places, discarded)
+    except Unplayable as wrong:
+        raise Wrong(f"{file}: {wrong}") from None
+
+
+def check_played(number):
+    for seed in range(int(number)):
+        check_order(Run(seed).report().encode(), f"seed {seed}")
+
+
+def check_tried(number):
+    """Each report of a small run, and three that differ from it in a line or two."""
+    counts = {True: 0, False: 0, None: 0}
+    for seed in range(int(number)):
+        lines = Small(seed).lines()
+        for text in (lines, *(changed(lines, f"{seed} {turn}") for turn in range(3))):
+            has = has_order(text)
+            counts[has] += 1
+            data = "".join(f"{line}\n" for line in text).encode()
+            is_refused = refused_at(data) is not None
+            must(has is None or has != is_refused, f"seed {seed}: an order {has}, refused {is_refused}: {text}")
+            if has:
+                check_order(data, f"seed {seed}: {text}")
+    least = int(number) // 2
+    must(counts[True] > least and counts[False] > least and counts[None] < least, f"too few were tried: {counts}")
+
+
+def check_cuts(*files):
+    for file in files:
+        data = read(file).encode()
+        for size in range(len(data)):
+            line = refused_at(data[:size])
+            must(line == data.count(b"\n", 0, size) + 1, f"{file}, cut after {size} bytes: line {line}")
+        must(refused_at(data) is None, f"{file} is refused")
+
+
+def refused_at(data):
+    """The line at which the bytes are refused, or None."""
+    try:
+        rows_of(deliveries_of(read_report(data)))
+    except NotAReport as fault:
+        return fault.line
+    return None
+
+
+def check_random(number):
+    refused = 0
+    for seed in range(int(number)):
+        text = Run(seed).report()
+        report = read_report(text.encode())
+        sequence = sequence_of(report, f"seed {seed}")
+        try:
+            check_drawing(text, svg_of(sequence))
+        except Wrong as wrong:
+            raise Wrong(f"seed {seed}: {wrong}") from None
+        drawn = letters_of(sequence)
+        must(all(name in drawn for name in report.names()), f"seed {seed}: a name isn't drawn")
+        must(compare(report, report).answer == EQUAL, f"seed {seed} differs from itself")
+        if not re.search("^(cleared|started) ", text, re.M):
+            refused += check_missing_lines(text, seed)
+    must(refused > 2 * int(number), f"only {refused} reports without a line were tried")
+
+
+def check_parts(number):
+    """A part of a chart is drawn within its picture, and tells each entry of its components and rows."""
+    for seed in range(int(number)):
+        report = read_report(Run(seed).report().encode())
+        whole = sequence_of(report, f"seed {seed}")
+        chance = random.Random(seed)
+        names = report.names()
+        only = tuple(chance.sample(names, chance.randint(1, len(names))))
+        rows = tuple(sorted(chance.choices(range(1, len(whole.steps) + 1), k=2))) if whole.steps else None
+        for asked in (Asked(only=only), Asked(rows=rows), Asked(only, rows, fold=True), Asked(fold=True)):
+            try:
+                check_part(part_of(whole, asked), whole, asked)
+            except (Wrong, xml.ParseError) as wrong:
+                raise Wrong(f"seed {seed}, {asked}: {wrong}") from None
+
+
+def check_part(part, whole, asked):
+    svg = xml.fromstring(svg_of(part).encode())
+    check_inside(svg)
+    drawn = letters_of(part)
+    must(all(name in drawn for name in part.names), "a name isn't drawn")
+    must(set(part.names) == set(asked.only or whole.names), f"{part.names} are drawn")
+    first, last = asked.rows or (1, len(whole.steps))
+    told = "\n".join(title.text or "" for title in svg.iter(f"{SVG}title"))
+    for step in whole.steps[first - 1 : last] if not asked.fold else []:
+        for line in step.lines.splitlines():
+            mine = re.match(r"line \d+ \((\w+): ", line)
+            must(not mine or mine[1] not in part.names or line in told, f"{line!r} isn't told")
+
+
+def check_missing_lines(text, seed):
+    """Where no port is emptied, a report without one of its messages' lines is refused."""
+    lines = text.splitlines(keepends=True)
+    tried = 0
+    for number, line in enumerate(lines):
+        if line.startswith(("sent ", "took ", "dropped ", "left ", "component ", "end ", "verdict ")):
+            data = "".join(lines[:number] + lines[number + 1 :]).encode()
+            must(refused_at(data) is not None, f"seed {seed} without line {number + 1} isn't refused")
+            tried += 1
+    return tried
+
+
+LEAST = 0.05  # a second's part, below which times say nothing
+
+
+def check_linear():
+    """Processor time of reading, matching and ordering: four times the lines take no more than eight times as
+    long, and 62 components no more than four times as long as two."""
+    times = {}
+    for components, rounds in ((2, 7_500), (62, 123), (62, 492)):
+        data = report_of_many(components, rounds).encode()
+        began = time.process_time()
+        rows_of(deliveries_of(read_report(data)))
+        times[components, rounds] = max(time.process_time() - began, LEAST)
+    must(times[62, 492] < 8 * times[62, 123], f"it isn't linear in the lines: {times}")
+    must(times[62, 123] < 4 * times[2, 7_500], f"it goes with the components: {times}")
+
+
+# The usual schema, as build servers read it. Of each element: the attributes that it must have, those
+# that it may have, and the elements that may stand in it.
+COUNTS = {"tests", "failures", "errors", "skipped"}
+ELEMENTS = {
+    "testsuites": ({"tests", "failures", "errors"}, {"name", "time", "disabled"}, {"testsuite"}),
+    "testsuite": (
+        {"name", "tests", "failures", "errors", "time", "timestamp", "hostname"},
+        {"id", "package", "skipped", "disabled"},
+        {"properties", "testcase", "system-out", "system-err"},
+    ),
+    "testcase": (
+        {"name", "classname", "time"},
+        {"assertions", "status"},
+        {"skipped", "error", "failure", "system-out", "system-err"},
+    ),
+    "failure": ({"message", "type"}, set(), set()),
+    "error": ({"message", "type"}, set(), set()),
+    "system-out": (set(), set(), set()),
+    "system-err": (set(), set(), set()),
+}
+SECONDS = re.compile(r"[0-9]+\.[0-9]{3}")
+DATE = re.compile(r"[0-9]{4}-[01][0-9]-[0-3][0-9]T[0-2][0-9]:[0-5][0-9]:[0-5][0-9]")
+
+
+def check_junit(file, tests, failures, errors):
+    root = xml.parse(file).getroot()
+    must(root.tag == "testsuites", "it is no list of suites")
+    for element in root.iter():
+        check_element(element)
+    check_counts(root, root.iter("testcase"))
+    must([root.get(name) for name in ("tests", "failures", "errors")] == [tests, failures, errors], f"{root.attrib}")
+    for suite in root:
+        check_counts(suite, list(suite))
+    names = [(case.get("classname"), case.get("name")) for case in root.iter("testcase")]
+    must(len(set(names)) == len(names), f"two cases are alike: {names}")
+
+
+def check_element(element):
+    must(element.tag in ELEMENTS, f"no {element.tag} stands in such a file")
+    needed, allowed, inner = ELEMENTS[element.tag]
+    must(needed <= set(element.keys()) <= needed | allowed, f"{element.tag} has {sorted(element.keys())}")
+    must(all(child.tag in inner for child in element), f"{element.tag} has {[child.tag for child in element]}")
+    must(not inner or not (element.text or "").strip(), f"{element.tag} has text of its own")
+    for name, value in element.items():
+        must(value != "", f"{name} of {element.tag} is empty")
+        must(name not in COUNTS or value.isdecimal(), f"{name} is {value}")
+        must(name != "time" or SECONDS.fullmatch(value), f"{name} is {value}")
+        must(name != "timestamp" or DATE.fullmatch(value), f"{name} is {value}")
+    if element.tag == "testcase":
+        tags = [child.tag for child in element]
+        must(len(set(tags) & {"failure", "error", "skipped"}) <= 1, "a case has two outcomes")
+        order = ["error", "failure", "system-out", "system-err"]
+        must(tags == [tag for tag in order if tag in tags], f"{tags} isn't the order of a case's parts")
+        must(tags.count("system-out") == 1, "a case has its report, once")
+
+
+def check_counts(element, cases):
+    """The counts of a suite, or of all, are those of its cases."""
+    tags = [[child.tag for child in case] for case in cases]
+    counts = [len(tags), sum("failure" in tag for tag in tags), sum("error" in tag for tag in tags)]
+    told = [int(element.get(name)) for name in ("tests", "failures", "errors")]
+    must(counts == told, f"{element.tag} tells {told}, and has {counts}")
+
+
+def on_a_terminal(*command):
+    """Its standard output and error are a terminal. What is said there is printed."""
+    ours, theirs = pty.openpty()
+    with subprocess.Popen(command, stdin=subprocess.DEVNULL, stdout=theirs, stderr=theirs) as process:
+        os.close(theirs)
+        said = b""
+        while True:
+            try:
+                more = os.read(ours, 4096)
+            except OSError:
+                break
+            if not more:
+                break
+            said += more
+    print(said.decode(), f"status {process.returncode}", sep="\n")
+
+
+def interrupt(file, *command):
+    """As Ctrl-C does it, once the file is there. Ours is ignored, since a part of the gate runs so."""
+    default = functools.partial(signal.signal, signal.SIGINT, signal.SIG_DFL)
+    with subprocess.Popen(command, stdout=subprocess.PIPE, preexec_fn=default) as process:
+        until = time.monotonic() + 60
+        while not os.path.exists(file) and time.monotonic() < until:
+            time.sleep(0.05)
+        process.send_signal(signal.SIGINT)
+        printed = process.stdout.read().decode()
+    print(printed, f"status {process.returncode}", sep="")
+
+
+CHECKS = {
+    "chart": check_charts,
+    "orders": check_orders,
+    "played": check_played,
+    "tried": check_tried,
+    "cuts": check_cuts,
+    "random": check_random,
+    "parts": check_parts,
+    "linear": check_linear,
+    "junit": check_junit,
+    "terminal": on_a_terminal,
+    "interrupted": interrupt,
+}
+
+if __name__ == "__main__":
+    try:
+        CHECKS[sys.argv[1]](*sys.argv[2:])
+    except (Wrong, NotAReport, xml.ParseError) as wrong:
+        sys.exit(f"{' '.join(sys.argv[1:])[:200]}: {wrong}")

@@ -1,0 +1,438 @@
+#!/usr/bin/env python3
+"""What tools/why says of reports, beside the model of runs in tests/orders, which shares no code with it.
+
+    why_rules.py examples REPORT..     the lines of each report are those of some run of the model that
+                                       has this report
+    why_rules.py random NUMBER [SEED]  so are those of reports of so many scripts made by chance; and none
+                                       of these fits its script any more, if that lacks a statement by
+                                       which something was done
+    why_rules.py discarded NUMBER      of so many small scripts with clears and starts all runs are tried: of
+                                       each message that one discards, the lines are those by which it is
+                                       discarded in some run that has the same report
+    why_rules.py table FILE REPORT..   the lines of each report are those of the table, worked out by hand
+    why_rules.py causes TPR SCRIPT..   why the result isn't pass is what NAME.why says, of the report in
+                                       NAME.expected, or where there is none, of a run
+
+Each prints what is wrong and ends with status 1, or prints nothing and ends with status 0.
+"""
+import os
+import random
+import re
+import subprocess
+import sys
+
+ROOT = os.path.dirname(os.path.dirname(os.path.dirname(os.path.realpath(__file__))))
+sys.dont_write_bytecode = True
+sys.path[:0] = [os.path.join(ROOT, "tools"), os.path.join(ROOT, "tests", "orders")]
+
+from bodies import TestCase, Tried  # noqa: E402
+from generator import some_script  # noqa: E402
+from judge import MOST_STATES, acted, hurry, is_over, state, wanted_by  # noqa: E402
+from model import Act, Run  # noqa: E402
+from reading import TOKENS, Reader  # noqa: E402
+from tree import Control  # noqa: E402
+
+from library.listed_ways import listing_of  # noqa: E402
+from library.reader import read_report  # noqa: E402
+from library.reasons import reasons_of  # noqa: E402
+from library.report import NotAReport  # noqa: E402
+from library.script_case import Case  # noqa: E402
+from library.script_checks import check_script  # noqa: E402
+from library.script_tokens import Text  # noqa: E402
+from library.walk import DoesNotFit  # noqa: E402
+from library.ways import Ways  # noqa: E402
+
+RECEIVED = ("took", "found", "dropped", "left")
+
+
+class Word(str):
+    """A token, or a line of a history, that knows its line in the script."""
+
+    line = 0
+
+
+def worded(text, line):
+    word = Word(text)
+    word.line = line
+    return word
+
+
+# A script of the model, and the lines of its statements
+
+
+def lined_tokens(text):
+    tokens, place, line = [], 0, 1
+    while place < len(text):
+        found = TOKENS.match(text, place)
+        if found.lastgroup != "gap":
+            tokens.append(worded(found.group(), line))
+        line += found.group().count("\n")
+        place = found.end()
+    return tokens
+
+
+class LinedReader(Reader):
+    """Keeps the line of each statement, receiving operation and `[else]` that it reads."""
+
+    def __init__(self, tokens):
+        super().__init__(tokens)
+        self.lines = {}
+        self.elses = []
+
+    def keep(self, read):
+        line = getattr(self.ahead(), "line", 0)
+        made = read()
+        if made is not None:
+            self.lines[id(made)] = line
+        return made
+
+    def statement(self):
+        return self.keep(super().statement)
+
+    def guard(self):
+        return self.keep(super().guard)
+
+    def choice(self):
+        self.elses.append(0)
+        made = super().choice()
+        self.lines["else", id(made)] = self.elses.pop()
+        return made
+
+    def accept(self, *wanted):
+        line = getattr(self.ahead(), "line", 0)
+        accepted = super().accept(*wanted)
+        if accepted and wanted == ("[", "else", "]"):
+            self.elses[-1] = line
+        return accepted
+
+
+class LinedRun(Run):
+    """A run of the model, each line of which knows its line in the script."""
+
+    def __init__(self, case, lines):
+        self.lines = lines
+        self.guard = None
+        self.discarded = {}  # by receiver, port, sender and number
+        super().__init__(case)
+
+    def copy(self):
+        other = super().copy()
+        other.discarded = self.discarded.copy()
+        return other
+
+    def wants(self, who, guard, top):
+        self.guard = guard
+        return super().wants(who, guard, top)
+
+    def carry_out(self, who, statement):
+        if isinstance(statement, Control) and statement.operation in ("start", "clear"):
+            for port in self.case.bodies[who].ports if statement.port is None else (statement.port,):
+                for it in self.components[who].ports[port].queue:
+                    key = self.case.names[who], port, self.case.names[it.sender], it.number
+                    self.discarded[key] = self.lines[id(statement)]
+        super().carry_out(who, statement)
+
+    def act(self, who):
+        statement, lines = self.statement(who), self.components[who].lines
+        before = len(lines)
+        made = super().act(who)
+        for place in range(before, len(lines)):
+            lines[place] = worded(lines[place], self.line_of(statement, lines[place]))
+        return made
+
+    def line_of(self, statement, text):
+        if not isinstance(statement, Tried):
+            return self.lines[id(statement)]
+        return self.lines["else", id(statement.choice)] if text == "else" else self.lines[id(self.guard)]
+
+    def line_of_wait(self, who):
+        statement = self.statement(who)
+        return None if statement is None else self.lines[id(statement.choice)]
+
+
+def lined_case(text):
+    reader = LinedReader(lined_tokens(text))
+    script = reader.module()
+    return TestCase(script), reader.lines
+
+
+def run_by_chance(run, chance):
+    """Acts by chance, to the end."""
+    while True:
+        living = [who for who in range(len(run.components)) if run.statement(who) is not None]
+        chance.shuffle(living)
+        if all(run.act(who) is Act.WAITS for who in living):
+            return run
+
+
+def run_with_report(run, report):
+    """A run that has this report, as judge.py looks for one."""
+    wanted, seen, open_runs = wanted_by(run.case, report), set(), [run]
+    while open_runs and len(seen) <= MOST_STATES:
+        run = open_runs.pop()
+        hurry(run, wanted)
+        if (key := state(run)) in seen:
+            continue
+        seen.add(key)
+        after = [it for who in range(len(run.components)) if (it := acted(run, who, wanted)) is not None]
+        if not after and run.report() == report and is_over(run):
+            return run
+        open_runs += after
+    return None
+
+
+def rows_of_model(run):
+    """For each entry, and each message that is left, its line and that of the message's other end."""
+    sent, gone = {}, dict(run.discarded)
+    for name, component in zip(run.case.names, run.components):
+        for line in component.lines:
+            word, *rest = line.split(" ", 3)
+            if word == "sent":
+                sent[name, *rest[0].split("."), int(rest[1])] = line.line
+            elif word in ("took", "dropped"):
+                gone[name, rest[0], rest[1], int(rest[2].split(" ")[0])] = line.line
+    rows = []
+    for who, (name, component) in enumerate(zip(run.case.names, run.components)):
+        for line in component.lines:
+            rows.append((line, line.line, other_end(name, line, sent, gone)))
+        if run.line_of_wait(who) is not None:
+            rows.append(("end waiting", run.line_of_wait(who), ""))
+        left = [line for line in run.lines_of(who) if line.startswith("left ")]
+        rows += [(line, None, other_end(name, line, sent, gone)) for line in left]
+    return rows
+
+
+def other_end(name, line, sent, gone):
+    word, *rest = line.split(" ", 4)
+    if word == "sent":
+        receiver, port = rest[0].split(".")
+        return str(gone.get((receiver, port, name, int(rest[1])), "left"))
+    if word in RECEIVED:
+        return str(sent[rest[1], name, rest[0], int(rest[2])])
+    return ""
+
+
+# What the tool says
+
+
+def ways_of(script, report):
+    text = Text(script)
+    return Ways(Case(text, check_script(text)), read_report(report))
+
+
+def rows_of_tool(script, report):
+    """For each line of the report its line in the script, and what stands for the message's other end."""
+    listed = listing_of(ways_of(script, report)).splitlines()[1:]
+    lines = report.decode("latin-1").splitlines()
+    must(len(listed) == len(lines), "there isn't a line for each of the report")
+    rows = []
+    for told, line in zip(listed, lines):
+        must(told.endswith(f"  {line}"), f"{told!r} isn't of {line!r}")
+        found = re.fullmatch(r" *([0-9]*) *(->|<-|) *(.*?) *", told[: len(told) - len(line)])
+        rows.append((line, int(found[1]) if found[1] else None, found[2], found[3]))
+    return rows
+
+
+class Wrong(Exception):
+    """A rule is broken."""
+
+
+def must(holds, text):
+    if not holds:
+        raise Wrong(text)
+
+
+def same_rows(told, modelled):
+    """The lines are the same. Of several lines by one of which a message was discarded, one is the model's."""
+    told = [row for row in told if is_modelled(row)]
+    must(len(told) == len(modelled), "the entries aren't those of the model")
+    for (text, line, arrow, other), (model_text, model_line, model_other) in zip(told, modelled):
+        must(text == model_text, f"{text!r} is {model_text!r} in the model")
+        must(line == model_line, f"{text!r} is of line {model_line}, and {line} is told")
+        must(model_other in other.split(" or "), f"the other end of {text!r} is {model_other}, and {other} is told")
+        must(arrow == {"sent": "->"}.get(text.split(" ")[0], "<-" if model_other else ""), f"{text!r}: {arrow}")
+
+
+def is_modelled(row):
+    text = row[0]
+    return not text.startswith(("component ", "verdict ", "result ")) and text != "end done" and "end error" not in text
+
+
+# The rules
+
+
+def examples_rule(*reports):
+    for file in reports:
+        with open(script_of(file), "rb") as opened:
+            script = opened.read()
+        with open(file, "rb") as opened:
+            report = opened.read()
+        case, lines = lined_case(script.decode("latin-1"))
+        run = run_with_report(LinedRun(case, lines), report.decode("latin-1"))
+        must(run is not None, f"{file}: the model has no such run")
+        try:
+            same_rows(rows_of_tool(script, report), rows_of_model(run))
+        except Wrong as wrong:
+            raise Wrong(f"{file}: {wrong}") from None
+
+
+def script_of(report):
+    return re.sub(r"\.expected(\.[0-9]+)?$", ".ttcn", report)
+
+
+def random_rule(number, seed="1"):
+    chance = random.Random(int(seed))
+    entries = discarded = lacking = 0
+    for turn in range(int(number)):
+        text = some_script(chance)
+        case, lines = lined_case(text)
+        run = run_by_chance(LinedRun(case, lines), chance)
+        rows = rows_of_model(run)
+        entries, discarded = entries + len(rows), discarded + len(run.discarded)
+        try:
+            same_rows(rows_of_tool(text.encode(), run.report().encode()), rows)
+            lacking += without_a_statement(text, run.report(), rows, chance)
+        except (Wrong, NotAReport, DoesNotFit) as wrong:
+            raise Wrong(f"script {turn} of seed {seed}: {wrong!r}\n{text}\n{run.report()}") from None
+    done = min(entries // 10, 10 * discarded, 2 * lacking)
+    must(done >= int(number), f"too little was done: {entries}, {discarded} and {lacking}")
+
+
+DOES = re.compile(r" *([pq]\.send\(.*|([pq]|all port)\.(start|stop|halt|clear);|setverdict\(.*)")
+
+
+def without_a_statement(text, report, rows, chance):
+    """Whether there was a statement to leave out by which something was done."""
+    lines = text.split("\n")
+    done = {line for entry, line, _ in rows if line and not entry.startswith("failed ")}
+    done = {line for line in done if DOES.fullmatch(lines[line - 1])}
+    if not done:
+        return False
+    left_out = chance.choice(sorted(done))
+    lines[left_out - 1] = ""
+    try:
+        ways_of("\n".join(lines).encode(), report.encode())
+    except DoesNotFit:
+        return True
+    raise Wrong(f"without line {left_out} the report fits still")
+
+
+EMPTYING = """module M {
+  type port P message { inout integer; }
+  type component C { port P p, q; }
+  function f() runs on C {
+    %s
+  }
+  function g() runs on C {
+    %s
+  }
+  testcase t() runs on C {
+    var C a := C.create; var C b := C.create;
+    connect(self:p, a:p); connect(self:q, a:q); connect(b:p, a:p); connect(b:q, self:p);
+    a.start(f()); b.start(g());
+    %s
+    all component.done;
+  }
+}
+"""
+LOOKS = ("alt { [] p.receive { } [else] { } }", "alt { [] p.check(receive) { } [else] { } }")
+EMPTIES = ("p.clear;", "p.clear;", "p.start;", "p.halt;", "q.send(integer:1);", "q.receive;", *LOOKS)
+ANSWERS = ("p.send(integer:1) to a;", "q.receive;", "q.send(integer:3);")
+TO_A = ("p.send(integer:1) to a;", "p.send(integer:2) to a;")
+SENDS = (*TO_A, "q.receive;", "q.send(integer:3);", "p.send(integer:4) to b;")
+# What is known by another message that was taken, and by one that tells of the sending.
+KNOWN = (
+    (f"p.clear; {LOOKS[0]} p.clear;", "q.receive; p.send(integer:1) to a;", f"{SENDS[1]} {SENDS[4]}"),
+    ("q.receive; p.clear; p.clear;", "", f"{SENDS[0]} {SENDS[3]}"),
+)
+
+
+def discarded_rule(number):
+    chance = random.Random(7)
+    told = [0, 0]  # where it is known by which one it was discarded, and where that is open
+    for turn in range(int(number)):
+        picked = [chance.choices(kinds, k=count) for kinds, count in ((EMPTIES, 4), (ANSWERS, 2), (SENDS, 3))]
+        blocks = KNOWN[turn] if turn < len(KNOWN) else map(" ".join, picked)
+        text = EMPTYING % tuple(block.replace("; ", ";\n    ") for block in blocks)
+        for report, discarded in discarded_in_runs(*lined_case(text)).items():
+            ways = ways_of(text.encode(), report.encode())
+            for message in ways.deliveries.messages:
+                lines = set(ways.lines_gone(message))
+                route = message.route
+                wanted = discarded.get((route.receiver, route.port, route.sender, message.number), lines)
+                must(lines == wanted, f"{message.told()}: {lines} are told, and it was {wanted}\n{text}\n{report}")
+                told[len(wanted) > 1] += message.fate == "discarded"
+    must(min(told) >= int(number), f"too little was discarded: {told}")
+
+
+def discarded_in_runs(case, lines):
+    """For each report the lines by which each message is discarded in some run that has it."""
+    seen, open_runs, found = set(), [LinedRun(case, lines)], {}
+    while open_runs:
+        run = open_runs.pop()
+        if (key := repr((run.components, sorted(run.discarded.items())))) in seen:
+            continue
+        seen.add(key)
+        living = [who for who in range(len(run.components)) if run.statement(who) is not None]
+        tried = [(after := run.copy(), after.act(who)) for who in living]
+        open_runs += [after for after, act in tried if act is not Act.WAITS]
+        if all(act is Act.WAITS for _, act in tried):
+            of_report = found.setdefault(run.report(), {})
+            for key, line in run.discarded.items():
+                of_report.setdefault(key, set()).add(line)
+    return found
+
+
+def table_rule(table, *reports):
+    """The table has a name of a report in each odd line, and what is told of its lines in the next one."""
+    with open(table, encoding="ascii") as opened:
+        rows = [line for line in opened.read().splitlines() if line and not line.startswith("#")]
+    files = {os.path.basename(file): file for file in reports}
+    must(len(rows) >= 38, "the table has 19 reports")
+    for name, wanted in zip(rows[::2], rows[1::2]):
+        with open(script_of(files[name]), "rb") as script, open(files[name], "rb") as report:
+            told = [in_short(row) for row in rows_of_tool(script.read(), report.read())]
+        must(told == wanted.split(), f"{name}: {' '.join(told)}\nand by hand: {wanted}")
+
+
+def in_short(row):
+    """`24>9`, `9<24`, `<26`, `10`, or `-` for a line of which nothing is told."""
+    _, line, arrow, other = row
+    sign = {"->": ">", "<-": "<", "": ""}[arrow]
+    return f"{line or ''}{sign}{other.replace(' or ', '|')}" or "-"
+
+
+def causes_rule(program, *scripts):
+    for script in scripts:
+        base = script.removesuffix(".ttcn")
+        with open(script, "rb") as opened, open(f"{base}.why", encoding="ascii") as why:
+            text, wanted = opened.read(), why.read()
+        if os.path.exists(f"{base}.expected"):
+            with open(f"{base}.expected", "rb") as opened:
+                report = opened.read()
+        else:
+            report = subprocess.run([program, "run", script], stdout=subprocess.PIPE, check=True).stdout
+        told = reasons_of(ways_of(text, report))
+        must(told == wanted, f"{script}:\n{told}and by hand:\n{wanted}")
+
+
+RULES = {
+    "causes": causes_rule,
+    "discarded": discarded_rule,
+    "examples": examples_rule,
+    "random": random_rule,
+    "table": table_rule,
+}
+
+
+def main() -> int:
+    try:
+        RULES[sys.argv[1]](*sys.argv[2:])
+    except Wrong as wrong:
+        print(wrong)
+        return 1
+    return 0
+
+
+if __name__ == "__main__":
+    sys.exit(main())
