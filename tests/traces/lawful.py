@@ -172,8 +172,8 @@ def places_of_route(route: Route) -> Iterator[Place]:
 
 
 def places_of_sendings(route: Route) -> Iterator[Place]:
-    """A number that isn't the next; or no arrival has it, and either nothing came of what was sent behind it, or its
-    place in the order of the arrivals is that of a message that was sent later."""
+    """A number that isn't the next; or no arrival has it, and in its place in the order of the arrivals nothing came, or
+    a message that was sent later."""
     came = {line.number for line in route.came}
     last_that_came = max((place for place, line in enumerate(route.sent) if line.number in came), default=-1)
     behind = {(line.number, line.message): place for place, line in enumerate(route.sent)}

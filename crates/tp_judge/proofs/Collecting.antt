@@ -20,7 +20,7 @@ pub each_found : (P : ℕ → Type 0) (Q : ℕ → Place → Type 0) (count n : 
 each_found P Q count n places of_none below = All-nil (IsFound count Q)
 each_found P Q count n places (next_lawful m _ rest here) below = each_found P Q count m places rest (omega arith)
 each_found P Q count n places (next_unlawful m others place rest here) below =
-    All-push (IsFound count Q) others place (each_found P Q count m others rest (omega arith)) (m, omega arith, here)
+    All-push (IsFound count Q) others place (each_found P Q count m others rest (omega arith)) (m, omega arith, here.is)
 
 not_empty : (places : List Place) (place : Place) → places ++ place ∷ [] ≡ [] → ⊥
 not_empty [] place e = cc

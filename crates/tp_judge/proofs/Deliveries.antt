@@ -1,13 +1,14 @@
 -- Parcels that came, beside those that were sent.
-use Rattle.std.proofs.Common.{◌≡◌, ℕ, suc, ◌<◌, ◌≤◌, inl, inr, zero, Some, List, [], ◌∷◌, length, refl, ap, sym, ◌∙◌, subst, ⊎_elim, arith}
+use Rattle.std.proofs.Common.{◌≡◌, ◌≢◌, ℕ, suc, ◌<◌, ◌≤◌, inl, inr, zero, Some, List, [], ◌∷◌, length, refl, ap, sym, ◌∙◌, subst, ⊎_elim, arith}
 use Rattle.std.specs.Prelude.{slice_get}
 use Rattle.std.proofs.lemmas.Bool.{cases_lt}
+use Rattle.std.proofs.lemmas.Option.{same_Some}
 use Rattle.tp_judge.specs.declared.line.Parcel.{Parcel}
 use Rattle.tp_judge.specs.declared.line.Line.{Line}
 use Rattle.tp_judge.specs.declared.place.Rule.TheVariants as rule
 use Rattle.tp_judge.specs.declared.place.Place.{Place}
-use Rattle.tp_judge.specs.Delivered.{AreNumbered, IsDelivered, IsTold, IsUnlawfulRoute, lost, numbering, doubled, invented, changed, reordered, IsOvertaken, NeverCame, ParcelAt, parcels}
-use Rattle.tp_judge.specs.Routed.{AgreesBelow, NoNumberFrom}
+use Rattle.tp_judge.specs.Delivered.{AgreesBelow, AreNumbered, IsDelivered, IsFirstArrival, IsOvertaken, IsTold, IsUnlawfulRoute, different, numbering, IsWrongAt, doubled, lost, NeverCame, ParcelAt, parcels}
+use Rattle.tp_judge.specs.Routed.{HasNumberFrom, NoNumberFrom}
 
 pub same_parcel : (a b : Parcel) → a.number ≡ b.number → a.message ≡ b.message → a ≡ b
 same_parcel a b e f =
@@ -36,60 +37,73 @@ never_here sent came n p numbered agree large later = λ j q at. ⊎_elim
 -- a parcel whose place another took that was sent later, and that never comes behind that
 pub lost_overtaken : (sent came : List Line) (k : ℕ) (p : Parcel) (place : Place) → AreNumbered (parcels sent) → AgreesBelow sent came k
     → place.rule ≡ rule.Lost → IsTold sent k place → ParcelAt sent k p → NoNumberFrom came k k → IsOvertaken sent came k
-    → IsUnlawfulRoute sent came place
+    → IsWrongAt sent came k place
 lost_overtaken sent came k p place numbered agree is told there later overtaken =
     let number = numbered k p there in
     let none = subst (NoNumberFrom came k) (sym number) later in
-    lost k p is told there (never_here sent came k p numbered agree (omega arith) none) (inr overtaken)
+    lost p is told there (never_here sent came k p numbered agree (omega arith) none) (inr overtaken)
 
 -- a parcel behind all that came
 pub lost_behind : (sent came : List Line) (k : ℕ) (p : Parcel) (place : Place) → AreNumbered (parcels sent) → AgreesBelow sent came k
     → place.rule ≡ rule.Lost → IsTold sent k place → ParcelAt sent k p → ((j : ℕ) (q : Parcel) → ParcelAt came j q → j < k)
     → IsUnlawfulRoute sent came place
 lost_behind sent came k p place numbered agree is told there all =
-    lost k p is told there (never k p (omega arith) there) (inl (λ m q below at. never m q (omega arith) at))
-  where
-    never : (m : ℕ) (q : Parcel) → k ≤ m → ParcelAt sent m q → NeverCame came q
-    never m q large at =
-        let number = numbered m q at in
-        never_here sent came k q numbered agree (omega arith)
-        (λ j r high came_at. absurd (let low = all j r came_at in omega arith))
+    let number = numbered k p there in
+    let nothing : (q : Parcel) → ParcelAt came k q → ⊥ = λ q at. let low = all k q at in omega arith in
+    different k numbered (record { before = agree; here = λ same. nothing p (sym same ∙ there) })
+    (lost p is told there
+    (never_here sent came k p numbered agree (omega arith) (λ j q high at. absurd (let low = all j q at in omega arith)))
+    (inl nothing))
+
+parcel_there : (xs : List Parcel) (i : ℕ) → i < length xs → (x : Parcel) × (slice_get xs i ≡ Some x)
+parcel_there [] i below = absurd (omega arith)
+parcel_there (x ∷ xs) zero below = (x, refl)
+parcel_there (x ∷ xs) (suc i) below = parcel_there xs i (omega arith)
 
 -- a number that came before, where all before it agrees
 pub doubled_here : (sent came : List Line) (k : ℕ) (p : Parcel) (place : Place) → AreNumbered (parcels sent) → AgreesBelow sent came k
     → place.rule ≡ rule.Doubled → IsTold came k place → ParcelAt came k p → k < length (parcels came) → p.number < k
-    → IsUnlawfulRoute sent came place
+    → IsWrongAt sent came k place
 doubled_here sent came k p place numbered agree is told there within before =
     let q = parcel_there (parcels came) p.number (omega arith) in
-    doubled p.number k p q.0 is told there before q.1 (numbered p.number q.0 (agree p.number before ∙ q.1))
-  where
-    parcel_there : (xs : List Parcel) (i : ℕ) → i < length xs → (x : Parcel) × (slice_get xs i ≡ Some x)
-    parcel_there [] i below = absurd (omega arith)
-    parcel_there (x ∷ xs) zero below = (x, refl)
-    parcel_there (x ∷ xs) (suc i) below = parcel_there xs i (omega arith)
+    doubled p.number p q.0 is told there before q.1 (numbered p.number q.0 (agree p.number before ∙ q.1))
+
+-- where the arrivals agree below k, the first from there on with a number that isn't less is the first of all with it
+pub first_arrival : (sent came : List Line) (n k number : ℕ) (p : Parcel) → AreNumbered (parcels sent) → AgreesBelow sent came n
+    → n ≤ number → ParcelAt came k p → p.number ≡ number
+    → ((j : ℕ) (q : Parcel) → n ≤ j → j < k → ParcelAt came j q → q.number ≢ number) → IsFirstArrival came number k p
+first_arrival sent came n k number p numbered agree large at is none = record {
+  at = at;
+  is = is;
+  none_before = λ j q below there. ⊎_elim
+      (λ (low : j < n). λ same. let first = numbered j q (agree j low ∙ there) in omega arith)
+      (λ (high : n ≤ j). none j q high below there)
+      (cases_lt j n);
+}
+
+-- what was sent where another took its place came behind that
+pub record IsLater (came : List Line) (k m : ℕ) (p q : Parcel) : Type 0 where
+  pub behind : k < m
+  pub first : IsFirstArrival came p.number m q
+
+pub later_arrival : (sent came : List Line) (k m : ℕ) (p q : Parcel) → AreNumbered (parcels sent) → AgreesBelow sent came k
+    → ParcelAt sent k p → IsOvertaken sent came k → HasNumberFrom came k k m → ParcelAt came m q → IsLater came k m p q
+later_arrival sent came k m p q numbered agree there over found at =
+    let number = numbered k p there in
+    let same = same_Some q found.parcel (sym at ∙ found.at) in
+    let is : q.number ≡ k = ap (λ (r : Parcel). r.number) same ∙ found.is in
+    let other = numbered over.0 over.1 over.3 in
+    let later = over.2 in
+    let from = found.behind in
+    let apart : k ≢ m = λ e. let r = ap (λ (r : Parcel). r.number) (same_Some over.1 q (sym over.4 ∙ ap (slice_get (parcels came)) e ∙ at)) in omega arith in
+    record {
+      behind = omega arith;
+      first =
+          first_arrival sent came k m p.number q numbered agree (omega arith) at (is ∙ sym number)
+          (λ j r high low came_at. subst (λ (n : ℕ). r.number ≢ n) (sym number) (found.none_before j r high low came_at));
+    }
 
 -- a place on a route excludes that the route is lawful
 pub unlawful_route : (sent came : List Line) (place : Place) → IsUnlawfulRoute sent came place → IsDelivered sent came → ⊥
-unlawful_route sent came place (numbering k p is told at wrong) lawful = wrong (lawful.numbered k p at)
-unlawful_route sent came place (lost k p is told at never gone) lawful =
-    never k p (ap (λ l. slice_get l k) (sym lawful.same) ∙ at) refl
-unlawful_route sent came place (doubled j k p q is told at before again number) lawful =
-    let first = lawful.numbered j q (ap (λ l. slice_get l j) lawful.same ∙ again) in
-    let second = lawful.numbered k p (ap (λ l. slice_get l k) lawful.same ∙ at) in
-    omega arith
-unlawful_route sent came place (invented k p is told at never) lawful =
-    never k p (ap (λ l. slice_get l k) lawful.same ∙ at) refl
-unlawful_route sent came place (changed j k p q is told at there number message) lawful =
-    let here = ap (λ l. slice_get l k) lawful.same ∙ at in
-    let first = lawful.numbered j q there in
-    let second = lawful.numbered k p here in
-    let place_is : j ≡ k = omega arith in
-    let both : Some q ≡ Some p = sym there ∙ ap (slice_get (parcels sent)) place_is ∙ here in
-    let same : q ≡ p = cc in
-    message (ap (λ (r : Parcel). r.message) same)
-unlawful_route sent came place (reordered i m j k p q is told at there order behind before came_before) lawful =
-    let first = lawful.numbered i p there in
-    let second = lawful.numbered m q behind in
-    let third = lawful.numbered j q (ap (λ l. slice_get l j) lawful.same ∙ came_before) in
-    let fourth = lawful.numbered k p (ap (λ l. slice_get l k) lawful.same ∙ at) in
-    omega arith
+unlawful_route sent came place (numbering k is told wrong) lawful = wrong.wrong (lawful.numbered k wrong.parcel wrong.at)
+unlawful_route sent came place (different k numbered differs wrong) lawful = differs.here (ap (λ l. slice_get l k) lawful.same)

@@ -1,11 +1,11 @@
 -- What is told as left, line by line.
-use Rattle.std.proofs.Common.{◌≡◌, ◌≢◌, inl, inr, ℕ, zero, suc, ◌+◌, ◌<◌, ◌≤◌, Option, Some, None, List, [], ◌∷◌, ◌++◌, length, get_or, take, refl, ap, sym, ◌∙◌, append-nil, Bor, arith}
+use Rattle.std.proofs.Common.{◌≡◌, ◌≢◌, inl, inr, ℕ, zero, suc, ◌+◌, ◌<◌, ◌≤◌, Option, Some, None, List, [], ◌∷◌, ◌++◌, length, get_or, take, drop, refl, ap, sym, ◌∙◌, append-nil, Bor, arith}
 use Rattle.std.specs.Prelude.{slice_get}
 use Rattle.std.specs.Option.{option_to_list}
 use Rattle.std.specs.declared.vec.Vec.{Vec}
 use Rattle.std.specs.declared.alloc.Global.{Global}
 use Rattle.std.proofs.lemmas.Bool.{cases_eq}
-use Rattle.std.proofs.lemmas.List.{length-take-le}
+use Rattle.std.proofs.lemmas.List.{length-take-le, take-append-drop, take_all}
 use Rattle.std.proofs.lemmas.Option.{same_Some, slice_get_within}
 use Rattle.tp_queue.specs.declared.event.Env.{Env}
 use Rattle.tp_queue.specs.declared.event.Event.{Event}
@@ -19,7 +19,7 @@ use Rattle.tp_judge.specs.declared.place.Rule.TheVariants as rule
 use Rattle.tp_judge.specs.Gathered.{seen}
 use Rattle.tp_judge.specs.Lines.{left_of}
 use Rattle.tp_judge.specs.Rules.{left_in}
-use Rattle.tp_judge.specs.Lawful.{IsCloserNumber, IsCloserOf, IsLeftBroken, IsNoEndBefore}
+use Rattle.tp_judge.specs.Lawful.{IsCloserNumber, IsCloserOf, IsLeftBroken, IsNoEndBefore, IsToldFirst}
 use Rattle.tp_judge.specs.PortRows.{AreClosers}
 use Rattle.tp_judge.proofs.Parcels.{length-seen}
 use Rattle.tp_judge.proofs.Stepping.{filter_map-more, seen_at, seen-take, take_got}
@@ -54,6 +54,11 @@ tells_none q left i told d within was says = record {
       ∙ append-nil (take told q);
 }
 
+-- a front of the queue is what is queued first
+pub told_first : (h : List (Event MessageId)) (left : List Line) (told : ℕ) → left_in left ≡ take told (queued h) → IsToldFirst h left
+told_first h left told is =
+    (drop told (queued h), ap (λ l. l ++ drop told (queued h)) is ∙ take-append-drop told (queued h))
+
 pub tells_wrong : (h : List (Event MessageId)) (left : List (Bor Line)) (closing : List Line) (i told : ℕ) (d : Bor Line) (closer : Line) (e : Env MessageId)
     → slice_get closing 0 ≡ Some closer → i < length left → TellsFirst (queued h) left i told
     → left_of (get_or left i d).now.act ≡ Some e → slice_get (queued h) told ≢ Some e
@@ -71,10 +76,23 @@ tells_wrong h left closing i told d closer e closed within was says wrong =
         line = (get_or left i d).now;
         stands = seen_at left i d within;
         told = refl;
+        right = told_first h (take i (seen left)) told (ap left_in (seen-take i left) ∙ was.so_far);
         env = e;
         says = says;
         wrong = λ is. wrong (ap (slice_get (queued h)) (sym count) ∙ is);
       });
+    }
+
+pub tells_missing : (h : List (Event MessageId)) (left : List (Bor Line)) (closing : List Line) (i told closer : ℕ)
+    → IsCloserNumber closing closer → length left ≤ i → TellsFirst (queued h) left i told → told < length (queued h)
+    → IsLeftBroken h (seen left) closing (record { line = closer; rule = rule.Left })
+tells_missing h left closing i told closer closes long was fewer =
+    let said : left_in (seen left) ≡ take told (queued h) = ap (λ l. left_in (seen l)) (sym (take_all i left long)) ∙ was.so_far in
+    let so_far = was.within in
+    let count = ap length said ∙ length-take-le told (queued h) so_far in
+    record {
+      rule_is = refl;
+      how = inr (record { closes = closes; right = told_first h (seen left) told said; missing = omega arith });
     }
 
 -- the first of them

@@ -3,9 +3,12 @@ pub mod Replays
 pub mod Leaving
 pub mod Collecting
 pub mod Unlawful
+pub mod Firsts
+pub mod OneAtPort
 mod Zips
 pub mod Parcels
 pub mod Deliveries
+pub mod OneOnRoute
 pub mod Named
 pub mod Pairs
 pub mod Befores

@@ -29,13 +29,15 @@ replayed_more events i d q within stands =
     (sym (filter_map-more (λ line. event_of line.act) events i d within)) stands
 
 pub broken_here : (events : List (Bor Line)) (i : ℕ) (d : Bor Line) (rule : Rule) → i < length events
+    → Lawful (history_of (seen (take i events)))
     → Breaks rule (history_of (seen (take i events))) (get_or events i d).now.act
     → IsBroken (seen events) (record { line = (get_or events i d).now.number; rule = rule })
-broken_here events i d rule within breaks = record {
+broken_here events i d rule within lawful breaks = record {
   before = i;
   line = (get_or events i d).now;
   stands = seen_at events i d within;
   told = refl;
+  lawful = subst (λ (h : List (Event MessageId)). Lawful h) (ap history_of (sym (seen-take i events))) lawful;
   breaks = subst (λ (h : List (Event MessageId)). Breaks rule h (get_or events i d).now.act)
       (ap history_of (sym (seen-take i events))) breaks;
 }
@@ -61,14 +63,18 @@ may_not rule h (act.Dropped m) broken = (event.Dropped (envelope m), refl, broke
 may_not rule h _ broken = absurd broken
 
 -- no lawful history is told by lines of which one breaks a rule
-pub broken_unlawful : (events : List Line) (place : Place) → IsBroken events place → Lawful (history_of events) → ⊥
+pub breaks_unlawful : (events : List Line) (k : ℕ) (line : Line) (rule : Rule) → slice_get events k ≡ Some line
+    → Breaks rule (history_of (take k events)) line.act → Lawful (history_of events) → ⊥
 unfolding Lawful
-broken_unlawful events place b lawful =
-    let h = history_of (take b.before events) in
-    let event = may_not place.rule h b.line.act b.breaks in
-    let rest = split_line (λ line. event_of line.act) events b.before b.line event.0 b.stands event.1 in
+breaks_unlawful events k line rule stands breaks lawful =
+    let h = history_of (take k events) in
+    let event = may_not rule h line.act breaks in
+    let rest = split_line (λ line. event_of line.act) events k line event.0 stands event.1 in
     let here : slice_get (history_of events) (length h) ≡ Some event.0 =
     ap (λ (l : List (Event MessageId)). slice_get l (length h)) rest.1 ∙ at_seam h rest.0 event.0 in
     let follows = lawful (length h) event.0 here in
     event.2 (subst (λ (l : List (Event MessageId)). MayFollow l event.0)
     (ap (take (length h)) rest.1 ∙ take_seam h (event.0 ∷ rest.0)) follows)
+
+pub broken_unlawful : (events : List Line) (place : Place) → IsBroken events place → Lawful (history_of events) → ⊥
+broken_unlawful events place b lawful = breaks_unlawful events b.before b.line place.rule b.stands b.breaks lawful

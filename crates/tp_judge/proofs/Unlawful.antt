@@ -35,4 +35,4 @@ pub unlawful_port : (events left closing : List Line) (place : Place) → IsUnla
     → IsLawfulPort events left closing → ⊥
 unlawful_port events left closing place (inl broken) lawful = broken_unlawful events place broken lawful.lawful
 unlawful_port events left closing place (inr broken) lawful =
-    unlawful_left (history_of events) left closing place broken.how lawful.told_left
+    unlawful_left (history_of events) left closing place broken.1.how lawful.told_left

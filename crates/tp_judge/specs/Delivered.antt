@@ -36,38 +36,74 @@ pub record IsTold (lines : List Line) (k : ℕ) (place : Place) : Type 0 where
   pub stands : slice_get lines k ≡ Some line
   pub told : place.line ≡ line.number
 
--- no arrival has the parcel's number
+-- the first sending that has not the next number
+pub record IsMisnumbered (sent : List Line) (k : ℕ) : Type 0 where
+  pub before : (j : ℕ) (p : Parcel) → j < k → ParcelAt sent j p → p.number ≡ j
+  pub parcel : Parcel
+  pub at : ParcelAt sent k parcel
+  pub wrong : parcel.number ≢ k
+
+-- what came at the places below this one was sent there
+abbrev pub AgreesBelow : List Line → List Line → ℕ → Type 0
+AgreesBelow sent came n = (k : ℕ) → k < n → slice_get (parcels sent) k ≡ slice_get (parcels came) k
+
+-- the first place at which what came isn't what was sent there
+pub record DiffersAt (sent came : List Line) (k : ℕ) : Type 0 where
+  pub before : AgreesBelow sent came k
+  pub here : slice_get (parcels sent) k ≢ slice_get (parcels came) k
+
+-- no sending has the parcel's number
+abbrev pub NeverSent : List Line → Parcel → Type 0
+NeverSent sent p = (j : ℕ) (q : Parcel) → ParcelAt sent j q → q.number ≢ p.number
+
+-- no arrival has it
 abbrev pub NeverCame : List Line → Parcel → Type 0
 NeverCame came p = (j : ℕ) (q : Parcel) → ParcelAt came j q → q.number ≢ p.number
 
--- nothing came of what was sent behind this place
-abbrev pub NoneCameBehind : List Line → List Line → ℕ → Type 0
-NoneCameBehind sent came k = (m : ℕ) (p : Parcel) → k < m → ParcelAt sent m p → NeverCame came p
+-- nothing came at this place: there are no more arrivals
+abbrev pub NothingCame : List Line → ℕ → Type 0
+NothingCame came k = (p : Parcel) → ParcelAt came k p → ⊥
 
--- the place in the order is that of a message that was sent later
+-- what came at the place was sent at a later one
 abbrev pub IsOvertaken : List Line → List Line → ℕ → Type 0
 IsOvertaken sent came k = (m : ℕ) × (p : Parcel) × (k < m) × ParcelAt sent m p × ParcelAt came k p
 
--- where the route isn't lawful. Each of these lines names one parcel
+-- the first arrival with the number is this one, at this place
+pub record IsFirstArrival (came : List Line) (number k : ℕ) (p : Parcel) : Type 0 where
+  pub at : ParcelAt came k p
+  pub is : p.number ≡ number
+  pub none_before : (j : ℕ) (q : Parcel) → j < k → ParcelAt came j q → q.number ≢ number
+
+-- what is wrong at this place of the route, the first at which what came isn't what was sent there. It is what is wrong
+-- with what came there. Where nothing came, or what was sent later, it is what became of the one that was sent there
+pub data IsWrongAt (sent came : List Line) (k : ℕ) (place : Place) : Type 0 where
+  -- what was sent there never came; in its place nothing did, or what was sent later
+  lost : (p : Parcel) → place.rule ≡ rule.Lost → IsTold sent k place → ParcelAt sent k p → NeverCame came p
+      → NothingCame came k ⊎ IsOvertaken sent came k → IsWrongAt sent came k place
+  -- what came there has a number that had come before
+  doubled : (j : ℕ) (p q : Parcel) → place.rule ≡ rule.Doubled → IsTold came k place → ParcelAt came k p
+      → j < k → ParcelAt came j q → q.number ≡ p.number → IsWrongAt sent came k place
+  -- what came there was never sent
+  invented : (p : Parcel) → place.rule ≡ rule.Invented → IsTold came k place → ParcelAt came k p → NeverSent sent p
+      → IsWrongAt sent came k place
+  -- what came there is the first with its number, and was sent under that with another message
+  changed : (j : ℕ) (p q : Parcel) → place.rule ≡ rule.Changed → IsTold came k place → ParcelAt sent j q
+      → IsFirstArrival came q.number k p → q.message ≢ p.message → IsWrongAt sent came k place
+  -- what was sent there came further down with another message, and in its place what was sent later
+  changed_later : (m : ℕ) (p q : Parcel) → place.rule ≡ rule.Changed → IsTold came m place → IsOvertaken sent came k
+      → ParcelAt sent k q → k < m → IsFirstArrival came q.number m p → q.message ≢ p.message → IsWrongAt sent came k place
+  -- what was sent there came further down, and in its place what was sent later
+  reordered : (m : ℕ) (p : Parcel) → place.rule ≡ rule.Reordered → IsTold came m place → IsOvertaken sent came k
+      → ParcelAt sent k p → k < m → IsFirstArrival came p.number m p → IsWrongAt sent came k place
+
+-- the first place where the route isn't lawful. Each of these lines names one parcel
 pub data IsUnlawfulRoute (sent came : List Line) (place : Place) : Type 0 where
   -- a sending has not the next number
-  numbering : (k : ℕ) (p : Parcel) → place.rule ≡ rule.Numbering → IsTold sent k place → ParcelAt sent k p
-      → p.number ≢ k → IsUnlawfulRoute sent came place
-  -- what was sent never came, and nothing that was sent behind it did either, or one of these took its place
-  lost : (k : ℕ) (p : Parcel) → place.rule ≡ rule.Lost → IsTold sent k place → ParcelAt sent k p
-      → NeverCame came p → NoneCameBehind sent came k ⊎ IsOvertaken sent came k → IsUnlawfulRoute sent came place
-  -- what came has a number that had come before
-  doubled : (j k : ℕ) (p q : Parcel) → place.rule ≡ rule.Doubled → IsTold came k place → ParcelAt came k p
-      → j < k → ParcelAt came j q → q.number ≡ p.number → IsUnlawfulRoute sent came place
-  -- what came was never sent
-  invented : (k : ℕ) (p : Parcel) → place.rule ≡ rule.Invented → IsTold came k place → ParcelAt came k p
-      → ((j : ℕ) (q : Parcel) → ParcelAt sent j q → q.number ≢ p.number) → IsUnlawfulRoute sent came place
-  -- what came was sent under its number with another message
-  changed : (j k : ℕ) (p q : Parcel) → place.rule ≡ rule.Changed → IsTold came k place → ParcelAt came k p
-      → ParcelAt sent j q → q.number ≡ p.number → q.message ≢ p.message → IsUnlawfulRoute sent came place
-  -- what came was sent before something that came earlier
-  reordered : (i m j k : ℕ) (p q : Parcel) → place.rule ≡ rule.Reordered → IsTold came k place → ParcelAt came k p
-      → ParcelAt sent i p → i < m → ParcelAt sent m q → j < k → ParcelAt came j q → IsUnlawfulRoute sent came place
+  numbering : (k : ℕ) → place.rule ≡ rule.Numbering → IsTold sent k place → IsMisnumbered sent k
+      → IsUnlawfulRoute sent came place
+  -- or each has, and what came differs from what was sent
+  different : (k : ℕ) → AreNumbered (parcels sent) → DiffersAt sent came k → IsWrongAt sent came k place
+      → IsUnlawfulRoute sent came place
 
 -- both ends of the route have a section
 abbrev pub IsJoined : Trace → ℕ → Type 0
@@ -88,6 +124,6 @@ pub record IsUnlawfulOn (trace : Trace) (route : ℕ) (place : Place) : Type 0 w
 abbrev pub Delivered : Trace → Type 0
 Delivered trace = (route : ℕ) → route < length trace.joined.items → IsDeliveredAt trace route
 
--- a place at which some route isn't
+-- the first place at which some route isn't
 abbrev pub IsRoutePlace : Trace → Place → Type 0
 IsRoutePlace trace place = (route : ℕ) × (route < length trace.joined.items) × IsUnlawfulOn trace route place

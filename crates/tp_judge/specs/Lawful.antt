@@ -1,5 +1,5 @@
 -- What makes the ports of a trace lawful, and where they aren't.
-use Rattle.std.specs.Prelude.{◌≡◌, ◌≢◌, ◌+◌, ◌<◌, ◌^◌, ◌⊎◌, ℕ, Option, Some, None, List, [], All, take, length, slice_get, slice_index, OnSome, ⊤}
+use Rattle.std.specs.Prelude.{◌≡◌, ◌≢◌, ◌+◌, ◌<◌, ◌^◌, ◌++◌, ◌⊎◌, ℕ, Option, Some, None, List, [], All, take, length, slice_get, slice_index, OnSome, ⊤}
 use Rattle.tp_queue.specs.declared.event.Env.{Env}
 use Rattle.tp_queue.specs.declared.event.Event.{Event}
 use Rattle.tp_queue.specs.History.{Lawful, queued}
@@ -23,7 +23,11 @@ pub record IsLawfulPort (events left closing : List Line) : Type 0 where
   pub lawful : Lawful (history_of events)
   pub told_left : IsToldLeft (history_of events) left closing
 
--- a line tells as left what isn't queued at its place
+-- what these lines tell as left is what is queued first
+abbrev pub IsToldFirst : List (Event MessageId) → List Line → Type 0
+IsToldFirst h left = (rest : List (Env MessageId)) × (left_in left ++ rest ≡ queued h)
+
+-- the first line that tells as left what isn't queued at its place
 pub record IsLeftWrong (h : List (Event MessageId)) (left closing : List Line) (place : Place) : Type 0 where
   pub closer : Line
   pub closed : slice_get closing 0 ≡ Some closer
@@ -31,6 +35,7 @@ pub record IsLeftWrong (h : List (Event MessageId)) (left closing : List Line) (
   pub line : Line
   pub stands : slice_get left before ≡ Some line
   pub told : place.line ≡ line.number
+  pub right : IsToldFirst h (take before left)
   pub env : Env MessageId
   pub says : left_of line.act ≡ Some env
   pub wrong : slice_get (queued h) (length (left_in (take before left))) ≢ Some env
@@ -54,9 +59,10 @@ abbrev pub IsCloserOf : List Line → Option ℕ → Type 0
 IsCloserOf closing None = closing ≡ []
 IsCloserOf closing (Some number) = IsCloserNumber closing number
 
--- fewer messages are told as left than are queued, at the line that closes the section
+-- what is told as left is queued, but not all that is: this is told at the line that closes the section
 pub record IsLeftMissing (h : List (Event MessageId)) (left closing : List Line) (place : Place) : Type 0 where
   pub closes : IsCloserNumber closing place.line
+  pub right : IsToldFirst h left
   pub missing : length (left_in left) < length (queued h)
 
 -- what is left is told wrongly
@@ -64,10 +70,11 @@ pub record IsLeftBroken (h : List (Event MessageId)) (left closing : List Line) 
   pub rule_is : place.rule ≡ rule.Left
   pub how : IsLeftWrong h left closing place ⊎ IsLeftMissing h left closing place
 
--- where the port isn't lawful
+-- the first place where the port isn't lawful: the first line that breaks a rule; or where there is none, the first at
+-- which what is left is told wrongly
 abbrev pub IsUnlawfulPort : List Line → List Line → List Line → Place → Type 0
 IsUnlawfulPort events left closing place =
-    IsBroken events place ⊎ IsLeftBroken (history_of events) left closing place
+    IsBroken events place ⊎ (Lawful (history_of events) × IsLeftBroken (history_of events) left closing place)
 
 -- each line's numbers are among those of the trace
 pub record AreWithin (trace : Trace) : Type 0 where
@@ -112,6 +119,6 @@ IsUnlawfulAt trace port place = IsUnlawfulPort (lines_with by.Port port trace.li
 abbrev pub LawfulPorts : Trace → Type 0
 LawfulPorts trace = (port : ℕ) → port < length trace.owners.items → IsLawfulAt trace port
 
--- a place at which some port isn't
+-- the first place at which some port isn't
 abbrev pub IsPortPlace : Trace → Place → Type 0
 IsPortPlace trace place = (port : ℕ) × (port < length trace.owners.items) × IsUnlawfulAt trace port place

@@ -5,7 +5,7 @@ use Rattle.std.specs.Option.{option_to_list}
 use Rattle.tp_queue.specs.declared.event.Env.{Env}
 use Rattle.tp_queue.specs.declared.event.Event.{Event}
 use Rattle.tp_queue.specs.declared.event.Status.TheVariants as status
-use Rattle.tp_queue.specs.History.{queued, status_of, top, limit, gone}
+use Rattle.tp_queue.specs.History.{Lawful, queued, status_of, top, limit, gone}
 use Rattle.tp_queue.specs.Queues.{QueueState, StandsFor}
 use Rattle.tp_judge.specs.declared.line.MessageId.{MessageId}
 use Rattle.tp_judge.specs.declared.line.Act.{Act}
@@ -28,11 +28,12 @@ left_in lines = filter_map (λ line. left_of line.act) lines
 abbrev pub IsBehind : List (Event MessageId) → Env MessageId → Type 0
 IsBehind h e = (k : ℕ) × (limit h - gone h ≤ k) × (slice_get (queued h) k ≡ Some e)
 
--- why what isn't the top can't be taken, found or discarded
+-- why what isn't the top can't be taken, found or discarded: the port is stopped; or it is halted, and this stands
+-- behind the mark; or neither
 abbrev pub IsReason : Rule → List (Event MessageId) → Env MessageId → Type 0
 IsReason rule.Stopped h e = status_of h ≡ status.Stopped
 IsReason rule.Behind h e = (status_of h ≡ status.Halted) × IsBehind h e
-IsReason rule.NotTop h e = ⊤
+IsReason rule.NotTop h e = (status_of h ≢ status.Stopped) × (status_of h ≡ status.Halted → IsBehind h e → ⊥)
 IsReason _ h e = ⊥
 
 -- the line takes, finds or discards what isn't the top, for this reason
@@ -52,10 +53,12 @@ abbrev pub Replays : List (Event MessageId) → Act → QueueState MessageId →
 Replays h a after None = StandsFor after (h ++ option_to_list (event_of a))
 Replays h a after (Some broken) = Breaks broken h a
 
--- one of the port's lines breaks the rule, behind those that stand before it
+-- the first of the port's lines that breaks a rule: those before it are a lawful history, and behind that it breaks this
+-- one
 pub record IsBroken (events : List Line) (place : Place) : Type 0 where
   pub before : ℕ
   pub line : Line
   pub stands : slice_get events before ≡ Some line
   pub told : place.line ≡ line.number
+  pub lawful : Lawful (history_of (take before events))
   pub breaks : Breaks place.rule (history_of (take before events)) line.act

@@ -9,7 +9,12 @@ use Rattle.tp_judge.specs.Circles.{IsCirclePlace}
 use Rattle.tp_judge.specs.Delivered.{Delivered, IsDeliveredAt, IsUnlawfulOn}
 use Rattle.tp_judge.specs.Lawful.{IsLawfulAt, IsUnlawfulAt}
 
--- of each of the first n that isn't lawful one place where it isn't, in their order, and of the others none
+-- it is so of this place, and of no other
+pub record IsOnly (P : Place → Type 0) (place : Place) : Type 0 where
+  pub is : P place
+  pub no_other : (other : Place) → P other → other ≡ place
+
+-- of each of the first n that isn't lawful the one place that can be told of it, in their order, and of the others none
 pub data OneForEach (lawful : ℕ → Type 0) (unlawful : ℕ → Place → Type 0) : ℕ → List Place → Type 0 where
   -- at first there is none
   of_none : OneForEach lawful unlawful 0 []
@@ -18,7 +23,7 @@ pub data OneForEach (lawful : ℕ → Type 0) (unlawful : ℕ → Place → Type
       → OneForEach lawful unlawful (n + 1) places
   -- or it isn't, at this place
   next_unlawful : (n : ℕ) (places : List Place) (place : Place) → OneForEach lawful unlawful n places
-      → unlawful n place → OneForEach lawful unlawful (n + 1) (places ++ place ∷ [])
+      → IsOnly (unlawful n) place → OneForEach lawful unlawful (n + 1) (places ++ place ∷ [])
 
 -- what is told of the ports
 abbrev pub AreToldOfPorts : Trace → List Place → Type 0
@@ -41,8 +46,8 @@ pub record AreToldOfOrder (trace : Trace) (places : List Place) : Type 0 where
   pub of_circles : IsToldOfCircles trace circle
   pub are : places ≡ routes ++ option_to_list circle
 
--- **all that is told of a trace**, in whatever order: one place for each port and each route that isn't lawful, and
--- where all routes are lawful one of a circle, if there is any
+-- **all that is told of a trace**, in whatever order: of each port and each route that isn't lawful the one place that
+-- can be told of it, and where all routes are lawful one of a circle, if there is any
 pub record AreToldOf (trace : Trace) (places : List Place) : Type 0 where
   pub ports : List Place
   pub order : List Place

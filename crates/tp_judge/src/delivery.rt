@@ -31,7 +31,7 @@ pub(crate) fn gather_routes<'t>(alloc: Global, trace: &'t Trace) -> Result<Route
     Ok(RouteRows { sent, came })
 }
 
-/// A line at which this route isn't lawful, if there is one.
+/// The first line at which this route isn't lawful, in the order of sending, if there is one.
 fn place_on(trace: &Trace, rows: &RouteRows<'_>, route: usize) -> Option<Place>
     requires rows { AreRouteRows trace.now rows.now }
     requires route { route < length trace.now.joined.items }
@@ -43,7 +43,7 @@ fn place_on(trace: &Trace, rows: &RouteRows<'_>, route: usize) -> Option<Place>
     route_place(&rows.sent[route], &rows.came[route])
 }
 
-/// For each route that isn't lawful a line at which it isn't.
+/// For each route that isn't lawful the first line at which it isn't, in the order of sending.
 pub(crate) fn route_places(
     alloc: Global,
     trace: &Trace,

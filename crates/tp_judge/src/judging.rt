@@ -44,8 +44,8 @@ fn put_in_order(places: &mut Vec<Place>) -> Result<(), Memory>
     Ok(())
 }
 
-/// The places where a trace isn't lawful, in the order of their lines: one for each port and each
-/// route that isn't, and where all routes are lawful one of a circle, if there is any.
+/// The places where a trace isn't lawful, in the order of their lines: the first of each port and
+/// of each route that isn't, and where all routes are lawful one of a circle, if there is any.
 pub fn judge(alloc: Global, trace: &Trace) -> Result<Vec<Place>, Memory>
     requires { AreWithin trace.now }
     ensures lawful { IfOk result (λ places. (places.items ≡ []) ↔ IsLawful trace.now) }

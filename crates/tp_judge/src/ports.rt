@@ -63,8 +63,8 @@ fn closers_of(alloc: Global, closing: &[Vec<&Line>]) -> Result<Vec<Option<u32>>,
     Ok(closers)
 }
 
-/// A line where what is told as left isn't what is queued, if there is one. The section is closed
-/// by the line of this number, or open.
+/// The first line where what is told as left isn't what is queued, if there is one. The section is
+/// closed by the line of this number, or open.
 fn left_place(
     queue: &Queue<MessageId>,
     left: &[&Line],
@@ -104,7 +104,7 @@ fn left_place(
     None
 }
 
-/// A line at which the port isn't lawful, if there is one.
+/// The first line at which the port isn't lawful, if there is one.
 fn port_place(
     alloc: Global,
     events: &[&Line],
@@ -149,7 +149,7 @@ fn gather_ports<'t>(alloc: Global, trace: &'t Trace) -> Result<PortRows<'t>, Mem
     })
 }
 
-/// A line at which this port isn't lawful, if there is one.
+/// The first line at which this port isn't lawful, if there is one.
 fn place_at(
     alloc: Global,
     trace: &Trace,
@@ -172,7 +172,7 @@ fn place_at(
     )
 }
 
-/// For each port that isn't lawful a line at which it isn't.
+/// For each port that isn't lawful the first line at which it isn't.
 pub(crate) fn port_places(alloc: Global, trace: &Trace) -> Result<Vec<Place>, Memory>
     requires { AreWithin trace.now }
     ensures lawful { IfOk result (λ places. (places.items ≡ []) ↔ LawfulPorts trace.now) }

@@ -58,7 +58,7 @@ fn is_top(queue: &Queue<MessageId>, mention: Mention) -> bool
 
 /// Whether this stands behind the mark.
 fn is_behind(queue: &Queue<MessageId>, mention: Mention) -> bool
-    ensures { AtHistory queue.now (λ h. IsTrue result → IsBehind h (envelope mention)) }
+    ensures { AtHistory queue.now (λ h. IsTrue result ↔ IsBehind h (envelope mention)) }
 {
     for place in queue.ahead()..queue.queued_len() {
         match queue.queued_at(place) {

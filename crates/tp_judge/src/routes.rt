@@ -1,9 +1,10 @@
 //! The rule on delivery: one route.
 ghost use Rattle.std.specs.Prelude.{◌≡◌, ◌↔◌, ◌<◌, All, IfSome, IsTrue, MatchOption, length, slice_get};
-ghost use Rattle.tp_judge.specs.Delivered.{AreNumbered, IsDelivered, IsTold, IsUnlawfulRoute};
-ghost use Rattle.tp_judge.specs.Delivered.{IsOvertaken, NamesParcel, ParcelAt, parcels};
+ghost use Rattle.tp_judge.specs.Delivered.{AgreesBelow, AreNumbered, DiffersAt, IsDelivered};
+ghost use Rattle.tp_judge.specs.Delivered.{IsMisnumbered, IsOvertaken, IsTold, IsUnlawfulRoute};
+ghost use Rattle.tp_judge.specs.Delivered.{IsWrongAt, NamesParcel, ParcelAt, parcels};
 ghost use Rattle.tp_judge.specs.Gathered.{seen};
-ghost use Rattle.tp_judge.specs.Routed.{AgreesBelow, DiffersAt, HasNumberFrom, IsMisnumbered, NoNumberFrom};
+ghost use Rattle.tp_judge.specs.Routed.{HasNumberFrom, NoNumberFrom};
 
 use crate::line::{Line, Parcel};
 use crate::place::{Place, Rule};
@@ -104,7 +105,7 @@ fn overtaken_at(sent: &[&Line], came: &[&Line], place: usize) -> Place
     requires agrees { AgreesBelow (seen sent.now) (seen came.now) place }
     requires overtaken { IsOvertaken (seen sent.now) (seen came.now) place }
     requires within { place < length sent.now }
-    ensures { IsUnlawfulRoute (seen sent.now) (seen came.now) result }
+    ensures { IsWrongAt (seen sent.now) (seen came.now) place result }
 {
     let parcel = parcel_at(sent, place);
     match find_from(came, place, place as u64) {
@@ -125,7 +126,7 @@ fn fault_at(sent: &[&Line], came: &[&Line], place: usize) -> Place
     requires numbered { AreNumbered (parcels (seen sent.now)) }
     requires within { place < length came.now }
     requires differs { DiffersAt (seen sent.now) (seen came.now) place }
-    ensures { IsUnlawfulRoute (seen sent.now) (seen came.now) result }
+    ensures { IsWrongAt (seen sent.now) (seen came.now) place result }
 {
     let parcel = parcel_at(came, place);
     if parcel.number >= sent.len() as u64 {
@@ -141,7 +142,7 @@ fn fault_at(sent: &[&Line], came: &[&Line], place: usize) -> Place
     overtaken_at(sent, came, place)
 }
 
-/// A line at which the route isn't lawful, if there is one.
+/// The first line at which the route isn't lawful, in the order of sending, if there is one.
 pub(crate) fn route_place(sent: &[&Line], came: &[&Line]) -> Option<Place>
     requires sent { All NamesParcel (seen sent.now) }
     requires came { All NamesParcel (seen came.now) }

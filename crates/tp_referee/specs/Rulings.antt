@@ -21,7 +21,7 @@ pub record IsUnlawful (trace : Trace) (places : List Place) : Type 0 where
   pub all : AreToldOf trace places
 
 -- **lawful exactly where the trace is**, and then one run exactly where it is one; where it isn't lawful each place is
--- true, and none is left out or told twice
+-- true, and none is left out or told twice. Of a port or a route no other could be told
 abbrev pub IsRulingOn : Trace → Ruling → Type 0
 IsRulingOn trace (ruling.Lawful run) = IsLawful trace × IsRunAnswer trace run
 IsRulingOn trace (ruling.Unlawful places) = IsUnlawful trace places.items

@@ -6,6 +6,7 @@ use Rattle.tp_judge.specs.Delivered.{IsDeliveredAt, IsUnlawfulOn}
 use Rattle.tp_judge.specs.ToldOf.{OneForEach, of_none, next_lawful, next_unlawful}
 use Rattle.tp_judge.proofs.Collecting.{each_found, none_exactly}
 use Rattle.tp_judge.proofs.Deliveries.{unlawful_route}
+use Rattle.tp_judge.proofs.OneOnRoute.{one_on_route}
 use Rattle.tp_judge.proofs.delivery.route_places.Goals as goal
 use Rattle.tp_judge.proofs.delivery.route_places.Goals.{in-None, in-Some+in_ok-push-in-Some}
 
@@ -27,7 +28,8 @@ loop-route-preserved c =
           let pushed : c.match-found.places.items ≡ places ++ w.in-Some.place ∷ [] =
           grind (arith, common_steps, w.places-is, w.in_ok-push-in-Some.ensures.items) in
           subst P (sym pushed)
-          (next_unlawful c.loop-route.route places w.in-Some.place c.loop-route.invariant w.in-Some.ensures)
+          (next_unlawful c.loop-route.route places w.in-Some.place c.loop-route.invariant
+          (record { is = w.in-Some.ensures; no_other = λ other there. one_on_route _ _ other w.in-Some.place there.broken w.in-Some.ensures.broken }))
     ]
 
 pub returns : goal.returns

@@ -1,5 +1,5 @@
 -- One line more tells what is queued at its place, or nothing; or it tells it wrongly.
-use Rattle.std.proofs.Common.{◌≡◌, ℕ, ◌+◌, List, refl, sym, ap, ◌∙◌, subst, arith}
+use Rattle.std.proofs.Common.{◌≡◌, ℕ, ◌+◌, List, length, refl, sym, ap, ◌∙◌, subst, arith}
 use Rattle.std.specs.Prelude.{slice_get}
 use Rattle.std.proofs.lemmas.Option.{slice_get_within}
 use Rattle.std.proofs.lemmas.Bool.{false≢true}
@@ -10,7 +10,7 @@ use Rattle.tp_judge.specs.declared.line.MessageId.{MessageId}
 use Rattle.tp_judge.specs.Gathered.{seen}
 use Rattle.tp_judge.specs.Lawful.{IsCloserNumber}
 use Rattle.tp_judge.specs.Lines.{envelope, left_of}
-use Rattle.tp_judge.proofs.Leaving.{TellsFirst, tells_one, tells_none, tells_wrong, not_left}
+use Rattle.tp_judge.proofs.Leaving.{TellsFirst, tells_missing, tells_one, tells_none, tells_wrong, not_left}
 use Rattle.tp_judge.proofs.Unlawful.{first_there}
 use Rattle.tp_judge.proofs.ports.left_place.Goals as goal
 use Rattle.tp_judge.proofs.ports.left_place.Goals.{in-Left+else-not-is_queued, in_default-act}
@@ -25,6 +25,18 @@ returns-then-not-is_queued c h s =
     (subst (λ (q : List (Env MessageId)). TellsFirst q c.args.left.now c.loop-line.line-index c.loop-line.told) there c.loop-line.invariant)
     (ap left_of c.in-Left.is)
     (λ is. false≢true (c.if-not-is_queued.ensures.1 (ap (λ q. slice_get q c.loop-line.told) there ∙ is)))
+
+pub returns-then-told-count : goal.returns-then-told-count
+returns-then-told-count c h s =
+    let closes : IsCloserNumber (seen c.args.closing.now) c.in-Some.closer = rw c.in-Some.is at c.requires in
+    let there : c.args.queue.now.entries ≡ queued h = ap (λ (q : QueueState _). q.entries) s.state in
+    let count = c.queued_len-count.ensures in
+    let size = ap length there in
+    let fewer = c.if-told-count.true in
+    tells_missing h c.args.left.now (seen c.args.closing.now) c.loop-line.line-index c.loop-line.told c.in-Some.closer closes
+    (omega arith)
+    (subst (λ (q : List (Env MessageId)). TellsFirst q c.args.left.now c.loop-line.line-index c.loop-line.told) there c.loop-line.invariant)
+    (omega arith)
 
 pub overflow_add-told : goal.overflow_add-told
 overflow_add-told c =

@@ -6,6 +6,7 @@ use Rattle.tp_judge.specs.Lawful.{IsLawfulAt, IsUnlawfulAt}
 use Rattle.tp_judge.specs.ToldOf.{OneForEach, of_none, next_lawful, next_unlawful}
 use Rattle.tp_judge.proofs.Collecting.{each_found, none_exactly}
 use Rattle.tp_judge.proofs.Unlawful.{unlawful_port}
+use Rattle.tp_judge.proofs.OneAtPort.{one_at_port}
 use Rattle.tp_judge.proofs.ports.port_places.Goals as goal
 use Rattle.tp_judge.proofs.ports.port_places.Goals.{in-None, in-Some+in_ok-push-in-Some}
 
@@ -25,8 +26,9 @@ loop-port-preserved c =
           let pushed : c.match-found.places.items ≡ places ++ w.in-Some.place ∷ [] =
           grind (arith, common_steps, w.places-is, w.in_ok-push-in-Some.ensures.items) in
           subst P (sym pushed)
-          (next_unlawful c.loop-port.port places w.in-Some.place c.loop-port.invariant
-          (rw w.in-Some.is at c.in_ok-found.ensures))
+          (let here : IsUnlawfulAt trace c.loop-port.port w.in-Some.place = rw w.in-Some.is at c.in_ok-found.ensures in
+          next_unlawful c.loop-port.port places w.in-Some.place c.loop-port.invariant
+          (record { is = here; no_other = λ other there. one_at_port _ _ _ other w.in-Some.place there here }))
     ]
 
 pub returns : goal.returns

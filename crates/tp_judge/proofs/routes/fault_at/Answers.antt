@@ -5,12 +5,12 @@ use Rattle.std.specs.Prelude.{slice_get}
 use Rattle.tp_judge.specs.Gathered.{seen}
 use Rattle.tp_judge.specs.Delivered.{parcels, invented, changed}
 use Rattle.tp_judge.proofs.Parcels.{named_within}
-use Rattle.tp_judge.proofs.Deliveries.{doubled_here, same_parcel}
+use Rattle.tp_judge.proofs.Deliveries.{doubled_here, first_arrival, same_parcel}
 use Rattle.tp_judge.proofs.routes.fault_at.Goals as goal
 
 pub returns-then-parcel-sent : goal.returns-then-parcel-sent
 returns-then-parcel-sent c =
-    invented c.args.place c.parcel_at-parcel.result c.told_at.ensures.rule c.told_at.ensures.told c.parcel_at-parcel.ensures
+    invented c.parcel_at-parcel.result c.told_at.ensures.rule c.told_at.ensures.told c.parcel_at-parcel.ensures
     (λ j q at same.
     let number = c.requires.numbered j q at in
     let within = named_within c.args.sent.now c.requires.sent j q at in
@@ -30,8 +30,11 @@ returns-then-ne c =
     let parcel = c.parcel_at-parcel.result in
     let sent = c.parcel_at-original.result in
     let number = c.requires.numbered parcel.number sent c.parcel_at-original.ensures in
-    changed parcel.number c.args.place parcel sent c.told_at-then-ne.ensures.rule c.told_at-then-ne.ensures.told
-    c.parcel_at-parcel.ensures c.parcel_at-original.ensures number
+    let first = first_arrival (seen c.args.sent.now) (seen c.args.came.now) c.args.place c.args.place sent.number parcel
+    c.requires.numbered c.requires.differs.before (let high = c.if-parcel-place.false in omega arith)
+    c.parcel_at-parcel.ensures (sym number) (λ j q high low at. absurd (omega arith)) in
+    changed parcel.number parcel sent c.told_at-then-ne.ensures.rule c.told_at-then-ne.ensures.told
+    c.parcel_at-original.ensures first
     (λ message. let same = same_parcel sent parcel number message in grind (arith, c.ne.ensures, c.if-ne.true, same))
 
 pub overtaken_at-requires-clause-overtaken : goal.overtaken_at-requires-clause-overtaken

@@ -1,6 +1,6 @@
 -- What came so far was sent there.
 use Rattle.tp_judge.specs.Gathered.{seen}
-use Rattle.tp_judge.specs.Routed.{AgreesBelow}
+use Rattle.tp_judge.specs.Delivered.{AgreesBelow}
 use Rattle.tp_judge.proofs.routes.first_difference.Given as goal
 
 abbrev pub invariant-loop-place : goal.invariant-loop-place

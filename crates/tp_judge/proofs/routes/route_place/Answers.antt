@@ -1,15 +1,17 @@
 -- What came is what was sent, or there is a place.
 use Rattle.std.proofs.Common.{length, ◌∙◌, arith}
 use Rattle.tp_judge.specs.Gathered.{seen}
-use Rattle.tp_judge.specs.Delivered.{parcels, numbering}
+use Rattle.tp_judge.specs.Delivered.{different, numbering, parcels}
 use Rattle.tp_judge.proofs.Parcels.{length-parcels, length-seen, named_there, named_within}
 use Rattle.tp_judge.proofs.Deliveries.{lost_behind, same_lists}
 use Rattle.tp_judge.proofs.routes.route_place.Goals as goal
 
 pub returns-in-Some : goal.returns-in-Some
-returns-in-Some c =
-    let at = c.in-Some.ensures.numbered in
-    numbering c.in-Some.place at.0 c.told_at.ensures.rule c.told_at.ensures.told at.1 at.2
+returns-in-Some c = numbering c.in-Some.place c.told_at.ensures.rule c.told_at.ensures.told c.in-Some.ensures.numbered
+
+pub returns-in-Some-first_difference : goal.returns-in-Some-first_difference
+returns-in-Some-first_difference c =
+    different c.in-Some-first_difference.place c.in_default.ensures.numbered c.in-Some-first_difference.ensures.differs c.fault_at.ensures
 
 pub returns-then-came-sent : goal.returns-then-came-sent
 returns-then-came-sent c =
