@@ -1,12 +1,12 @@
 //! Why a run has no report, and how that is told.
-ghost use Rattle.std.specs.Prelude.{◌≡◌, OnOk};
-ghost use Rattle.std.specs.Io.KnownBytes.{Appends};
+ghost use Rattle.std.specs.Prelude.{◌≡◌};
+ghost use Rattle.tp_text.specs.Watching.{Writes};
 ghost use Rattle.tp_exec.specs.Faults.{run_fault_text, run_refusal};
 
-use std::io;
 use std::io::Write;
 use thiserror::Error;
 use tp_refusal::refusal::Refusal;
+use tp_text::watched::{Watched, write_bytes, write_number};
 
 /// Why a run has no report. Where several hold, the first of this order is answered; but a run that
 /// is restless says so where memory is refused for its report alone.
@@ -40,12 +40,14 @@ impl RunFault {
     }
 }
 
-/// Writes the line of a fault: `fault`, its number and its name. An error where the writer failed;
-/// how much of the line is written then is open.
-pub fn write_run_fault<W: Write>(writer: &mut W, fault: RunFault) -> io::Result<()>
-    ensures { OnOk result (Appends (W.contents writer.old) (W.contents writer.new)
-        (run_fault_text fault)) }
+/// Writes the line of a fault: `fault`, its number and its name.
+pub fn write_run_fault<W: Write>(writer: &mut Watched<W>, fault: RunFault)
+    ensures { Writes W.contents writer.old writer.new (run_fault_text fault) }
 {
     let (number, name) = fault.refusal().label();
-    write!(writer, "fault {number} {name}\n")
+    write_bytes(b"fault ", writer);
+    write_number(number as u64, writer);
+    write_bytes(b" ", writer);
+    write_bytes(name.as_bytes(), writer);
+    write_bytes(b"\n", writer);
 }

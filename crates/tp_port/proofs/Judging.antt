@@ -1,6 +1,6 @@
 -- The lines of a text, judged and answered from its front.
 use Rattle.std.proofs.Common.{◌≡◌, ℕ, zero, suc, ◌+◌, ◌-◌, ◌≤◌, inl, inr, Option, Some, None, List, [], ◌∷◌, ◌++◌, length, take, refl, ap, sym, ◌∙◌, subst, arith, append_assoc, append-nil}
-use Rattle.std.specs.Prelude.{slice_get, All, Result, Ok, Err, IfSome, IfErr}
+use Rattle.std.specs.Prelude.{slice_get, All, Result, Ok, Err, IfSome, IfErr, OnOk}
 use Rattle.std.specs.List.{AllZip}
 use Rattle.std.proofs.lemmas.List.{length-append}
 use Rattle.std.proofs.lemmas.List.Elements.{All-append}
@@ -13,7 +13,8 @@ use Rattle.tp_port.specs.Replay.{Progress, answer, sighted, after, text_from, le
 use Rattle.tp_text.specs.declared.text.ReadFault.{ReadFault}
 use Rattle.tp_text.specs.declared.text.ReadFault.TheVariants as read
 use Rattle.tp_text.specs.Reading.{TakesBytes}
-use Rattle.tp_port.specs.Faults.{HasFault, IsFaultOf, IsReadFaultOf, fault_of}
+use Rattle.tp_text.specs.declared.watched.Watched.{Watched}
+use Rattle.tp_port.specs.Faults.{IsAnswerTo, IsReplayed, HasFault, IsFaultOf, IsReadFaultOf, fault_of}
 
 get_after : {X : Type 0} (xs ys : List X) (y : X) → slice_get (xs ++ y ∷ ys) (length xs) ≡ Some y
 get_after [] ys y = refl
@@ -113,3 +114,14 @@ read_faults (Ok x) old new text e short taken h = tt
 read_faults (Err x) None new text e short taken h = (taken.0, taken.1, tt)
 read_faults (Err x) (Some all) new text e short taken h =
     let P : List ℕ → Type 0 = λ s. IsReadFaultOf s (length taken.0) x in (taken.0, taken.1, subst P e (read_fault x text (length taken.0) short taken.2 h))
+
+-- what is answered to a text that was read is answered to what the reader had
+pub read_replayed : {W : Type 0} (contents : W → Option (List ℕ)) (known : Option (List ℕ)) (text lent : List ℕ) (old new : Watched W)
+    → IfSome known (λ all. text ≡ all) → lent ≡ text → IsReplayed contents (Some lent) old new → IsReplayed contents known old new
+read_replayed contents None text lent old new is same h = record { answer = h.answer; is = tt; written = h.written }
+read_replayed contents (Some all) text lent old new is same h =
+    record { answer = h.answer; is = subst (λ (t : List ℕ). IsAnswerTo t h.answer) (same ∙ is) h.is; written = h.written }
+
+pub on_ok : {T E : Type 0} (r : Result T E) (P Q : Type 0) → (P → Q) → OnOk r P → OnOk r Q
+on_ok (Ok v) P Q f h = f h
+on_ok (Err e) P Q f h = tt

@@ -1,6 +1,6 @@
 -- When a queue file is answered, and when each fault comes.
 use Rattle.std.specs.Prelude.{◌≡◌, ℕ, ◌<◌, ◌≤◌, ◌⊎◌, Option, List, length, All, IfSome}
-use Rattle.std.specs.Io.KnownBytes.{Appends, Consumes}
+use Rattle.std.specs.Io.KnownBytes.{Consumes}
 use Rattle.tp_text.specs.declared.text.ReadFault.{ReadFault}
 use Rattle.tp_text.specs.declared.text.ReadFault.TheVariants as read_fault
 use Rattle.tp_text.specs.Cutting.{lines_of}
@@ -8,6 +8,8 @@ use Rattle.tp_port.specs.declared.replay.QueueFault.{QueueFault}
 use Rattle.tp_port.specs.declared.replay.QueueFault.TheVariants as queue_fault
 use Rattle.tp_port.specs.Line.{Line, Says, IsGood, IsFirstBad}
 use Rattle.tp_text.specs.Reading.{IsFull}
+use Rattle.tp_text.specs.declared.watched.Watched.{Watched}
+use Rattle.tp_text.specs.Watching.{Writes}
 use Rattle.tp_port.specs.Replay.{queue_text}
 
 abbrev pub fault_of : ReadFault → QueueFault
@@ -15,9 +17,15 @@ fault_of read_fault.Read = queue_fault.Read
 fault_of read_fault.Limit = queue_fault.Limit
 fault_of read_fault.Memory = queue_fault.Memory
 
--- what is written grew by the answers to the lines of the text
-abbrev pub Answers : List ℕ → Option (List ℕ) → Option (List ℕ) → Type 0
-Answers text old new = (lines : List Line) × Says text lines × Appends old new (queue_text lines)
+-- these are the answers to the lines of the text
+abbrev pub IsAnswerTo : List ℕ → List ℕ → Type 0
+IsAnswerTo text answer = (lines : List Line) × Says text lines × (answer ≡ queue_text lines)
+
+-- the answers to the text are written, where the text is known; or a front of them, and the writer has failed
+pub record IsReplayed {W : Type 0} (contents : W → Option (List ℕ)) (known : Option (List ℕ)) (old new : Watched W) : Type 0 where
+  pub answer : List ℕ
+  pub is : IfSome known (λ text. IsAnswerTo text answer)
+  pub written : Writes contents old new answer
 
 -- within the limit: the first bad line, and want of memory only where no line is bad
 abbrev pub IsRefusedFor : List ℕ → QueueFault → Type 0

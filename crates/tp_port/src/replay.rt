@@ -1,7 +1,8 @@
 //! A queue file, read, carried out and answered.
-ghost use Rattle.std.specs.Prelude.{◌≡◌, ◌<◌, ◌≤◌, ◌↔◌, length, All, IsErrOf, IfErr, IfOk, IfSome, List, MatchOption, OnOk, string_bytes};
+ghost use Rattle.std.specs.Prelude.{◌≡◌, ◌<◌, ◌≤◌, ◌↔◌, length, All, IsErrOf, IfErr, IfOk, IfSome, List, MatchOption, OnOk, Some, false, string_bytes};
+ghost use Rattle.tp_text.specs.Watching.{HasFailed, left_in};
 ghost use Rattle.tp_text.specs.Cutting.{lines_of};
-ghost use Rattle.tp_port.specs.Faults.{Answers, HasFault, IsFaultOf, IsRefusedFor};
+ghost use Rattle.tp_port.specs.Faults.{HasFault, IsFaultOf, IsRefusedFor, IsReplayed};
 ghost use Rattle.tp_port.specs.Line.{IsFirstBad, IsGood, Line, Says};
 ghost use Rattle.tp_port.specs.Replay.{queue_text};
 
@@ -13,6 +14,7 @@ use thiserror::Error;
 use tp_refusal::limit::TEXT_LIMIT;
 use tp_text::cut::first_line;
 use tp_text::text::{ReadFault, read_text};
+use tp_text::watched::{Watched, write_bytes};
 
 /// Why a queue file was not replayed.
 #[derive(Clone, Copy, Debug, PartialEq, Eq, Error)]
@@ -23,7 +25,7 @@ pub enum QueueFault {
     /// 2 Read: the reader answered an error.
     #[error("the text could not be read")]
     Read,
-    /// 3 Write: the writer answered an error.
+    /// 3 Write: the writer answered an error, or took no byte.
     #[error("the answers could not be written")]
     Write,
     /// 15 Limit: the text has more than 1,048,576 bytes.
@@ -106,13 +108,20 @@ fn answers_to(alloc: Global, text: &[u8]) -> Result<String, QueueFault>
 ///
 /// Refused are, in this order, 15 `Limit` a text of more than 1,048,576 bytes, 1 `BadLine` its
 /// first line that no queue file has, and 50 `Memory` where an allocation was refused: each before
-/// anything is written. 3 `Write` where the writer answered an error; how much is written then is
-/// open.
-pub fn replay_text<W: Write>(alloc: Global, text: &[u8], writer: &mut W) -> Result<(), QueueFault>
-    ensures written { OnOk result
-        (Answers text.now (W.contents writer.old) (W.contents writer.new)) }
+/// anything is written. 3 `Write` where the writer has failed: a front of the answers is written
+/// then.
+pub fn replay_text<W: Write>(
+    alloc: Global,
+    text: &[u8],
+    writer: &mut Watched<W>,
+) -> Result<(), QueueFault>
+    ensures written { OnOk result (IsReplayed W.contents (Some text.now) writer.old writer.new) }
+    ensures well { OnOk result (writer.new.failed ≡ false) }
     ensures fault { IfErr result (IsFaultOf text.now) }
     ensures limit { IsErrOf result QueueFault.Limit ↔ (1048576 < length text.now) }
+    ensures cut { IsErrOf result QueueFault.Write
+        → IsReplayed W.contents (Some text.now) writer.old writer.new }
+    ensures failed { IsErrOf result QueueFault.Write → HasFailed writer.new }
     ensures unwritten { IfErr result (λ fault.
         (fault ≡ QueueFault.Write → ⊥) → writer.new ≡ writer.old) }
 {
@@ -121,10 +130,13 @@ pub fn replay_text<W: Write>(alloc: Global, text: &[u8], writer: &mut W) -> Resu
     }
     match answers_to(alloc, text) {
         Err(fault) => Err(fault),
-        Ok(answers) => match writer.write_all(answers.as_str().as_bytes()) {
-            Ok(()) => Ok(()),
-            Err(_) => Err(QueueFault::Write),
-        },
+        Ok(answers) => {
+            write_bytes(answers.as_str().as_bytes(), writer);
+            if writer.has_failed() {
+                return Err(QueueFault::Write);
+            }
+            Ok(())
+        }
     }
 }
 
@@ -135,13 +147,20 @@ pub fn replay_text<W: Write>(alloc: Global, text: &[u8], writer: &mut W) -> Resu
 /// 50 `Memory` and 3 `Write` as [`replay_text`] says. Nothing is written before all but the last.
 pub fn replay<R: Read, W: Write>(
     alloc: Global,
-    reader: &mut R,
-    writer: &mut W,
+    reader: &mut Watched<R>,
+    writer: &mut Watched<W>,
 ) -> Result<(), QueueFault>
-    ensures written { OnOk result (IfSome (R.remaining reader.old) (λ text.
-        Answers text (W.contents writer.old) (W.contents writer.new))) }
-    ensures short { OnOk result (IfSome (R.remaining reader.old) (λ text. length text ≤ 1048576)) }
-    ensures fault { IfErr result (HasFault (R.remaining reader.old) (R.remaining reader.new)) }
+    ensures written { OnOk result
+        (IsReplayed W.contents (left_in R.remaining reader.old) writer.old writer.new) }
+    ensures well { OnOk result (writer.new.failed ≡ false) }
+    ensures short { OnOk result
+        (IfSome (left_in R.remaining reader.old) (λ text. length text ≤ 1048576)) }
+    ensures fault { IfErr result
+        (HasFault (left_in R.remaining reader.old) (left_in R.remaining reader.new)) }
+    ensures unread { IsErrOf result QueueFault.Read → HasFailed reader.new }
+    ensures cut { IsErrOf result QueueFault.Write
+        → IsReplayed W.contents (left_in R.remaining reader.old) writer.old writer.new }
+    ensures failed { IsErrOf result QueueFault.Write → HasFailed writer.new }
     ensures unwritten { IfErr result (λ fault.
         (fault ≡ QueueFault.Write → ⊥) → writer.new ≡ writer.old) }
 {

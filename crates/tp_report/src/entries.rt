@@ -1,7 +1,7 @@
 //! The entries of a component's history.
-ghost use Rattle.std.specs.Prelude.{◌≡◌, All, OnOk};
+ghost use Rattle.std.specs.Prelude.{◌≡◌, All};
 ghost use Rattle.std.specs.List.{flat_map};
-ghost use Rattle.std.specs.Io.KnownBytes.{Appends};
+ghost use Rattle.tp_text.specs.Watching.{Writes};
 ghost use Rattle.tp_config.specs.Setup.{IsComponent, IsPort};
 ghost use Rattle.tp_report.specs.Lines.{arrival_text, entry_text, component_port, sender_of};
 ghost use Rattle.tp_report.specs.LineOpenings.{HasItsText};
@@ -15,8 +15,8 @@ use tp_config::port_type::{CompId, PortRef};
 use tp_inbox::entry::Entry;
 use tp_play::test_case::TestCase;
 use tp_queue::event::Env;
+use tp_text::watched::{Watched, write_bytes};
 use tp_value::message::Message;
-use tp_value::writing::{WriteFault, write_bytes};
 
 /// A port of a component.
 fn at(comp: CompId, port: u32) -> PortRef
@@ -32,17 +32,17 @@ fn write_arrival<W: Write>(
     port: PortRef,
     env: &Env<Message>,
     kept: &mut KeptOpening,
-    out: &mut W,
-) -> Result<(), WriteFault>
+    out: &mut Watched<W>,
+)
     requires port { IsPort test_case.now.config port }
     requires sender { IsComponent test_case.now.config (sender_of env.now) }
     requires kept { HasItsText test_case.now.config kept.old }
-    ensures written { OnOk result (Appends (W.contents out.old) (W.contents out.new)
-        (arrival_text telling test_case.now port env.now)) }
+    ensures written { Writes W.contents out.old out.new
+        (arrival_text telling test_case.now port env.now) }
     ensures kept { HasItsText test_case.now.config kept.new }
 {
     match telling {
-        Telling::Report => Ok(()),
+        Telling::Report => {}
         Telling::Trace => write_envelope(test_case, Fate::Came, port, env, kept, out),
     }
 }
@@ -54,13 +54,13 @@ fn write_entry<W: Write>(
     comp: CompId,
     entry: &Entry,
     kept: &mut KeptOpenings,
-    out: &mut W,
-) -> Result<(), WriteFault>
+    out: &mut Watched<W>,
+)
     requires known { IsKnown test_case.now.config comp entry.now }
     requires sent { HasItsText test_case.now.config kept.old.sent }
     requires received { HasItsText test_case.now.config kept.old.received }
-    ensures written { OnOk result (Appends (W.contents out.old) (W.contents out.new)
-        (entry_text telling test_case.now comp entry.now)) }
+    ensures written { Writes W.contents out.old out.new
+        (entry_text telling test_case.now comp entry.now) }
     ensures sent { HasItsText test_case.now.config kept.new.sent }
     ensures received { HasItsText test_case.now.config kept.new.received }
 {
@@ -105,15 +105,14 @@ pub fn write_entries<W: Write>(
     telling: Telling,
     comp: CompId,
     entries: &[Entry],
-    out: &mut W,
-) -> Result<(), WriteFault>
+    out: &mut Watched<W>,
+)
     requires { All (IsKnown test_case.now.config comp) entries.now }
-    ensures { OnOk result (Appends (W.contents out.old) (W.contents out.new)
-        (flat_map (entry_text telling test_case.now comp) entries.now)) }
+    ensures { Writes W.contents out.old out.new
+        (flat_map (entry_text telling test_case.now comp) entries.now) }
 {
     let mut kept = KeptOpenings::new();
     for entry in entries {
-        write_entry(test_case, telling, comp, entry, &mut kept, out)?;
+        write_entry(test_case, telling, comp, entry, &mut kept, out);
     }
-    Ok(())
 }

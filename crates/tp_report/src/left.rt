@@ -1,7 +1,7 @@
 //! What is left in a component's queues.
-ghost use Rattle.std.specs.Prelude.{All, OnOk, codes};
+ghost use Rattle.std.specs.Prelude.{All, codes};
 ghost use Rattle.std.specs.List.{flat_map};
-ghost use Rattle.std.specs.Io.KnownBytes.{Appends};
+ghost use Rattle.tp_text.specs.Watching.{Writes};
 ghost use Rattle.tp_config.specs.Setup.{IsComponent, IsPort};
 ghost use Rattle.tp_report.specs.Lines.{envelope_line, left_below, sender_of};
 ghost use Rattle.tp_report.specs.Reports.{IsDeskIn};
@@ -13,40 +13,34 @@ use tp_config::port_type::PortRef;
 use tp_inbox::desk::Desk;
 use tp_play::test_case::TestCase;
 use tp_queue::queue::Queue;
+use tp_text::watched::Watched;
 use tp_value::message::Message;
-use tp_value::writing::WriteFault;
 
 /// Writes what is left at a port, the oldest first.
 fn write_queued<W: Write>(
     test_case: &TestCase,
     port: PortRef,
     queue: &Queue<Message>,
-    out: &mut W,
-) -> Result<(), WriteFault>
+    out: &mut Watched<W>,
+)
     requires port { IsPort test_case.now.config port }
     requires senders { All (λ e. IsComponent test_case.now.config (sender_of e))
         queue.now.entries }
-    ensures { OnOk result (Appends (W.contents out.old) (W.contents out.new)
-        (flat_map (envelope_line test_case.now (codes "left") port) queue.now.entries)) }
+    ensures { Writes W.contents out.old out.new
+        (flat_map (envelope_line test_case.now (codes "left") port) queue.now.entries) }
 {
     let mut kept = KeptOpening::new();
     for place in 0..queue.queued_len() {
         if let Some(env) = queue.queued_at(place) {
-            write_envelope(test_case, Fate::Left, port, env, &mut kept, out)?;
+            write_envelope(test_case, Fate::Left, port, env, &mut kept, out);
         }
     }
-    Ok(())
 }
 
 /// Writes what is left at the ports of the component, in declared order.
-pub fn write_left<W: Write>(
-    test_case: &TestCase,
-    desk: &Desk,
-    out: &mut W,
-) -> Result<(), WriteFault>
+pub fn write_left<W: Write>(test_case: &TestCase, desk: &Desk, out: &mut Watched<W>)
     requires own { IsDeskIn test_case.now.config desk.now.comp desk.now }
-    ensures { OnOk result (Appends (W.contents out.old) (W.contents out.new)
-        (left_below test_case.now desk.now desk.now.ports)) }
+    ensures { Writes W.contents out.old out.new (left_below test_case.now desk.now desk.now.ports) }
 {
     // It says that no component has many ports.
     let _lawful = test_case.config().len();
@@ -56,7 +50,6 @@ pub fn write_left<W: Write>(
             comp,
             port: place as u32,
         };
-        write_queued(test_case, port, desk.queue(port.port), out)?;
+        write_queued(test_case, port, desk.queue(port.port), out);
     }
-    Ok(())
 }

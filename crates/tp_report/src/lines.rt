@@ -1,7 +1,7 @@
 //! The lines of a report, kind by kind.
-ghost use Rattle.std.specs.Prelude.{◌∷◌, ◌++◌, [], OnOk};
+ghost use Rattle.std.specs.Prelude.{◌∷◌, ◌++◌, []};
 ghost use Rattle.std.specs.Fmt.{decimal};
-ghost use Rattle.std.specs.Io.KnownBytes.{Appends};
+ghost use Rattle.tp_text.specs.Watching.{Writes};
 ghost use Rattle.tp_refusal.specs.Label.{label};
 ghost use Rattle.tp_config.specs.Setup.{IsComponent, IsPort};
 ghost use Rattle.tp_inbox.specs.Faults.{send_refusal};
@@ -11,55 +11,49 @@ ghost use Rattle.tp_report.specs.Lines.{end_text, heading, sender_of, sent_line}
 
 use crate::opening::{Fate, KeptOpening, Opening};
 use crate::rest::write_rest;
-use crate::words::{verdict_word, write_component_name, write_number, write_port_name};
+use crate::words::{verdict_word, write_component_name, write_port_name};
 use std::io::Write;
 use tp_config::port_type::{CompId, PortRef, RouteId};
 use tp_inbox::ending::End;
 use tp_inbox::send_fault::SendFault;
 use tp_play::test_case::TestCase;
 use tp_queue::event::Env;
+use tp_text::watched::{Watched, write_bytes, write_number};
 use tp_value::message::Message;
 use tp_value::verdict::Verdict;
-use tp_value::writing::{WriteFault, write_bytes};
 
 /// Writes the name of a component, as the first of its lines.
-pub fn write_heading<W: Write>(
-    test_case: &TestCase,
-    comp: CompId,
-    out: &mut W,
-) -> Result<(), WriteFault>
+pub fn write_heading<W: Write>(test_case: &TestCase, comp: CompId, out: &mut Watched<W>)
     requires { IsComponent test_case.now.config comp }
-    ensures { OnOk result (Appends (W.contents out.old) (W.contents out.new)
-        (heading test_case.now comp)) }
+    ensures { Writes W.contents out.old out.new (heading test_case.now comp) }
 {
-    write_bytes(b"component ", out)?;
-    write_component_name(test_case.config(), comp, out)?;
+    write_bytes(b"component ", out);
+    write_component_name(test_case.config(), comp, out);
     write_bytes(b"\n", out)
 }
 
 /// Writes a word, with the space behind it, and a verdict.
-pub fn write_verdict<W: Write>(word: &[u8], verdict: Verdict, out: &mut W) -> Result<(), WriteFault>
-    ensures { OnOk result (Appends (W.contents out.old) (W.contents out.new)
-        (word.now ++ line (verdict_word verdict ∷ []))) }
+pub fn write_verdict<W: Write>(word: &[u8], verdict: Verdict, out: &mut Watched<W>)
+    ensures { Writes W.contents out.old out.new (word.now ++ line (verdict_word verdict ∷ [])) }
 {
-    write_bytes(word, out)?;
-    write_bytes(verdict_word(verdict), out)?;
+    write_bytes(word, out);
+    write_bytes(verdict_word(verdict), out);
     write_bytes(b"\n", out)
 }
 
 /// Writes a word, with the space behind it, and the number of the refusal by which a send failed.
-pub fn write_failure<W: Write>(word: &[u8], fault: SendFault, out: &mut W) -> Result<(), WriteFault>
-    ensures { OnOk result (Appends (W.contents out.old) (W.contents out.new)
-        (word.now ++ line (decimal (label (send_refusal fault)).0 ∷ []))) }
+pub fn write_failure<W: Write>(word: &[u8], fault: SendFault, out: &mut Watched<W>)
+    ensures { Writes W.contents out.old out.new
+        (word.now ++ line (decimal (label (send_refusal fault)).0 ∷ [])) }
 {
-    write_bytes(word, out)?;
-    write_number(fault.refusal().label().0 as u64, out)?;
+    write_bytes(word, out);
+    write_number(fault.refusal().label().0 as u64, out);
     write_bytes(b"\n", out)
 }
 
 /// Writes how a behaviour ended.
-pub fn write_end<W: Write>(ending: End, out: &mut W) -> Result<(), WriteFault>
-    ensures { OnOk result (Appends (W.contents out.old) (W.contents out.new) (end_text ending)) }
+pub fn write_end<W: Write>(ending: End, out: &mut Watched<W>)
+    ensures { Writes W.contents out.old out.new (end_text ending) }
 {
     match ending {
         End::Done => write_bytes(b"end done\n", out),
@@ -69,18 +63,13 @@ pub fn write_end<W: Write>(ending: End, out: &mut W) -> Result<(), WriteFault>
 }
 
 /// Writes a word, with the space behind it, and a port.
-pub fn write_port<W: Write>(
-    test_case: &TestCase,
-    word: &[u8],
-    port: PortRef,
-    out: &mut W,
-) -> Result<(), WriteFault>
+pub fn write_port<W: Write>(test_case: &TestCase, word: &[u8], port: PortRef, out: &mut Watched<W>)
     requires { IsPort test_case.now.config port }
-    ensures { OnOk result (Appends (W.contents out.old) (W.contents out.new)
-        (word.now ++ line (port_name test_case.now.config port ∷ []))) }
+    ensures { Writes W.contents out.old out.new
+        (word.now ++ line (port_name test_case.now.config port ∷ [])) }
 {
-    write_bytes(word, out)?;
-    write_port_name(test_case.config(), port, out)?;
+    write_bytes(word, out);
+    write_port_name(test_case.config(), port, out);
     write_bytes(b"\n", out)
 }
 
@@ -91,19 +80,19 @@ pub fn write_envelope<W: Write>(
     port: PortRef,
     env: &Env<Message>,
     kept: &mut KeptOpening,
-    out: &mut W,
-) -> Result<(), WriteFault>
+    out: &mut Watched<W>,
+)
     requires port { IsPort test_case.now.config port }
     requires sender { IsComponent test_case.now.config (sender_of env.now) }
     requires kept { HasItsText test_case.now.config kept.old }
-    ensures written { OnOk result (Appends (W.contents out.old) (W.contents out.new)
-        (fate_word fate ++ line (port_name test_case.now.config port
-        ∷ component_name test_case.now.config (sender_of env.now)
-        ∷ decimal env.now.number ∷ message_text test_case.now.types env.now.msg ∷ []))) }
+    ensures written { Writes W.contents out.old out.new
+        (fate_word fate ++ line (port_name test_case.now.config port ∷ component_name
+        test_case.now.config (sender_of env.now) ∷ decimal env.now.number ∷ message_text
+        test_case.now.types env.now.msg ∷ [])) }
     ensures kept { HasItsText test_case.now.config kept.new }
 {
     let opening = Opening::At(fate, port, CompId(env.sender));
-    kept.write(test_case.config(), opening, out)?;
+    kept.write(test_case.config(), opening, out);
     write_rest(test_case.types(), env.number, &env.msg, out)
 }
 
@@ -114,14 +103,14 @@ pub fn write_sent<W: Write>(
     number: u64,
     message: &Message,
     kept: &mut KeptOpening,
-    out: &mut W,
-) -> Result<(), WriteFault>
+    out: &mut Watched<W>,
+)
     requires port { IsPort test_case.now.config route.to }
     requires kept { HasItsText test_case.now.config kept.old }
-    ensures written { OnOk result (Appends (W.contents out.old) (W.contents out.new)
-        (sent_line test_case.now route number message.now)) }
+    ensures written { Writes W.contents out.old out.new
+        (sent_line test_case.now route number message.now) }
     ensures kept { HasItsText test_case.now.config kept.new }
 {
-    kept.write(test_case.config(), Opening::Sent(route.to), out)?;
+    kept.write(test_case.config(), Opening::Sent(route.to), out);
     write_rest(test_case.types(), number, message, out)
 }

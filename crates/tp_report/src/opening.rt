@@ -1,6 +1,6 @@
 //! How the lines on messages begin. Most begin as the last one of their kind did, so that is kept.
-ghost use Rattle.std.specs.Prelude.{◌≡◌, ◌≤◌, ◌++◌, ◌↔◌, IfSome, IsTrue, OnOk, drop, length};
-ghost use Rattle.std.specs.Io.KnownBytes.{Appends};
+ghost use Rattle.std.specs.Prelude.{◌≡◌, ◌≤◌, ◌++◌, ◌↔◌, IfSome, IsTrue, drop, length};
+ghost use Rattle.tp_text.specs.Watching.{Writes};
 ghost use Rattle.tp_config.specs.Setup.{Setup};
 ghost use Rattle.tp_report.specs.LineOpenings.{HasItsText, NamesKnown, opening_text, pieces_text, fate_word};
 
@@ -9,7 +9,7 @@ use crate::words::{component_name, port_name};
 use std::io::Write;
 use tp_config::config::Config;
 use tp_config::port_type::{CompId, PortRef};
-use tp_value::writing::{WriteFault, write_bytes};
+use tp_text::watched::{Watched, write_bytes};
 
 /// Room for an opening's text that is kept. A longer one is written piece by piece.
 const ROOM: usize = 128;
@@ -134,13 +134,12 @@ fn put_pieces(pieces: OpeningPieces<'_>, text: &mut [u8; ROOM]) -> Option<usize>
 }
 
 /// Writes the pieces.
-fn write_pieces<W: Write>(pieces: OpeningPieces<'_>, out: &mut W) -> Result<(), WriteFault>
-    ensures { OnOk result (Appends (W.contents out.old) (W.contents out.new)
-        (pieces_text pieces.entry)) }
+fn write_pieces<W: Write>(pieces: OpeningPieces<'_>, out: &mut Watched<W>)
+    ensures { Writes W.contents out.old out.new (pieces_text pieces.entry) }
 {
-    write_bytes(pieces.word, out)?;
-    write_bytes(pieces.front, out)?;
-    write_bytes(pieces.between, out)?;
+    write_bytes(pieces.word, out);
+    write_bytes(pieces.front, out);
+    write_bytes(pieces.between, out);
     write_bytes(pieces.back, out)
 }
 
@@ -198,16 +197,10 @@ impl KeptOpening {
     }
 
     /// Writes an opening: in one piece where it is kept or there is room for it.
-    pub fn write<W: Write>(
-        &mut self,
-        config: &Config,
-        opening: Opening,
-        out: &mut W,
-    ) -> Result<(), WriteFault>
+    pub fn write<W: Write>(&mut self, config: &Config, opening: Opening, out: &mut Watched<W>)
         requires named { NamesKnown config.now opening }
         requires kept { HasItsText config.now self.old }
-        ensures written { OnOk result (Appends (W.contents out.old) (W.contents out.new)
-            (opening_text config.now opening)) }
+        ensures written { Writes W.contents out.old out.new (opening_text config.now opening) }
         ensures kept { HasItsText config.now self.new }
     {
         if self.is_of(opening) || self.keep(config, opening) {

@@ -1,7 +1,7 @@
 //! The rest of a line on a message: its number, and the message.
-ghost use Rattle.std.specs.Prelude.{◌∷◌, ◌++◌, [], IfSome, OnOk, codes};
+ghost use Rattle.std.specs.Prelude.{◌∷◌, ◌++◌, [], IfSome, codes};
 ghost use Rattle.std.specs.Fmt.{decimal, signed_decimal};
-ghost use Rattle.std.specs.Io.KnownBytes.{Appends};
+ghost use Rattle.tp_text.specs.Watching.{Writes};
 ghost use Rattle.tp_report.specs.Integers.{IsInteger};
 ghost use Rattle.tp_report.specs.Words.{message_text, rest_of_line};
 
@@ -9,10 +9,10 @@ use crate::backward::{put_bytes, put_integer};
 use crate::words::{write_message, write_spaced};
 use itoa::write_digits;
 use std::io::Write;
+use tp_text::watched::{Watched, write_bytes};
 use tp_value::message::Message;
 use tp_value::types::{Ty, Types};
 use tp_value::value::Value;
-use tp_value::writing::{WriteFault, write_bytes};
 
 /// The integer that is the message's value, where its type is `integer`.
 fn message_integer(message: &Message) -> Option<i64>
@@ -28,9 +28,9 @@ fn message_integer(message: &Message) -> Option<i64>
 }
 
 /// Writes the rest of a line on an integer, in one piece.
-fn write_integer<W: Write>(number: u64, integer: i64, out: &mut W) -> Result<(), WriteFault>
-    ensures { OnOk result (Appends (W.contents out.old) (W.contents out.new)
-        (rest_of_line (decimal number ∷ (codes "integer:" ++ signed_decimal integer) ∷ []))) }
+fn write_integer<W: Write>(number: u64, integer: i64, out: &mut Watched<W>)
+    ensures { Writes W.contents out.old out.new
+        (rest_of_line (decimal number ∷ (codes "integer:" ++ signed_decimal integer) ∷ [])) }
 {
     // The number and the integer have 20 characters each at most, all else has 11.
     let mut text = [b'\n'; 51];
@@ -42,19 +42,14 @@ fn write_integer<W: Write>(number: u64, integer: i64, out: &mut W) -> Result<(),
 }
 
 /// Writes the rest of a line on a message.
-pub fn write_rest<W: Write>(
-    types: &Types,
-    number: u64,
-    message: &Message,
-    out: &mut W,
-) -> Result<(), WriteFault>
-    ensures { OnOk result (Appends (W.contents out.old) (W.contents out.new)
-        (rest_of_line (decimal number ∷ message_text types.now message.now ∷ []))) }
+pub fn write_rest<W: Write>(types: &Types, number: u64, message: &Message, out: &mut Watched<W>)
+    ensures { Writes W.contents out.old out.new
+        (rest_of_line (decimal number ∷ message_text types.now message.now ∷ [])) }
 {
     if let Some(integer) = message_integer(message) {
         return write_integer(number, integer, out);
     }
-    write_spaced(number, out)?;
-    write_message(types, message, out)?;
+    write_spaced(number, out);
+    write_message(types, message, out);
     write_bytes(b"\n", out)
 }

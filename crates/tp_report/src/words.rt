@@ -1,34 +1,26 @@
 //! The words of a report's lines.
-ghost use Rattle.std.specs.Prelude.{◌≡◌, ◌++◌, OnOk, codes};
+ghost use Rattle.std.specs.Prelude.{◌≡◌, ◌++◌, codes};
 ghost use Rattle.std.specs.Fmt.{decimal};
-ghost use Rattle.std.specs.Io.KnownBytes.{Appends};
+ghost use Rattle.tp_text.specs.Watching.{Writes};
 ghost use Rattle.tp_value.specs.declared.types.Ty.TheVariants as ty;
 ghost use Rattle.tp_config.specs.Setup.{IsComponent, IsPort};
 ghost use Rattle.tp_report.specs.Typed.{is_typed};
 ghost use Rattle.tp_report.specs.Words.{component_name, message_text, port_name, type_name, verdict_word};
 
-use itoa::{Buffer, write_digits};
+use itoa::write_digits;
 use std::io::Write;
 use tp_config::config::Config;
 use tp_config::port_type::{CompId, PortRef};
+use tp_text::watched::{Watched, write_bytes};
 use tp_value::message::Message;
 use tp_value::types::{Ty, Types};
 use tp_value::typing::has_type;
 use tp_value::verdict::Verdict;
-use tp_value::writing::{WriteFault, write_bytes, write_value};
-
-/// Writes a number.
-pub fn write_number<W: Write>(number: u64, out: &mut W) -> Result<(), WriteFault>
-    ensures { OnOk result (Appends (W.contents out.old) (W.contents out.new) (decimal number)) }
-{
-    let mut buffer = Buffer::new();
-    write_bytes(buffer.format(number).as_bytes(), out)
-}
+use tp_value::writing::write_value;
 
 /// Writes a number between two spaces, in one piece.
-pub fn write_spaced<W: Write>(number: u64, out: &mut W) -> Result<(), WriteFault>
-    ensures { OnOk result (Appends (W.contents out.old) (W.contents out.new)
-        (codes " " ++ (decimal number ++ codes " "))) }
+pub fn write_spaced<W: Write>(number: u64, out: &mut Watched<W>)
+    ensures { Writes W.contents out.old out.new (codes " " ++ (decimal number ++ codes " ")) }
 {
     // A number has 20 digits at most.
     let mut text = [b' '; 22];
@@ -45,14 +37,9 @@ pub fn component_name(config: &Config, comp: CompId) -> &[u8]
 }
 
 /// Writes the name of a component.
-pub fn write_component_name<W: Write>(
-    config: &Config,
-    comp: CompId,
-    out: &mut W,
-) -> Result<(), WriteFault>
+pub fn write_component_name<W: Write>(config: &Config, comp: CompId, out: &mut Watched<W>)
     requires { IsComponent config.now comp }
-    ensures { OnOk result (Appends (W.contents out.old) (W.contents out.new)
-        (component_name config.now comp)) }
+    ensures { Writes W.contents out.old out.new (component_name config.now comp) }
 {
     write_bytes(component_name(config, comp), out)
 }
@@ -73,14 +60,9 @@ pub fn port_name(config: &Config, port: PortRef) -> &[u8]
 }
 
 /// Writes the name of a port.
-pub fn write_port_name<W: Write>(
-    config: &Config,
-    port: PortRef,
-    out: &mut W,
-) -> Result<(), WriteFault>
+pub fn write_port_name<W: Write>(config: &Config, port: PortRef, out: &mut Watched<W>)
     requires { IsPort config.now port }
-    ensures { OnOk result (Appends (W.contents out.old) (W.contents out.new)
-        (port_name config.now port)) }
+    ensures { Writes W.contents out.old out.new (port_name config.now port) }
 {
     write_bytes(port_name(config, port), out)
 }
@@ -96,16 +78,15 @@ fn named_type(types: &Types, number: u32) -> &[u8]
 }
 
 /// Writes the name of a type, and a colon.
-fn write_type<W: Write>(types: &Types, ty: Ty, out: &mut W) -> Result<(), WriteFault>
-    ensures { OnOk result (Appends (W.contents out.old) (W.contents out.new)
-        (type_name types.now ty ++ codes ":")) }
+fn write_type<W: Write>(types: &Types, ty: Ty, out: &mut Watched<W>)
+    ensures { Writes W.contents out.old out.new (type_name types.now ty ++ codes ":") }
 {
     match ty {
         Ty::Integer => write_bytes(b"integer:", out),
         Ty::Boolean => write_bytes(b"boolean:", out),
         Ty::Charstring => write_bytes(b"charstring:", out),
         Ty::Named(number) => {
-            write_bytes(named_type(types, number), out)?;
+            write_bytes(named_type(types, number), out);
             write_bytes(b":", out)
         }
     }
@@ -119,18 +100,13 @@ fn is_typed(types: &Types, message: &Message) -> bool
 }
 
 /// Writes a message: its type and its value, or `-` where the value hasn't the type.
-pub fn write_message<W: Write>(
-    types: &Types,
-    message: &Message,
-    out: &mut W,
-) -> Result<(), WriteFault>
-    ensures { OnOk result (Appends (W.contents out.old) (W.contents out.new)
-        (message_text types.now message.now)) }
+pub fn write_message<W: Write>(types: &Types, message: &Message, out: &mut Watched<W>)
+    ensures { Writes W.contents out.old out.new (message_text types.now message.now) }
 {
     if !is_typed(types, message) {
         return write_bytes(b"-", out);
     }
-    write_type(types, message.ty, out)?;
+    write_type(types, message.ty, out);
     write_value(types, message.ty, &message.value, out)
 }
 

@@ -1,7 +1,7 @@
 //! The text of a report, and its trace.
-ghost use Rattle.std.specs.Prelude.{All, OnOk};
+ghost use Rattle.std.specs.Prelude.{All};
 ghost use Rattle.std.specs.List.{flat_map};
-ghost use Rattle.std.specs.Io.KnownBytes.{Appends};
+ghost use Rattle.tp_text.specs.Watching.{Writes};
 ghost use Rattle.tp_report.specs.Reports.{IsPresent, IsReportable, component_text, told_text};
 
 use crate::entries::write_entries;
@@ -11,24 +11,24 @@ use crate::report::{CompReport, Report};
 use crate::telling::Telling;
 use std::io::Write;
 use tp_play::test_case::TestCase;
-use tp_value::writing::WriteFault;
+use tp_text::watched::Watched;
 
 /// Writes what is reported of one component.
 fn write_component<W: Write>(
     test_case: &TestCase,
     telling: Telling,
     component: &CompReport,
-    out: &mut W,
-) -> Result<(), WriteFault>
+    out: &mut Watched<W>,
+)
     requires { IsPresent test_case.now.config component.now }
-    ensures { OnOk result (Appends (W.contents out.old) (W.contents out.new)
-        (component_text telling test_case.now component.now)) }
+    ensures { Writes W.contents out.old out.new
+        (component_text telling test_case.now component.now) }
 {
     let comp = component.desk.comp();
-    write_heading(test_case, comp, out)?;
-    write_entries(test_case, telling, comp, component.desk.log(), out)?;
-    write_end(component.ending, out)?;
-    write_verdict(b"verdict ", component.verdict, out)?;
+    write_heading(test_case, comp, out);
+    write_entries(test_case, telling, comp, component.desk.log(), out);
+    write_end(component.ending, out);
+    write_verdict(b"verdict ", component.verdict, out);
     write_left(test_case, &component.desk, out)
 }
 
@@ -37,16 +37,15 @@ fn write_components<W: Write>(
     test_case: &TestCase,
     telling: Telling,
     components: &[CompReport],
-    out: &mut W,
-) -> Result<(), WriteFault>
+    out: &mut Watched<W>,
+)
     requires { All (IsPresent test_case.now.config) components.now }
-    ensures { OnOk result (Appends (W.contents out.old) (W.contents out.new)
-        (flat_map (component_text telling test_case.now) components.now)) }
+    ensures { Writes W.contents out.old out.new
+        (flat_map (component_text telling test_case.now) components.now) }
 {
     for component in components {
-        write_component(test_case, telling, component, out)?;
+        write_component(test_case, telling, component, out);
     }
-    Ok(())
 }
 
 /// Writes the text of a report of this test case, line by line: for each component its name, a line
@@ -56,18 +55,17 @@ fn write_components<W: Write>(
 /// with a line for each arrival too, at its place in the history. The report is one of this test
 /// case: its components, ports and senders are those of the configuration.
 ///
-/// 3 `Write` where the writer answers an error or takes no byte; how much is written then is open.
-/// It takes no memory, and writes in small pieces: give it a writer with a buffer.
+/// Where the writer fails, a front of the text is written. It takes no memory, and writes in small
+/// pieces: give it a writer with a buffer.
 pub fn write_report<W: Write>(
     test_case: &TestCase,
     telling: Telling,
     report: &Report,
-    out: &mut W,
-) -> Result<(), WriteFault>
+    out: &mut Watched<W>,
+)
     requires { IsReportable test_case.now.config report.now }
-    ensures { OnOk result (Appends (W.contents out.old) (W.contents out.new)
-        (told_text telling test_case.now report.now)) }
+    ensures { Writes W.contents out.old out.new (told_text telling test_case.now report.now) }
 {
-    write_components(test_case, telling, report.components.as_slice(), out)?;
+    write_components(test_case, telling, report.components.as_slice(), out);
     write_verdict(b"result ", report.result, out)
 }

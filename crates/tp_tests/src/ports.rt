@@ -11,6 +11,7 @@ use tp_port::replay::{QueueFault, replay, replay_text};
 use tp_queue::event::{Env, Event};
 use tp_refusal::limit::TEXT_LIMIT;
 use tp_text::text::{ReadFault, read_text};
+use tp_text::watched::Watched;
 
 fn env(sender: u32, number: u64, msg: i64) -> Env<i64> {
     Env {
@@ -277,18 +278,15 @@ fn halt_line(reads_left: u32, kind: ErrorKind) -> OneByOne<'static> {
 }
 
 /// What a replay of the line answers, and how much it writes.
-fn replayed_line<R: AllocGlobal>(
-    rt: &R,
-    mut line: OneByOne<'_>,
-) -> (Result<(), QueueFault>, usize) {
-    let mut out = Vec::new(rt.alloc());
-    let answer = replay(rt.alloc(), &mut line, &mut out);
-    (answer, out.len())
+fn replayed_line<R: AllocGlobal>(rt: &R, line: OneByOne<'_>) -> (Result<(), QueueFault>, usize) {
+    let mut out = Watched::new(Vec::new(rt.alloc()));
+    let answer = replay(rt.alloc(), &mut Watched::new(line), &mut out);
+    (answer, out.into_inner().len())
 }
 
 /// Whether what is read is the line.
-fn read_line<R: AllocGlobal>(rt: &R, mut line: OneByOne<'_>) -> Result<bool, ReadFault> {
-    match read_text(rt.alloc(), &mut line) {
+fn read_line<R: AllocGlobal>(rt: &R, line: OneByOne<'_>) -> Result<bool, ReadFault> {
+    match read_text(rt.alloc(), &mut Watched::new(line)) {
         Ok(text) => Ok(text.as_slice() == b"halt\n".as_slice()),
         Err(fault) => Err(fault),
     }
@@ -312,7 +310,7 @@ fn want_of_memory_of_the_reader_is_a_failed_read(rt: HostRuntime) {
 
 /// What a replay of the line `stop` answers at a writer with this room.
 fn replayed<R: AllocGlobal>(rt: &R, room: usize) -> Result<(), QueueFault> {
-    let mut short = Short { room };
+    let mut short = Watched::new(Short { room });
     replay_text(rt.alloc(), b"stop\n".as_slice(), &mut short)
 }
 
@@ -331,18 +329,19 @@ fn line_ends<R: AllocGlobal + Abort>(rt: &R, count: usize) -> Vec<u8> {
 
 /// The length of what is read of these bytes, and how many are left of them.
 fn read_length<R: AllocGlobal>(rt: &R, text: &[u8]) -> (Result<usize, ReadFault>, usize) {
-    let mut rest = text;
-    match read_text(rt.alloc(), &mut rest) {
-        Ok(whole) => (Ok(whole.len()), rest.len()),
-        Err(fault) => (Err(fault), rest.len()),
-    }
+    let mut rest = Watched::new(text);
+    let length = match read_text(rt.alloc(), &mut rest) {
+        Ok(whole) => Ok(whole.len()),
+        Err(fault) => Err(fault),
+    };
+    (length, rest.into_inner().len())
 }
 
 /// What a replay of these bytes answers, and how much it writes.
 fn replayed_bytes<R: AllocGlobal>(rt: &R, text: &[u8]) -> (Result<(), QueueFault>, usize) {
-    let mut out = Vec::new(rt.alloc());
+    let mut out = Watched::new(Vec::new(rt.alloc()));
     let answer = replay_text(rt.alloc(), text, &mut out);
-    (answer, out.len())
+    (answer, out.into_inner().len())
 }
 
 #[test]

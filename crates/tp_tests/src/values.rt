@@ -6,6 +6,7 @@ use std::process::Abort;
 use tp_port::port_queue::PortQueue;
 use tp_queue::event::{Env, TriggerAnswer};
 use tp_refusal::memory::Memory;
+use tp_text::watched::Watched;
 use tp_value::equal::are_equal;
 use tp_value::items::Items;
 use tp_value::message::{Message, MsgTemplate};
@@ -99,10 +100,11 @@ fn values_equal_their_copies(rt: HostRuntime) {
 
 /// Asserts that a value has the type, and its text.
 pub fn writes<R: AllocGlobal + Abort>(rt: &R, types: &Types, ty: Ty, value: &Value, wanted: &str) {
-    let mut out = Vec::new(rt.alloc());
+    let mut out = Watched::new(Vec::new(rt.alloc()));
     assert!(rt; has_type(types, ty, value), "{value:?}");
-    assert!(rt; write_value(types, ty, value, &mut out).is_ok());
-    assert_eq!(rt; out.as_slice(), wanted.as_bytes());
+    write_value(types, ty, value, &mut out);
+    assert!(rt; !out.has_failed());
+    assert_eq!(rt; out.into_inner().as_slice(), wanted.as_bytes());
 }
 
 #[test]
@@ -128,8 +130,9 @@ fn lists_are_written(rt: HostRuntime) {
 
 /// Whether the value of `L` is written at a writer with this room.
 fn is_written(types: &Types, value: &Value, room: usize) -> bool {
-    let mut short = Short { room };
-    write_value(types, Ty::Named(1), value, &mut short).is_ok()
+    let mut short = Watched::new(Short { room });
+    write_value(types, Ty::Named(1), value, &mut short);
+    !short.has_failed()
 }
 
 #[test]
@@ -239,9 +242,9 @@ pub fn deep_value(alloc: Global) -> Result<Value, Memory> {
 
 /// How many characters a value of type 0 has, written.
 fn written_length<R: AllocGlobal + Abort>(rt: &R, types: &Types, value: &Value) -> usize {
-    let mut out = Vec::new(rt.alloc());
-    assert!(rt; write_value(types, Ty::Named(0), value, &mut out).is_ok());
-    out.len()
+    let mut out = Watched::new(Vec::new(rt.alloc()));
+    write_value(types, Ty::Named(0), value, &mut out);
+    out.into_inner().len()
 }
 
 #[test]

@@ -4,7 +4,9 @@ ghost use Rattle.std.specs.Result.{result_err};
 ghost use Rattle.std.specs.Io.KnownBytes.{Consumes, IsAtEnd, Keeps};
 ghost use Rattle.tp_text.specs.declared.text.ReadFault.TheVariants as read_fault;
 ghost use Rattle.tp_text.specs.Reading.{IsFull, IsRoom, TakesBytes, TakesWithin};
+ghost use Rattle.tp_text.specs.Watching.{HasFailed, left_in};
 
+use crate::watched::Watched;
 use std::alloc::{AllocError, Global};
 use std::io::{ErrorKind, Read};
 use thiserror::Error;
@@ -29,19 +31,19 @@ pub enum ReadFault {
 
 /// Reads all that the reader has, and at most 1,048,577 bytes of it.
 ///
-/// 2 `Read` where the reader answers an error, whatever its kind; an interrupted read is tried
-/// again. 15 `Limit` where there are more than 1,048,576 bytes, as soon as one more is read. 50
+/// 2 `Read` where the reader answers an error, and only there; an interrupted read is tried again. 15 `Limit` where there are more than 1,048,576 bytes, as soon as one more is read. 50
 /// `Memory` where an allocation was refused. Whichever comes first is answered; what was read isn't
 /// put back.
-pub fn read_text<R: Read>(alloc: Global, reader: &mut R) -> Result<Vec<u8>, ReadFault>
+pub fn read_text<R: Read>(alloc: Global, reader: &mut Watched<R>) -> Result<Vec<u8>, ReadFault>
     ensures whole { IfOk result (λ text.
-        IfSome (R.remaining reader.old) (λ all. text.items ≡ all)) }
-    ensures end { OnOk result (IsAtEnd (R.remaining reader.new)) }
+        IfSome (left_in R.remaining reader.old) (λ all. text.items ≡ all)) }
+    ensures end { OnOk result (IsAtEnd (left_in R.remaining reader.new)) }
     ensures short { IfOk result (λ text. length text.items ≤ 1048576) }
     ensures long { result ≡ Err read_fault.Limit
-        → IfSome (R.remaining reader.old) (λ all. 1048576 < length all) }
+        → IfSome (left_in R.remaining reader.old) (λ all. 1048576 < length all) }
     ensures taken { TakesBytes
-        (R.remaining reader.old) (R.remaining reader.new) (result_err result) }
+        (left_in R.remaining reader.old) (left_in R.remaining reader.new) (result_err result) }
+    ensures failed { result ≡ Err read_fault.Read → HasFailed reader.new }
 {
     read_up_to(alloc, reader, TEXT_LIMIT)
 }
@@ -49,30 +51,40 @@ pub fn read_text<R: Read>(alloc: Global, reader: &mut R) -> Result<Vec<u8>, Read
 /// Reads all that the reader has, and at most one byte more than the limit.
 ///
 /// 2 `Read`, 15 `Limit` and 50 `Memory` as [`read_text`] says, with this limit in place of its own.
-pub fn read_within<R: Read>(alloc: Global, reader: &mut R, limit: u32) -> Result<Vec<u8>, ReadFault>
+pub fn read_within<R: Read>(
+    alloc: Global,
+    reader: &mut Watched<R>,
+    limit: u32,
+) -> Result<Vec<u8>, ReadFault>
     ensures whole { IfOk result (λ text.
-        IfSome (R.remaining reader.old) (λ all. text.items ≡ all)) }
-    ensures end { OnOk result (IsAtEnd (R.remaining reader.new)) }
+        IfSome (left_in R.remaining reader.old) (λ all. text.items ≡ all)) }
+    ensures end { OnOk result (IsAtEnd (left_in R.remaining reader.new)) }
     ensures short { IfOk result (λ text. length text.items ≤ limit) }
     ensures long { result ≡ Err read_fault.Limit
-        → IfSome (R.remaining reader.old) (λ all. limit < length all) }
+        → IfSome (left_in R.remaining reader.old) (λ all. limit < length all) }
     ensures taken { TakesWithin limit
-        (R.remaining reader.old) (R.remaining reader.new) (result_err result) }
+        (left_in R.remaining reader.old) (left_in R.remaining reader.new) (result_err result) }
+    ensures failed { result ≡ Err read_fault.Read → HasFailed reader.new }
 {
     read_up_to(alloc, reader, limit as usize)
 }
 
 /// Reads all that the reader has, and at most one byte more than the limit.
-fn read_up_to<R: Read>(alloc: Global, reader: &mut R, limit: usize) -> Result<Vec<u8>, ReadFault>
+fn read_up_to<R: Read>(
+    alloc: Global,
+    reader: &mut Watched<R>,
+    limit: usize,
+) -> Result<Vec<u8>, ReadFault>
     requires { limit < 2 ^ 62 }
     ensures whole { IfOk result (λ text.
-        IfSome (R.remaining reader.old) (λ all. text.items ≡ all)) }
-    ensures end { OnOk result (IsAtEnd (R.remaining reader.new)) }
+        IfSome (left_in R.remaining reader.old) (λ all. text.items ≡ all)) }
+    ensures end { OnOk result (IsAtEnd (left_in R.remaining reader.new)) }
     ensures short { IfOk result (λ text. length text.items ≤ limit) }
     ensures long { result ≡ Err read_fault.Limit
-        → IfSome (R.remaining reader.old) (λ all. limit < length all) }
+        → IfSome (left_in R.remaining reader.old) (λ all. limit < length all) }
     ensures taken { TakesWithin limit
-        (R.remaining reader.old) (R.remaining reader.new) (result_err result) }
+        (left_in R.remaining reader.old) (left_in R.remaining reader.new) (result_err result) }
+    ensures failed { result ≡ Err read_fault.Read → HasFailed reader.new }
 {
     let mut text = Vec::new(alloc);
     let mut size = 0;
@@ -92,7 +104,7 @@ fn read_up_to<R: Read>(alloc: Global, reader: &mut R, limit: usize) -> Result<Ve
 /// One read, behind the first bytes of a text, `size` of them. It answers how many more there are
 /// then, and 0 only at the end.
 fn read_more<R: Read>(
-    reader: &mut R,
+    reader: &mut Watched<R>,
     text: &mut Vec<u8>,
     size: usize,
     limit: usize,
@@ -107,13 +119,15 @@ fn read_more<R: Read>(
     ensures most { vec_len text.new ≤ limit + 1 }
     ensures doubled { IsRoom limit (vec_len text.new) }
     ensures more { IfOk result (λ count. Consumes
-        (R.remaining reader.old)
-        (R.remaining reader.new)
+        (left_in R.remaining reader.old)
+        (left_in R.remaining reader.new)
         (take count (drop size text.new.items))) }
-    ensures end { IfOk result (λ count. count ≡ 0 → IsAtEnd (R.remaining reader.new)) }
-    ensures kept { OnErr result (Keeps (R.remaining reader.old) (R.remaining reader.new)) }
+    ensures end { IfOk result (λ count. count ≡ 0 → IsAtEnd (left_in R.remaining reader.new)) }
+    ensures kept { OnErr result (Keeps (left_in R.remaining reader.old)
+        (left_in R.remaining reader.new)) }
     ensures fault { IfErr result (λ fault. fault ≢ ReadFault.Limit) }
     ensures full { IfErr result (λ fault. fault ≡ ReadFault.Memory → IsFull size) }
+    ensures failed { IfErr result (λ fault. fault ≡ ReadFault.Read → HasFailed reader.new) }
 {
     if make_room(text, size, limit).is_err() {
         return Err(ReadFault::Memory);
@@ -122,30 +136,38 @@ fn read_more<R: Read>(
 }
 
 /// One read into what is behind the first `size` bytes, tried again where it is interrupted.
-fn read_behind<R: Read>(reader: &mut R, text: &mut [u8], size: usize) -> Result<usize, ReadFault>
+fn read_behind<R: Read>(
+    reader: &mut Watched<R>,
+    text: &mut [u8],
+    size: usize,
+) -> Result<usize, ReadFault>
     requires { size < length text.old }
     ensures front { take size text.new ≡ take size text.old }
     ensures within { IfOk result (λ count. size + count ≤ length text.new) }
     ensures more { IfOk result (λ count. Consumes
-        (R.remaining reader.old)
-        (R.remaining reader.new)
+        (left_in R.remaining reader.old)
+        (left_in R.remaining reader.new)
         (take count (drop size text.new))) }
-    ensures end { IfOk result (λ count. count ≡ 0 → IsAtEnd (R.remaining reader.new)) }
-    ensures kept { OnErr result (Keeps (R.remaining reader.old) (R.remaining reader.new)) }
+    ensures end { IfOk result (λ count. count ≡ 0 → IsAtEnd (left_in R.remaining reader.new)) }
+    ensures kept { OnErr result (Keeps (left_in R.remaining reader.old)
+        (left_in R.remaining reader.new)) }
     ensures fault { IfErr result (λ fault. fault ≡ ReadFault.Read) }
+    ensures failed { OnErr result (HasFailed reader.new) }
 {
     read_again(reader, &mut text[size..])
 }
 
 /// One read, tried again where it is interrupted.
-fn read_again<R: Read>(reader: &mut R, part: &mut [u8]) -> Result<usize, ReadFault>
+fn read_again<R: Read>(reader: &mut Watched<R>, part: &mut [u8]) -> Result<usize, ReadFault>
     requires { 0 < length part.old }
     ensures within { IfOk result (λ count. count ≤ length part.new) }
     ensures more { IfOk result (λ count.
-        Consumes (R.remaining reader.old) (R.remaining reader.new) (take count part.new)) }
-    ensures end { IfOk result (λ count. count ≡ 0 → IsAtEnd (R.remaining reader.new)) }
-    ensures kept { OnErr result (Keeps (R.remaining reader.old) (R.remaining reader.new)) }
+        Consumes (left_in R.remaining reader.old) (left_in R.remaining reader.new) (take count part.new)) }
+    ensures end { IfOk result (λ count. count ≡ 0 → IsAtEnd (left_in R.remaining reader.new)) }
+    ensures kept { OnErr result (Keeps (left_in R.remaining reader.old)
+        (left_in R.remaining reader.new)) }
     ensures fault { IfErr result (λ fault. fault ≡ ReadFault.Read) }
+    ensures failed { OnErr result (HasFailed reader.new) }
 {
     for _ in 0..u64::MAX {
         match reader.read(part) {
@@ -154,6 +176,8 @@ fn read_again<R: Read>(reader: &mut R, part: &mut [u8]) -> Result<usize, ReadFau
             Err(_) => return Err(ReadFault::Read),
         }
     }
+    // It was interrupted 18,446,744,073,709,551,615 times.
+    reader.give_up();
     Err(ReadFault::Read)
 }
 

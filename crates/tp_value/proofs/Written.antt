@@ -1,12 +1,14 @@
 -- The text of a value, and how it is written piece by piece.
-use Rattle.std.proofs.Common.{min, length-drop, ◌≡◌, ℕ, zero, suc, ◌+◌, ◌<◌, ℤ, Bool, true, false, cond, List, [], ◌∷◌, ◌++◌, Option, Some, None, Result, Ok, Err, OnOk, map, drop, take, length, get_or, position, codes, nat_eq, nat_lt, ◌≤◌, refl, ap, sym, subst, ◌∙◌, arith, add-one, append_assoc}
+use Rattle.std.proofs.Common.{min, length-drop, ◌≡◌, ℕ, zero, suc, ◌+◌, ◌<◌, ℤ, Bool, true, false, cond, List, [], ◌∷◌, ◌++◌, Option, Some, None, map, drop, take, length, get_or, position, codes, nat_eq, nat_lt, ◌≤◌, refl, ap, sym, subst, ◌∙◌, arith, add-one, append_assoc}
 use Rattle.std.proofs.lemmas.Bool.{eqb-true}
 use Rattle.std.proofs.lemmas.List.{append-nil, drop_all, drop_more}
 use Rattle.std.proofs.lemmas.List.Quantifiers.{position-Some}
 use Rattle.std.proofs.lemmas.List.Sums.{fails_before_first}
 use Rattle.std.specs.List.{position_or_len}
 use Rattle.std.specs.Fmt.{signed_decimal}
-use Rattle.std.specs.Io.KnownBytes.{Appends}
+use Rattle.tp_text.specs.declared.watched.Watched.{Watched}
+use Rattle.tp_text.specs.Watching.{Writes}
+use Rattle.tp_text.proofs.Writing.{writes_both, writes_nothing}
 use Rattle.tp_value.specs.declared.types.Ty.{Ty}
 use Rattle.tp_value.specs.declared.types.Field.{Field}
 use Rattle.tp_value.specs.declared.types.TypeDef.{TypeDef}
@@ -20,21 +22,6 @@ use Rattle.tp_value.specs.declared.value.Value.TheFolds.{map-Value, fold-roll-Va
 use Rattle.tp_value.specs.Types.{named}
 use Rattle.tp_value.specs.ValueText.{bool_text, escaped, quoted, braced_text, field_texts, element_texts, record_text, list_text, text_of, value_text}
 use Rattle.tp_value.specs.Separators.{separator, listed_from}
-
--- what is known to be written grows by one text after the other
-pub appends_both : (a b c : Option (List ℕ)) (x y : List ℕ) → Appends a b x → Appends b c y → Appends a c (x ++ y)
-appends_both None b c x y p q = tt
-appends_both (Some a) None c x y p q = absurd p
-appends_both (Some a) (Some b) None x y p q = absurd q
-appends_both (Some a) (Some b) (Some c) x y p q = q ∙ ap (λ r. r ++ y) p ∙ append_assoc a x y
-
--- and by nothing where nothing is written
-appends_none : (a : Option (List ℕ)) → Appends a a []
-appends_none None = tt
-appends_none (Some a) = sym (append-nil a)
-
-pub nothing_written : (a : Option (List ℕ)) (text : List ℕ) → text ≡ [] → Appends a a text
-nothing_written a text e = subst (Appends a a) (sym e) (appends_none a)
 
 module _ {X Y : Type 0} (g : X → Y) (text : Y → Ty → List ℕ) where
   field_texts-map : (fs : List Field) (xs : List X) → field_texts text fs (map g xs) ≡ field_texts (λ x. text (g x)) fs xs
@@ -127,35 +114,36 @@ escaped_no_quote cs e = by (nat_lt (position_or_len (λ c. nat_eq c 34) cs) (len
 first_left : {X : Type 0} (xs : List X) (i : ℕ) (x : X) → i < length xs → x ≡ get_or xs i x → drop i xs ≡ x ∷ drop (i + 1) xs
 first_left xs i x h is = drop_more xs i x h ∙ ap (λ y. y ∷ drop (i + 1) xs) (sym is)
 
-module _ {X : Type 0} (text : X → Ty → List ℕ) where
+module _ {W X : Type 0} (contents : W → Option (List ℕ)) (text : X → Ty → List ℕ) where
   pub elements_grow : (t : Ty) (xs : List X) (i : ℕ) (x : X) → i < length xs → x ≡ get_or xs i x
-      → (start here apart now : Option (List ℕ)) (whole : List ℕ)
-      → ((done : Option (List ℕ)) → Appends here done (listed_from i (element_texts text t (drop i xs))) → Appends start done whole)
-      → Appends here apart (separator i) → Appends apart now (text x t)
-      → (done : Option (List ℕ)) → Appends now done (listed_from (i + 1) (element_texts text t (drop (i + 1) xs))) → Appends start done whole
+      → (start here apart now : Watched W) (whole : List ℕ)
+      → ((done : Watched W) → Writes contents here done (listed_from i (element_texts text t (drop i xs))) → Writes contents start done whole)
+      → Writes contents here apart (separator i) → Writes contents apart now (text x t)
+      → (done : Watched W) → Writes contents now done (listed_from (i + 1) (element_texts text t (drop (i + 1) xs))) → Writes contents start done whole
   elements_grow t xs i x h is start here apart now whole grows p q done r =
       let rest : List ℕ = listed_from (i + 1) (element_texts text t (drop (i + 1) xs)) in
-      let all : Appends here done (separator i ++ (text x t ++ rest)) =
-      appends_both here apart done (separator i) (text x t ++ rest) p (appends_both apart now done (text x t) rest q r) in
-      grows done (subst (Appends here done) (sym (ap (λ ys. listed_from i (element_texts text t ys)) (first_left xs i x h is)
+      let all : Writes contents here done (separator i ++ (text x t ++ rest)) =
+      writes_both contents here apart done (separator i) (text x t ++ rest) p (writes_both contents apart now done (text x t) rest q r) in
+      grows done (subst (Writes contents here done) (sym (ap (λ ys. listed_from i (element_texts text t ys)) (first_left xs i x h is)
       ∙ listed_step i (text x t) (element_texts text t (drop (i + 1) xs)))) all)
 
   pub fields_grow : (fs : List Field) (xs : List X) (i : ℕ) (f : Field) (x : X) → i < length fs → f ≡ get_or fs i f → i < length xs → x ≡ get_or xs i x
-      → (start here apart named given now : Option (List ℕ)) (whole : List ℕ)
-      → ((done : Option (List ℕ)) → Appends here done (listed_from i (field_texts text (drop i fs) (drop i xs))) → Appends start done whole)
-      → Appends here apart (separator i) → Appends apart named f.name → Appends named given (codes " := ") → Appends given now (text x f.ty)
-      → (done : Option (List ℕ)) → Appends now done (listed_from (i + 1) (field_texts text (drop (i + 1) fs) (drop (i + 1) xs))) → Appends start done whole
+      → (start here apart named given now : Watched W) (whole : List ℕ)
+      → ((done : Watched W) → Writes contents here done (listed_from i (field_texts text (drop i fs) (drop i xs))) → Writes contents start done whole)
+      → Writes contents here apart (separator i) → Writes contents apart named f.name → Writes contents named given (codes " := ") → Writes contents given now (text x f.ty)
+      → (done : Watched W) → Writes contents now done (listed_from (i + 1) (field_texts text (drop (i + 1) fs) (drop (i + 1) xs))) → Writes contents start done whole
   fields_grow fs xs i f x k at h is start here apart named given now whole grows p n a q done r =
       let rest : List ℕ = listed_from (i + 1) (field_texts text (drop (i + 1) fs) (drop (i + 1) xs)) in
       let one : List ℕ = f.name ++ (codes " := " ++ text x f.ty) in
-      let field : Appends apart now one =
-      appends_both apart named now f.name (codes " := " ++ text x f.ty) n (appends_both named given now (codes " := ") (text x f.ty) a q) in
-      let all : Appends here done (separator i ++ (one ++ rest)) =
-      appends_both here apart done (separator i) (one ++ rest) p (appends_both apart now done one rest field r) in
-      grows done (subst (Appends here done) (sym (ap (λ gs. listed_from i (field_texts text gs (drop i xs))) (first_left fs i f k at)
+      let field : Writes contents apart now one =
+      writes_both contents apart named now f.name (codes " := " ++ text x f.ty) n (writes_both contents named given now (codes " := ") (text x f.ty) a q) in
+      let all : Writes contents here done (separator i ++ (one ++ rest)) =
+      writes_both contents here apart done (separator i) (one ++ rest) p (writes_both contents apart now done one rest field r) in
+      grows done (subst (Writes contents here done) (sym (ap (λ gs. listed_from i (field_texts text gs (drop i xs))) (first_left fs i f k at)
       ∙ ap (λ ys. listed_from i (field_texts text (f ∷ drop (i + 1) fs) ys)) (first_left xs i x h is)
       ∙ listed_step i one (field_texts text (drop (i + 1) fs) (drop (i + 1) xs)))) all)
 
+module _ {X : Type 0} (text : X → Ty → List ℕ) where
   -- past the last nothing is left
   pub elements_end : (t : Ty) (xs : List X) (i : ℕ) → length xs ≤ i → listed_from i (element_texts text t (drop i xs)) ≡ []
   elements_end t xs i h = ap (λ ys. listed_from i (element_texts text t ys)) (drop_all i xs h) ∙ listed_none i
@@ -170,10 +158,9 @@ module _ {X : Type 0} (text : X → Ty → List ℕ) where
       ap (listed_from i) (no_fields (drop i fs) (drop i xs) (omega (arith, length-drop i fs, length-drop i xs))) ∙ listed_none i
 
 -- what stands in braces
-pub in_braces : {T E : Type 0} (r : Result T E) (start opened inside done : Option (List ℕ)) (text rest : List ℕ) → Appends start opened (codes "{")
-    → ((end : Option (List ℕ)) → Appends inside end rest → Appends opened end text) → rest ≡ [] → OnOk r (Appends inside done (codes "}"))
-    → OnOk r (Appends start done (codes "{" ++ (text ++ codes "}")))
-in_braces (Err e) start opened inside done text rest p grows none q = tt
-in_braces (Ok v) start opened inside done text rest p grows none q =
-    let within : Appends opened inside text = grows inside (subst (Appends inside inside) (sym none) (appends_none inside)) in
-    appends_both start opened done (codes "{") (text ++ codes "}") p (appends_both opened inside done text (codes "}") within q)
+pub in_braces : {W : Type 0} (contents : W → Option (List ℕ)) (start opened inside done : Watched W) (text rest : List ℕ)
+    → Writes contents start opened (codes "{") → ((end : Watched W) → Writes contents inside end rest → Writes contents opened end text)
+    → rest ≡ [] → Writes contents inside done (codes "}") → Writes contents start done (codes "{" ++ (text ++ codes "}"))
+in_braces contents start opened inside done text rest p grows none q =
+    let within : Writes contents opened inside text = grows inside (writes_nothing contents inside rest none) in
+    writes_both contents start opened done (codes "{") (text ++ codes "}") p (writes_both contents opened inside done text (codes "}") within q)

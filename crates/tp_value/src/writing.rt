@@ -1,7 +1,7 @@
 //! The text of a value.
-ghost use Rattle.std.specs.Prelude.{◌≡◌, ◌==◌, ◌<◌, ◌++◌, IfSome, MatchOption, OnOk, codes, length, position};
+ghost use Rattle.std.specs.Prelude.{◌≡◌, ◌==◌, ◌<◌, ◌++◌, IfSome, MatchOption, codes, length, position};
 ghost use Rattle.std.specs.Fmt.{signed_decimal};
-ghost use Rattle.std.specs.Io.KnownBytes.{Appends};
+ghost use Rattle.tp_text.specs.Watching.{Writes};
 ghost use Rattle.tp_value.specs.ValueText.{bool_text, braced_text, element_texts, escaped, field_texts, quoted, value_text};
 ghost use Rattle.tp_value.specs.Separators.{separator};
 
@@ -9,36 +9,19 @@ use crate::types::{Field, Ty, TypeDef, Types};
 use crate::value::Value;
 use itoa::Buffer;
 use std::io::Write;
-use thiserror::Error;
-
-/// 3 Write: the writer answered an error, or took no byte.
-#[derive(Clone, Copy, Debug, Error)]
-#[error("the text could not be written")]
-pub struct WriteFault;
-
-/// Writes these bytes. 3 `Write` where the writer answered an error, or took no byte: how many of
-/// them were written then is open.
-pub fn write_bytes<W: Write>(bytes: &[u8], out: &mut W) -> Result<(), WriteFault>
-    ensures { OnOk result (Appends (W.contents out.old) (W.contents out.new) bytes.now) }
-{
-    match out.write_all(bytes) {
-        Ok(()) => Ok(()),
-        Err(_) => Err(WriteFault),
-    }
-}
+use tp_text::watched::{Watched, write_bytes};
 
 /// Writes an integer.
-fn write_number<W: Write>(number: i64, out: &mut W) -> Result<(), WriteFault>
-    ensures { OnOk result (Appends (W.contents out.old) (W.contents out.new)
-        (signed_decimal number)) }
+fn write_number<W: Write>(number: i64, out: &mut Watched<W>)
+    ensures { Writes W.contents out.old out.new (signed_decimal number) }
 {
     let mut buffer = Buffer::new();
     write_bytes(buffer.format(number).as_bytes(), out)
 }
 
 /// Writes a boolean.
-fn write_truth<W: Write>(truth: bool, out: &mut W) -> Result<(), WriteFault>
-    ensures { OnOk result (Appends (W.contents out.old) (W.contents out.new) (bool_text truth)) }
+fn write_truth<W: Write>(truth: bool, out: &mut Watched<W>)
+    ensures { Writes W.contents out.old out.new (bool_text truth) }
 {
     if truth {
         write_bytes(b"true", out)
@@ -68,23 +51,23 @@ fn cut_at_quote(text: &[u8]) -> Option<(&[u8], &[u8])>
 }
 
 /// Writes a charstring.
-fn write_text<W: Write>(text: &[u8], out: &mut W) -> Result<(), WriteFault>
-    ensures { OnOk result (Appends (W.contents out.old) (W.contents out.new) (quoted text.now)) }
+fn write_text<W: Write>(text: &[u8], out: &mut Watched<W>)
+    ensures { Writes W.contents out.old out.new (quoted text.now) }
 {
-    write_bytes(b"\"", out)?;
+    write_bytes(b"\"", out);
     let mut rest = text;
     while let Some((front, behind)) = cut_at_quote(rest) {
-        write_bytes(front, out)?;
-        write_bytes(b"\"", out)?;
+        write_bytes(front, out);
+        write_bytes(b"\"", out);
         rest = behind;
     }
-    write_bytes(rest, out)?;
+    write_bytes(rest, out);
     write_bytes(b"\"", out)
 }
 
 /// Writes what stands before the item at this place: a comma and a space, or nothing at the first.
-fn separate<W: Write>(place: usize, out: &mut W) -> Result<(), WriteFault>
-    ensures { OnOk result (Appends (W.contents out.old) (W.contents out.new) (separator place)) }
+fn separate<W: Write>(place: usize, out: &mut Watched<W>)
+    ensures { Writes W.contents out.old out.new (separator place) }
 {
     if place == 0 {
         write_bytes(b"", out)
@@ -102,17 +85,11 @@ fn separate<W: Write>(place: usize, out: &mut W) -> Result<(), WriteFault>
 /// tells nothing, and a record without a record type, or a list without a record-of type, is
 /// written as nothing at all.
 ///
-/// 3 `Write` where the writer answers an error or takes no byte; how much is written then is open.
-/// It takes no memory. It calls itself once for each level of nesting.
+/// Where the writer fails, a front of the text is written. It takes no memory. It calls itself once
+/// for each level of nesting.
 #[cycle(write)]
-pub fn write_value<W: Write>(
-    types: &Types,
-    ty: Ty,
-    value: &Value,
-    out: &mut W,
-) -> Result<(), WriteFault>
-    ensures { OnOk result (Appends (W.contents out.old) (W.contents out.new)
-        (value_text types.now ty value.now)) }
+pub fn write_value<W: Write>(types: &Types, ty: Ty, value: &Value, out: &mut Watched<W>)
+    ensures { Writes W.contents out.old out.new (value_text types.now ty value.now) }
 {
     match value {
         Value::Int(number) => write_number(*number, out),
@@ -122,54 +99,44 @@ pub fn write_value<W: Write>(
             Some(TypeDef::Record(declared)) => {
                 write_fields(types, declared.as_slice(), fields.as_slice(), out)
             }
-            Some(TypeDef::ListOf(_)) | None => Ok(()),
+            Some(TypeDef::ListOf(_)) | None => {}
         },
         Value::List(elements) => match types.definition(ty) {
             Some(TypeDef::ListOf(inner)) => {
                 write_elements(types, *inner, elements.as_slice(), out)
             }
-            Some(TypeDef::Record(_)) | None => Ok(()),
+            Some(TypeDef::Record(_)) | None => {}
         },
     }
 }
 
 /// Writes a record's fields, in braces.
 #[cycle(write)]
-fn write_fields<W: Write>(
-    types: &Types,
-    declared: &[Field],
-    values: &[Value],
-    out: &mut W,
-) -> Result<(), WriteFault>
-    ensures { OnOk result (Appends (W.contents out.old) (W.contents out.new)
-        (braced_text (field_texts (λ v t. value_text types.now t v) declared.now values.now))) }
+fn write_fields<W: Write>(types: &Types, declared: &[Field], values: &[Value], out: &mut Watched<W>)
+    ensures { Writes W.contents out.old out.new
+        (braced_text (field_texts (λ v t. value_text types.now t v) declared.now values.now)) }
 {
-    write_bytes(b"{", out)?;
+    write_bytes(b"{", out);
     for index in 0..declared.len().min(values.len()) {
         let field = &declared[index];
-        separate(index, out)?;
-        write_bytes(field.name.as_slice(), out)?;
-        write_bytes(b" := ", out)?;
-        write_value(types, field.ty, &values[index], out)?;
+        separate(index, out);
+        write_bytes(field.name.as_slice(), out);
+        write_bytes(b" := ", out);
+        write_value(types, field.ty, &values[index], out);
     }
     write_bytes(b"}", out)
 }
 
 /// Writes the elements of a record of, in braces.
 #[cycle(write)]
-fn write_elements<W: Write>(
-    types: &Types,
-    ty: Ty,
-    values: &[Value],
-    out: &mut W,
-) -> Result<(), WriteFault>
-    ensures { OnOk result (Appends (W.contents out.old) (W.contents out.new)
-        (braced_text (element_texts (λ v t. value_text types.now t v) ty values.now))) }
+fn write_elements<W: Write>(types: &Types, ty: Ty, values: &[Value], out: &mut Watched<W>)
+    ensures { Writes W.contents out.old out.new
+        (braced_text (element_texts (λ v t. value_text types.now t v) ty values.now)) }
 {
-    write_bytes(b"{", out)?;
+    write_bytes(b"{", out);
     for (index, value) in values.iter().enumerate() {
-        separate(index, out)?;
-        write_value(types, ty, value, out)?;
+        separate(index, out);
+        write_value(types, ty, value, out);
     }
     write_bytes(b"}", out)
 }

@@ -1,3 +1,3 @@
 pub mod Reading
-pub mod Told
+pub mod Answered
 pub mod Refereed

@@ -1,7 +1,9 @@
 -- The outcome of mode check: what is printed of a script, and the status.
 use Rattle.std.specs.Prelude.{◌≡◌, ℕ, ◌≤◌, ◌⊎◌, Option, List, length, codes, IfSome}
-use Rattle.std.specs.Io.KnownBytes.{Appends, Consumes}
+use Rattle.std.specs.Io.KnownBytes.{Consumes}
 use Rattle.tp_text.specs.Reading.{IsFull}
+use Rattle.tp_text.specs.declared.watched.Watched.{Watched}
+use Rattle.tp_text.specs.Watching.{HasFailed, left_in}
 use Rattle.tp_text.specs.declared.text.ReadFault.{ReadFault}
 use Rattle.tp_text.specs.declared.text.ReadFault.TheVariants as read_fault
 use Rattle.tp_refusal.specs.declared.refusal.Refusal.TheVariants as refusal
@@ -63,15 +65,17 @@ abbrev pub HasCheckFault : Option (List ℕ) → Option (List ℕ) → CheckFaul
 HasCheckFault old new fault =
     (bytes : List ℕ) × Consumes old new bytes × IfSome old (λ text. IsCheckFaultOf text (length bytes) fault)
 
--- the line of a fault was added that the text has which was read, and the status is the fault's
-pub record IsNotAccepted (known left old new : Option (List ℕ)) (status : ℕ) : Type 0 where
+-- the line of a fault that the text has which was read, and the fault's status; it wasn't read only where the reader has
+-- failed
+pub record IsNotAccepted {R : Type 0} (remaining : R → Option (List ℕ)) (old new : Watched R) (text : List ℕ) (status : ℕ)
+    : Type 0 where
   pub fault : CheckFault
-  pub found : HasCheckFault known left fault
+  pub found : HasCheckFault (left_in remaining old) (left_in remaining new) fault
+  pub unread : fault ≡ check_fault.Read → HasFailed new
   pub code : status ≡ check_fault_status fault
-  pub printed : Appends old new (check_fault_text fault)
+  pub line : text ≡ check_fault_text fault
 
--- where the writer doesn't fail: status 0 and `accepted` for a text that is right, or the line and the status of its
--- fault
-abbrev pub IsCheckAnswer : Option (List ℕ) → Option (List ℕ) → Option (List ℕ) → Option (List ℕ) → ℕ → Type 0
-IsCheckAnswer known left old new status =
-    ((status ≡ 0) × IfSome known IsRight × Appends old new accepted_text) ⊎ IsNotAccepted known left old new status
+-- what mode check may print: `accepted`, with status 0, for a text that is right, or the line of its fault
+abbrev pub IsCheckAnswer : {R : Type 0} → (R → Option (List ℕ)) → Watched R → Watched R → List ℕ → ℕ → Type 0
+IsCheckAnswer remaining old new text status =
+    ((status ≡ 0) × IfSome (left_in remaining old) IsRight × (text ≡ accepted_text)) ⊎ IsNotAccepted remaining old new text status

@@ -1,7 +1,9 @@
 -- The outcome of mode judge: what is printed of a trace, and the status.
 use Rattle.std.specs.Prelude.{◌≡◌, ℕ, ◌≤◌, ◌⊎◌, Option, List, length, IfSome}
-use Rattle.std.specs.Io.KnownBytes.{Appends, Consumes}
+use Rattle.std.specs.Io.KnownBytes.{Consumes}
 use Rattle.tp_text.specs.Reading.{IsFull}
+use Rattle.tp_text.specs.declared.watched.Watched.{Watched}
+use Rattle.tp_text.specs.Watching.{HasFailed, left_in}
 use Rattle.tp_text.specs.declared.text.ReadFault.{ReadFault}
 use Rattle.tp_text.specs.declared.text.ReadFault.TheVariants as read_fault
 use Rattle.tp_refusal.specs.declared.refusal.Refusal.TheVariants as refusal
@@ -60,20 +62,23 @@ abbrev pub HasJudgeFault : Option (List ℕ) → Option (List ℕ) → JudgeFaul
 HasJudgeFault old new fault =
     (bytes : List ℕ) × Consumes old new bytes × IfSome old (λ text. IsJudgeFaultOf text (length bytes) fault)
 
--- what is said of the trace that was read was added, and the status is its own
-pub record IsJudged (known old new : Option (List ℕ)) (status : ℕ) : Type 0 where
+-- what is said of the trace that was read, with its status
+pub record IsJudged (known : Option (List ℕ)) (text : List ℕ) (status : ℕ) : Type 0 where
   pub ruling : Ruling
-  pub judged : IfSome known (λ text. IsRulingOf text ruling)
+  pub judged : IfSome known (λ trace. IsRulingOf trace ruling)
   pub code : status ≡ ruling_status ruling
-  pub printed : Appends old new (ruling_text ruling)
+  pub said : text ≡ ruling_text ruling
 
--- the line of a fault was added that the text has which was read, and the status is the fault's
-pub record IsNotJudged (known left old new : Option (List ℕ)) (status : ℕ) : Type 0 where
+-- the line of a fault that the text has which was read, and the fault's status; it wasn't read only where the reader has
+-- failed
+pub record IsNotJudged {R : Type 0} (remaining : R → Option (List ℕ)) (old new : Watched R) (text : List ℕ) (status : ℕ)
+    : Type 0 where
   pub fault : JudgeFault
-  pub found : HasJudgeFault known left fault
+  pub found : HasJudgeFault (left_in remaining old) (left_in remaining new) fault
+  pub unread : fault ≡ judge_fault.Read → HasFailed new
   pub code : status ≡ judge_fault_status fault
-  pub printed : Appends old new (judge_fault_text fault)
+  pub line : text ≡ judge_fault_text fault
 
--- where the writer doesn't fail: what is said of the trace that was read, or the line and the status of its fault
-abbrev pub IsJudgeAnswer : Option (List ℕ) → Option (List ℕ) → Option (List ℕ) → Option (List ℕ) → ℕ → Type 0
-IsJudgeAnswer known left old new status = IsJudged known old new status ⊎ IsNotJudged known left old new status
+-- what mode judge may print: what is said of the trace that was read, or the line of its fault
+abbrev pub IsJudgeAnswer : {R : Type 0} → (R → Option (List ℕ)) → Watched R → Watched R → List ℕ → ℕ → Type 0
+IsJudgeAnswer remaining old new text status = IsJudged (left_in remaining old) text status ⊎ IsNotJudged remaining old new text status

@@ -1,13 +1,14 @@
 -- The outcome of a mode: what is printed of a fault, and the status.
 use Rattle.std.specs.Prelude.{◌≡◌, ℕ, ◌⊎◌, Option, List, [], ◌++◌, codes, IfSome}
 use Rattle.std.specs.Fmt.{decimal}
-use Rattle.std.specs.Io.KnownBytes.{Appends}
+use Rattle.tp_text.specs.declared.watched.Watched.{Watched}
+use Rattle.tp_text.specs.Watching.{HasFailed, left_in}
 use Rattle.tp_refusal.specs.declared.refusal.Refusal.{Refusal}
 use Rattle.tp_refusal.specs.declared.refusal.Refusal.TheVariants as refusal
 use Rattle.tp_refusal.specs.Label.{label}
 use Rattle.tp_port.specs.declared.replay.QueueFault.{QueueFault}
 use Rattle.tp_port.specs.declared.replay.QueueFault.TheVariants as queue_fault
-use Rattle.tp_port.specs.Faults.{Answers, HasFault}
+use Rattle.tp_port.specs.Faults.{HasFault, IsAnswerTo}
 
 -- the number and the name
 abbrev pub label_text : Refusal → List ℕ
@@ -43,16 +44,18 @@ abbrev pub HasLine : QueueFault → Type 0
 HasLine queue_fault.Write = ⊥
 HasLine _ = Unit {0}
 
--- the line of a fault was added that the text has which was read, and the status is the fault's
-pub record IsQueueRefused (known left old new : Option (List ℕ)) (status : ℕ) : Type 0 where
+-- the line of a fault that the text has which was read, and the fault's status; it wasn't read only where the reader has
+-- failed
+pub record IsQueueRefused {R : Type 0} (remaining : R → Option (List ℕ)) (old new : Watched R) (text : List ℕ) (status : ℕ)
+    : Type 0 where
   pub fault : QueueFault
   pub is_told : HasLine fault
-  pub found : HasFault known left fault
+  pub found : HasFault (left_in remaining old) (left_in remaining new) fault
+  pub unread : fault ≡ queue_fault.Read → HasFailed new
   pub code : status ≡ fault_status fault
-  pub printed : Appends old new (fault_text fault)
+  pub line : text ≡ fault_text fault
 
--- where the writer doesn't fail: status 0 and the answers to the text that the reader had, or the line and the status
--- of its fault
-abbrev pub IsQueueAnswer : Option (List ℕ) → Option (List ℕ) → Option (List ℕ) → Option (List ℕ) → ℕ → Type 0
-IsQueueAnswer known left old new status =
-    ((status ≡ 0) × IfSome known (λ text. Answers text old new)) ⊎ IsQueueRefused known left old new status
+-- what mode queue may print: the answers to the text that the reader had, with status 0, or the line of its fault
+abbrev pub IsQueueAnswer : {R : Type 0} → (R → Option (List ℕ)) → Watched R → Watched R → List ℕ → ℕ → Type 0
+IsQueueAnswer remaining old new text status =
+    ((status ≡ 0) × IfSome (left_in remaining old) (λ file. IsAnswerTo file text)) ⊎ IsQueueRefused remaining old new text status

@@ -1,19 +1,18 @@
 //! Whether a script is right.
-ghost use Rattle.std.specs.Prelude.{◌≡◌, IfErr, IfOk, IfSome, OnOk, OnSome};
-ghost use Rattle.std.specs.Io.KnownBytes.{Appends};
+ghost use Rattle.std.specs.Prelude.{◌≡◌, IfErr, IfOk, IfSome, OnOk};
+ghost use Rattle.tp_text.specs.Watching.{HasFailed, Writes, left_in};
 ghost use Rattle.tp_script.specs.Scripts.{IsScriptOf};
+ghost use Rattle.tpr.specs.Handed.{IsAnswered, IsJust};
 ghost use Rattle.tpr.specs.Checked.{HasCheckFault, IsCheckAnswer, IsRight, accepted_text, check_fault_status, check_fault_text};
 
-use crate::modes::{
-    ANSWERED, FAULTED, REFUSED, flushed, write_memory, write_refused, write_unread,
-};
+use crate::modes::{ANSWERED, FAULTED, REFUSED, ended, write_memory, write_refused, write_unread};
 use std::alloc::Global;
-use std::io;
 use std::io::{Read, Write};
 use tp_play::test_case::TestCase;
 use tp_refusal::memory::Memory;
 use tp_script::reading::read_script;
 use tp_text::text::{ReadFault, read_text};
+use tp_text::watched::{Watched, write_bytes};
 use tp_token::fault::ScriptFault;
 
 /// Why a script isn't accepted.
@@ -41,11 +40,13 @@ impl From<ReadFault> for CheckFault {
 }
 
 /// Reads a script, and checks it: its test case.
-pub fn check_script<R: Read>(alloc: Global, reader: &mut R) -> Result<TestCase, CheckFault>
+pub fn check_script<R: Read>(alloc: Global, reader: &mut Watched<R>) -> Result<TestCase, CheckFault>
     ensures script { IfOk result (λ made.
-        IfSome (R.remaining reader.old) (λ text. IsScriptOf text made)) }
-    ensures right { OnOk result (IfSome (R.remaining reader.old) IsRight) }
-    ensures fault { IfErr result (HasCheckFault (R.remaining reader.old) (R.remaining reader.new)) }
+        IfSome (left_in R.remaining reader.old) (λ text. IsScriptOf text made)) }
+    ensures right { OnOk result (IfSome (left_in R.remaining reader.old) IsRight) }
+    ensures fault { IfErr result
+        (HasCheckFault (left_in R.remaining reader.old) (left_in R.remaining reader.new)) }
+    ensures unread { IfErr result (λ f. f ≡ CheckFault.Read → HasFailed reader.new) }
 {
     match read_text(alloc, reader) {
         Err(fault) => Err(CheckFault::from(fault)),
@@ -57,9 +58,8 @@ pub fn check_script<R: Read>(alloc: Global, reader: &mut R) -> Result<TestCase, 
 }
 
 /// Writes the line of a fault.
-fn write_check_fault<W: Write>(writer: &mut W, fault: CheckFault) -> io::Result<()>
-    ensures { OnOk result (Appends (W.contents writer.old) (W.contents writer.new)
-        (check_fault_text fault)) }
+fn write_check_fault<W: Write>(writer: &mut Watched<W>, fault: CheckFault)
+    ensures { Writes W.contents writer.old writer.new (check_fault_text fault) }
 {
     match fault {
         CheckFault::Read => write_unread(writer),
@@ -68,13 +68,6 @@ fn write_check_fault<W: Write>(writer: &mut W, fault: CheckFault) -> io::Result<
         }
         CheckFault::Script(ScriptFault::Memory(_)) => write_memory(writer),
     }
-}
-
-/// Writes that a script is right.
-fn write_accepted<W: Write>(writer: &mut W) -> io::Result<()>
-    ensures { OnOk result (Appends (W.contents writer.old) (W.contents writer.new) accepted_text) }
-{
-    writer.write_all(b"accepted\n")
 }
 
 /// The status of a fault.
@@ -88,27 +81,20 @@ fn check_fault_status(fault: CheckFault) -> u8
 }
 
 /// Prints the line of a fault, and answers its status. `None` where the writer failed.
-pub fn answer_check_fault<W: Write>(writer: &mut W, fault: CheckFault) -> Option<u8>
-    ensures code { IfSome result (λ status. status ≡ check_fault_status fault) }
-    ensures printed { OnSome result (Appends (W.contents writer.old) (W.contents writer.new)
-        (check_fault_text fault)) }
+pub fn answer_check_fault<W: Write>(writer: &mut Watched<W>, fault: CheckFault) -> Option<u8>
+    ensures { IsAnswered W.contents (IsJust (check_fault_text fault) (check_fault_status fault))
+        writer.old writer.new result }
 {
-    match write_check_fault(writer, fault) {
-        Ok(()) => flushed(writer, check_fault_status(fault)),
-        Err(_) => None,
-    }
+    write_check_fault(writer, fault);
+    ended(writer, check_fault_status(fault))
 }
 
 /// Prints that a script is right. The status is 0; `None` where the writer failed.
-fn answer_accepted<W: Write>(writer: &mut W) -> Option<u8>
-    ensures code { IfSome result (λ status. status ≡ 0) }
-    ensures printed { OnSome result (Appends (W.contents writer.old) (W.contents writer.new)
-        accepted_text) }
+fn answer_accepted<W: Write>(writer: &mut Watched<W>) -> Option<u8>
+    ensures { IsAnswered W.contents (IsJust accepted_text 0) writer.old writer.new result }
 {
-    match write_accepted(writer) {
-        Ok(()) => flushed(writer, ANSWERED),
-        Err(_) => None,
-    }
+    write_bytes(b"accepted\n", writer);
+    ended(writer, ANSWERED)
 }
 
 /// Reads a script and checks it: prints `accepted` where it is right, and else the line of its
@@ -116,14 +102,21 @@ fn answer_accepted<W: Write>(writer: &mut W) -> Option<u8>
 ///
 /// The status is 0 where it is right; 2 where it was refused: `refused 2 Read`, or
 /// `refused CODE NAME line L` with 10 to 18 and 20 to 28, as [`read_script`] says; 3 where
-/// memory was refused, `fault 50 Memory`. `None` where the writer failed; how much is printed then
-/// is open.
-pub fn answer_check<R: Read, W: Write>(alloc: Global, reader: &mut R, writer: &mut W) -> Option<u8>
-    ensures { IfSome result (IsCheckAnswer (R.remaining reader.old) (R.remaining reader.new)
-        (W.contents writer.old) (W.contents writer.new)) }
+/// memory was refused, `fault 50 Memory`. `None` where the writer failed: a front of one of these
+/// answers is printed then.
+pub fn answer_check<R: Read, W: Write>(
+    alloc: Global,
+    reader: &mut Watched<R>,
+    writer: &mut Watched<W>,
+) -> Option<u8>
+    ensures { IsAnswered W.contents (IsCheckAnswer R.remaining reader.old reader.new)
+        writer.old writer.new result }
 {
     match check_script(alloc, reader) {
         Err(fault) => answer_check_fault(writer, fault),
-        Ok(_) => answer_accepted(writer),
+        Ok(test_case) => {
+            drop(test_case);
+            answer_accepted(writer)
+        }
     }
 }

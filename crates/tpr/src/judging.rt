@@ -1,20 +1,19 @@
 //! Whether a trace is lawful.
-ghost use Rattle.std.specs.Prelude.{◌≡◌, IfErr, IfOk, IfSome, OnOk, OnSome};
-ghost use Rattle.std.specs.Io.KnownBytes.{Appends};
+ghost use Rattle.std.specs.Prelude.{◌≡◌, IfErr, IfOk, IfSome};
+ghost use Rattle.tp_text.specs.Watching.{HasFailed, Writes, left_in};
 ghost use Rattle.tp_referee.specs.Answers.{ruling_status, ruling_text};
 ghost use Rattle.tp_referee.specs.Rulings.{IsRulingOf};
+ghost use Rattle.tpr.specs.Handed.{IsAnswered, IsJust};
 ghost use Rattle.tpr.specs.Judged.{HasJudgeFault, IsJudgeAnswer, judge_fault_status, judge_fault_text};
 
-use crate::modes::{
-    ANSWERED, FAULTED, REFUSED, flushed, write_memory, write_refused, write_unread,
-};
+use crate::modes::{ANSWERED, FAULTED, REFUSED, ended, write_memory, write_refused, write_unread};
 use std::alloc::Global;
-use std::io;
 use std::io::{Read, Write};
 use tp_referee::ruling::{Ruling, referee};
 use tp_referee::writing::write_ruling;
 use tp_refusal::refusal::Refusal;
 use tp_text::text::{ReadFault, read_within};
+use tp_text::watched::Watched;
 use tp_trace::reading::{TRACE_LIMIT, TraceFault};
 
 /// Why a text isn't judged.
@@ -42,10 +41,12 @@ impl From<ReadFault> for JudgeFault {
 }
 
 /// Reads a text, and says whether it is a lawful trace.
-fn judge_text<R: Read>(alloc: Global, reader: &mut R) -> Result<Ruling, JudgeFault>
+fn judge_text<R: Read>(alloc: Global, reader: &mut Watched<R>) -> Result<Ruling, JudgeFault>
     ensures ruling { IfOk result (λ ruling.
-        IfSome (R.remaining reader.old) (λ text. IsRulingOf text ruling)) }
-    ensures fault { IfErr result (HasJudgeFault (R.remaining reader.old) (R.remaining reader.new)) }
+        IfSome (left_in R.remaining reader.old) (λ text. IsRulingOf text ruling)) }
+    ensures fault { IfErr result
+        (HasJudgeFault (left_in R.remaining reader.old) (left_in R.remaining reader.new)) }
+    ensures unread { IfErr result (λ f. f ≡ JudgeFault.Read → HasFailed reader.new) }
 {
     match read_within(alloc, reader, TRACE_LIMIT as u32) {
         Err(fault) => Err(JudgeFault::from(fault)),
@@ -57,9 +58,8 @@ fn judge_text<R: Read>(alloc: Global, reader: &mut R) -> Result<Ruling, JudgeFau
 }
 
 /// Writes the line of a fault.
-fn write_judge_fault<W: Write>(writer: &mut W, fault: JudgeFault) -> io::Result<()>
-    ensures { OnOk result (Appends (W.contents writer.old) (W.contents writer.new)
-        (judge_fault_text fault)) }
+fn write_judge_fault<W: Write>(writer: &mut Watched<W>, fault: JudgeFault)
+    ensures { Writes W.contents writer.old writer.new (judge_fault_text fault) }
 {
     match fault {
         JudgeFault::Read => write_unread(writer),
@@ -82,15 +82,12 @@ fn judge_fault_status(fault: JudgeFault) -> u8
 }
 
 /// Prints the line of a fault, and answers its status. `None` where the writer failed.
-fn answer_judge_fault<W: Write>(writer: &mut W, fault: JudgeFault) -> Option<u8>
-    ensures code { IfSome result (λ status. status ≡ judge_fault_status fault) }
-    ensures printed { OnSome result (Appends (W.contents writer.old) (W.contents writer.new)
-        (judge_fault_text fault)) }
+fn answer_judge_fault<W: Write>(writer: &mut Watched<W>, fault: JudgeFault) -> Option<u8>
+    ensures { IsAnswered W.contents (IsJust (judge_fault_text fault) (judge_fault_status fault))
+        writer.old writer.new result }
 {
-    match write_judge_fault(writer, fault) {
-        Ok(()) => flushed(writer, judge_fault_status(fault)),
-        Err(_) => None,
-    }
+    write_judge_fault(writer, fault);
+    ended(writer, judge_fault_status(fault))
 }
 
 /// The status where a trace was judged.
@@ -104,15 +101,12 @@ fn ruling_status(ruling: &Ruling) -> u8
 }
 
 /// Prints what is said of a trace, and answers its status. `None` where the writer failed.
-fn answer_ruling<W: Write>(writer: &mut W, ruling: &Ruling) -> Option<u8>
-    ensures code { IfSome result (λ status. status ≡ ruling_status ruling.now) }
-    ensures printed { OnSome result (Appends (W.contents writer.old) (W.contents writer.new)
-        (ruling_text ruling.now)) }
+fn answer_ruling<W: Write>(writer: &mut Watched<W>, ruling: &Ruling) -> Option<u8>
+    ensures { IsAnswered W.contents (IsJust (ruling_text ruling.now) (ruling_status ruling.now))
+        writer.old writer.new result }
 {
-    match write_ruling(writer, ruling) {
-        Ok(()) => flushed(writer, ruling_status(ruling)),
-        Err(_) => None,
-    }
+    write_ruling(writer, ruling);
+    ended(writer, ruling_status(ruling))
 }
 
 /// Reads a trace, and prints `lawful` and `one run` or `delayed line L`, or a line
@@ -121,11 +115,15 @@ fn answer_ruling<W: Write>(writer: &mut W, ruling: &Ruling) -> Option<u8>
 ///
 /// The status is 0 where it is lawful; 2 where it isn't, or was refused: `refused 2 Read`,
 /// `refused 1 BadLine line L` or `refused 15 Limit line 0`, above 268,435,456 bytes; 3 where memory
-/// was refused, `fault 50 Memory`. `None` where the writer failed; how much is printed then is
-/// open.
-pub fn answer_judge<R: Read, W: Write>(alloc: Global, reader: &mut R, writer: &mut W) -> Option<u8>
-    ensures { IfSome result (IsJudgeAnswer (R.remaining reader.old) (R.remaining reader.new)
-        (W.contents writer.old) (W.contents writer.new)) }
+/// was refused, `fault 50 Memory`. `None` where the writer failed: a front of one of these
+/// answers is printed then.
+pub fn answer_judge<R: Read, W: Write>(
+    alloc: Global,
+    reader: &mut Watched<R>,
+    writer: &mut Watched<W>,
+) -> Option<u8>
+    ensures { IsAnswered W.contents (IsJudgeAnswer R.remaining reader.old reader.new)
+        writer.old writer.new result }
 {
     match judge_text(alloc, reader) {
         Err(fault) => answer_judge_fault(writer, fault),

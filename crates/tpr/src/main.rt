@@ -1,11 +1,11 @@
 //! `tpr`: message ports of TTCN-3, replayed, checked, run, traced and judged.
 #![tactic(auto)]
 
-ghost use Rattle.std.specs.Prelude.{◌≡◌, IfSome, Some};
+ghost use Rattle.std.specs.Prelude.{◌≡◌, IfNone, IfSome, OnSome, Some};
 ghost use Rattle.std.specs.Io.Buffered.{writer_contents};
-ghost use Rattle.std.specs.Io.KnownBytes.{Appends, Keeps};
+ghost use Rattle.std.specs.Io.KnownBytes.{Keeps};
 ghost use Rattle.tpr.specs.Checked.{IsCheckAnswer};
-ghost use Rattle.tpr.specs.Handed.{HasGot};
+ghost use Rattle.tpr.specs.Handed.{BeginsWith, IsAnswered, IsHanded, IsJust};
 ghost use Rattle.tpr.specs.Judged.{IsJudgeAnswer};
 ghost use Rattle.tpr.specs.Outcome.{IsQueueAnswer, unread_text};
 ghost use Rattle.tpr.specs.Ran.{IsRunAnswer, IsTraceAnswer};
@@ -28,9 +28,10 @@ use std::process::ExitCode;
 use std::rt::Files;
 use std::sync::Wait;
 use std::thread::Threads;
-use std::{env, io, mem};
+use std::{env, io};
 use tp_exec::gate::OpenGate;
 use tp_port::replay::QueueFault;
+use tp_text::watched::Watched;
 
 /// The status where the words are no command line of the program.
 const USAGE: u8 = 4;
@@ -46,19 +47,19 @@ fn usage<R: Eprint>(rt: &R) -> u8 {
 fn answer<T: AllocGlobal + Threads + Wait + Sync, R: Read, W: Write>(
     rt: &T,
     mode: Mode,
-    reader: &mut R,
-    writer: &mut W,
+    reader: &mut Watched<R>,
+    writer: &mut Watched<W>,
 ) -> Option<u8>
-    ensures queue { mode ≡ Mode.Queue → IfSome result (IsQueueAnswer (R.remaining reader.old)
-        (R.remaining reader.new) (W.contents writer.old) (W.contents writer.new)) }
-    ensures check { mode ≡ Mode.Check → IfSome result (IsCheckAnswer (R.remaining reader.old)
-        (R.remaining reader.new) (W.contents writer.old) (W.contents writer.new)) }
-    ensures run { mode ≡ Mode.Run → IfSome result (IsRunAnswer (R.remaining reader.old)
-        (R.remaining reader.new) (W.contents writer.old) (W.contents writer.new)) }
-    ensures trace { mode ≡ Mode.Trace → IfSome result (IsTraceAnswer (R.remaining reader.old)
-        (R.remaining reader.new) (W.contents writer.old) (W.contents writer.new)) }
-    ensures judge { mode ≡ Mode.Judge → IfSome result (IsJudgeAnswer (R.remaining reader.old)
-        (R.remaining reader.new) (W.contents writer.old) (W.contents writer.new)) }
+    ensures queue { mode ≡ Mode.Queue → IsAnswered W.contents
+        (IsQueueAnswer R.remaining reader.old reader.new) writer.old writer.new result }
+    ensures check { mode ≡ Mode.Check → IsAnswered W.contents
+        (IsCheckAnswer R.remaining reader.old reader.new) writer.old writer.new result }
+    ensures run { mode ≡ Mode.Run → IsAnswered W.contents
+        (IsRunAnswer R.remaining reader.old reader.new) writer.old writer.new result }
+    ensures trace { mode ≡ Mode.Trace → IsAnswered W.contents
+        (IsTraceAnswer R.remaining reader.old reader.new) writer.old writer.new result }
+    ensures judge { mode ≡ Mode.Judge → IsAnswered W.contents
+        (IsJudgeAnswer R.remaining reader.old reader.new) writer.old writer.new result }
 {
     match mode {
         Mode::Queue => answer_queue(rt.alloc(), reader, writer),
@@ -69,65 +70,71 @@ fn answer<T: AllocGlobal + Threads + Wait + Sync, R: Read, W: Write>(
     }
 }
 
-/// The status, and the writer behind this buffer, which has got all that the buffer held. `None`
-/// where there is no status, or the writer failed; nothing is written behind that.
-fn emptied<W: Write + Drop>(buffer: BufWriter<W>, status: Option<u8>) -> Option<(u8, W)>
-    ensures status { IfSome result (λ handed. status ≡ Some handed.0) }
-    ensures got { IfSome result (λ handed.
-        Keeps (writer_contents W.contents buffer) (W.contents handed.1)) }
+/// The writer behind this buffer. What the buffer still holds is written nowhere.
+fn behind<W: Write + Drop>(buffer: BufWriter<W>) -> W
+    ensures { BeginsWith (writer_contents W.contents buffer) (W.contents result) }
 {
-    let Some(status) = status else {
-        // A buffer that is dropped tries once more to write what it holds.
-        mem::forget(buffer);
-        return None;
-    };
+    let (writer, _unwritten) = buffer.into_parts();
+    writer
+}
+
+/// The status, and the writer behind this buffer, which has got all that the buffer held. No status
+/// where there is none, or the writer failed; then it has got a front of that, and nothing is
+/// written behind it.
+fn emptied<W: Write + Drop>(buffer: BufWriter<W>, status: Option<u8>) -> (Option<u8>, W)
+    ensures status { IfSome result.0 (λ given. status ≡ Some given) }
+    ensures got { OnSome result.0
+        (Keeps (writer_contents W.contents buffer) (W.contents result.1)) }
+    ensures front { IfNone result.0
+        (BeginsWith (writer_contents W.contents buffer) (W.contents result.1)) }
+{
+    if status.is_none() {
+        return (None, behind(buffer));
+    }
     match buffer.into_inner() {
-        Ok(writer) => Some((status, writer)),
-        Err(failed) => {
-            // It has the buffer.
-            mem::forget(failed);
-            None
-        }
+        Ok(writer) => (status, writer),
+        Err(failed) => (None, behind(failed.into_inner())),
     }
 }
 
 /// Answers in this mode through this buffer: the status, and the writer behind the buffer, which
-/// has got all that was printed. `None` where the writer failed; nothing is written behind that.
+/// has got all that was printed. No status where the writer failed; then it has got a front of an
+/// answer, and nothing is written behind that.
 fn answer_through<T: AllocGlobal + Threads + Wait + Sync, R: Read, W: Write + Drop>(
     rt: &T,
     mode: Mode,
-    reader: &mut R,
-    mut buffer: BufWriter<W>,
-) -> Option<(u8, W)>
-    ensures queue { mode ≡ Mode.Queue → IfSome result (λ handed. HasGot
-        (λ held. IsQueueAnswer (R.remaining reader.old) (R.remaining reader.new)
-        (writer_contents W.contents buffer) held handed.0) (W.contents handed.1)) }
-    ensures check { mode ≡ Mode.Check → IfSome result (λ handed. HasGot
-        (λ held. IsCheckAnswer (R.remaining reader.old) (R.remaining reader.new)
-        (writer_contents W.contents buffer) held handed.0) (W.contents handed.1)) }
-    ensures run { mode ≡ Mode.Run → IfSome result (λ handed. HasGot
-        (λ held. IsRunAnswer (R.remaining reader.old) (R.remaining reader.new)
-        (writer_contents W.contents buffer) held handed.0) (W.contents handed.1)) }
-    ensures trace { mode ≡ Mode.Trace → IfSome result (λ handed. HasGot
-        (λ held. IsTraceAnswer (R.remaining reader.old) (R.remaining reader.new)
-        (writer_contents W.contents buffer) held handed.0) (W.contents handed.1)) }
-    ensures judge { mode ≡ Mode.Judge → IfSome result (λ handed. HasGot
-        (λ held. IsJudgeAnswer (R.remaining reader.old) (R.remaining reader.new)
-        (writer_contents W.contents buffer) held handed.0) (W.contents handed.1)) }
+    reader: &mut Watched<R>,
+    buffer: BufWriter<W>,
+) -> (Option<u8>, W)
+    ensures queue { mode ≡ Mode.Queue → IsHanded (IsQueueAnswer R.remaining reader.old reader.new)
+        (writer_contents W.contents buffer) (W.contents result.1) result.0 }
+    ensures check { mode ≡ Mode.Check → IsHanded (IsCheckAnswer R.remaining reader.old reader.new)
+        (writer_contents W.contents buffer) (W.contents result.1) result.0 }
+    ensures run { mode ≡ Mode.Run → IsHanded (IsRunAnswer R.remaining reader.old reader.new)
+        (writer_contents W.contents buffer) (W.contents result.1) result.0 }
+    ensures trace { mode ≡ Mode.Trace → IsHanded (IsTraceAnswer R.remaining reader.old reader.new)
+        (writer_contents W.contents buffer) (W.contents result.1) result.0 }
+    ensures judge { mode ≡ Mode.Judge → IsHanded (IsJudgeAnswer R.remaining reader.old reader.new)
+        (writer_contents W.contents buffer) (W.contents result.1) result.0 }
 {
-    let status = answer(rt, mode, reader, &mut buffer);
-    emptied(buffer, status)
+    let mut writer = Watched::new(buffer);
+    let status = answer(rt, mode, reader, &mut writer);
+    emptied(writer.into_inner(), status)
 }
 
 /// Answers that the text could not be read, through this buffer, as [`answer_through`] does.
-fn answer_unread<W: Write + Drop>(mut buffer: BufWriter<W>) -> Option<(u8, W)>
-    ensures code { IfSome result (λ handed. handed.0 ≡ 2) }
-    ensures got { IfSome result (λ handed. HasGot
-        (λ held. Appends (writer_contents W.contents buffer) held unread_text)
-        (W.contents handed.1)) }
+fn answer_unread<W: Write + Drop>(buffer: BufWriter<W>) -> (Option<u8>, W)
+    ensures { IsHanded (IsJust unread_text 2)
+        (writer_contents W.contents buffer) (W.contents result.1) result.0 }
 {
-    let status = answer_fault(&mut buffer, QueueFault::Read);
-    emptied(buffer, status)
+    let mut writer = Watched::new(buffer);
+    let status = answer_fault(&mut writer, QueueFault::Read);
+    emptied(writer.into_inner(), status)
+}
+
+/// Answers that memory was refused, without a buffer. `None` where the writer failed.
+fn answer_memory<T: Print>(rt: &T) -> Option<u8> {
+    answer_fault(&mut Watched::new(io::writer(rt)), QueueFault::Memory)
 }
 
 /// Answers the text of this file, or of standard input where no file is named. `None` where the
@@ -137,16 +144,16 @@ where
     T: AllocGlobal + Files + Input + Print + Threads + Wait + Sync,
 {
     let Ok(buffer) = BufWriter::new(rt.alloc(), io::writer(rt)) else {
-        return answer_fault(&mut io::writer(rt), QueueFault::Memory);
+        return answer_memory(rt);
     };
-    let handed = match file {
-        None => answer_through(rt, mode, &mut rt.reader(), buffer),
+    let (status, _) = match file {
+        None => answer_through(rt, mode, &mut Watched::new(rt.reader()), buffer),
         Some(path) => match File::open(rt, path) {
-            Ok(mut reader) => answer_through(rt, mode, &mut reader, buffer),
+            Ok(reader) => answer_through(rt, mode, &mut Watched::new(reader), buffer),
             Err(_) => answer_unread(buffer),
         },
     };
-    handed.map(|(status, _)| status)
+    status
 }
 
 /// The words after the program's name.
@@ -162,9 +169,7 @@ fn main(rt: HostRuntime) -> ExitCode {
             Some((mode, file)) => answer_file(&rt, mode, file),
             None => Some(usage(&rt)),
         },
-        Err(error) if error.kind() == ErrorKind::OutOfMemory => {
-            answer_fault(&mut io::writer(&rt), QueueFault::Memory)
-        }
+        Err(error) if error.kind() == ErrorKind::OutOfMemory => { answer_memory(&rt) }
         Err(_) => Some(usage(&rt)),
     };
     ExitCode::from(status.unwrap_or(FAULTED))

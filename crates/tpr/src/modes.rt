@@ -1,13 +1,14 @@
 //! The modes, over any reader and writer.
-ghost use Rattle.std.specs.Prelude.{◌≡◌, IfSome, OnOk, OnSome};
-ghost use Rattle.std.specs.Io.KnownBytes.{Appends, Keeps};
-ghost use Rattle.tpr.specs.Outcome.{IsQueueAnswer, fault_status, fault_text, memory_text, refused_text, unread_text};
+ghost use Rattle.std.specs.Prelude.{◌≡◌, [], MatchOption, false};
+ghost use Rattle.tp_text.specs.Watching.{HasFailed, Writes};
+ghost use Rattle.tpr.specs.Handed.{IsAnswered, IsJust};
+ghost use Rattle.tpr.specs.Outcome.{IsQueueAnswer, fault_status, fault_text, label_text, memory_text, refused_text, unread_text};
 
 use std::alloc::Global;
-use std::io;
 use std::io::{Read, Write};
 use tp_port::replay::{QueueFault, replay};
 use tp_refusal::refusal::Refusal;
+use tp_text::watched::{Watched, flush, write_bytes, write_number};
 
 /// The status of a run that answered.
 pub const ANSWERED: u8 = 0;
@@ -16,54 +17,69 @@ pub const REFUSED: u8 = 2;
 /// The status of a run that met a fault: of memory, or of the writer.
 pub const FAULTED: u8 = 3;
 
-/// Writes a refusal and its line.
-pub fn write_refused<W: Write>(writer: &mut W, refusal: Refusal, line: u64) -> io::Result<()>
-    ensures { OnOk result (Appends (W.contents writer.old) (W.contents writer.new)
-        (refused_text refusal line)) }
+/// Writes the number of a refusal, and its name.
+fn write_label<W: Write>(writer: &mut Watched<W>, refusal: Refusal)
+    ensures { Writes W.contents writer.old writer.new (label_text refusal) }
 {
     let (number, name) = refusal.label();
-    write!(writer, "refused {number} {name} line {line}\n")
+    write_number(number as u64, writer);
+    write_bytes(b" ", writer);
+    write_bytes(name.as_bytes(), writer);
+}
+
+/// Writes a refusal and its line.
+pub fn write_refused<W: Write>(writer: &mut Watched<W>, refusal: Refusal, line: u64)
+    ensures { Writes W.contents writer.old writer.new (refused_text refusal line) }
+{
+    write_bytes(b"refused ", writer);
+    write_label(writer, refusal);
+    write_bytes(b" line ", writer);
+    write_number(line, writer);
+    write_bytes(b"\n", writer);
 }
 
 /// Writes that the text could not be read.
-pub fn write_unread<W: Write>(writer: &mut W) -> io::Result<()>
-    ensures { OnOk result (Appends (W.contents writer.old) (W.contents writer.new) unread_text) }
+pub fn write_unread<W: Write>(writer: &mut Watched<W>)
+    ensures { Writes W.contents writer.old writer.new unread_text }
 {
-    let (number, name) = Refusal::Read.label();
-    write!(writer, "refused {number} {name}\n")
+    write_bytes(b"refused ", writer);
+    write_label(writer, Refusal::Read);
+    write_bytes(b"\n", writer);
 }
 
 /// Writes that memory was refused.
-pub fn write_memory<W: Write>(writer: &mut W) -> io::Result<()>
-    ensures { OnOk result (Appends (W.contents writer.old) (W.contents writer.new) memory_text) }
+pub fn write_memory<W: Write>(writer: &mut Watched<W>)
+    ensures { Writes W.contents writer.old writer.new memory_text }
 {
-    let (number, name) = Refusal::Memory.label();
-    write!(writer, "fault {number} {name}\n")
+    write_bytes(b"fault ", writer);
+    write_label(writer, Refusal::Memory);
+    write_bytes(b"\n", writer);
 }
 
 /// Writes the line of a fault, if it has one.
-fn write_fault<W: Write>(writer: &mut W, fault: QueueFault) -> io::Result<()>
-    ensures { OnOk result (Appends (W.contents writer.old) (W.contents writer.new)
-        (fault_text fault)) }
+fn write_fault<W: Write>(writer: &mut Watched<W>, fault: QueueFault)
+    ensures { Writes W.contents writer.old writer.new (fault_text fault) }
 {
     match fault {
         QueueFault::BadLine(line) => write_refused(writer, Refusal::BadLine, line),
         QueueFault::Read => write_unread(writer),
-        QueueFault::Write => Ok(()),
+        QueueFault::Write => {}
         QueueFault::Limit => write_refused(writer, Refusal::Limit, 0),
         QueueFault::Memory => write_memory(writer),
     }
 }
 
-/// The status, or `None` where what was written can't be flushed.
-pub fn flushed<W: Write>(writer: &mut W, status: u8) -> Option<u8>
-    ensures status { IfSome result (λ given. given ≡ status) }
-    ensures kept { Keeps (W.contents writer.old) (W.contents writer.new) }
+/// The status, where the writer has taken all that was written; `None` where it has failed.
+pub fn ended<W: Write>(writer: &mut Watched<W>, status: u8) -> Option<u8>
+    ensures written { Writes W.contents writer.old writer.new [] }
+    ensures told { MatchOption result (HasFailed writer.new)
+        (λ s. (s ≡ status) × (writer.new.failed ≡ false)) }
 {
-    match writer.flush() {
-        Ok(()) => Some(status),
-        Err(_) => None,
+    flush(writer);
+    if writer.has_failed() {
+        return None;
     }
+    Some(status)
 }
 
 /// The status of a fault.
@@ -78,15 +94,12 @@ fn fault_status(fault: QueueFault) -> u8
 
 /// Prints the line of a fault, if it has one, and answers its status. `None` where the writer
 /// failed.
-pub fn answer_fault<W: Write>(writer: &mut W, fault: QueueFault) -> Option<u8>
-    ensures code { IfSome result (λ status. status ≡ fault_status fault) }
-    ensures printed { OnSome result (Appends (W.contents writer.old) (W.contents writer.new)
-        (fault_text fault)) }
+pub fn answer_fault<W: Write>(writer: &mut Watched<W>, fault: QueueFault) -> Option<u8>
+    ensures { IsAnswered W.contents (IsJust (fault_text fault) (fault_status fault))
+        writer.old writer.new result }
 {
-    match write_fault(writer, fault) {
-        Ok(()) => flushed(writer, fault_status(fault)),
-        Err(_) => None,
-    }
+    write_fault(writer, fault);
+    ended(writer, fault_status(fault))
 }
 
 /// Reads a queue file, and prints the answers to its lines and what is left, or the line of its
@@ -94,14 +107,17 @@ pub fn answer_fault<W: Write>(writer: &mut W, fault: QueueFault) -> Option<u8>
 ///
 /// The status is 0 where the file was answered; 2 where it was refused: `refused 2 Read`, or
 /// `refused 1 BadLine line L` or `refused 15 Limit line 0`; 3 where memory was refused, `fault 50
-/// Memory`. `None` where the writer failed; how much is printed then is open.
-pub fn answer_queue<R: Read, W: Write>(alloc: Global, reader: &mut R, writer: &mut W) -> Option<u8>
-    ensures { IfSome result (IsQueueAnswer (R.remaining reader.old) (R.remaining reader.new)
-        (W.contents writer.old) (W.contents writer.new)) }
+/// Memory`. `None` where the writer failed: a front of one of these answers is printed then.
+pub fn answer_queue<R: Read, W: Write>(
+    alloc: Global,
+    reader: &mut Watched<R>,
+    writer: &mut Watched<W>,
+) -> Option<u8>
+    ensures { IsAnswered W.contents (IsQueueAnswer R.remaining reader.old reader.new)
+        writer.old writer.new result }
 {
     match replay(alloc, reader, writer) {
-        Ok(()) => flushed(writer, ANSWERED),
-        Err(QueueFault::Write) => None,
+        Ok(()) => ended(writer, ANSWERED),
         Err(fault) => answer_fault(writer, fault),
     }
 }

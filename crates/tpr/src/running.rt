@@ -1,12 +1,11 @@
 //! What happens in a test case.
-ghost use Rattle.std.specs.Prelude.{◌≡◌, IfSome, OnSome};
-ghost use Rattle.std.specs.Io.KnownBytes.{Appends};
 ghost use Rattle.tp_exec.specs.Faults.{run_fault_text};
 ghost use Rattle.tp_report.specs.Reports.{told_text};
+ghost use Rattle.tpr.specs.Handed.{IsAnswered, IsJust};
 ghost use Rattle.tpr.specs.Ran.{IsRunAnswer, IsRunOf, IsTraceAnswer};
 
 use crate::checking::{answer_check_fault, check_script};
-use crate::modes::{ANSWERED, FAULTED, flushed};
+use crate::modes::{ANSWERED, FAULTED, ended};
 use std::alloc::Global;
 use std::io::{Read, Write};
 use std::mem;
@@ -18,17 +17,14 @@ use tp_exec::run::run;
 use tp_play::test_case::TestCase;
 use tp_report::telling::Telling;
 use tp_report::writing::write_report;
+use tp_text::watched::Watched;
 
 /// Prints the line of a fault of a run. The status is 3; `None` where the writer failed.
-fn answer_run_fault<W: Write>(writer: &mut W, fault: RunFault) -> Option<u8>
-    ensures code { IfSome result (λ status. status ≡ 3) }
-    ensures printed { OnSome result (Appends (W.contents writer.old) (W.contents writer.new)
-        (run_fault_text fault)) }
+fn answer_run_fault<W: Write>(writer: &mut Watched<W>, fault: RunFault) -> Option<u8>
+    ensures { IsAnswered W.contents (IsJust (run_fault_text fault) 3) writer.old writer.new result }
 {
-    match write_run_fault(writer, fault) {
-        Ok(()) => flushed(writer, FAULTED),
-        Err(_) => None,
-    }
+    write_run_fault(writer, fault);
+    ended(writer, FAULTED)
 }
 
 /// Runs a test case, and prints its report or the trace of it, or the line of the fault by which
@@ -38,21 +34,19 @@ fn answer_test_case<T: Threads + Wait + Sync, W: Write, G: Gate>(
     alloc: Global,
     test_case: &TestCase,
     telling: Telling,
-    writer: &mut W,
+    writer: &mut Watched<W>,
     gate: &G,
 ) -> Option<u8>
-    ensures { IfSome result (IsRunOf (told_text telling) test_case.now
-        (W.contents writer.old) (W.contents writer.new)) }
+    ensures { IsAnswered W.contents (IsRunOf (told_text telling) test_case.now)
+        writer.old writer.new result }
 {
     match run(rt, alloc, test_case, gate) {
-        Ok(report) => match write_report(test_case, telling, &report, writer) {
-            Ok(()) => {
-                // The process ends behind this: to drop a long history first is a tenth of a run.
-                mem::forget(report);
-                flushed(writer, ANSWERED)
-            }
-            Err(_) => None,
-        },
+        Ok(report) => {
+            write_report(test_case, telling, &report, writer);
+            // The process ends behind this: to drop a long history first is a tenth of a run.
+            mem::forget(report);
+            ended(writer, ANSWERED)
+        }
         Err(fault) => answer_run_fault(writer, fault),
     }
 }
@@ -64,17 +58,17 @@ fn answer_test_case<T: Threads + Wait + Sync, W: Write, G: Gate>(
 /// `answer_check`; 3 where there is no report: `fault 51 NoThread` where the starting of a thread
 /// was refused, `fault 50 Memory` where memory was, `fault 61 Restless` where a behaviour was ended
 /// as waiting and one of its branches was open, `fault 62 NoOrder` where no one order of all that
-/// was done gives what each component did and saw. `None` where the writer failed; how much is
-/// printed then is open. It may wait for good.
+/// was done gives what each component did and saw. `None` where the writer failed: a front of
+/// one of these answers is printed then. It may wait for good.
 pub fn answer_run<T: Threads + Wait + Sync, R: Read, W: Write, G: Gate>(
     rt: &T,
     alloc: Global,
-    reader: &mut R,
-    writer: &mut W,
+    reader: &mut Watched<R>,
+    writer: &mut Watched<W>,
     gate: &G,
 ) -> Option<u8>
-    ensures { IfSome result (IsRunAnswer (R.remaining reader.old) (R.remaining reader.new)
-        (W.contents writer.old) (W.contents writer.new)) }
+    ensures { IsAnswered W.contents (IsRunAnswer R.remaining reader.old reader.new)
+        writer.old writer.new result }
 {
     match check_script(alloc, reader) {
         Err(fault) => answer_check_fault(writer, fault),
@@ -86,17 +80,17 @@ pub fn answer_run<T: Threads + Wait + Sync, R: Read, W: Write, G: Gate>(
 /// of the run: its report with the arrivals in it, each as a line `came PORT SENDER NUMBER MESSAGE`
 /// at its place in the history of the component that it came to.
 ///
-/// The status and the lines of faults are those of [`answer_run`], and so is what may stay open. It
-/// may wait for good.
+/// The status and the lines of faults are those of [`answer_run`], and so is what is printed where
+/// the writer failed. It may wait for good.
 pub fn answer_trace<T: Threads + Wait + Sync, R: Read, W: Write, G: Gate>(
     rt: &T,
     alloc: Global,
-    reader: &mut R,
-    writer: &mut W,
+    reader: &mut Watched<R>,
+    writer: &mut Watched<W>,
     gate: &G,
 ) -> Option<u8>
-    ensures { IfSome result (IsTraceAnswer (R.remaining reader.old) (R.remaining reader.new)
-        (W.contents writer.old) (W.contents writer.new)) }
+    ensures { IsAnswered W.contents (IsTraceAnswer R.remaining reader.old reader.new)
+        writer.old writer.new result }
 {
     match check_script(alloc, reader) {
         Err(fault) => answer_check_fault(writer, fault),

@@ -1,6 +1,7 @@
 -- What is written of a run in an order.
-use Rattle.std.specs.Prelude.{ℕ, ◌⊎◌, ◌∷◌, ◌++◌, [], Option, List, codes, string_bytes}
-use Rattle.std.specs.Io.KnownBytes.{Appends, Keeps}
+use Rattle.std.specs.Prelude.{◌≡◌, ℕ, ◌⊎◌, ◌∷◌, ◌++◌, [], false, Option, List, codes, string_bytes}
+use Rattle.tp_text.specs.declared.watched.Watched.{Watched}
+use Rattle.tp_text.specs.Watching.{Writes}
 use Rattle.tp_play.specs.TestCases.{Made}
 use Rattle.tp_report.specs.declared.report.Report.{Report}
 use Rattle.tp_report.specs.Reports.{report_text}
@@ -12,36 +13,41 @@ use Rattle.tp_exec.specs.Order.{NoCircle}
 use Rattle.tp_exec.specs.Reporting.{IsRunFault}
 use Rattle.tpr_ordered.specs.declared.orders.Order.{Order}
 
--- the text of a report of the test case was added, for which **delivery** holds and which one order of all that was
--- done gives
-pub record IsReportWritten (made : Made) (old new : Option (List ℕ)) : Type 0 where
+-- the text of a report of the test case, for which **delivery** holds and which one order of all that was done gives
+pub record IsReportText (made : Made) (text : List ℕ) : Type 0 where
   pub report : Report
   pub delivery : IsReportOf made report
   pub one_order : IsInOneOrder report
   pub no_circle : NoCircle report
-  pub written : Appends old new (report_text made report)
+  pub is : text ≡ report_text made report
 
--- the line of a gate that gave up was added, or that of a fault by which a run of the test case has no report
-abbrev pub IsLineWritten : Made → Option (List ℕ) → Option (List ℕ) → Type 0
-IsLineWritten made old new =
-    Appends old new (codes "not held\n") ⊎ ((f : RunFault) × IsRunFault made f × Appends old new (run_fault_text f))
+-- the line of a gate that gave up, or that of a fault by which a run of the test case has no report
+abbrev pub IsLine : Made → List ℕ → Type 0
+IsLine made text = (text ≡ codes "not held\n") ⊎ ((f : RunFault) × IsRunFault made f × (text ≡ run_fault_text f))
 
 -- what is written of a run of this test case
-abbrev pub IsRunWritten : Made → Option (List ℕ) → Option (List ℕ) → Type 0
-IsRunWritten made old new = IsReportWritten made old new ⊎ IsLineWritten made old new
+abbrev pub IsRunText : Made → List ℕ → Type 0
+IsRunText made text = IsReportText made text ⊎ IsLine made text
 
 -- what is written of an order: its line, what came of its run, and an empty line
-pub record IsOrderWritten (made : Made) (order : Order) (old new : Option (List ℕ)) : Type 0 where
-  pub begun : Option (List ℕ)
-  pub ended : Option (List ℕ)
-  pub closed : Option (List ℕ)
-  pub line : Appends old begun (codes "order " ++ string_bytes order.line ++ codes "\n")
-  pub run : IsRunWritten made begun ended
-  pub empty_line : Appends ended closed (codes "\n")
-  pub kept : Keeps closed new
+pub record IsOrderText (made : Made) (order : Order) (text : List ℕ) : Type 0 where
+  pub run : List ℕ
+  pub is_run : IsRunText made run
+  pub is : text ≡ codes "order " ++ string_bytes order.line ++ codes "\n" ++ run ++ codes "\n"
 
 -- what is written of these orders, of one after the other
-pub data AreOrdersWritten (made : Made) (old : Option (List ℕ)) : List Order → Option (List ℕ) → Type 0 where
-  none : AreOrdersWritten made old [] old
-  one_more : (orders : List Order) (order : Order) (mid new : Option (List ℕ)) → AreOrdersWritten made old orders mid
-      → IsOrderWritten made order mid new → AreOrdersWritten made old (orders ++ order ∷ []) new
+pub data AreOrderTexts (made : Made) : List Order → List ℕ → Type 0 where
+  none : AreOrderTexts made [] []
+  one_more : (orders : List Order) (order : Order) (before here : List ℕ) → AreOrderTexts made orders before
+      → IsOrderText made order here → AreOrderTexts made (orders ++ order ∷ []) (before ++ here)
+
+-- it is written of these orders; or a front of it of the first of them, and the writer has failed
+pub record AreWritten {W : Type 0} (contents : W → Option (List ℕ)) (made : Made) (orders : List Order) (old new : Watched W)
+    : Type 0 where
+  pub first : List Order
+  pub others : List Order
+  pub are : orders ≡ first ++ others
+  pub text : List ℕ
+  pub is : AreOrderTexts made first text
+  pub written : Writes contents old new text
+  pub all : new.failed ≡ false → others ≡ []

@@ -23,6 +23,7 @@ use tp_play::test_case::TestCase;
 use tp_refusal::memory::Memory;
 use tp_script::reading::read_script;
 use tp_text::text::read_text;
+use tp_text::watched::Watched;
 use tp_token::fault::ScriptFault;
 
 /// The status where all orders were run.
@@ -51,10 +52,10 @@ fn file_fault_status(fault: FileFault) -> u8 {
 
 /// The bytes of the file.
 fn read_file<T: AllocGlobal + Files>(rt: &T, path: &str) -> Result<Vec<u8>, FileFault> {
-    let Ok(mut reader) = File::open(rt, path) else {
+    let Ok(reader) = File::open(rt, path) else {
         return Err(FileFault::Read);
     };
-    let text = read_text(rt.alloc(), &mut reader)?;
+    let text = read_text(rt.alloc(), &mut Watched::new(reader))?;
     Ok(text)
 }
 
@@ -95,23 +96,23 @@ fn answer_orders<T>(rt: &T, test_case: &TestCase, orders: &[Order]) -> u8
 where
     T: AllocGlobal + Print + Threads + Wait + Sync,
 {
-    let Ok(mut writer) = BufWriter::new(rt.alloc(), io::writer(rt)) else {
+    let Ok(buffer) = BufWriter::new(rt.alloc(), io::writer(rt)) else {
         return tell_script(rt, FileFault::from(Memory));
     };
+    let mut writer = Watched::new(buffer);
     let trial = Trial {
         rt,
         alloc: rt.alloc(),
         test_case,
         patience: PATIENCE,
     };
-    match write_orders(&trial, orders, &mut writer) {
-        Ok(()) => ANSWERED,
-        Err(_) => {
-            // A writer that is dropped tries once more to write what it holds.
-            mem::forget(writer);
-            FAULTED
-        }
+    write_orders(&trial, orders, &mut writer);
+    if writer.has_failed() {
+        // A writer that is dropped tries once more to write what it holds.
+        mem::forget(writer);
+        return FAULTED;
     }
+    ANSWERED
 }
 
 /// Reads both files, and runs the test case of the first in each of the orders of the second.

@@ -1,12 +1,12 @@
 //! A test case, run in each of some orders.
-ghost use Rattle.std.specs.Prelude.{OnOk};
-ghost use Rattle.tpr_ordered.specs.Ordered.{AreOrdersWritten, IsOrderWritten, IsRunWritten};
+ghost use Rattle.std.specs.Prelude.{ℕ, List};
+ghost use Rattle.tp_text.specs.Watching.{Writes};
+ghost use Rattle.tpr_ordered.specs.Ordered.{AreWritten, IsOrderText, IsRunText};
 
 use crate::order_gate::OrderGate;
 use crate::orders::{Order, Step};
 use std::alloc::Global;
-use std::io;
-use std::io::{ErrorKind, Write};
+use std::io::Write;
 use std::sync::Wait;
 use std::thread::Threads;
 use tp_exec::fault::{RunFault, write_run_fault};
@@ -14,6 +14,7 @@ use tp_exec::run::run;
 use tp_play::test_case::TestCase;
 use tp_report::telling::Telling;
 use tp_report::writing::write_report;
+use tp_text::watched::{Watched, flush, write_bytes};
 
 /// What the runs in all orders have in common.
 #[derive(Drop)]
@@ -33,10 +34,10 @@ pub struct Trial<'t, R> {
 fn write_run<R: Threads + Wait + Sync, W: Write>(
     trial: &Trial<'_, R>,
     steps: &[Step],
-    writer: &mut W,
-) -> io::Result<()>
-    ensures { OnOk result (IsRunWritten trial.now.test_case.now
-        (W.contents writer.old) (W.contents writer.new)) }
+    writer: &mut Watched<W>,
+)
+    ensures { (text : List ℕ) × IsRunText trial.now.test_case.now text
+        × Writes W.contents writer.old writer.new text }
 {
     let components = trial.test_case.components();
     let Ok(gate) = OrderGate::new(trial.alloc, components, steps, trial.patience) else {
@@ -44,13 +45,10 @@ fn write_run<R: Threads + Wait + Sync, W: Write>(
     };
     let outcome = run(trial.rt, trial.alloc, trial.test_case, &gate);
     if !gate.is_held() {
-        return writer.write_all(b"not held\n");
+        return write_bytes(b"not held\n", writer);
     }
     match outcome {
-        Ok(report) => match write_report(trial.test_case, Telling::Report, &report, writer) {
-            Ok(()) => Ok(()),
-            Err(_) => Err(io::Error::from(ErrorKind::WriteZero)),
-        },
+        Ok(report) => write_report(trial.test_case, Telling::Report, &report, writer),
         Err(fault) => write_run_fault(writer, fault),
     }
 }
@@ -59,16 +57,17 @@ fn write_run<R: Threads + Wait + Sync, W: Write>(
 fn write_order<R: Threads + Wait + Sync, W: Write>(
     trial: &Trial<'_, R>,
     order: &Order,
-    writer: &mut W,
-) -> io::Result<()>
-    ensures { OnOk result (IsOrderWritten trial.now.test_case.now order.now
-        (W.contents writer.old) (W.contents writer.new)) }
+    writer: &mut Watched<W>,
+)
+    ensures { (text : List ℕ) × IsOrderText trial.now.test_case.now order.now text
+        × Writes W.contents writer.old writer.new text }
 {
-    let line = order.line.as_str();
-    write!(writer, "order {line}\n")?;
-    write_run(trial, order.steps.as_slice(), writer)?;
-    writer.write_all(b"\n")?;
-    writer.flush()
+    write_bytes(b"order ", writer);
+    write_bytes(order.line.as_str().as_bytes(), writer);
+    write_bytes(b"\n", writer);
+    write_run(trial, order.steps.as_slice(), writer);
+    write_bytes(b"\n", writer);
+    flush(writer);
 }
 
 /// Runs the test case once in each of these orders, one run after the other, and writes for each
@@ -76,17 +75,19 @@ fn write_order<R: Threads + Wait + Sync, W: Write>(
 /// of the report stands `not held`, where the gate gave up after the trial's `patience` turns that
 /// yield, or the line of the fault by which there is none.
 ///
-/// An error where the writer failed. It may wait for good.
+/// Where the writer fails, no further order is run, and a front of what was to be written of those
+/// that were is written. It may wait for good.
 pub fn write_orders<R: Threads + Wait + Sync, W: Write>(
     trial: &Trial<'_, R>,
     orders: &[Order],
-    writer: &mut W,
-) -> io::Result<()>
-    ensures { OnOk result (AreOrdersWritten trial.now.test_case.now (W.contents writer.old)
-        orders.now (W.contents writer.new)) }
+    writer: &mut Watched<W>,
+)
+    ensures { AreWritten W.contents trial.now.test_case.now orders.now writer.old writer.new }
 {
     for order in orders {
-        write_order(trial, order, writer)?;
+        if writer.has_failed() {
+            return;
+        }
+        write_order(trial, order, writer);
     }
-    Ok(())
 }

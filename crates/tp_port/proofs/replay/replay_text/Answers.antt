@@ -2,5 +2,5 @@
 use Rattle.tp_port.proofs.Judging.{says_good}
 use Rattle.tp_port.proofs.replay.replay_text.Goals as goal
 
-pub returns-clause-fault : goal.returns-clause-fault
-returns-clause-fault g c = says_good _ _ c.in-Ok.ensures.ok.1
+pub returns-then-has_failed-clause-fault : goal.returns-then-has_failed-clause-fault
+returns-then-has_failed-clause-fault g c = says_good _ _ c.in-Ok.ensures.ok.1

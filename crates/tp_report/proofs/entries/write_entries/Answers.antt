@@ -1,8 +1,18 @@
--- At first nothing is written, and nothing is kept.
-use Rattle.tp_report.proofs.Pieces.{none_yet}
+-- At first nothing is written, and nothing is kept; each entry adds its text.
+use Rattle.tp_text.proofs.Writing.{nothing_yet, one_more}
 use Rattle.tp_report.proofs.entries.write_entries.Goals as goal
 
 pub loop-entry-init : goal.loop-entry-init
 loop-entry-init g c =
     let s = c.args.test_case.now.config in
-    record { written = none_yet _; sent = c.new-kept.ensures.sent s; received = c.new-kept.ensures.received s }
+    record { written = nothing_yet g.W.Write.contents _; sent = c.new-kept.ensures.sent s; received = c.new-kept.ensures.received s }
+
+pub loop-entry-preserved : goal.loop-entry-preserved
+loop-entry-preserved g c =
+    let done = c.write_entry.ensures in
+    record {
+      written = one_more g.W.Write.contents _ c.args.entries.now c.loop-entry.entry-index c.entry-item.result c.loop-entry-test.true c.entry-item.is _ _ _
+        c.loop-entry.invariant.written done.written;
+      sent = done.sent;
+      received = done.received;
+    }

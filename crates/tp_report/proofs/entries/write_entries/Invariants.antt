@@ -1,7 +1,7 @@
 -- The texts of the first entries are written, and what is kept is the text of what it is of.
 use Rattle.std.proofs.Common.{take}
 use Rattle.std.specs.List.{flat_map}
-use Rattle.std.specs.Io.KnownBytes.{Appends}
+use Rattle.tp_text.specs.Watching.{Writes}
 use Rattle.tp_report.specs.Lines.{entry_text}
 use Rattle.tp_report.specs.LineOpenings.{HasItsText}
 use Rattle.tp_report.proofs.entries.write_entries.Given as goal
@@ -9,7 +9,7 @@ use Rattle.tp_report.proofs.entries.write_entries.Given as goal
 abbrev pub invariant-loop-entry : goal.invariant-loop-entry
 invariant-loop-entry g l = record {
   written :
-      Appends (g.W.Write.contents l.initial.out) (g.W.Write.contents l.out) (flat_map (entry_text l.telling l.test_case l.comp) (take l.entry-index l.entries));
+      Writes g.W.Write.contents l.initial.out l.out (flat_map (entry_text l.telling l.test_case l.comp) (take l.entry-index l.entries));
   sent : HasItsText l.test_case.config l.kept.sent;
   received : HasItsText l.test_case.config l.kept.received;
 }

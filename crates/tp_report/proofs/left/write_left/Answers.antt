@@ -31,5 +31,5 @@ write_queued-requires-clause-senders g c =
 
 pub loop-place-preserved : goal.loop-place-preserved
 loop-place-preserved g c =
-    left_more c.args.test_case.now c.args.desk.now c.loop-place.place c.comp-comp.result c.queue.result.now.entries c.comp-comp.ensures
-    (ap (λ (q : QueueState Message). q.entries) c.queue.ensures.state) _ _ _ c.loop-place.invariant c.in_ok-write_queued.ensures
+    left_more g.W.Write.contents c.args.test_case.now c.args.desk.now c.loop-place.place c.comp-comp.result c.queue.result.now.entries c.comp-comp.ensures
+    (ap (λ (q : QueueState Message). q.entries) c.queue.ensures.state) _ _ _ c.loop-place.invariant c.write_queued.ensures

@@ -1,7 +1,7 @@
 -- What is left at the first ports is written.
-use Rattle.std.specs.Io.KnownBytes.{Appends}
+use Rattle.tp_text.specs.Watching.{Writes}
 use Rattle.tp_report.specs.Lines.{left_below}
 use Rattle.tp_report.proofs.left.write_left.Given as goal
 
 abbrev pub invariant-loop-place : goal.invariant-loop-place
-invariant-loop-place g l = Appends (g.W.Write.contents l.initial.out) (g.W.Write.contents l.out) (left_below l.test_case l.desk l.place)
+invariant-loop-place g l = Writes g.W.Write.contents l.initial.out l.out (left_below l.test_case l.desk l.place)

@@ -4,12 +4,13 @@ use Rattle.tp_queue.specs.declared.event.Env.{Env}
 use Rattle.tp_value.specs.declared.message.Message.{Message}
 use Rattle.tp_config.specs.Setup.{IsComponent}
 use Rattle.tp_report.specs.Lines.{envelope_line, sender_of}
-use Rattle.tp_report.proofs.Pieces.{all_at, none_yet, not_past, one_more_at}
-use Rattle.tp_report.proofs.left.write_queued.Goals.{in-Some+in_ok-write_envelope, in_default}
+use Rattle.tp_text.proofs.Writing.{nothing_yet}
+use Rattle.tp_report.proofs.Pieces.{all_at, not_past, one_more_at}
+use Rattle.tp_report.proofs.left.write_queued.Goals.{in-Some, in_default}
 use Rattle.tp_report.proofs.left.write_queued.Goals as goal
 
 pub loop-place-init : goal.loop-place-init
-loop-place-init g c = (none_yet _, c.new-kept.ensures c.args.test_case.now.config)
+loop-place-init g c = (nothing_yet g.W.Write.contents _, c.new-kept.ensures c.args.test_case.now.config)
 
 pub write_envelope-requires-clause-sender : goal.write_envelope-requires-clause-sender
 write_envelope-requires-clause-sender g c =
@@ -19,11 +20,11 @@ write_envelope-requires-clause-sender g c =
 pub loop-place-preserved : goal.loop-place-preserved
 loop-place-preserved g c =
     elim c.match-queued_at.branch [
-      | in-Some+in_ok-write_envelope w ↦ (
+      | in-Some w ↦ (
         rw (w.out-is)
-            (one_more_at (envelope_line c.args.test_case.now (codes "left") c.args.port) c.args.queue.now.entries c.loop-place.place _
-            (sym w.in-Some.ensures) _ _ _ c.loop-place.invariant.0 w.in_ok-write_envelope.ensures.written),
-        rw (w.kept-is) w.in_ok-write_envelope.ensures.kept,
+            (one_more_at g.W.Write.contents (envelope_line c.args.test_case.now (codes "left") c.args.port) c.args.queue.now.entries c.loop-place.place _
+            (sym w.in-Some.ensures) _ _ _ c.loop-place.invariant.0 w.write_envelope.ensures.written),
+        rw (w.kept-is) w.write_envelope.ensures.kept,
       )
       | in_default w ↦ absurd (not_past c.args.queue.now.entries c.loop-place.place (sym w.in_default.ensures) (omega arith))
     ]

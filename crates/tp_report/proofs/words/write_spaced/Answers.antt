@@ -1,6 +1,6 @@
 -- A number has 20 digits at most, so that a space is left on each side.
-use Rattle.std.proofs.Common.{rules, List, ℕ, OnOk, subst, arith}
-use Rattle.std.specs.Io.KnownBytes.{Appends}
+use Rattle.std.proofs.Common.{rules, subst, arith}
+use Rattle.tp_text.specs.Watching.{Writes}
 use Rattle.std.specs.Fmt.{decimal}
 use Rattle.std.proofs.lemmas.Fmt.{length-decimal-le}
 use Rattle.tp_report.proofs.Spaced.{between}
@@ -17,6 +17,6 @@ pub returns : goal.returns
 returns g c =
     let w = c.write_digits-start in
     let short = length-decimal-le 20 c.args.number (omega arith) (omega arith) (omega arith) in
-    subst (λ (text : List ℕ). OnOk c.write_bytes.result (Appends (g.W.Write.contents c.args.out.now) (g.W.Write.contents c.write_bytes.new.out) text))
+    subst (Writes g.W.Write.contents _ _)
     (between w.result w.new.buf (decimal c.args.number) w.auto.buf w.ensures.start (omega (arith, w.ensures.start, short)) w.ensures.before w.ensures.written)
     c.write_bytes.ensures

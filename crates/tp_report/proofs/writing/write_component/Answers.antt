@@ -4,6 +4,6 @@ use Rattle.tp_report.proofs.writing.write_component.Goals as goal
 
 pub returns : goal.returns
 returns g c =
-    whole_component c.write_left.result c.args.telling c.args.test_case.now c.args.component.now c.comp-comp.result c.log.result.now c.comp-comp.ensures c.log.ensures.history
+    whole_component g.W.Write.contents c.args.telling c.args.test_case.now c.args.component.now c.comp-comp.result c.log.result.now c.comp-comp.ensures c.log.ensures.history
     _ _ _ _ _ _
-    c.in_ok-write_heading.ensures c.in_ok-write_entries.ensures c.in_ok-write_end.ensures c.in_ok-write_verdict.ensures c.write_left.ensures
+    c.write_heading.ensures c.write_entries.ensures c.write_end.ensures c.write_verdict.ensures c.write_left.ensures

@@ -1,10 +1,10 @@
 -- The texts of the first components are written.
 use Rattle.std.proofs.Common.{take}
 use Rattle.std.specs.List.{flat_map}
-use Rattle.std.specs.Io.KnownBytes.{Appends}
+use Rattle.tp_text.specs.Watching.{Writes}
 use Rattle.tp_report.specs.Reports.{component_text}
 use Rattle.tp_report.proofs.writing.write_components.Given as goal
 
 abbrev pub invariant-loop-component : goal.invariant-loop-component
 invariant-loop-component g l =
-    Appends (g.W.Write.contents l.initial.out) (g.W.Write.contents l.out) (flat_map (component_text l.telling l.test_case) (take l.component-index l.components))
+    Writes g.W.Write.contents l.initial.out l.out (flat_map (component_text l.telling l.test_case) (take l.component-index l.components))

@@ -12,5 +12,5 @@ write_components-requires g c = subst (All (IsPresent c.args.test_case.now.confi
 
 pub returns : goal.returns
 returns g c =
-    whole_report c.write_verdict.result c.args.telling c.args.test_case.now c.args.report.now c.as_slice.result.now c.as_slice.ensures.value _ _ _
-    c.in_ok-write_components.ensures c.write_verdict.ensures
+    whole_report g.W.Write.contents c.args.telling c.args.test_case.now c.args.report.now c.as_slice.result.now c.as_slice.ensures.value _ _ _
+    c.write_components.ensures c.write_verdict.ensures

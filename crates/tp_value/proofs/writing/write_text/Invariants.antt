@@ -1,12 +1,13 @@
 -- What writes the rest writes the whole.
-use Rattle.std.proofs.Common.{ℕ, List, Option, length}
-use Rattle.std.specs.Io.KnownBytes.{Appends}
+use Rattle.std.proofs.Common.{length}
+use Rattle.tp_text.specs.declared.watched.Watched.{Watched}
+use Rattle.tp_text.specs.Watching.{Writes}
 use Rattle.tp_value.specs.ValueText.{escaped}
 use Rattle.tp_value.proofs.writing.write_text.Given as goal
 
 abbrev pub invariant-loop-front : goal.invariant-loop-front
 invariant-loop-front g l =
-    (done : Option (List ℕ)) → Appends (g.W.Write.contents l.out) done (escaped l.rest) → Appends (g.W.Write.contents l.initial.out) done (escaped l.text)
+    (done : Watched _) → Writes g.W.Write.contents l.out done (escaped l.rest) → Writes g.W.Write.contents l.initial.out done (escaped l.text)
 
 abbrev pub decreases-loop-front : goal.decreases-loop-front
 decreases-loop-front g l = length l.rest

@@ -1,13 +1,20 @@
--- One more order is written behind the others.
-use Rattle.std.proofs.Common.{arith}
-use Rattle.tpr_ordered.specs.Ordered.{none}
-use Rattle.tpr_ordered.proofs.Written.{written_more}
+-- One more order is written after the others.
+use Rattle.tpr_ordered.proofs.Written.{first_of_them, none_yet, written_more}
 use Rattle.tpr_ordered.proofs.ordering.write_orders.Goals as goal
 
 pub loop-order-init : goal.loop-order-init
-loop-order-init g c = none
+loop-order-init g c =
+    none_yet _ _ _ _
 
 pub loop-order-preserved : goal.loop-order-preserved
 loop-order-preserved g c =
-    written_more c.args.trial.now.test_case.now _ _ _ c.args.orders.now c.loop-order.order-index c.order-item.result (omega arith) c.order-item.is
-    c.loop-order.invariant c.in_ok-write_order.ensures
+    written_more g.W.Write.contents c.args.trial.now.test_case.now _ _ _ c.args.orders.now c.loop-order.order-index c.order-item.result c.loop-order-test.true
+    c.order-item.is c.loop-order.invariant c.write_order.ensures
+
+pub returns-then-has_failed : goal.returns-then-has_failed
+returns-then-has_failed g c =
+    ?
+
+pub returns : goal.returns
+returns g c =
+    ?

@@ -1,8 +1,6 @@
 -- The first orders are written, one after the other.
-use Rattle.std.proofs.Common.{take}
-use Rattle.tpr_ordered.specs.Ordered.{AreOrdersWritten}
+use Rattle.tpr_ordered.proofs.Written.{AreFirst}
 use Rattle.tpr_ordered.proofs.ordering.write_orders.Given as goal
 
 abbrev pub invariant-loop-order : goal.invariant-loop-order
-invariant-loop-order g l =
-    AreOrdersWritten l.trial.test_case.now (g.W.Write.contents l.initial.writer) (take l.order-index l.orders) (g.W.Write.contents l.writer)
+invariant-loop-order g l = AreFirst g.W.Write.contents l.trial.test_case.now l.orders l.initial.writer l.writer l.order-index

@@ -1,0 +1,162 @@
+//! A reader or a writer that remembers whether it failed, and what is written through it.
+ghost use Rattle.std.specs.Prelude.{◌≡◌, ◌≢◌, ◌⊎◌, [], false, IfErr, IsErr, IsTrue, MatchResult, Ok};
+ghost use Rattle.std.specs.Fmt.{decimal};
+ghost use Rattle.std.specs.Io.{ReadsAtMost, WritesAtMost};
+ghost use Rattle.std.specs.Io.KnownBytes.{Keeps, ReadConsumes, WriteAppends};
+ghost use Rattle.std.specs.IoError.{error_kind};
+ghost use Rattle.tp_text.specs.Watching.{HasFailed, Writes};
+
+use itoa::Buffer;
+use std::io;
+use std::io::{ErrorKind, Read, Write};
+
+/// A reader or a writer, and whether it has failed: it answered an error, or, as a writer, took no
+/// byte. To be interrupted is no failure; whoever is interrupted tries again.
+#[derive(Drop)]
+pub struct Watched<T> {
+    inner: T,
+    failed: bool,
+}
+
+/// Whether a call that answered this error was only interrupted.
+fn is_interrupted(error: &io::Error) -> bool
+    ensures { IsTrue result → error_kind error.now ≡ ErrorKind.Interrupted }
+{
+    error.kind() == ErrorKind::Interrupted
+}
+
+impl<T> Watched<T> {
+    /// One that hasn't failed.
+    pub fn new(inner: T) -> Watched<T>
+        ensures inner { result.inner ≡ inner }
+        ensures well { result.failed ≡ false }
+    {
+        Watched {
+            inner,
+            failed: false,
+        }
+    }
+
+    /// Whether it has failed.
+    pub fn has_failed(&self) -> bool
+        ensures { result ≡ self.now.failed }
+    {
+        self.failed
+    }
+
+    /// It counts as failed from here on: it was interrupted each time.
+    pub(crate) fn give_up(&mut self)
+        ensures inner { self.new.inner ≡ self.old.inner }
+        ensures failed { HasFailed self.new }
+    {
+        self.failed = true;
+    }
+
+    /// What was watched.
+    pub fn into_inner(self) -> T
+        ensures { result ≡ self.inner }
+    {
+        let Watched { inner, failed: _ } = self;
+        inner
+    }
+}
+
+impl<R: Read> Read for Watched<R> {
+    ghost use Rattle.std.specs.Prelude.{◌≢◌, ◌⊎◌, IfErr};
+
+    ghost remaining = { λ r. R.remaining r.inner };
+
+    fn read(&mut self, buf: &mut [u8]) -> io::Result<usize>
+        ensures bound { ReadsAtMost result buf.new }
+        ensures bytes { ReadConsumes (R.remaining self.old.inner) (R.remaining self.new.inner)
+            result buf.new }
+        ensures failed { IfErr result (λ e.
+            error_kind e ≢ ErrorKind.Interrupted → HasFailed self.new) }
+        ensures only { HasFailed self.new → HasFailed self.old ⊎ IsErr result }
+    {
+        let result = self.inner.read(buf);
+        if let Err(error) = &result {
+            if !is_interrupted(error) {
+                self.failed = true;
+            }
+        }
+        result
+    }
+}
+
+impl<W: Write> Write for Watched<W> {
+    ghost use Rattle.std.specs.Prelude.{◌≢◌, ◌⊎◌, IfErr, Ok};
+
+    ghost contents = { λ w. W.contents w.inner };
+
+    fn write(&mut self, buf: &[u8]) -> io::Result<usize>
+        ensures bound { WritesAtMost result buf.now }
+        ensures bytes { WriteAppends (W.contents self.old.inner) (W.contents self.new.inner)
+            result buf.now }
+        ensures kept { HasFailed self.old → HasFailed self.new }
+        ensures failed { IfErr result (λ e.
+            error_kind e ≢ ErrorKind.Interrupted → HasFailed self.new) }
+        ensures none { result ≡ Ok 0 → HasFailed self.new }
+        ensures only { HasFailed self.new → HasFailed self.old ⊎ (IsErr result ⊎ (result ≡ Ok 0)) }
+    {
+        let result = self.inner.write(buf);
+        match &result {
+            Ok(0) => self.failed = true,
+            Ok(_) => {}
+            Err(error) => {
+                if !is_interrupted(error) {
+                    self.failed = true;
+                }
+            }
+        }
+        result
+    }
+
+    fn flush(&mut self) -> io::Result<()>
+        ensures bytes { Keeps (W.contents self.old.inner) (W.contents self.new.inner) }
+        ensures kept { HasFailed self.old → HasFailed self.new }
+        ensures failed { IsErr result → HasFailed self.new }
+        ensures only { HasFailed self.new → HasFailed self.old ⊎ IsErr result }
+    {
+        let result = self.inner.flush();
+        if result.is_err() {
+            self.failed = true;
+        }
+        result
+    }
+}
+
+/// Writes these bytes: all of them, or a front of them, and then the writer has failed. Nothing is
+/// written by a writer that has failed before. An interrupted write is tried again.
+pub fn write_bytes<W: Write>(bytes: &[u8], out: &mut Watched<W>)
+    ensures { Writes W.contents out.old out.new bytes.now }
+{
+    let mut at = 0;
+    for _ in 0..u64::MAX {
+        if out.failed || at >= bytes.len() {
+            return;
+        }
+        if let Ok(count) = out.write(&bytes[at..]) {
+            at += count;
+        }
+    }
+    // It was interrupted 18,446,744,073,709,551,615 times.
+    out.give_up();
+}
+
+/// Writes a number, in decimal.
+pub fn write_number<W: Write>(number: u64, out: &mut Watched<W>)
+    ensures { Writes W.contents out.old out.new (decimal number) }
+{
+    let mut buffer = Buffer::new();
+    write_bytes(buffer.format(number).as_bytes(), out);
+}
+
+/// Hands on what the writer holds back, such as a buffer. It has failed then where that failed.
+pub fn flush<W: Write>(out: &mut Watched<W>)
+    ensures { Writes W.contents out.old out.new [] }
+{
+    if !out.failed {
+        let _ = out.flush();
+    }
+}

@@ -1,0 +1,15 @@
+-- What is printed may be.
+use Rattle.std.proofs.Common.{inl, inr}
+use Rattle.tpr.proofs.Answered.{answered_as}
+use Rattle.tpr.proofs.judging.answer_judge.Goals as goal
+
+pub returns-in-Err : goal.returns-in-Err
+returns-in-Err g c =
+    let e = c.in-Err.ensures in
+    answered_as g.W.Write.contents _ _ _ _ _ _
+    (λ text status is code. inr (record { fault = c.in-Err.fault; found = e.fault; unread = e.unread; code = code; line = is })) c.answer_judge_fault.ensures
+
+pub returns-in-Ok : goal.returns-in-Ok
+returns-in-Ok g c =
+    answered_as g.W.Write.contents _ _ _ _ _ _
+    (λ text status is code. inl (record { ruling = c.in-Ok.ruling; judged = c.in-Ok.ensures.ruling; code = code; said = is })) c.answer_ruling.ensures
