@@ -113,7 +113,7 @@ def check_words():
     must(reserved >= RESERVED_ELSEWHERE | RESERVED, "docs/PROFILE.md hasn't each reserved word")
     page = read(f"{ROOT}/docs/FROM_TTCN3.md").splitlines()
     rows = [row.split(" | ") for row in page if row.startswith("| ")]
-    told = {(row[0].removeprefix("| "), row[1]): row[2] for row in rows if len(row) == 4}
+    told = {(row[0].removeprefix("| "), row[1]): row[2] for row in rows if len(row) == 5}
     for construct in Construct:
         title = construct.title.replace("the type {word}", "another base type, as `verdicttype`")
         title = title.replace("the operation {word}", "`match`, `valueof`")

@@ -1,0 +1,344 @@
+"""What tools/rewrite makes of scripts of the full language: the tables and scripts in tests/rewrites/.
+
+    tests/rewrites/rewrite_rules.py PROGRAM PART
+
+PART is `table`, `natural`, `same`, `broken`, `listed`, `rows` or `faults`. It prints a line `passed ..` or
+`FAILED: ..` for each case.
+"""
+from __future__ import annotations
+
+import glob
+import json
+import os
+import random
+import re
+import resource
+import shutil
+import subprocess
+import sys
+import tempfile
+from concurrent.futures import ThreadPoolExecutor
+from typing import Callable, NamedTuple
+
+ROOT = os.path.dirname(os.path.dirname(os.path.dirname(os.path.realpath(__file__))))
+REWRITE = f"{ROOT}/tools/rewrite"
+EXPLAIN = f"{ROOT}/tools/explain"
+FOLDER = f"{ROOT}/tests/rewrites"
+# Another folder of tools, in which a fault is planted.
+TOOLS = os.environ.get("REWRITING", f"{ROOT}/tools")
+sys.path.insert(0, TOOLS)
+
+PRELUDE = (
+    "module T { type record Order { integer id, charstring text } type record of integer L;"
+    " type port P message { inout integer, boolean, charstring, Order, L }"
+    " type component C { port P p, q; var integer vc_n := 0; }\n"
+)
+SECONDS_OF_LARGE = 5.0
+
+
+class Case(NamedTuple):
+    name: str
+    script: str
+    kind: str
+    wanted: list[str]
+
+
+class Ended(NamedTuple):
+    status: int
+    printed: str
+    said: str
+
+
+def passed(name: str) -> None:
+    print(f"passed {name}")
+
+
+def failed(name: str, why: str) -> None:
+    print(f"FAILED: {name}: {why}")
+
+
+def judged(name: str, is_so: bool, why: str) -> None:
+    passed(name) if is_so else failed(name, why)
+
+
+def run(*words: str, data: bytes = b"") -> Ended:
+    done = subprocess.run(words, input=data, stdout=subprocess.PIPE, stderr=subprocess.PIPE, check=False)
+    printed, said = (text.decode("utf-8", "replace") for text in (done.stdout, done.stderr))
+    return Ended(done.returncode, printed, said)
+
+
+def carried(program: str, name: str, text: str) -> Ended:
+    """What tools/rewrite would end with, asked in this process: a process for each script takes long."""
+    from rewriting.rewriting import rewrite
+    from rewriting.tokens import Source
+
+    found = rewrite([Source(name, text.encode())])
+    if found.refused:
+        return Ended(2, "", "".join(f"{one.text()}\n" for one in found.refused))
+    said = run(program, "check", data=found.text.encode()).printed
+    return Ended(0 if said == "accepted\n" else 2, found.text, "" if said == "accepted\n" else said)
+
+
+def cases() -> list[Case]:
+    with open(f"{FOLDER}/table", encoding="utf-8") as opened:
+        entries = opened.read().split("=== ")[1:]
+    found: list[Case] = []
+    for entry in entries:
+        name, _, rest = entry.partition("\n")
+        body, _, behind = rest.partition("--- ")
+        kind, _, wanted = behind.partition("\n")
+        found.append(Case(name, PRELUDE + body + "}\n", kind, wanted.splitlines()))
+    return found
+
+
+def table(program: str) -> None:
+    """Each entry becomes what stands there, or is refused for what stands there and nothing else."""
+    seen: set[str] = set()
+    with tempfile.TemporaryDirectory() as folder:
+        for case in cases():
+            if case.name != os.environ.get("ENTRY", case.name):
+                continue
+            if case.script in seen:
+                failed(case.name, "another entry has the same script")
+            seen.add(case.script)
+            file = f"{folder}/t.ttcn"
+            with open(file, "w", encoding="utf-8") as opened:
+                opened.write(case.script)
+            is_of_tool = case.kind == "checked"
+            tool = run(REWRITE, "--tpr", program, file) if is_of_tool else carried(program, file, case.script)
+            look_at(case, file, tool)
+
+
+def look_at(case: Case, file: str, ended: Ended) -> None:
+    if case.kind == "becomes":
+        found = body_of(ended.printed)
+        judged(case.name, ended.status == 0 and found == case.wanted, f"{ended.said}{found}")
+    elif case.kind == "refused":
+        found = [line.removeprefix(f"{file}:").replace(": ", " ", 1) for line in ended.said.splitlines()]
+        is_so = (ended.status, ended.printed, found) == (2, "", case.wanted)
+        judged(case.name, is_so, f"status {ended.status}: {found}")
+    else:
+        found = [line.removeprefix(f"rewrite: {file}:").replace(": ", " ", 1) for line in ended.said.splitlines()]
+        judged(case.name, (ended.status, found) == (2, case.wanted), f"status {ended.status}: {found}")
+
+
+def body_of(text: str) -> list[str]:
+    """The functions and the test case, without what stands behind each line."""
+    lines = [re.sub(r" *// [0-9]+$", "", line).strip() for line in text.splitlines()]
+    begin = next((number for number, line in enumerate(lines) if line.startswith(("function", "testcase"))), 0)
+    return lines[begin:-1]
+
+
+def natural(program: str) -> None:
+    """Scripts as engineers write them: each is carried over, accepted, and comes to `pass`, as its author means."""
+    for script in sorted(glob.glob(f"{FOLDER}/natural/*.ttcn")):
+        name = os.path.basename(script)
+        refused = run(program, "check", script)
+        judged(f"{name} isn't one of the profile", refused.status == 2, refused.printed)
+        with tempfile.TemporaryDirectory() as folder:
+            output = f"{folder}/{name}"
+            ended = run(REWRITE, "--tpr", program, script, "-o", output)
+            if ended.status != 0:
+                failed(name, ended.said)
+                continue
+            report = run(program, "run", output)
+            judged(name, report.printed.endswith("\nresult pass\n"), report.printed)
+            judged(f"the map of {name}", is_map(script, output), "it isn't of the script")
+    several_modules(program)
+
+
+def is_map(script: str, output: str) -> bool:
+    """Each line of the map names a line of the output, and a place in the script that isn't empty."""
+    with open(script, encoding="utf-8") as opened:
+        lines = opened.read().splitlines()
+    with open(output, encoding="utf-8") as opened:
+        written = opened.read().splitlines()
+    with open(f"{output}.map", encoding="utf-8") as opened:
+        rows = opened.read().splitlines()
+    for row in rows:
+        found = re.fullmatch(r"([0-9]+) ([0-9]+):([0-9]+) (.*)", row)
+        if found is None or found[4] != script:
+            return False
+        number, line, column = (int(found[place]) for place in (1, 2, 3))
+        if not written[number - 1].endswith(f"// {line}") or not lines[line - 1][column - 1 :].strip():
+            return False
+    return len(rows) >= 5
+
+
+def several_modules(program: str) -> None:
+    """Modules that are given together are one program; a parameter has the value that it is given."""
+    files = [f"{FOLDER}/modules/{name}.ttcn" for name in ("tests", "types")]
+    one = run(REWRITE, "--tpr", program, *files, "--case", "TC_second")
+    has = "setverdict(pass)" in one.printed and "types.ttcn:" in one.printed
+    judged("two modules", one.status == 0 and has, one.said)
+    two = run(REWRITE, "--tpr", program, files[0])
+    judged("a module that isn't given", two.status == 2 and "isn't among the files" in two.said, two.said)
+    three = run(REWRITE, "--tpr", program, *files)
+    judged("which of two test cases", three.status == 2 and "name one with --case" in three.said, three.said)
+    four = run(REWRITE, "--tpr", program, *files, "--case", "TC_first", "--param", "PX_COUNT=4")
+    judged("a parameter", "p.send(integer:4)" in four.printed, four.said)
+    five = run(REWRITE, "--tpr", program, *files, "--case", "TC_first", "--param", "PX_OTHER=4")
+    judged("a parameter that isn't there", five.status == 2 and "PX_OTHER" in five.said, five.said)
+
+
+def same(program: str) -> None:
+    """A script of the profile that has one report keeps it."""
+    for script in sorted(glob.glob(f"{ROOT}/examples/*.ttcn")):
+        name, wanted = os.path.basename(script), f"{script.removesuffix('.ttcn')}.expected"
+        if not os.path.exists(wanted) or run(program, "check", script).status != 0:
+            continue
+        with open(script, encoding="utf-8") as opened:
+            ended = carried(program, script, opened.read())
+        with open(wanted, encoding="utf-8") as opened:
+            # Of an `[else]` that stands alone nothing hangs on the look, so it isn't written.
+            told = opened.read().replace("\nelse\n", "\n")
+        if ended.status == 0:
+            printed = run(program, "run", data=ended.printed.encode()).printed
+            judged(name, printed.replace("\nelse\n", "\n") == told, printed)
+        else:
+            # Without a value it is a fault, which the full language refuses too.
+            judged(name, "no value yet" in ended.said or "component is meant" in ended.said, ended.said)
+
+
+def broken(program: str) -> None:
+    """Cut behind each token, or with bytes by chance: an answer with a line, and never a traceback."""
+    chance = random.Random(53)
+    with open(f"{FOLDER}/natural/login_with_templates.ttcn", "rb") as opened:
+        whole = opened.read()
+    from rewriting.rewriting import rewrite
+    from rewriting.tokens import Source
+
+    def answer(data: bytes) -> bool:
+        found = rewrite([Source("x", data)])
+        return bool(found.refused) and all(one.line >= 1 and one.reason for one in found.refused)
+
+    ends = [found.end() for found in re.finditer(rb"[A-Za-z0-9_]+|[^\sA-Za-z0-9_]", whole)]
+    cut = [end for end in ends[:-9] if not tells(lambda: answer(whole[:end]))]
+    judged("cut behind each token", not cut, f"at {cut[:3]}")
+    signs = [bytes([byte]) for byte in range(256)] + [b"{", b"}", b"(", b"alt {", b"[]", b"-> value", b"template"]
+    wrong = 0
+    for _ in range(300):
+        data = bytearray(whole)
+        for _ in range(chance.randrange(1, 6)):
+            place = chance.randrange(len(data))
+            data[place : place + chance.randrange(3)] = chance.choice(signs)
+        wrong += not tells(lambda: answer(bytes(data)) or True)
+    judged("bytes by chance in a script", wrong == 0, f"{wrong} of 300")
+    noise = [chance.randbytes(chance.randrange(400)) for _ in range(100)]
+    judged("bytes by chance alone", all(tells(lambda data=data: answer(data)) for data in noise), "no answer")
+    deep = b"module M { const integer c := " + b"(" * 20_000
+    judged("brackets without end", tells(lambda: answer(deep)), "no answer")
+    large(program)
+
+
+def tells(asked: Callable[[], bool]) -> bool:
+    try:
+        return asked()
+    except Exception as error:  # A traceback of whatever kind is what this looks for.
+        print(f"{type(error).__name__}: {error}")
+        return False
+
+
+def seconds_of_others() -> float:
+    """The processor time that was used by what this process has run: how busy the machine is isn't in it."""
+    used = resource.getrusage(resource.RUSAGE_CHILDREN)
+    return used.ru_utime + used.ru_stime
+
+
+def large(program: str) -> None:
+    """A script of 10,000 lines."""
+    lines = ["module Large {", "type port P message { inout integer }", "type component C { port P p, q; }"]
+    for number in range(900):
+        lines += [f"const integer c_{number} := {number};", f"template integer m_{number} := (c_{number}, 0);"]
+        lines += [f"function f_{number}(integer n)", "runs on C", "{", "  p.send(n);", f"  q.receive(m_{number});"]
+        lines += ["  if (n > 5) { log(n); }", "  vc();", "}"]
+    lines += ["function vc() { }", "testcase t() runs on C {", "  connect(self:p, self:q);"]
+    lines += [f"  f_{number}(c_{number});" for number in range(900)]
+    lines += ["  setverdict(pass);", "}", "}"]
+    with tempfile.TemporaryDirectory() as folder:
+        file = f"{folder}/large.ttcn"
+        with open(file, "w", encoding="utf-8") as opened:
+            opened.write("\n".join(lines) + "\n")
+        begun = seconds_of_others()
+        ended = run(REWRITE, "--tpr", program, file)
+        took = seconds_of_others() - begun
+    judged("10,000 lines are carried over", ended.status == 0 and len(lines) > 9_900, ended.said[:200])
+    judged("10,000 lines take 5 seconds of the processor at most", took <= SECONDS_OF_LARGE, f"{took:.1f}")
+
+
+def listed(program: str) -> None:
+    """`explain --all` names nothing in a script of the profile, and in another what `explain` names among the rest."""
+    accepted = [
+        file for file in sorted(glob.glob(f"{ROOT}/examples/*.ttcn")) if run(program, "check", file).status == 0
+    ]
+    ended = run(EXPLAIN, "--all", *accepted)
+    judged("nothing in a script of the profile", (ended.status, ended.printed) == (0, ""), ended.printed[:300])
+    scripts = sorted(glob.glob(f"{ROOT}/tests/tools/explained/*.ttcn"))
+    told = json.loads(run(EXPLAIN, "--tpr", program, "--json", *scripts).printed)
+    for one in told:
+        every = run(EXPLAIN, "--all", one["file"]).printed
+        construct = one.get("construct")
+        if construct:
+            judged(f"all of {os.path.basename(one['file'])}", f": {construct} isn't supported" in every, every[:300])
+
+
+def rows(program: str) -> None:
+    """Each row of docs/FROM_TTCN3.md that isn't `as is`: its script is carried over, or refused, as the row says."""
+    with open(f"{ROOT}/docs/FROM_TTCN3.md", encoding="utf-8") as opened:
+        cells = [line.strip("| \n").split(" | ") for line in opened if re.match(r"\| [0-9ABD]", line)]
+    told = {row[1].strip(): row[-2].strip() for row in cells if not row[2].startswith("as is")}
+    with open(f"{FOLDER}/rows", encoding="utf-8") as opened:
+        scripts = dict(line.rstrip("\n").split(" | ", 1) for line in opened)
+    judged("a script for each row", set(told) == set(scripts), f"{set(told) ^ set(scripts)}")
+    for name, script in scripts.items():
+        ended = carried(program, "row", row_script(script))
+        found = {0: "yes", 2: "no"}[ended.status]
+        judged(f"row {name}", found == told.get(name), f"{found}: {ended.said}")
+
+
+def faults(program: str) -> None:
+    """Each rewrite, with a fault planted in it: the entry of the table that is there for it tells it."""
+    with open(f"{FOLDER}/faults", encoding="utf-8") as opened:
+        planted = [line.rstrip("\n").split(" | ") for line in opened]
+    with ThreadPoolExecutor(os.cpu_count()) as pool:
+        answers = pool.map(lambda fault: fault_is_told(program, *fault), planted)
+    for (file, old, _, entry), why in zip(planted, answers):
+        judged(f"a fault in {file}: {old} ({entry})", why == "", why)
+
+
+def fault_is_told(program: str, file: str, old: str, new: str, entry: str) -> str:
+    """Empty where it is told, else why not."""
+    with tempfile.TemporaryDirectory() as folder:
+        shutil.copytree(f"{ROOT}/tools", f"{folder}/tools")
+        place = f"{folder}/tools/rewriting/{file}"
+        with open(place, encoding="utf-8") as opened:
+            text = opened.read()
+        old, new = old.replace("\\n", "\n"), new.replace("\\n", "\n")
+        if text.count(old) != 1:
+            return f"`{old}` stands there {text.count(old)} times"
+        with open(place, "w", encoding="utf-8") as opened:
+            opened.write(text.replace(old, new))
+        words = [sys.executable, "-B", os.path.realpath(__file__), program, "table"]
+        environment = {**os.environ, "REWRITING": f"{folder}/tools", "ENTRY": entry}
+        told = subprocess.run(words, stdout=subprocess.PIPE, stderr=subprocess.STDOUT, env=environment, check=False)
+    return "" if f"FAILED: {entry}: " in told.stdout.decode("utf-8", "replace") else "it isn't told"
+
+
+def row_script(script: str) -> str:
+    """What a row shows, in a module with types and ports; some rows are about the module itself."""
+    if script.startswith("module M "):
+        head, _, body = script.partition("{")
+        return PRELUDE.replace("module T ", head.replace("module M", "module T")) + body
+    if script.startswith("import "):
+        return PRELUDE + "}\nmodule U { " + script + " }\n"
+    return PRELUDE + script + "\n}\n"
+
+
+def main() -> int:
+    program, part = sys.argv[1:]
+    {"table": table, "natural": natural, "same": same, "broken": broken, "listed": listed, "rows": rows, "faults": faults}[part](program)
+    return 0
+
+
+if __name__ == "__main__":
+    sys.exit(main())

@@ -1,0 +1,27 @@
+# What tools/rewrite makes of scripts of the full language, and what it refuses (tests/rewrites/): worked out by hand.
+# What is looked at stands in tests/rewrites/rewrite_rules.py. `tpr` and `room` are those of ./test, `told` and `at_least` are
+# those of their files.
+rewrites() {
+    local part least
+    while read -r part least; do
+        at_least "$least" told "$room/rewrites_$part" tests/rewrites/rewrite_rules.py "$tpr" "$part"
+    done <<'PARTS'
+table 54
+natural 44
+same 59
+broken 6
+listed 39
+rows 109
+faults 19
+PARTS
+    observe env -u TPR "$root/tools/rewrite" --help
+    tool_must "rewrite tells its words" 0 grep -q -- '--case NAME' "$room/printed"
+    observe "$root/tools/rewrite" --tpr "$tpr" "$room/nothing.ttcn"
+    tool_must "a file that isn't there" 2 says_alone "rewrite: $room/nothing.ttcn can't be read: No such file or directory"
+    observe "$root/tools/rewrite" --tpr "$room/nothing" tests/rewrites/natural/any_port.ttcn
+    tool_must "a program that isn't there" 1 says_alone "rewrite: $room/nothing can't be run: No such file or directory"
+    "$root/tools/rewrite" --tpr "$tpr" tests/rewrites/natural/any_port.ttcn >/dev/full 2>"$room/said"
+    status=$?
+    : >"$room/printed"
+    tool_must "a script that can't be written" 3 says_alone "rewrite: the answer can't be written"
+}

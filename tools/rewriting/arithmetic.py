@@ -1,0 +1,118 @@
+"""Operators and predefined functions on values that are known (ES 201 873-1, 7.1, 16.1.2 and Annex C)."""
+from __future__ import annotations
+
+from typing import Callable, Optional
+
+from .refusing import refuse
+from .tokens import Token
+from .values import Elements, Form, Mark, same
+
+_NUMBERS = ("+", "-", "*", "/", "mod", "rem")
+_ORDERED = ("<", ">", "<=", ">=")
+
+
+def computed(sign: str, left: Form, right: Form, at: Token) -> Form:
+    """What an operator makes of two values."""
+    if sign in ("==", "!="):
+        return same(left, right) == (sign == "==")
+    if sign in ("and", "or", "xor") and isinstance(left, bool) and isinstance(right, bool):
+        return {"and": left and right, "or": left or right, "xor": left is not right}[sign]
+    if sign == "&" and isinstance(left, str) and isinstance(right, str):
+        return left + right
+    if sign == "&" and isinstance(left, Elements) and isinstance(right, Elements):
+        return Elements(left.items + right.items)
+    if _is_number(left) and _is_number(right):
+        assert isinstance(left, int) and isinstance(right, int)
+        if sign in _NUMBERS:
+            return _number(sign, left, right, at)
+        if sign in _ORDERED:
+            return {"<": left < right, ">": left > right, "<=": left <= right, ">=": left >= right}[sign]
+    if isinstance(left, float) and isinstance(right, float):
+        return _of_floats(sign, left, right, at)
+    refuse(at, f"`{sign}` isn't computed of these")
+
+
+def _is_number(form: Form) -> bool:
+    return isinstance(form, int) and not isinstance(form, bool)
+
+
+def _number(sign: str, left: int, right: int, at: Token) -> int:
+    if sign == "+":
+        return left + right
+    if sign == "-":
+        return left - right
+    if sign == "*":
+        return left * right
+    if right == 0:
+        refuse(at, "this divides by 0")
+    quotient = abs(left) // abs(right)
+    quotient = quotient if (left < 0) == (right < 0) else -quotient
+    if sign == "/":
+        return quotient
+    return left - right * quotient if sign == "rem" else left % abs(right)
+
+
+def _of_floats(sign: str, left: float, right: float, at: Token) -> Form:
+    if sign in _ORDERED:
+        return {"<": left < right, ">": left > right, "<=": left <= right, ">=": left >= right}[sign]
+    if sign in ("+", "-", "*"):
+        return {"+": left + right, "-": left - right, "*": left * right}[sign]
+    refuse(at, f"`{sign}` isn't computed of floats")
+
+
+def inverted(sign: str, value: Form, at: Token) -> Form:
+    """`not`, `-` or `+` of a value."""
+    if sign == "not" and isinstance(value, bool):
+        return not value
+    if sign in ("-", "+") and isinstance(value, (int, float)) and not isinstance(value, bool):
+        return -value if sign == "-" else value
+    refuse(at, f"`{sign}` isn't computed of this")
+
+
+def _length(values: list[Form]) -> Optional[Form]:
+    value = values[0]
+    if isinstance(value, str):
+        return len(value)
+    return len(value.items) if isinstance(value, Elements) and Mark.UNSET not in value.items else None
+
+
+def _text_of_number(values: list[Form]) -> Optional[Form]:
+    return str(values[0]) if _is_number(values[0]) else None
+
+
+def _number_of_text(values: list[Form]) -> Optional[Form]:
+    text = values[0]
+    is_number = isinstance(text, str) and text.removeprefix("-").isdecimal() and text.isascii()
+    return int(text) if isinstance(text, str) and is_number and len(text) < 20 else None
+
+
+def _part_of_text(values: list[Form]) -> Optional[Form]:
+    if len(values) != 3:
+        return None
+    text, first, count = values
+    if isinstance(text, str) and isinstance(first, int) and isinstance(count, int):
+        is_within = 0 <= first and 0 <= count and first + count <= len(text)
+        return text[first : first + count] if is_within else None
+    return None
+
+
+# Each has an example in tests/rewrites/. What isn't listed isn't evaluated.
+PREDEFINED: dict[str, tuple[int, Callable[[list[Form]], Optional[Form]]]] = {
+    "lengthof": (1, _length),
+    "sizeof": (1, _length),
+    "int2str": (1, _text_of_number),
+    "str2int": (1, _number_of_text),
+    "substr": (3, _part_of_text),
+}
+# They are asked of what a variable holds, whatever it is.
+ASKING = ("isbound", "isvalue", "ispresent", "ischosen", "match", "valueof")
+
+
+def predefined(word: str, values: list[Form], at: Token) -> Form:
+    count, function = PREDEFINED[word]
+    found = function(values) if len(values) == count else None
+    if found is None:
+        refuse(at, f"`{word}` isn't computed of this")
+    return found
+
+

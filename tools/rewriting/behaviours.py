@@ -1,0 +1,397 @@
+"""Follows the statements of one behaviour, and writes those that the profile has (ES 201 873-1, 19)."""
+from __future__ import annotations
+
+from dataclasses import replace
+from typing import Callable, Optional
+
+from . import tree
+from .emitted import Verdict
+from .paths import Exit, Key, Path, Scope, Slot, joined
+from .refusing import Refusal, refuse
+from .run import members_of
+from .tokens import Token
+from .tree import Declared, Expression, Leaving, Statement
+from .types import Kind, Type
+from .values import DefaultValue, Elements, Fields, Form, Mark, Received, TimerValue, VerdictValue, matches, worse
+
+from .lists import ListFollower
+
+MOST_CALLS = 60
+_EXITS = {
+    Leaving.BREAK: Exit.BREAK, Leaving.CONTINUE: Exit.CONTINUE, Leaving.REPEAT: Exit.REPEAT, Leaving.STOP: Exit.END,
+}
+_OF_CALLS = (tree.Activate, tree.Create)
+
+
+class Follower(ListFollower):
+    def follow(self, statement: Statement, path: Path, scope: Scope) -> list[Path]:
+        if isinstance(statement, tree.Unsupported):
+            raise Refusal(statement.at, statement.reason)
+        simple = _SIMPLE.get(type(statement))
+        if simple is not None:
+            simple(self, statement, path, scope)
+            return [path]
+        followed = _FOLLOWED.get(type(statement))
+        if followed is not None:
+            return followed(self, statement, path, scope)
+        return self.follow_operation(statement, path, scope)
+
+    def follow_operation(self, statement: Statement, path: Path, scope: Scope) -> list[Path]:
+        """A statement on ports or components."""
+        raise NotImplementedError
+
+    def block(self, block: tree.Block, path: Path, scope: Scope) -> list[Path]:
+        inner = self.new_scope(scope)
+        paths = self.statements(block.statements, path, inner)
+        return self.left(inner, paths)
+
+    def left(self, scope: Scope, paths: list[Path]) -> list[Path]:
+        """Forgets the names of a scope."""
+        for path in paths:
+            variables = path.state.variables
+            for key in [key for key in variables if key[0] == scope.number]:
+                del variables[key]
+        return paths
+
+    def _block(self, statement: tree.Block, path: Path, scope: Scope) -> list[Path]:
+        return self.block(statement, path, scope)
+
+    def declare(self, statement: tree.Declaration, path: Path, scope: Scope) -> list[Path]:
+        paths = [path]
+        for variable in statement.variables:
+            found: list[Path] = []
+            for one in paths:
+                found += self._declared(statement, variable, one, scope)
+            paths = found
+        return paths
+
+    def _declared(
+        self, statement: tree.Declaration, variable: tree.Variable, path: Path, scope: Scope
+    ) -> list[Path]:
+        if path.exit is not Exit.ON:
+            return [path]
+        sizes = [self._size(size, path, scope) for size in variable.sizes]
+        type = self.types.array(self.types.of(statement.type, variable.name), sizes)
+        key = (scope.number, variable.name)
+        is_fixed = statement.kind is Declared.CONSTANT
+        if statement.kind is Declared.TIMER:
+            path.state.variables[key] = Slot(type, TimerValue.STILL)
+            return [path]
+        if variable.value is None:
+            path.state.variables[key] = Slot(type, Mark.UNSET, is_late=statement.is_late)
+            return [path]
+        if statement.is_late:
+            refuse(variable.at, "a value that is evaluated where it is used isn't carried over")
+        self.hint = variable.name
+        found = self.values_of(variable.value, path, scope, type)
+        for one, value in found:
+            self.look_at_value_of(value, type, variable.at)
+            one.state.variables[key] = Slot(type, value, is_fixed)
+        return [one for one, _ in found]
+
+    def _size(self, node: Expression, path: Path, scope: Scope) -> int:
+        if isinstance(node, tree.RangeOf):
+            refuse(node.at, "an array with a lower bound isn't carried over")
+        size = self.evaluate(node, path, scope)
+        if isinstance(size, bool) or not isinstance(size, int) or not 0 < size <= 10_000:
+            refuse(node.at, "the size of the array isn't known here")
+        return size
+
+    def values_of(
+        self, node: Expression, path: Path, scope: Scope, type: Optional[Type]
+    ) -> list[tuple[Path, Form]]:
+        """The value on each way; a call of a function may fork."""
+        if not self._is_call(node):
+            return [(path, self.evaluate(node, path, scope, type))]
+        assert isinstance(node, tree.Call)
+        found: list[tuple[Path, Form]] = []
+        for one in self.call(node, path, scope):
+            value = one.result if one.result is not None else Mark.UNSET
+            one.result = None
+            found.append((one, value))
+        return found
+
+    def _is_call(self, node: Expression) -> bool:
+        if not isinstance(node, tree.Call) or not isinstance(node.called, (tree.Name, tree.FieldOf)):
+            return False
+        return node.called.word in self.program.functions
+
+    def _assign(self, statement: tree.Assignment, path: Path, scope: Scope) -> list[Path]:
+        target = statement.target
+        key, steps = self.target(target, path, scope)
+        if path.state.variables[key].is_fixed:
+            refuse(statement.at, "a constant is assigned to")
+        if path.state.variables[key].is_late:
+            refuse(statement.at, "a value that is evaluated where it is used isn't carried over")
+        type = self.type_of(target, path, scope)
+        self.hint = _hint(target, steps)
+        found = self.values_of(statement.value, path, scope, type)
+        for one, value in found:
+            if one.exit is Exit.ON:
+                if isinstance(statement.value, tree.Braces):
+                    value = self._kept(key, steps, value, one)
+                self.store(key, steps, value, one, statement.at)
+        return [one for one, _ in found]
+
+    def _kept(self, key: Key, steps: tuple[int, ...], value: Form, path: Path) -> Form:
+        """Fields that the assigned value leaves open keep what they had."""
+        if not isinstance(value, Fields) or not {Mark.UNSET, Mark.NOT_USED} & set(value.items):
+            return value
+        old = self.part(path.state.variables[key].value, steps)
+        if not isinstance(old, Fields):
+            return value
+        pairs = zip(old.items, value.items)
+        return Fields(tuple(a if b in (Mark.UNSET, Mark.NOT_USED) else b for a, b in pairs))
+
+    def store(self, key: Key, steps: tuple[int, ...], value: Form, path: Path, at: Token) -> None:
+        slot = path.state.variables[key]
+        self.look_at_value_of(value, slot.type if not steps else None, at)
+        changed = self._changed(slot.value, slot.type, steps, value, at)
+        path.state.variables[key] = replace(slot, value=changed)
+
+    def _changed(
+        self, whole: Form, type: Optional[Type], steps: tuple[int, ...], value: Form, at: Token
+    ) -> Form:
+        if not steps:
+            return value
+        if whole is Mark.LOST:
+            return whole
+        step = steps[0]
+        inner: Optional[Type] = None
+        if type is not None and type.kind is Kind.RECORD:
+            fields = type.root.fields
+            items = list(whole.items) if isinstance(whole, Fields) else [Mark.UNSET] * len(fields)
+            inner = fields[step].type
+        elif type is not None and type.kind is Kind.LIST:
+            items = list(whole.items) if isinstance(whole, Elements) else []
+            if type.size is not None and step >= type.size:
+                refuse(at, "the array isn't so long")
+            items += [Mark.UNSET] * (step + 1 - len(items))
+            inner = type.root.element or type.element
+        else:
+            refuse(at, "a part of this can't be assigned to")
+        if isinstance(whole, Received):
+            refuse(at, "a part of what was received is assigned to")
+        items[step] = self._changed(items[step], inner, steps[1:], value, at)
+        is_record = type.kind is Kind.RECORD
+        return Fields(tuple(items)) if is_record else Elements(tuple(items))
+
+    def _called(self, statement: tree.CallStatement, path: Path, scope: Scope) -> list[Path]:
+        node = statement.call
+        word = node.called.word if isinstance(node, tree.Call) and isinstance(node.called, tree.Name) else ""
+        if word in self.program.altsteps:
+            branch = tree.Branch(node.at, None, False, statement, None)
+            return self.choose(tree.Alt(node.at, [branch], False, statement.span), path, scope)
+        if self._is_call(node):
+            assert isinstance(node, tree.Call)
+            return self.call(node, path, scope)
+        self.hint = ""
+        self.evaluate(node, path, scope)
+        return [path]
+
+    def choose(self, statement: tree.Alt, path: Path, scope: Scope) -> list[Path]:
+        raise NotImplementedError
+
+    def call(self, node: tree.Call, path: Path, scope: Optional[Scope]) -> list[Path]:
+        """The statements of a function, with its parameters in a scope of their own."""
+        assert isinstance(node.called, (tree.Name, tree.FieldOf))
+        function = self.program.functions[node.called.word]
+        if function.body is None:
+            refuse(node.at, f"the external function `{function.name}` is outside the script")
+        bound = self.bind(function.parameters, node.arguments, node.at, path, scope)
+        return self.perform(function, bound, path, node.at)
+
+    def perform(
+        self, function: tree.Function, bound: list[tuple[str, Slot]], path: Path, at: Token
+    ) -> list[Path]:
+        if len(self.results) >= MOST_CALLS:
+            refuse(at, f"more than {MOST_CALLS} calls are open here")
+        self.look_at_runs_on(function.runs_on, at)
+        inner = self.new_scope(self.root if function.runs_on else None)
+        for name, slot in bound:
+            path.state.variables[inner.number, name] = slot
+        result = self.types.of(function.result, function.name) if function.result else None
+        self.results.append(result)
+        assert function.body is not None
+        paths = self.left(inner, self.statements(function.body.statements, path, inner))
+        self.results.pop()
+        for one in paths:
+            if one.exit is Exit.RETURN:
+                one.exit = Exit.ON
+        return paths
+
+    def called_value(self, node: tree.Call, path: Path, scope: Optional[Scope]) -> Form:
+        """A call within an expression: it may write nothing, since that has no place there."""
+        written, before = len(path.code), path.state.setup()
+        variables = dict(path.state.variables)
+        paths = self._quietly(node, path, scope)
+        if len(paths) != 1 or len(paths[0].code) != written or paths[0].exit is not Exit.ON:
+            refuse(node.at, "this call within an expression does more than to compute a value")
+        found = paths[0]
+        if found.code is not path.code or found.state.setup() != before:
+            refuse(node.at, "this call within an expression does more than to compute a value")
+        if self.is_looking and found.state.variables != variables:
+            refuse(node.at, "what is evaluated at each look at the branches changes a variable")
+        value = found.result
+        path.state, path.result = found.state, None
+        if value is None:
+            refuse(node.at, "this function returns nothing")
+        return value
+
+    def _quietly(self, node: tree.Call, path: Path, scope: Optional[Scope]) -> list[Path]:
+        """A call that may come within a look at branches."""
+        is_looking, self.is_looking = self.is_looking, False
+        paths = self.call(node, path, scope)
+        self.is_looking = is_looking
+        return paths
+
+    def look_at_runs_on(self, word: Optional[str], at: Token) -> None:
+        """A function or an altstep finds its ports here, each of its own type."""
+        if word is None or word == self.type.name:
+            return
+        members = members_of(self.types, self.types.named(word, at), at, self.size_of)
+        for port in members.ports.values():
+            own = self.ports.get(port.name)
+            if own is None or own.type.root is not port.type.root:
+                refuse(at, f"this runs on `{word}`, which has ports that `{self.type.name}` hasn't")
+
+    def look_at_value_of(self, value: Form, type: Optional[Type], at: Token) -> None:
+        """A variable of a subtype has none but its values."""
+
+    def _return(self, statement: tree.Return, path: Path, scope: Scope) -> list[Path]:
+        if statement.value is None:
+            path.exit = Exit.RETURN
+            return [path]
+        type = self.results[-1] if self.results else None
+        found = self.values_of(statement.value, path, scope, type)
+        for one, value in found:
+            if one.exit is Exit.ON:
+                one.exit, one.result = Exit.RETURN, value
+        return [one for one, _ in found]
+
+    def _if(self, statement: tree.If, path: Path, scope: Scope) -> list[Path]:
+        if self.truth(self.evaluate(statement.condition, path, scope), statement.condition.at):
+            return self.block(statement.then, path, scope)
+        return self.block(statement.otherwise, path, scope) if statement.otherwise else [path]
+
+    def _select(self, statement: tree.Select, path: Path, scope: Scope) -> list[Path]:
+        if statement.is_union:
+            refuse(statement.at, "`select union` isn't carried over")
+        type = self.type_of(statement.value, path, scope)
+        value = self.evaluate(statement.value, path, scope, type)
+        for case in statement.cases:
+            if case.templates is None or any(
+                self._is_case(value, item, path, scope, type) for item in case.templates
+            ):
+                return self.block(case.block, path, scope)
+        return [path]
+
+    def _is_case(
+        self, value: Form, item: Expression, path: Path, scope: Scope, type: Optional[Type]
+    ) -> bool:
+        template = self.evaluate(item, path, scope, type)
+        if isinstance(value, Received):
+            return self.fits(value, template, item.at)
+        self.look_at_value(value, item.at)
+        return matches(value, template)
+
+    def _for(self, statement: tree.For, path: Path, scope: Scope) -> list[Path]:
+        inner = self.new_scope(scope)
+        paths = self.follow(statement.first, path, inner)
+        turns = self._turns(statement, statement.condition, statement.block, statement.step, paths, inner, False)
+        return self.left(inner, turns)
+
+    def _while(self, statement: tree.While, path: Path, scope: Scope) -> list[Path]:
+        block, is_done = statement.block, statement.is_first_done
+        return self._turns(statement, statement.condition, block, None, [path], scope, is_done)
+
+    def _turns(
+        self, loop: Statement, condition: Expression, block: tree.Block, step: Optional[Statement],
+        paths: list[Path], scope: Scope, is_first_done: bool,
+    ) -> list[Path]:
+        """The turns of a loop, on each way as long as its condition holds."""
+        self.frames.append(self.program.names_in(loop))
+        finished: list[Path] = []
+        is_asked = not is_first_done
+        while paths:
+            self.run.step(loop.at)
+            path = paths.pop(0)
+            if is_asked and not self.truth(self.evaluate(condition, path, scope), condition.at):
+                finished.append(path)
+                continue
+            for one in self.block(block, path, scope):
+                if one.exit in (Exit.ON, Exit.CONTINUE):
+                    one.exit = Exit.ON
+                    paths += self.follow(step, one, scope) if step else [one]
+                else:
+                    one.exit = Exit.ON if one.exit is Exit.BREAK else one.exit
+                    finished.append(one)
+            is_asked = True
+            paths = joined(paths, self.live(), self.has_verdict)
+        self.frames.pop()
+        return finished
+
+    def _leave(self, statement: tree.Leave, path: Path, scope: Scope) -> None:
+        path.exit = _EXITS[statement.how]
+
+    def _drop(self, statement: tree.Dropped, path: Path, scope: Scope) -> None:
+        self._look_at_calls(statement, statement.arguments, path, scope)
+
+    def _look_at_calls(
+        self, statement: Statement, nodes: list[Expression], path: Path, scope: Scope
+    ) -> None:
+        """What is only printed is left out; where a function is called in it, that may do something."""
+        if self.program.names_in(statement) & set(self.program.functions):
+            for node in nodes:
+                self.evaluate(node, path, scope)
+
+    def _set_verdict(self, statement: tree.SetVerdict, path: Path, scope: Scope) -> None:
+        value = self.evaluate(statement.verdict, path, scope)
+        self._look_at_calls(statement, statement.reasons, path, scope)
+        if value is Mark.LOST:
+            raise Refusal(statement.at, "")
+        if not isinstance(value, VerdictValue) or value.word == "error":
+            is_known = isinstance(value, VerdictValue)
+            refuse(statement.at, "`error` isn't set by a script" if is_known else "the verdict isn't known here")
+        path.state.verdict = worse(path.state.verdict, value.word)
+        self.emit(path, Verdict(statement.at, value.word))
+
+    def _deactivate(self, statement: tree.Deactivate, path: Path, scope: Scope) -> None:
+        if statement.value is None:
+            path.state.defaults = ()
+            return
+        value = self.evaluate(statement.value, path, scope)
+        if not isinstance(value, DefaultValue):
+            refuse(statement.at, "which default is meant isn't known here")
+        if all(one.number != value.number for one in path.state.defaults):
+            refuse(statement.at, "this default isn't active any more")
+        path.state.defaults = tuple(one for one in path.state.defaults if one.number != value.number)
+
+
+def _hint(target: Expression, steps: tuple[int, ...]) -> str:
+    while not isinstance(target, tree.Name):
+        if not isinstance(target, (tree.FieldOf, tree.IndexOf)):
+            return ""
+        target = target.value
+    return "_".join([target.word, *map(str, steps)])
+
+
+_Simple = Callable[[Follower, "Statement", Path, Scope], None]
+_Followed = Callable[[Follower, "Statement", Path, Scope], list[Path]]
+_SIMPLE: dict[type, _Simple] = {
+    tree.Leave: Follower._leave,  # type: ignore[dict-item]
+    tree.Dropped: Follower._drop,  # type: ignore[dict-item]
+    tree.SetVerdict: Follower._set_verdict,  # type: ignore[dict-item]
+    tree.Deactivate: Follower._deactivate,  # type: ignore[dict-item]
+}
+_FOLLOWED: dict[type, _Followed] = {
+    tree.Declaration: Follower.declare,  # type: ignore[dict-item]
+    tree.Assignment: Follower._assign,  # type: ignore[dict-item]
+    tree.CallStatement: Follower._called,  # type: ignore[dict-item]
+    tree.Block: Follower._block,  # type: ignore[dict-item]
+    tree.If: Follower._if,  # type: ignore[dict-item]
+    tree.Select: Follower._select,  # type: ignore[dict-item]
+    tree.For: Follower._for,  # type: ignore[dict-item]
+    tree.While: Follower._while,  # type: ignore[dict-item]
+    tree.Return: Follower._return,  # type: ignore[dict-item]
+}

@@ -1,0 +1,354 @@
+"""Follows an `alt`, an `interleave` or a receiving operation into each of its branches (ES 201 873-1, 20 and 22)."""
+from __future__ import annotations
+
+from typing import Optional
+
+from . import tree
+from .lists import Plan
+from .emitted import Code, Got, GotDone, Message, Way, Ways, Who
+from .evaluating import SENDER
+from .guards import Expander, Guard, is_repeat_alone, may_repeat
+from .paths import Exit, Fork, Path, Scope
+from .refusing import refuse
+from .tokens import Token
+from .tree import Receiving
+from .types import Kind, Type
+from .values import (
+    ComponentValue, Elements, Excluded, Fields, Form, Mark, Options, Received, Symbol, Wild, is_value, narrowed,
+)
+
+MOST_TURNS = 30
+MOST_DEPTH = 60
+_Facts = dict[tuple[tuple[int, ...], Form], bool]
+
+
+class Leaf:
+    """A branch as it is written: a guard, with what is asked of the message besides."""
+
+    def __init__(self, guard: Guard, facts: _Facts, message: Optional[Message], sender: Optional[Who]):
+        self.guard = guard
+        self.facts = facts
+        self.message = message
+        self.sender = sender
+        self.how = guard.how
+        # What comes is discarded, and the `alt` begins anew.
+        self.is_discarding = False
+        # By what has come before it is never chosen.
+        self.is_never = False
+        self.got: Optional[Got] = None
+
+
+class Chooser(Expander):
+    def choose(self, statement: tree.Alt, path: Path, scope: Scope) -> list[Path]:
+        if statement.is_interleave:
+            for branch in statement.branches:
+                self._look_at_interleaved(branch)
+        return self._turn(statement, statement.branches, path, scope, 0)
+
+    def receive(self, statement: tree.Receive | tree.Find, path: Path, scope: Scope) -> list[Path]:
+        """A receiving operation that stands alone is an `alt` with it as its branch (20.2, 22.2.2)."""
+        branch = tree.Branch(statement.at, None, False, statement, None)
+        return self.choose(tree.Alt(statement.at, [branch], False, statement.span), path, scope)
+
+    def _look_at_interleaved(self, branch: tree.Branch) -> None:
+        if branch.is_else or branch.guard is not None or not isinstance(branch.event, tree.Receive):
+            refuse(branch.at, "a branch of an `interleave` has a receiving operation alone here")
+        for statement in branch.block.statements if branch.block else []:
+            if not isinstance(statement, (tree.SetVerdict, tree.Dropped, tree.Send, tree.Assignment)):
+                refuse(statement.at, "in an `interleave` a branch sends, assigns and sets verdicts alone here")
+            if self.program.names_in(statement) & set(self.program.functions):
+                refuse(statement.at, "in a branch of an `interleave` no function is called here")
+
+    def _turn(
+        self, statement: tree.Alt, branches: list[tree.Branch], path: Path, scope: Scope, count: int
+    ) -> list[Path]:
+        """One waiting of an `alt`; `count` says how often it was repeated."""
+        if count > MOST_TURNS:
+            refuse(statement.at, f"this is repeated more than {MOST_TURNS} times")
+        expansion = self.expand(branches, path, scope)
+        for guard in expansion.guards:
+            guard.number = self.counted
+            self.counted += 1
+        leaves = self._leaves(expansion.guards, path, count)
+        self.frames.append(self.program.names_in(statement))
+        found: list[Path] = []
+        for leaf, one in self._written(statement, leaves, path):
+            found += self._follow_leaf(statement, branches, leaf, one, scope, count)
+        self.frames.pop()
+        for inner in expansion.scopes:
+            found = self.left(inner, found)
+        return found
+
+    def _written(
+        self, statement: tree.Alt, leaves: list[Leaf], path: Path
+    ) -> list[tuple[Leaf, Path]]:
+        """Writes the branches, and says of each where its way goes on."""
+        if not leaves or all(leaf.is_discarding for leaf in leaves):
+            refuse(statement.at, "no branch of this ever ends it")
+        if leaves[0].guard.is_always:
+            return [(leaves[0], path)]
+        leaves = self._triggered(leaves)
+        if len(leaves) == 1:
+            self.emit(path, self._operation(leaves[0], path))
+            return [(leaves[0], path)]
+        if path.fork is not None and path.fork.depth > MOST_DEPTH:
+            refuse(statement.at, "what follows from the branches is nested too deep")
+        ways = Ways(statement.at, [])
+        self.emit(path, ways)
+        going_on = [leaf for leaf in leaves if not leaf.is_discarding]
+        depth = path.fork.depth + 1 if path.fork else 1
+        fork = Fork(path.code, path.fork, len(going_on), depth)
+        found: list[tuple[Leaf, Path]] = []
+        for leaf in leaves:
+            code: Code = []
+            operation = None if leaf.guard.is_always else self._operation(leaf, path)
+            ways.branches.append(Way(leaf.guard.at, operation, code))
+            if not leaf.is_discarding:
+                found.append((leaf, Path(code, path.state.copy(), fork)))
+        return found
+
+    def _triggered(self, leaves: list[Leaf]) -> list[Leaf]:
+        """`[] p.receive(x) {..} [] p.receive { repeat; }` is `p.trigger(x)`."""
+        if len(leaves) != 2 or not leaves[1].is_discarding or leaves[0].is_never:
+            return leaves
+        first = leaves[0]
+        if first.how is not Receiving.RECEIVE or first.guard.port != leaves[1].guard.port:
+            return leaves
+        first.how = Receiving.TRIGGER
+        return [first]
+
+    def _operation(self, leaf: Leaf, path: Path) -> Got | GotDone:
+        guard = leaf.guard
+        if guard.component is not None:
+            return GotDone(guard.at, guard.component)
+        assert leaf.how is not None
+        path.state.used |= {guard.port}
+        if guard.port in path.state.left:
+            refuse(guard.at, f"`{guard.port}` was disconnected or unmapped before this")
+        got = Got(guard.at, leaf.how.value, guard.port, leaf.message, leaf.sender)
+        leaf.got = got
+        return got
+
+    # Leaves
+
+    def _leaves(self, guards: list[Guard], path: Path, count: int) -> list[Leaf]:
+        found: list[Leaf] = []
+        for number, guard in enumerate(guards):
+            if guard.how is None:
+                found.append(Leaf(guard, {}, None, None))
+                continue
+            if self._is_discarding(guard, guards[:number]):
+                found.append(self._discarding(guard))
+                continue
+            planned = self._planned(guard, self.plans.get(guard.number), {}, guard.message, guard.sender)
+            for leaf in planned[:-1]:
+                # A `trigger` would discard what only the branches behind this one want.
+                leaf.how = Receiving.RECEIVE if leaf.how is Receiving.TRIGGER else leaf.how
+            found += planned
+        return self._counted(found, path) if count else found
+
+    def _planned(
+        self, guard: Guard, plan: Plan, facts: _Facts, message: Optional[Message], sender: Optional[Who]
+    ) -> list[Leaf]:
+        if plan is None:
+            return [Leaf(guard, facts, message, sender)]
+        steps, asked, yes, no = plan
+        narrow_message, narrow_sender = message, sender
+        if steps == SENDER:
+            assert isinstance(asked, ComponentValue)
+            narrow_sender = asked.number
+        else:
+            assert message is not None
+            form = _narrow(message.form, message.type, steps, asked, guard.at)
+            narrow_message = Message(message.type, form)
+        held = {**facts, (steps, asked): True}
+        missed = {**facts, (steps, asked): False}
+        first = [] if narrow_message and narrow_message.form == Options(()) else self._planned(
+            guard, yes, held, narrow_message, narrow_sender
+        )
+        return first + self._planned(guard, no, missed, message, sender)
+
+    def _is_discarding(self, guard: Guard, before: list[Guard]) -> bool:
+        """Whether it takes all that comes to its place, and then only begins the `alt` anew."""
+        if guard.how is not Receiving.RECEIVE or guard.sender is not None or guard.redirect is not None:
+            return False
+        if not is_repeat_alone(guard.bodies):
+            return False
+        for type in self.received_types(guard.port):
+            if not any(_takes_all(other, guard.port, type) for other in [*before, guard]):
+                return False
+        return True
+
+    def _discarding(self, guard: Guard) -> Leaf:
+        type = self.received_types(guard.port)[0]
+        leaf = Leaf(guard, {}, Message(type, Excluded((Wild.ANY,))), None)
+        leaf.how = Receiving.TRIGGER
+        leaf.is_discarding = True
+        return leaf
+
+    def _counted(self, leaves: list[Leaf], path: Path) -> list[Leaf]:
+        """Of a repeated `alt`: a branch that repeats it is open no more once all has come that can."""
+        taken = dict(path.state.taken)
+        going_on: list[Leaf] = []
+        for leaf in leaves:
+            guard = leaf.guard
+            is_repeating = any(may_repeat(body.block) for body in guard.bodies)
+            if guard.how is not None and is_repeating and not leaf.is_discarding:
+                key = (self.own, guard.port)
+                self.run.counted.add(key)
+                leaf.is_never = taken.get(guard.port, 0) >= self.run.most.get(key, 0)
+            if not leaf.is_never:
+                going_on.append(leaf)
+        return going_on if any(not leaf.is_discarding for leaf in going_on) else leaves
+
+    # Behind the operation
+
+    def _follow_leaf(
+        self, statement: tree.Alt, branches: list[tree.Branch], leaf: Leaf, path: Path, scope: Scope, count: int
+    ) -> list[Path]:
+        guard = leaf.guard
+        if leaf.is_never:
+            path.exit = Exit.END
+            return [path]
+        if guard.component is not None:
+            path.state.done |= {guard.component}
+        elif guard.how is not None:
+            self._redirect(leaf, path, scope)
+            if guard.how is not Receiving.CHECK:
+                taken = dict(path.state.taken)
+                taken[guard.port] = taken.get(guard.port, 0) + 1
+                path.state.taken = tuple(sorted(taken.items()))
+        found: list[Path] = []
+        for one in self._bodies(leaf, path):
+            found += self._behind(statement, branches, leaf, one, scope, count)
+        return found
+
+    def _bodies(self, leaf: Leaf, path: Path) -> list[Path]:
+        paths = [path]
+        for body in leaf.guard.bodies:
+            found: list[Path] = []
+            for one in paths:
+                found += self.block(body.block, one, body.scope) if one.exit is Exit.ON else [one]
+            if body.is_of_altstep and any(one.exit is Exit.RETURN for one in found):
+                refuse(body.block.at, "`return` in an altstep isn't carried over")
+            paths = found
+        return paths
+
+    def _behind(
+        self, statement: tree.Alt, branches: list[tree.Branch], leaf: Leaf, path: Path, scope: Scope, count: int
+    ) -> list[Path]:
+        if path.exit is Exit.REPEAT:
+            path.exit = Exit.ON
+            return self._turn(statement, branches, path, scope, count + 1)
+        if path.exit is Exit.BREAK:
+            path.exit = Exit.ON
+            return [path]
+        is_own = statement.is_interleave and path.exit is Exit.ON and leaf.guard.source is not None
+        if not is_own:
+            return [path]
+        rest = [branch for branch in branches if branch is not leaf.guard.source]
+        return self._turn(statement, rest, path, scope, 0) if rest else [path]
+
+    def _redirect(self, leaf: Leaf, path: Path, scope: Scope) -> None:
+        redirect, guard = leaf.guard.redirect, leaf.guard
+        if redirect is None:
+            return
+        where = guard.redirect_scope or scope
+        if redirect.index is not None:
+            if guard.index is None:
+                refuse(redirect.at, "this redirect isn't carried over")
+            key, steps = self.target(redirect.index, path, where)
+            self.store(key, steps, guard.index, path, redirect.at)
+        if redirect.value is not None or redirect.parts:
+            self._redirect_value(leaf, redirect, path, where)
+        if redirect.sender is not None:
+            self._redirect_sender(leaf, redirect.sender, path, where)
+
+    def _redirect_value(
+        self, leaf: Leaf, redirect: tree.Redirect, path: Path, scope: Scope
+    ) -> None:
+        message = leaf.message
+        if message is None:
+            refuse(redirect.at, "a value without a type is redirected")
+        value: Form = message.form
+        if not is_value(value) and leaf.got is not None:
+            symbol = Symbol(leaf.guard.number, message.type.root, message.form, "")
+            symbol.facts = leaf.facts
+            leaf.got.value = symbol
+            value = Received(symbol)
+        if redirect.value is not None:
+            self._store_message(redirect.value, value, message.type, path, scope)
+        for target, part in redirect.parts:
+            steps, type = self._steps(part, message.type)
+            self._store_message(target, self.part(value, steps), type, path, scope)
+
+    def _steps(self, part: tree.Expression, type: Type) -> tuple[tuple[int, ...], Type]:
+        """A field of the received value, by its name or a way of names."""
+        if isinstance(part, tree.FieldOf):
+            steps, type = self._steps(part.value, type)
+        else:
+            steps = ()
+        if not isinstance(part, (tree.Name, tree.FieldOf)) or type.kind is not Kind.RECORD:
+            refuse(part.at, "this part of a message isn't redirected here")
+        number = type.field_number(part.word)
+        if number is None:
+            refuse(part.at, f"there is no field `{part.word}`")
+        return (*steps, number), type.root.fields[number].type
+
+    def _store_message(
+        self, target: tree.Expression, value: Form, type: Type, path: Path, scope: Scope
+    ) -> None:
+        declared = self.type_of(target, path, scope)
+        if declared is None or declared.root is not type.root:
+            refuse(target.at, f"this variable hasn't the type `{type.name}` of the message")
+        key, steps = self.target(target, path, scope)
+        if isinstance(value, Received) and not value.symbol.hint:
+            value.symbol.hint = key[1]
+        self.store(key, steps, value, path, target.at)
+
+    def _redirect_sender(self, leaf: Leaf, target: tree.Expression, path: Path, scope: Scope) -> None:
+        key, steps = self.target(target, path, scope)
+        value: Form = Mark.UNSET
+        if isinstance(leaf.sender, int):
+            value = ComponentValue(leaf.sender)
+        elif leaf.got is not None:
+            symbol = Symbol(leaf.guard.number, None, Wild.ANY, key[1])
+            symbol.is_sender, symbol.facts = True, leaf.facts
+            leaf.got.sent_by = symbol
+            value = Received(symbol, SENDER)
+        self.store(key, steps, value, path, target.at)
+
+
+def _takes_all(guard: Guard, port: str, type: Type) -> bool:
+    if guard.how not in (Receiving.RECEIVE, Receiving.TRIGGER) or guard.port != port or guard.sender is not None:
+        return False
+    message = guard.message
+    return message is None or (message.type.root is type.root and message.form is Wild.ANY)
+
+
+def _narrow(form: Form, type: Type, steps: tuple[int, ...], asked: Form, at: Token) -> Form:
+    """The template, with what is asked at the end of these steps in it."""
+    found = _narrowed_at(form, type, steps, asked)
+    if found is None:
+        refuse(at, "what is asked of this message later isn't a template that can be written")
+    return found
+
+
+def _narrowed_at(form: Form, type: Optional[Type], steps: tuple[int, ...], asked: Form) -> Optional[Form]:
+    if not steps:
+        return narrowed(form, asked)
+    if type is None:
+        return None
+    items: Optional[list[Form]] = list(form.items) if isinstance(form, (Fields, Elements)) else None
+    if items is None and form is Wild.ANY and type.kind is Kind.RECORD:
+        items = [Wild.ANY for _ in type.root.fields]
+    if items is None or steps[0] >= len(items):
+        return None
+    inner = type.root.fields[steps[0]].type if type.kind is Kind.RECORD else type.root.element
+    found = _narrowed_at(items[steps[0]], inner, steps[1:], asked)
+    if found is None:
+        return None
+    if found == Options(()):
+        return found
+    items[steps[0]] = found
+    return Fields(tuple(items)) if type.kind is Kind.RECORD else Elements(tuple(items))

@@ -1,0 +1,281 @@
+"""Follows what concerns components and ports: sends, port operations, set-up, starts (ES 201 873-1, 21 and 22)."""
+from __future__ import annotations
+
+from typing import Optional
+
+from . import tree
+from .choosing import Chooser
+from .emitted import Operated, Sent, Told, Verdict
+from .paths import ActiveDefault, Created, End, Exit, Joined, Path, Scope, Started
+from .refusing import Refusal, refuse
+from .run import Run
+from .tokens import Token
+from .tree import Any, Expression, Finding, Joining, PortAct
+from .types import Kind, Type
+from .values import ComponentValue, DefaultValue, Form, Mark, PortValue, Reference, TimerValue, has_received
+
+SYSTEM = -1
+MOST_COMPONENTS = 64
+
+
+class Behaviour(Chooser):
+    """All statements of a behaviour. `waits_for` gathers the components whose end it asks for by a message."""
+
+    can_set_up = False
+
+    def __init__(self, run: Run, own: int, type: Type, at: Token):
+        super().__init__(run, own, type, at)
+        self.waits_for: dict[int, Token] = {}
+        self.system: Optional[str] = None
+        # What it knows of the others where it can't set them up.
+        self.known_started: frozenset[int] = frozenset()
+
+    # Sending
+
+    def send(self, statement: tree.Send, path: Path, scope: Scope) -> list[Path]:
+        port = self.port_of(statement.port, path, scope)
+        message = self.message(statement.message, port, path, scope)
+        self._use(port, statement.at, path)
+        if statement.to_all or not statement.to:
+            self.emit(path, Sent(statement.at, port, message, None, statement.to_all))
+        for node in statement.to:
+            self.emit(path, Sent(statement.at, port, message, self.who(node, path, scope), False))
+        return [path]
+
+    def _use(self, port: str, at: Token, path: Path) -> None:
+        if port in path.state.left:
+            refuse(at, f"`{port}` was disconnected or unmapped before this")
+        path.state.used |= {port}
+
+    # Operations on ports, components and timers
+
+    def operate(self, statement: tree.Operate, path: Path, scope: Scope) -> list[Path]:
+        if statement.target is None:
+            self.emit(path, Operated(statement.at, list(self.ports), statement.act.value, True))
+            return [path]
+        if statement.act is PortAct.STOP and isinstance(statement.target, tree.Special):
+            return self._stop(statement, path)
+        value = self._operated(statement, path, scope)
+        if isinstance(value, PortValue):
+            if statement.arguments:
+                refuse(statement.at, "an operation on a port has no arguments")
+            self.emit(path, Operated(statement.at, [value.name], statement.act.value, False))
+            return [path]
+        if isinstance(value, TimerValue):
+            self._operate_timer(statement, path, scope)
+            return [path]
+        if not isinstance(value, ComponentValue):
+            refuse(statement.at, "which component is meant isn't known here")
+        if statement.act is PortAct.START:
+            return self.start(statement, value.number, path, scope)
+        if value.number == self.own:
+            return self._stop(statement, path)
+        refuse(statement.at, f"`{statement.act.value}` of another component ends it from outside")
+
+    def _operated(self, statement: tree.Operate, path: Path, scope: Scope) -> Form:
+        assert statement.target is not None
+        value = self.evaluate(statement.target, path, scope)
+        if value is Mark.LOST:
+            raise Refusal(statement.at, "")
+        return value
+
+    def _stop(self, statement: tree.Operate, path: Path) -> list[Path]:
+        """A behaviour that stops itself has come to its end."""
+        assert statement.target is not None
+        value = self.evaluate(statement.target, path, None)
+        if value != ComponentValue(self.own):
+            refuse(statement.at, "this ends another component from outside")
+        path.exit = Exit.END
+        return [path]
+
+    def _operate_timer(self, statement: tree.Operate, path: Path, scope: Scope) -> None:
+        """It is only remembered whether it may run: nothing is said of time."""
+        for node in statement.arguments:
+            if self.program.names_in(statement) & set(self.program.functions):
+                self.evaluate(node, path, scope)
+        assert statement.target is not None
+        key, steps = self.target(statement.target, path, scope)
+        state = TimerValue.RUNNING if statement.act is PortAct.START else TimerValue.STILL
+        if statement.act not in (PortAct.START, PortAct.STOP) or steps:
+            refuse(statement.at, "this operation on a timer isn't carried over")
+        self.store(key, steps, state, path, statement.at)
+
+    # Defaults
+
+    def activate(self, node: tree.Activate, path: Path, scope: Optional[Scope]) -> Form:
+        if self.is_looking:
+            refuse(node.at, "a default is activated at each look at the branches")
+        call = node.call
+        called = call.called if isinstance(call, tree.Call) else call
+        word = called.word if isinstance(called, (tree.Name, tree.FieldOf)) else ""
+        altstep = self.program.altsteps.get(word)
+        if altstep is None:
+            refuse(node.at, f"`{word}` is no altstep that is known")
+        arguments = call.arguments if isinstance(call, tree.Call) else []
+        bound = self.bind(altstep.parameters, arguments, node.at, path, scope)
+        for name, slot in bound:
+            is_timer = slot.type is not None and slot.type.kind is Kind.TIMER
+            if isinstance(slot.value, Reference) and (slot.value.scope != self.root.number or not is_timer):
+                refuse(node.at, f"the parameter `{name}` of a default is a variable, which may be gone by then")
+        self.look_at_runs_on(altstep.runs_on, node.at)
+        path.state.activated += 1
+        number = path.state.activated
+        path.state.defaults += (ActiveDefault(number, altstep, tuple(bound), node.at),)
+        return DefaultValue(number)
+
+    # Components
+
+    def create(self, node: tree.Create, path: Path, scope: Optional[Scope]) -> Form:
+        self._look_at_set_up(node.at, path)
+        if self.is_looking:
+            refuse(node.at, "a component is created at each look at the branches")
+        if not isinstance(node.type, tree.Name):
+            refuse(node.at, "the type of the component isn't known here")
+        type = self.types.named(node.type.word, node.type.at)
+        if type.kind is not Kind.COMPONENT:
+            refuse(node.at, f"`{node.type.word}` is no component type")
+        state = path.state
+        if len(state.components) + 2 > MOST_COMPONENTS:
+            refuse(node.at, f"there are more than {MOST_COMPONENTS} components")
+        state.components += (Created(type, self.hint or "component", node.at, node.is_alive),)
+        return ComponentValue(len(state.components))
+
+    def _look_at_set_up(self, at: Token, path: Path) -> None:
+        if not self.can_set_up:
+            refuse(at, "components are created, connected and started by the test case's own body alone")
+        if path.fork is not None:
+            refuse(at, "whether this is done hangs on a message; here it is done before all messages")
+
+    def join(self, statement: tree.Join, path: Path, scope: Scope) -> list[Path]:
+        if statement.how in (Joining.DISCONNECT, Joining.UNMAP):
+            return self._part_ways(statement, path, scope)
+        self._look_at_set_up(statement.at, path)
+        if statement.has_parameters:
+            refuse(statement.at, "a mapping with parameters isn't carried over")
+        if len(statement.places) != 2:
+            refuse(statement.at, "two ports are joined")
+        one, other = (self._end(place, path, scope) for place in statement.places)
+        running = frozenset(number for number, _ in path.state.started)
+        for end in (one, other):
+            if end.component == self.own and end.port in path.state.used:
+                refuse(statement.at, f"`{end.port}` was used before it was joined")
+        joined = Joined(statement.how is Joining.MAP, one, other, statement.at, running)
+        if not any({old.one, old.other} == {one, other} for old in path.state.joins):
+            path.state.joins += (joined,)
+        return [path]
+
+    def _end(self, place: tree.Place, path: Path, scope: Scope) -> End:
+        if place.component is None or place.port is None:
+            refuse(place.at, "`all port` isn't carried over here")
+        if isinstance(place.component, tree.Special) and place.component.sign is tree.Sign.SYSTEM:
+            return End(SYSTEM, self._port_of_system(place.port, path, scope))
+        value = self.evaluate(place.component, path, scope)
+        if value is Mark.LOST:
+            raise Refusal(place.at, "")
+        if not isinstance(value, ComponentValue):
+            refuse(place.at, "which component is meant isn't known here")
+        return End(value.number, self._port_name(place.port, path, scope))
+
+    def _port_of_system(self, node: Expression, path: Path, scope: Scope) -> str:
+        if self.system is None:
+            refuse(node.at, "the test case has no `system`")
+        return self._port_name(node, path, scope)
+
+    def _port_name(self, node: Expression, path: Path, scope: Scope) -> str:
+        if isinstance(node, tree.Name):
+            key = self.find(node.word, scope, path)
+            if key is not None and key[0] != self.root.number:
+                return self.port_of(node, path, scope)
+            return node.word
+        if isinstance(node, tree.IndexOf):
+            index = self.evaluate(node.index, path, scope)
+            if isinstance(index, int) and not isinstance(index, bool):
+                return f"{self._port_name(node.value, path, scope)}_{index}"
+        refuse(node.at, "which port is meant isn't known here")
+
+    def _part_ways(self, statement: tree.Join, path: Path, scope: Scope) -> list[Path]:
+        """Ports that are used no more may be parted: nothing that is seen follows from it."""
+        if len(statement.places) != 2 or statement.has_parameters:
+            refuse(statement.at, "which ports are meant isn't known here")
+        ends = [self._end(place, path, scope) for place in statement.places]
+        for end in ends:
+            if end.component == self.own:
+                path.state.left |= {end.port}
+            elif end.component not in path.state.done | path.state.awaited | {SYSTEM}:
+                refuse(statement.at, "the component at the other end may still send there")
+        return [path]
+
+    def start(self, statement: tree.Operate, number: int, path: Path, scope: Scope) -> list[Path]:
+        self._look_at_set_up(statement.at, path)
+        if len(statement.arguments) != 1 or not isinstance(statement.arguments[0], tree.Call):
+            refuse(statement.at, "a component is started with the call of a function")
+        call = statement.arguments[0]
+        word = call.called.word if isinstance(call.called, (tree.Name, tree.FieldOf)) else ""
+        body = self.program.functions.get(word) or self.program.altsteps.get(word)
+        if body is None or (isinstance(body, tree.Function) and body.body is None):
+            refuse(call.at, f"`{word}` is no function of the script")
+        if number == 0 or any(known == number for known, _ in path.state.started):
+            refuse(statement.at, "this component has a behaviour already")
+        bound = self.bind(body.parameters, call.arguments, call.at, path, scope)
+        for name, slot in bound:
+            if isinstance(slot.value, Reference) or has_received(slot.value):
+                refuse(call.at, f"the argument for `{name}` isn't known before the run")
+        is_told = bool(path.state.awaited) or any(not isinstance(one, Verdict) for one in path.code)
+        if is_told:
+            self.emit(path, Told(statement.at, number))
+        path.state.started += ((number, Started(body, tuple(bound), statement.at, is_told)),)
+        return [path]
+
+    # Waiting for the ends of components
+
+    def find_end(self, statement: tree.Find, path: Path, scope: Scope) -> list[Path]:
+        if statement.is_timer or path.state.defaults or statement.has_more:
+            return self.receive(statement, path, scope)
+        for number in self.asked_done(statement, path, scope):
+            if number not in path.state.done:
+                self.ask_done(number, statement.at, path)
+                path.state.awaited |= {number}
+        return [path]
+
+    def asked_done(self, event: tree.Find, path: Path, scope: Scope) -> list[int]:
+        started = {number for number, _ in path.state.started} | self.known_started
+        if event.target is Any.ALL:
+            if self.own != 0:
+                refuse(event.at, "`all component` is asked by the test case alone")
+            if event.how is Finding.KILLED and any(self._may_be_alive(number, path) for number in started):
+                refuse(event.at, "a component that is `alive` isn't killed by its behaviour's end")
+            return sorted(started)
+        if event.target is Any.ANY:
+            refuse(event.at, "`any component.done` isn't carried over")
+        assert not isinstance(event.target, Any)
+        value = self.evaluate(event.target, path, scope)
+        if value is Mark.LOST:
+            raise Refusal(event.at, "")
+        if not isinstance(value, ComponentValue) or value.number in (0, self.own):
+            refuse(event.at, "which component is meant isn't known here")
+        if value.number not in started:
+            refuse(event.at, "this component hasn't been started here")
+        if event.how is Finding.KILLED and self._may_be_alive(value.number, path):
+            refuse(event.at, "a component that is `alive` isn't killed by its behaviour's end")
+        return [value.number]
+
+    def _may_be_alive(self, number: int, path: Path) -> bool:
+        components = path.state.components
+        return number > len(components) or components[number - 1].is_alive
+
+    def ask_done(self, number: int, at: Token, path: Path) -> None:
+        self.waits_for.setdefault(number, at)
+
+    def follow_operation(self, statement: tree.Statement, path: Path, scope: Scope) -> list[Path]:
+        if isinstance(statement, tree.Alt):
+            return self.choose(statement, path, scope)
+        if isinstance(statement, tree.Send):
+            return self.send(statement, path, scope)
+        if isinstance(statement, tree.Receive):
+            return self.receive(statement, path, scope)
+        if isinstance(statement, tree.Operate):
+            return self.operate(statement, path, scope)
+        if isinstance(statement, tree.Join):
+            return self.join(statement, path, scope)
+        assert isinstance(statement, tree.Find)
+        return self.find_end(statement, path, scope)

@@ -1,0 +1,117 @@
+"""A place in the tokens of a file, and what each reader asks there."""
+from __future__ import annotations
+
+from typing import NoReturn
+
+from library.constructs import Construct
+
+from .tokens import Kind, Refused, Source, Token, refused_at
+from .tree import Expression
+
+MOST_NESTED = 80
+
+
+class ReadFault(Exception):
+    """The text doesn't go on as the notation does."""
+
+    def __init__(self, token: Token, reason: str):
+        super().__init__(reason)
+        self.token = token
+        self.reason = reason
+
+
+class Cursor:
+    def __init__(self, source: Source):
+        self.tokens = source.tokens
+        self.place = 0
+        self.nested = 0
+        self.faults: list[Refused] = list(source.faults)
+        self.noted: list[tuple[Construct, Token]] = []
+        # The variables that hold components.
+        self.created: set[str] = set()
+        # What is sent or wanted, and whether it is sent: its type may stand before it.
+        self.messages: list[tuple[Expression, bool]] = []
+
+    @property
+    def token(self) -> Token:
+        return self.tokens[self.place]
+
+    def ahead(self, count: int) -> Token:
+        return self.tokens[min(self.place + count, len(self.tokens) - 1)]
+
+    def is_at_end(self) -> bool:
+        return self.tokens[self.place].kind is Kind.END
+
+    def note(self, construct: Construct, token: Token) -> None:
+        """A construct that the profile hasn't stands here."""
+        self.noted.append((construct, token))
+
+    def is_at(self, *words: str) -> bool:
+        token = self.tokens[self.place]
+        return token.text in words and token.kind is not Kind.TEXT
+
+    def take(self) -> Token:
+        token = self.tokens[self.place]
+        if token.kind is not Kind.END:
+            self.place += 1
+        return token
+
+    def accept(self, *words: str) -> bool:
+        if self.is_at(*words):
+            self.place += 1
+            return True
+        return False
+
+    def expect(self, word: str) -> Token:
+        if not self.is_at(word):
+            self.fail(f"`{word}` is wanted here")
+        return self.take()
+
+    def name(self, what: str = "a name") -> Token:
+        if self.token.kind is not Kind.NAME:
+            self.fail(f"{what} is wanted here")
+        return self.take()
+
+    def fail(self, reason: str) -> NoReturn:
+        token = self.token
+        found = f"`{token.text}`" if token.text else "the text ends"
+        raise ReadFault(token, f"{reason}; {found}" if token.text else f"{found}, and {reason}")
+
+    def modifiers(self) -> None:
+        """Of a variable or a parameter: what is evaluated later, or anew at each use, isn't the same."""
+        while self.token.kind is Kind.MODIFIER:
+            if self.is_at("@lazy", "@fuzzy"):
+                self.fail(f"`{self.token.text}` isn't carried over: a value is evaluated where it is given")
+            self.note(Construct.MODIFIER, self.take())
+
+    def deeper(self) -> None:
+        self.nested += 1
+        if self.nested > MOST_NESTED:
+            raise ReadFault(self.token, f"more than {MOST_NESTED} brackets are open here")
+
+    def shallower(self) -> None:
+        self.nested -= 1
+
+    def tell(self, fault: ReadFault) -> None:
+        self.faults.append(refused_at(fault.token, fault.reason))
+
+    def end(self) -> None:
+        """A `;`, which may be missing before a `}` and behind one."""
+        if self.accept(";"):
+            return
+        before = self.tokens[self.place - 1].text if self.place else ""
+        if not self.is_at("}", ",") and before != "}" and self.token.kind is not Kind.END:
+            self.fail("`;` is wanted here")
+
+    def skip_brackets(self) -> None:
+        """Passes what stands in these brackets, whatever it is."""
+        depth = 0
+        while self.token.kind is not Kind.END:
+            text, kind = self.token.text, self.token.kind
+            self.take()
+            if kind is Kind.SIGN and text in "({[":
+                depth += 1
+            elif kind is Kind.SIGN and text in ")}]":
+                depth -= 1
+                if depth <= 0:
+                    return

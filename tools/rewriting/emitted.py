@@ -1,0 +1,91 @@
+"""The statements that a rewrite writes, each with the place in the engineer's own text that it comes from."""
+from __future__ import annotations
+
+from dataclasses import dataclass
+from typing import Optional, Union
+
+from .tokens import Token
+from .types import Type
+from .values import Form, Symbol
+
+
+@dataclass
+class Message:
+    """A value or a template with its type, or a whole message that was received."""
+
+    type: Type
+    form: Form
+
+
+Who = Union[int, Symbol]
+
+
+@dataclass
+class Sent:
+    at: Token
+    port: str
+    message: Message
+    to: Optional[Who]
+    to_all: bool
+
+
+@dataclass
+class Got:
+    """A receiving operation, or a branch's."""
+
+    at: Token
+    how: str
+    port: str
+    message: Optional[Message]
+    sender: Optional[Who]
+    value: Optional[Symbol] = None
+    sent_by: Optional[Symbol] = None
+
+
+@dataclass
+class GotDone:
+    """A component's last message is waited for."""
+
+    at: Token
+    component: int
+
+
+@dataclass
+class Told:
+    """A component is told to begin."""
+
+    at: Token
+    component: int
+
+
+@dataclass
+class Way:
+    """A branch; without an operation `[else]`."""
+
+    at: Token
+    operation: Optional[Union[Got, GotDone]]
+    code: Code
+
+
+@dataclass
+class Ways:
+    at: Token
+    branches: list[Way]
+
+
+@dataclass
+class Operated:
+    at: Token
+    ports: list[str]
+    act: str
+    is_all: bool
+
+
+@dataclass
+class Verdict:
+    at: Token
+    word: str
+
+
+Emitted = Union[Sent, Got, GotDone, Told, Ways, Operated, Verdict]
+Code = list[Emitted]

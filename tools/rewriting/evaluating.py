@@ -1,0 +1,496 @@
+"""Evaluates expressions and templates as far as they are known without a run."""
+from __future__ import annotations
+
+from typing import Optional, Union
+
+from . import tree
+from .arithmetic import ASKING, PREDEFINED, computed, inverted, predefined
+from .paths import Key, Path, Scope, Slot, Split
+from .program import Program
+from .refusing import refuse, Refusal
+from .templates import Shaper
+from .tokens import Token
+from .tree import Expression, Sign
+from .types import Kind, Type
+from .values import (
+    Bounds, Chosen, ComponentValue, Digits, Elements, Enumerated, Excluded, Fields, Form, Mark, Options, Received,
+    Reference, VerdictValue, Wild, at_steps, decided, has_received, is_template, is_value, matches, same,
+)
+
+_MOST_NESTED = 60
+SENDER = (-1,)
+
+
+class Evaluator(Shaper):
+    """The expressions of one behaviour. `own` is the number of its component."""
+
+    def __init__(self, program: Program, own: int):
+        super().__init__(program)
+        self.own = own
+        self.depth = 0
+        # What is evaluated to look at an `alt` is evaluated at each look: it may change nothing (16.1.4).
+        self.is_looking = False
+
+    # Names
+
+    def find(self, word: str, scope: Optional[Scope], path: Path) -> Optional[Key]:
+        while scope is not None:
+            key = (scope.number, word)
+            if key in path.state.variables:
+                return key
+            scope = scope.above
+        return None
+
+    def slot(self, key: Key, path: Path) -> Slot:
+        """The variable, or the one that it stands for."""
+        found = path.state.variables[key]
+        if isinstance(found.value, Reference):
+            behind = self.slot((found.value.scope, found.value.name), path)
+            return Slot(found.type, self.part(behind.value, found.value.steps))
+        return found
+
+    def part(self, form: Form, steps: tuple[int, ...]) -> Form:
+        for step in steps:
+            if isinstance(form, (Fields, Elements)):
+                form = form.items[step] if step < len(form.items) else Mark.UNSET
+            elif isinstance(form, Received):
+                form = self.part_of_received(form, step)
+            elif form is not Mark.LOST:
+                return Mark.UNSET
+        return form
+
+    def part_of_received(self, form: Received, step: int) -> Form:
+        steps = (*form.steps, step)
+        known = at_steps(form.symbol.template, steps)
+        return known if is_value(known) else Received(form.symbol, steps)
+
+    # Expressions
+
+    def evaluate(self, node: Expression, path: Path, scope: Optional[Scope], type: Optional[Type] = None) -> Form:
+        self.depth += 1
+        if self.depth > _MOST_NESTED:
+            self.depth = 0
+            refuse(node.at, "this is nested too deep to be evaluated")
+        try:
+            return self._evaluate(node, path, scope, type)
+        finally:
+            self.depth = max(0, self.depth - 1)
+
+    def _evaluate(self, node: Expression, path: Path, scope: Optional[Scope], type: Optional[Type]) -> Form:
+        if isinstance(node, tree.Literal):
+            return node.value
+        if isinstance(node, tree.Name):
+            return self._name(node, path, scope, type)
+        if isinstance(node, tree.Special):
+            return self._special(node, path, type)
+        if isinstance(node, (tree.FieldOf, tree.IndexOf)):
+            return self._part(node, path, scope)
+        if isinstance(node, tree.Typed):
+            return self.evaluate(node.value, path, scope, self.types.named(node.type.word, node.type.at))
+        if isinstance(node, tree.Braces):
+            return self._braces(node, path, scope, type)
+        if isinstance(node, tree.Binary):
+            return self._binary(node, path, scope)
+        if isinstance(node, tree.Unary):
+            return self._unary(node, path, scope)
+        if isinstance(node, tree.Call):
+            return self._call(node, path, scope)
+        return self._template(node, path, scope, type)
+
+    def _template(self, node: Expression, path: Path, scope: Optional[Scope], type: Optional[Type]) -> Form:
+        if isinstance(node, tree.OneOf):
+            items = [self.evaluate(item, path, scope, type) for item in node.items]
+            return items[0] if len(items) == 1 else Options(tuple(items))
+        if isinstance(node, tree.Complement):
+            return Excluded(tuple(self.evaluate(item, path, scope, type) for item in node.items))
+        if isinstance(node, tree.RangeOf):
+            return self._range(node, path, scope)
+        if isinstance(node, tree.PatternOf):
+            text = self.evaluate(node.text, path, scope)
+            return self.pattern(text, node.at)
+        if isinstance(node, tree.OtherMatching):
+            items = [self.evaluate(item, path, scope, type) for item in node.items]
+            return self.other_matching(node, items, type)
+        if isinstance(node, tree.Modified):
+            of = self.type_of(node.base, path, scope) or type
+            base = self.evaluate(node.base, path, scope, of)
+            return self._modify(base, node.body, path, scope, of)
+        if isinstance(node, tree.VerdictWord):
+            return VerdictValue(node.word)
+        if isinstance(node, tree.Bits):
+            return Digits(node.digits, node.letter)
+        if isinstance(node, tree.Create):
+            return self.create(node, path, scope)
+        if isinstance(node, tree.Activate):
+            return self.activate(node, path, scope)
+        assert isinstance(node, tree.Asked)
+        refuse(node.at, f"`{node.word}` asks for what only a run tells")
+
+    def create(self, node: tree.Create, path: Path, scope: Optional[Scope]) -> Form:
+        refuse(node.at, "a component is created in the test case's own body alone")
+
+    def activate(self, node: tree.Activate, path: Path, scope: Optional[Scope]) -> Form:
+        refuse(node.at, "a default is activated in a body alone")
+
+    def _name(self, node: tree.Name, path: Path, scope: Optional[Scope], type: Optional[Type]) -> Form:
+        key = self.find(node.word, scope, path)
+        if key is not None:
+            value = self.slot(key, path).value
+            if value is Mark.LOST:
+                raise Refusal(node.at, "")
+            return value
+        if node.word in self.program.constants:
+            return self._constant(self.program.constants[node.word], node.at)
+        if node.word in self.program.templates:
+            return self._by_template(node.word, [], node.at, path, scope)
+        found = self._enumerated(node.word, type)
+        if found is None:
+            refuse(node.at, f"`{node.word}` isn't known here")
+        return found
+
+    def _constant(self, constant: tree.Constant, at: Token) -> Form:
+        known = self.values.get(constant.name)
+        if known is None:
+            type = self.types.of(constant.type, constant.name)
+            value = constant.value
+            if constant.is_parameter and constant.name in self.parameters:
+                value = self.parameters[constant.name]
+            if value is None:
+                refuse(at, f"the module parameter `{constant.name}` has no value: give one with --param")
+            self.values[constant.name] = Mark.LOST
+            known = self.evaluate(value, self.nowhere(), None, type)
+            self.values[constant.name] = known
+        return known
+
+    def _enumerated(self, word: str, type: Optional[Type]) -> Optional[Form]:
+        if type is not None and type.kind is Kind.ENUM:
+            return Enumerated(word) if word in type.root.names else None
+        listed = [
+            definition for definition in self.types.definitions.values()
+            if isinstance(definition.body, tree.EnumBody) and word in definition.body.names
+        ]
+        return Enumerated(word) if listed else None
+
+    def _special(self, node: tree.Special, path: Path, type: Optional[Type]) -> Form:
+        sign = node.sign
+        if sign is Sign.SELF:
+            return ComponentValue(self.own)
+        if sign is Sign.GETVERDICT:
+            return VerdictValue(path.state.verdict)
+        simple: dict[Sign, Form] = {
+            Sign.ANY: Wild.ANY, Sign.ANY_OR_NONE: Wild.ANY_OR_NONE, Sign.OMIT: Mark.OMIT,
+            Sign.NULL: Mark.NULL, Sign.NOT_USED: Mark.NOT_USED, Sign.MTC: ComponentValue(0),
+        }
+        if sign not in simple:
+            refuse(node.at, f"`{sign.value}` can't stand here")
+        return simple[sign]
+
+    def _part(self, node: Union[tree.FieldOf, tree.IndexOf], path: Path, scope: Optional[Scope]) -> Form:
+        of = self.type_of(node.value, path, scope)
+        inner = node.value
+        if isinstance(node, tree.FieldOf) and isinstance(inner, tree.Name) and self._is_module(inner, path, scope):
+            return self._name(tree.Name(node.at, node.word), path, scope, None)
+        whole = self.evaluate(node.value, path, scope)
+        if isinstance(node, tree.FieldOf):
+            return self._field(node, whole, of)
+        index = self.evaluate(node.index, path, scope)
+        if isinstance(index, bool) or not isinstance(index, int) or index < 0:
+            refuse(node.at, "the index isn't known here")
+        if isinstance(whole, str):
+            return whole[index] if index < len(whole) else refuse(node.at, "the text isn't so long")
+        if isinstance(whole, Received):
+            self._look_at_length(whole, index, node.at)
+        found = self.part(whole, (index,))
+        if found is Mark.UNSET and not (isinstance(whole, Elements) and index < len(whole.items)):
+            refuse(node.at, "there is no such element")
+        return found
+
+    def _look_at_length(self, whole: Received, index: int, at: Token) -> None:
+        """An element that was received is one for sure only where the template names all before it."""
+        template = at_steps(whole.symbol.template, whole.steps)
+        items = template.items if isinstance(template, Elements) else ()
+        if index >= len(items) or Wild.ANY_OR_NONE in items[: index + 1]:
+            refuse(at, "whether what was received has this element is open")
+
+    def _is_module(self, name: tree.Name, path: Path, scope: Optional[Scope]) -> bool:
+        is_module = any(module.name == name.word for module in self.program.modules)
+        return is_module and self.find(name.word, scope, path) is None
+
+    def _field(self, node: tree.FieldOf, whole: Form, of: Optional[Type]) -> Form:
+        if isinstance(whole, Chosen):
+            if whole.name != node.word:
+                refuse(node.at, f"the alternative `{node.word}` isn't the chosen one")
+            return whole.value
+        number = of.field_number(node.word) if of and of.kind is Kind.RECORD else None
+        if number is None:
+            refuse(node.at, f"the field `{node.word}` isn't known here")
+        return self.part(whole, (number,))
+
+    def _range(self, node: tree.RangeOf, path: Path, scope: Optional[Scope]) -> Form:
+        low, high = (self._limit(item, path, scope) for item in (node.low, node.high))
+        if low is not None and high is not None and low > high:
+            refuse(node.at, "the range has its lower bound above its upper")
+        return Bounds(low, high)
+
+    def _limit(self, node: Expression, path: Path, scope: Optional[Scope]) -> Optional[int]:
+        inner = node.value if isinstance(node, tree.Unary) else node
+        if isinstance(inner, tree.Special) and inner.sign is Sign.INFINITY:
+            return None
+        value = self.evaluate(node, path, scope)
+        if isinstance(value, bool) or not isinstance(value, int):
+            refuse(node.at, "the bounds of a range are integers that are known before")
+        return value
+
+    # Operators
+
+    def _binary(self, node: tree.Binary, path: Path, scope: Optional[Scope]) -> Form:
+        left = self.evaluate(node.left, path, scope)
+        if node.sign in ("and", "or"):
+            first = self.truth(left, node.left.at)
+            if first is (node.sign == "or"):
+                return first
+            return self.truth(self.evaluate(node.right, path, scope), node.right.at)
+        type = self.type_of(node.left, path, scope) or self.type_of(node.right, path, scope)
+        if isinstance(node.left, (tree.Name, tree.Braces)):
+            left = self.evaluate(node.left, path, scope, type)
+        right = self.evaluate(node.right, path, scope, type)
+        if isinstance(left, Received) or isinstance(right, Received):
+            return self._compared(node, left, right)
+        for value, side in ((left, node.left), (right, node.right)):
+            self.look_at_value(value, side.at)
+        return computed(node.sign, left, right, node.at)
+
+    def look_at_value(self, value: Form, at: Token) -> None:
+        if value is Mark.LOST:
+            raise Refusal(at, "")
+        if value is Mark.UNSET:
+            refuse(at, "this has no value yet")
+        if has_received(value):
+            refuse(at, "this is computed from what was received")
+        if not is_value(value):
+            refuse(at, "this is no value")
+
+    def _compared(self, node: tree.Binary, left: Form, right: Form) -> Form:
+        """Of a part of what was received, with what is known: the template that says the same."""
+        sign = node.sign
+        if not isinstance(left, Received):
+            left, right = right, left
+            sign = {"<": ">", ">": "<", "<=": ">=", ">=": "<="}.get(sign, sign)
+        if not isinstance(left, Received) or has_received(right):
+            refuse(node.at, "two parts of what was received are compared")
+        self.look_at_value(right, node.at)
+        if sign in ("==", "!="):
+            return self.fits(left, right, node.at) is (sign == "==")
+        if isinstance(right, bool) or not isinstance(right, int):
+            refuse(node.at, "this is computed from what was received")
+        bounds = {
+            "<": Bounds(None, right - 1), "<=": Bounds(None, right),
+            ">": Bounds(right + 1, None), ">=": Bounds(right, None),
+        }
+        if sign not in bounds:
+            refuse(node.at, "this is computed from what was received")
+        return self.fits(left, bounds[sign], node.at)
+
+    def fits(self, received: Received, template: Form, at: Token) -> bool:
+        """Whether what was received matches; where that is open, its branch is split."""
+        symbol, steps = received.symbol, received.steps
+        if steps == SENDER and not isinstance(template, ComponentValue):
+            if template in (Wild.ANY, Mark.NULL):
+                return template is Wild.ANY
+            refuse(at, "what a sender is compared with isn't known here")
+        if steps != SENDER:
+            known = decided(at_steps(symbol.template, steps), template)
+            if known is not None:
+                return known
+        fact = symbol.facts.get((steps, template))
+        if fact is not None:
+            return fact
+        raise Split(symbol, steps, template, at)
+
+    def truth(self, value: Form, at: Token) -> bool:
+        if isinstance(value, Received):
+            return self.fits(value, True, at)
+        self.look_at_value(value, at)
+        if not isinstance(value, bool):
+            refuse(at, "this is no boolean")
+        return value
+
+    def _unary(self, node: tree.Unary, path: Path, scope: Optional[Scope]) -> Form:
+        value = self.evaluate(node.value, path, scope)
+        if node.sign == "not":
+            return not self.truth(value, node.at)
+        self.look_at_value(value, node.at)
+        return inverted(node.sign, value, node.at)
+
+    # Calls
+
+    def _call(self, node: tree.Call, path: Path, scope: Optional[Scope]) -> Form:
+        called = node.called
+        word = called.word if isinstance(called, (tree.Name, tree.FieldOf)) else ""
+        if word in PREDEFINED:
+            values = [self.evaluate(item.value, path, scope) for item in node.arguments]
+            for value in values:
+                self.look_at_value(value, node.at)
+            return predefined(word, values, node.at)
+        if word in ASKING:
+            return self._asking(word, node, path, scope)
+        if word in self.program.templates:
+            return self._by_template(word, node.arguments, node.at, path, scope)
+        if word in self.program.functions:
+            return self.called_value(node, path, scope)
+        if isinstance(called, tree.Name) and self.find(word, scope, path) is not None:
+            refuse(node.at, f"`{word}` is called through a variable")
+        refuse(node.at, f"the function `{word}` isn't evaluated")
+
+    def called_value(self, node: tree.Call, path: Path, scope: Optional[Scope]) -> Form:
+        refuse(node.at, "a function is called in a body alone")
+
+    def _asking(self, word: str, node: tree.Call, path: Path, scope: Optional[Scope]) -> Form:
+        if not node.arguments or len(node.arguments) != (2 if word == "match" else 1):
+            refuse(node.at, f"`{word}` has another number of arguments")
+        first = node.arguments[0].value
+        if word == "ischosen":
+            return self._is_chosen(first, path, scope)
+        type = self.type_of(first, path, scope)
+        if word == "match" and type is None:
+            type = self.type_of(node.arguments[1].value, path, scope)
+        value = self.evaluate(first, path, scope, type)
+        if word == "match":
+            template = self.evaluate(node.arguments[1].value, path, scope, type)
+            return self._match(value, template, node.at)
+        if value is Mark.LOST:
+            raise Refusal(node.at, "")
+        if word == "valueof":
+            self.look_at_value(value, node.at)
+            return value
+        if isinstance(value, Received):
+            return True if len(value.steps) == 0 else refuse(node.at, "this is computed from what was received")
+        if word == "isbound":
+            return value is not Mark.UNSET
+        if word == "ispresent" and not is_value(value):
+            refuse(node.at, "whether this is present isn't known here")
+        return is_value(value) and value is not Mark.OMIT
+
+    def _is_chosen(self, node: Expression, path: Path, scope: Optional[Scope]) -> Form:
+        if not isinstance(node, tree.FieldOf):
+            refuse(node.at, "`ischosen` asks for an alternative")
+        whole = self.evaluate(node.value, path, scope)
+        if not isinstance(whole, Chosen):
+            refuse(node.at, "which alternative it has isn't known here")
+        return whole.name == node.word
+
+    def _match(self, value: Form, template: Form, at: Token) -> bool:
+        if not is_template(template):
+            refuse(at, "the template isn't known here")
+        if isinstance(value, Received):
+            return self.fits(value, template, at)
+        self.look_at_value(value, at)
+        return matches(value, template)
+
+    def _by_template(
+        self, word: str, arguments: list[tree.Argument], at: Token, path: Path, scope: Optional[Scope]
+    ) -> Form:
+        """A template by its name: its parameters are values or templates, and nothing else is seen in it."""
+        definition = self.program.templates[word]
+        type = self.types.of(definition.type, definition.name)
+        bound = self.bind(definition.parameters, arguments, at, path, scope)
+        inner = self.new_scope(None)
+        for name, slot in bound:
+            path.state.variables[inner.number, name] = slot
+        try:
+            return self._template_body(definition, path, inner, type)
+        finally:
+            for name, _ in bound:
+                del path.state.variables[inner.number, name]
+
+    def _template_body(
+        self, definition: tree.TemplateDefinition, path: Path, scope: Scope, type: Type
+    ) -> Form:
+        if definition.base is None:
+            return self.evaluate(definition.body, path, scope, type)
+        base = self.program.templates.get(definition.base)
+        if base is None:
+            refuse(definition.at, f"the template `{definition.base}` isn't known")
+        known = {parameter.name for parameter in definition.parameters}
+        given = [
+            tree.Argument(definition.at, item.name, tree.Name(definition.at, item.name))
+            for item in base.parameters if item.name in known
+        ]
+        form = self._by_template(base.name, given, definition.at, path, scope)
+        return self._modify(form, definition.body, path, scope, type)
+
+    def _modify(
+        self, base: Form, body: Expression, path: Path, scope: Optional[Scope], type: Optional[Type]
+    ) -> Form:
+        """The base, with those fields that the body has in place of its own."""
+        if not isinstance(body, tree.Braces) or not isinstance(base, (Fields, Chosen)):
+            if isinstance(body, tree.Braces) and type is not None and type.kind is Kind.RECORD and base is Wild.ANY:
+                base = Fields(tuple(Wild.ANY for _ in type.root.fields))
+            else:
+                return self.evaluate(body, path, scope, type)
+        if isinstance(base, Chosen) or type is None or body.items and not body.named:
+            return self._positional(base, body, path, scope, type)
+        items = list(base.items)
+        for name, value in body.named:
+            number = type.field_number(name) if isinstance(name, str) else None
+            if number is None:
+                refuse(body.at, f"there is no field `{name}`")
+            of = type.root.fields[number].type
+            items[number] = self._modify(items[number], value, path, scope, of)
+        return Fields(tuple(items))
+
+    def _positional(
+        self, base: Form, body: tree.Braces, path: Path, scope: Optional[Scope], type: Optional[Type]
+    ) -> Form:
+        form = self.evaluate(body, path, scope, type)
+        if isinstance(base, Fields) and isinstance(form, Fields):
+            pairs = zip(base.items, form.items)
+            return Fields(tuple(old if new in (Mark.NOT_USED, Mark.UNSET) else new for old, new in pairs))
+        return form
+
+    # What is written in braces
+
+    def _braces(self, node: tree.Braces, path: Path, scope: Optional[Scope], type: Optional[Type]) -> Form:
+        kind = type.kind if type is not None else None
+        if type is not None and kind is Kind.RECORD:
+            return self._record(node, path, scope, type)
+        if type is not None and kind is Kind.LIST:
+            return self._list(node, path, scope, type)
+        if type is not None and kind is Kind.UNION and len(node.named) == 1:
+            name, value = node.named[0]
+            number = type.field_number(name) if isinstance(name, str) else None
+            if number is not None and isinstance(name, str):
+                return Chosen(name, self.evaluate(value, path, scope, type.root.fields[number].type))
+        refuse(node.at, "the type of what is in these braces isn't known here")
+
+    def _record(self, node: tree.Braces, path: Path, scope: Optional[Scope], type: Type) -> Form:
+        fields = type.root.fields
+        forms: list[Form] = [Mark.UNSET] * len(fields)
+        if len(node.items) > len(fields):
+            refuse(node.at, f"`{type.name}` has {len(fields)} fields")
+        for number, item in enumerate(node.items):
+            forms[number] = self.evaluate(item, path, scope, fields[number].type)
+        for name, item in node.named:
+            found = type.field_number(name) if isinstance(name, str) else None
+            if found is None:
+                refuse(node.at, f"`{type.name}` has no such field")
+            forms[found] = self.evaluate(item, path, scope, fields[found].type)
+        return Fields(tuple(forms))
+
+    def _element(self, node: Expression, path: Path, scope: Optional[Scope], type: Optional[Type]) -> Form:
+        if isinstance(node, tree.OtherMatching) and node.word == "permutation":
+            return Elements(tuple(self.evaluate(item, path, scope, type) for item in node.items))
+        return self.evaluate(node, path, scope, type)
+
+    def _list(self, node: tree.Braces, path: Path, scope: Optional[Scope], type: Type) -> Form:
+        element = type.root.element
+        if not node.named:
+            return self.with_permutations(node, [self._element(item, path, scope, element) for item in node.items])
+        forms: list[Form] = []
+        for index, item in node.named:
+            number = self.evaluate(index, path, scope) if not isinstance(index, str) else None
+            if isinstance(number, bool) or not isinstance(number, int) or not 0 <= number < 10_000:
+                refuse(node.at, "the index isn't known here")
+            forms += [Mark.UNSET] * (number + 1 - len(forms))
+            forms[number] = self.evaluate(item, path, scope, element)
+        return Elements(tuple(forms))

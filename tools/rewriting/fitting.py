@@ -1,0 +1,68 @@
+"""Whether a value or a template is one of a type, as the profile has it (ES 201 873-1, 6 and Annex B)."""
+from __future__ import annotations
+
+from .types import Kind, Type
+from .values import (
+    Bounds, Chosen, Digits, Elements, Enumerated, Excluded, Fields, Form, IfPresent, Mark, Options, TextPattern, Wild,
+)
+
+LEAST, MOST = -(2**63), 2**63 - 1
+_SIGNS = frozenset(map(chr, range(32, 127)))
+
+
+def fits_type(form: Form, type: Type) -> bool:
+    if isinstance(form, Wild):
+        return form is Wild.ANY
+    if isinstance(form, (Options, Excluded)):
+        return bool(form.items) and all(fits_type(item, type) for item in form.items)
+    root = type.root
+    if type.kind is Kind.RECORD:
+        return isinstance(form, Fields) and _fits_fields(form, root)
+    if type.kind is Kind.LIST:
+        return isinstance(form, Elements) and _fits_elements(form, type)
+    if type.kind is Kind.UNION:
+        return isinstance(form, Chosen) and _fits_chosen(form, root)
+    return _fits_simple(form, type)
+
+
+def _fits_simple(form: Form, type: Type) -> bool:
+    if type.kind is Kind.INTEGER:
+        if isinstance(form, Bounds):
+            return all(bound is None or LEAST <= bound <= MOST for bound in (form.low, form.high))
+        return isinstance(form, int) and not isinstance(form, bool) and LEAST <= form <= MOST
+    if type.kind is Kind.BOOLEAN:
+        return isinstance(form, bool)
+    if type.kind is Kind.CHARSTRING:
+        text = form.text if isinstance(form, TextPattern) else form
+        return isinstance(text, str) and set(text) <= _SIGNS
+    if type.kind is Kind.ENUM:
+        return isinstance(form, Enumerated) and form.word in type.root.names
+    return type.kind is Kind.BITS and isinstance(form, Digits)
+
+
+def _fits_fields(form: Fields, root: Type) -> bool:
+    if len(form.items) != len(root.fields):
+        return False
+    for item, field in zip(form.items, root.fields):
+        if field.is_optional and (item in (Mark.OMIT, Wild.ANY_OR_NONE)):
+            continue
+        inner = item.form if isinstance(item, IfPresent) and field.is_optional else item
+        if not fits_type(inner, field.type):
+            return False
+    return True
+
+
+def _fits_elements(form: Elements, type: Type) -> bool:
+    element, root = type.root.element or type.element, type
+    if element is None or (root.size is not None and _has_other_length(form, root.size)):
+        return False
+    return all(item is Wild.ANY_OR_NONE or fits_type(item, element) for item in form.items)
+
+
+def _has_other_length(form: Elements, size: int) -> bool:
+    return Wild.ANY_OR_NONE not in form.items and len(form.items) != size
+
+
+def _fits_chosen(form: Chosen, root: Type) -> bool:
+    number = root.field_number(form.name)
+    return number is not None and fits_type(form.value, root.fields[number].type)

@@ -1,0 +1,237 @@
+"""Follows all behaviours of a test case, from the test case's own to those of the components that it starts."""
+from __future__ import annotations
+
+from collections import Counter
+from dataclasses import dataclass
+from typing import Iterable, Iterator, Optional
+
+from . import tree
+from .components import SYSTEM, Behaviour
+from .emitted import Code, Emitted, Got, GotDone, Sent, Told, Ways
+from .paths import Created, End, Exit, Joined, Path, Started, State
+from .refusing import Refusal, refuse
+from .run import Run
+from .tokens import Token
+from .types import Kind, Type
+
+MOST_ROUNDS = 8
+_Counts = Counter[tuple[int, str]]
+
+
+@dataclass
+class Part:
+    """A component: its type, and what its behaviour was written as."""
+
+    number: int
+    type: Type
+    hint: str
+    at: Token
+    behaviour: Behaviour
+    code: Code
+    started: Optional[Started] = None
+
+
+@dataclass
+class Followed:
+    case: tree.TestCase
+    parts: list[Part]
+    joins: tuple[Joined, ...]
+    system: Optional[Type]
+    # Components whose end every way of the test case waits for.
+    done: frozenset[int] = frozenset()
+
+
+class CaseBehaviour(Behaviour):
+    can_set_up = True
+
+
+class SystemBehaviour(Behaviour):
+    """The function `sut`: it sends what its ports list as received, and the other way round."""
+
+    def sent_types(self, port: str) -> list[Type]:
+        return super().received_types(port)
+
+    def received_types(self, port: str) -> list[Type]:
+        return super().sent_types(port)
+
+
+def follow(run: Run, case: tree.TestCase) -> Followed:
+    """All behaviours. Where a `repeat` counts what can come it is done anew until the counts hold."""
+    for _ in range(MOST_ROUNDS):
+        run.counted.clear()
+        run.steps = run.written = 0
+        followed = _follow_once(run, case)
+        counts = _most(followed)
+        short = [key for key in run.counted if counts[key] > run.most.get(key, 0)]
+        if not short or run.refused or run.lost:
+            return followed
+        for key in short:
+            run.most[key] = counts[key]
+    refuse(case.at, "how often a `repeat` is come to has no bound that is known before the run")
+
+
+def _follow_once(run: Run, case: tree.TestCase) -> Followed:
+    if case.parameters:
+        refuse(case.at, "a test case with parameters isn't carried over")
+    if case.runs_on is None:
+        refuse(case.at, "a test case has `runs on`")
+    system = _component_type(run, case.system, case.at) if case.system else None
+    own = _component_type(run, case.runs_on, case.at)
+    behaviour = CaseBehaviour(run, 0, own, case.at)
+    behaviour.system = case.system or case.runs_on
+    path = Path([], State(), None)
+    ways = _from_the_start(behaviour, path, case)
+    state = ways[0].state
+    if system is None and any(SYSTEM in (join.one.component, join.other.component) for join in state.joins):
+        # Without a clause the test system interface is of the test case's own type (9.2).
+        system = own
+    parts = [Part(0, own, "mtc", case.at, behaviour, path.code)]
+    started = dict(state.started)
+    for number, created in enumerate(state.components, 1):
+        parts.append(_part(run, number, created, started.get(number), frozenset(started)))
+    if system is not None:
+        parts += _system_part(run, system)
+    done = frozenset.intersection(*(way.state.done | way.state.awaited for way in ways))
+    return Followed(case, parts, state.joins, system, done)
+
+
+def _component_type(run: Run, word: str, at: Token) -> Type:
+    type = run.program.types.named(word, at)
+    if type.kind is not Kind.COMPONENT:
+        refuse(at, f"`{word}` is no component type")
+    return type
+
+
+def _from_the_start(behaviour: Behaviour, path: Path, case: tree.TestCase) -> list[Path]:
+    behaviour.begin(path)
+    scope = behaviour.new_scope(behaviour.root)
+    ways = behaviour.statements(case.body.statements, path, scope)
+    _look_at_exits(behaviour.run, ways, case.at)
+    return ways
+
+
+def _look_at_exits(run: Run, ways: list[Path], at: Token) -> None:
+    if any(way.exit in (Exit.BREAK, Exit.CONTINUE, Exit.REPEAT) for way in ways):
+        run.tell(Refusal(at, "a `break`, `continue` or `repeat` stands outside of what it could leave"))
+
+
+def _part(
+    run: Run, number: int, created: Created, started: Optional[Started], others: frozenset[int]
+) -> Part:
+    behaviour = Behaviour(run, number, created.type, created.at)
+    behaviour.known_started = others - {number}
+    path = Path([], State(), None)
+    part = Part(number, created.type, created.hint, created.at, behaviour, path.code, started)
+    if started is None:
+        return part
+    try:
+        _perform(run, behaviour, path, started)
+    except Refusal as refusal:
+        run.tell(refusal)
+    return part
+
+
+def _perform(run: Run, behaviour: Behaviour, path: Path, started: Started) -> None:
+    behaviour.begin(path)
+    body = started.body
+    if isinstance(body, tree.Function):
+        ways = behaviour.perform(body, list(started.arguments), path, started.at)
+    else:
+        if started.arguments:
+            refuse(started.at, "a component is started with an altstep that has parameters")
+        call = tree.Call(started.at, tree.Name(started.at, body.name), [])
+        statement = tree.CallStatement(started.at, call)
+        ways = behaviour.statements([statement], path, behaviour.root)
+    _look_at_exits(run, ways, started.at)
+
+
+def _system_part(run: Run, system: Type) -> list[Part]:
+    function = run.program.functions.get("sut")
+    if function is None:
+        return []
+    behaviour = SystemBehaviour(run, SYSTEM, system, function.at)
+    path = Path([], State(), None)
+    started = Started(function, (), function.at, False)
+    _perform(run, behaviour, path, started)
+    return [Part(SYSTEM, system, "system", function.at, behaviour, path.code, started)]
+
+
+# How much can come
+
+
+def statements_of(code: Code) -> Iterator[Emitted]:
+    for statement in code:
+        yield statement
+        if isinstance(statement, Ways):
+            for way in statement.branches:
+                if way.operation is not None:
+                    yield way.operation
+                yield from statements_of(way.code)
+
+
+def _most(followed: Followed) -> _Counts:
+    """The most messages that can come to each port."""
+    found: _Counts = Counter()
+    for part in followed.parts:
+        for port, count in _sends(part.code).items():
+            for end in peers(followed.joins, End(part.number, port)):
+                found[end.component, end.port] += count
+    return found
+
+
+def peers(joins: Iterable[Joined], end: End) -> list[End]:
+    found = [join.other for join in joins if join.one == end]
+    return found + [join.one for join in joins if join.other == end and join.one != end]
+
+
+def _sends(code: Code) -> Counter[str]:
+    """At most so many sends at each port, on whatever way."""
+    found: Counter[str] = Counter()
+    for statement in code:
+        if isinstance(statement, Sent):
+            found[statement.port] += 1
+        elif isinstance(statement, Ways):
+            most: Counter[str] = Counter()
+            for way in statement.branches:
+                most |= _sends(way.code)
+            found += most
+    return found
+
+
+def waits(code: Code) -> bool:
+    """Whether anything in it waits for a message."""
+    for statement in code:
+        if isinstance(statement, (Got, GotDone)):
+            return True
+        if isinstance(statement, Ways):
+            has_else = any(way.operation is None for way in statement.branches)
+            if not has_else or any(waits(way.code) for way in statement.branches):
+                return True
+    return False
+
+
+def ports_used(code: Code) -> set[str]:
+    return {
+        statement.port for statement in statements_of(code) if isinstance(statement, (Sent, Got))
+    }
+
+
+def look_at_ends(run: Run, followed: Followed) -> None:
+    """What hangs on when a component begins or ends, where the profile's order is another."""
+    by_number = {part.number: part for part in followed.parts}
+    for part in followed.parts:
+        if part.started and part.number > 0 and part.number not in followed.done and waits(part.code):
+            reason = (
+                "the test case may end while this component still waits, which ends it there and is an error "
+                "here: wait for its end with `.done`"
+            )
+            run.tell(Refusal(part.started.at, reason))
+    for join in followed.joins:
+        for end in (join.one, join.other):
+            joined = by_number.get(end.component)
+            if joined and end.component in join.running and end.port in ports_used(joined.code):
+                run.tell(Refusal(join.at, f"a component that runs already uses `{end.port}`, maybe before this"))
+
+
+def tells_of(code: Code) -> set[int]:
+    return {one.component for one in statements_of(code) if isinstance(one, (GotDone, Told))}

@@ -1,0 +1,270 @@
+"""The branches of an `alt`, one by one: those of its altsteps and of the active defaults too (ES 201 873-1, 20)."""
+from __future__ import annotations
+
+from dataclasses import dataclass, field
+from typing import Optional
+
+from . import tree
+from .emitted import Message, Who
+from .messages import Messages
+from .paths import ActiveDefault, Path, Scope
+from .refusing import Refusal, refuse
+from .tokens import Token
+from .tree import Any, Expression, Leaving, Receiving
+from .values import Elements, Form, PortValue, TimerValue
+
+MOST_GUARDS = 500
+
+
+@dataclass
+class Body:
+    """A block behind a branch's operation, in its scope; of an altstep's own branch `is_of_altstep`."""
+
+    block: tree.Block
+    scope: Scope
+    is_of_altstep: bool
+
+
+@dataclass
+class Guard:
+    """A branch with one operation at one port. Without an operation it is open whenever it is come to."""
+
+    at: Token
+    how: Optional[Receiving]
+    bodies: list[Body]
+    port: str = ""
+    message: Optional[Message] = None
+    sender: Optional[Who] = None
+    redirect: Optional[tree.Redirect] = None
+    redirect_scope: Optional[Scope] = None
+    component: Optional[int] = None
+    index: Optional[Form] = None
+    source: Optional[tree.Branch] = None
+    number: int = 0
+
+    @property
+    def is_always(self) -> bool:
+        return self.how is None and self.component is None
+
+
+@dataclass
+class Expansion:
+    """The branches so far, and whether one of them is open whenever it is come to."""
+
+    guards: list[Guard] = field(default_factory=list)
+    scopes: list[Scope] = field(default_factory=list)
+
+    @property
+    def is_closed(self) -> bool:
+        return bool(self.guards) and self.guards[-1].is_always
+
+    def add(self, guard: Guard) -> None:
+        if len(self.guards) >= MOST_GUARDS:
+            refuse(guard.at, f"this `alt` has more than {MOST_GUARDS} branches")
+        self.guards.append(guard)
+
+
+class Expander(Messages):
+    def expand(self, branches: list[tree.Branch], path: Path, scope: Scope) -> Expansion:
+        """All branches in the order in which they are tried; behind one that is always open none is."""
+        found = Expansion()
+        self.is_looking = True
+        for branch in branches:
+            if not found.is_closed:
+                first = len(found.guards)
+                self._add(branch, path, scope, [], found)
+                for guard in found.guards[first:]:
+                    guard.source = branch
+        for default in reversed(path.state.defaults):
+            if not found.is_closed:
+                self._add_default(default, path, found)
+        self.is_looking = False
+        return found
+
+    def _add(
+        self, branch: tree.Branch, path: Path, scope: Scope, outer: list[Body], found: Expansion
+    ) -> None:
+        if branch.guard is not None:
+            if not self.truth(self.evaluate(branch.guard, path, scope), branch.guard.at):
+                return
+        own = [Body(branch.block, scope, bool(outer))] if branch.block else []
+        bodies = own + outer
+        event = branch.event
+        if event is None:
+            found.add(Guard(branch.at, None, bodies))
+        elif isinstance(event, tree.Receive):
+            self._add_receive(event, path, scope, bodies, found)
+        elif isinstance(event, tree.Find):
+            self._add_find(event, path, scope, bodies, found)
+        elif isinstance(event, tree.CallStatement):
+            self._add_altstep(event.call, path, scope, bodies, found)
+        elif isinstance(event, tree.Unsupported):
+            raise Refusal(event.at, event.reason)
+        else:
+            refuse(event.at, "this isn't an operation that a branch can wait for")
+
+    def _add_altstep(
+        self, call: Expression, path: Path, scope: Scope, bodies: list[Body], found: Expansion
+    ) -> None:
+        called = call.called if isinstance(call, tree.Call) else call
+        word = called.word if isinstance(called, (tree.Name, tree.FieldOf)) else ""
+        altstep = self.program.altsteps.get(word)
+        if altstep is None:
+            refuse(call.at, f"`{word}` is no altstep that is known")
+        self.look_at_runs_on(altstep.runs_on, call.at)
+        arguments = call.arguments if isinstance(call, tree.Call) else []
+        bound = self.bind(altstep.parameters, arguments, call.at, path, scope)
+        inner = self.new_scope(self.root if altstep.runs_on else None)
+        for name, slot in bound:
+            path.state.variables[inner.number, name] = slot
+        # An empty block of its own keeps the altstep's branches apart from those of the `alt`.
+        outer = bodies or [Body(tree.Block(call.at, []), scope, False)]
+        self._add_branches(altstep, path, inner, outer, found)
+
+    def _add_default(self, default: ActiveDefault, path: Path, found: Expansion) -> None:
+        inner = self.new_scope(self.root if default.altstep.runs_on else None)
+        for name, slot in default.arguments:
+            path.state.variables[inner.number, name] = slot
+        block = tree.Block(default.at, [])
+        self._add_branches(default.altstep, path, inner, [Body(block, inner, False)], found)
+
+    def _add_branches(
+        self, altstep: tree.Altstep, path: Path, inner: Scope, outer: list[Body], found: Expansion
+    ) -> None:
+        found.scopes.append(inner)
+        if len(found.scopes) > MOST_GUARDS:
+            refuse(altstep.at, "this altstep comes to itself again and again")
+        for declaration in altstep.declarations:
+            written = len(path.code)
+            if self.declare(declaration, path, inner) != [path] or len(path.code) != written:
+                refuse(declaration.at, "this value is computed by what does more than to compute it")
+        for branch in altstep.branches:
+            if not found.is_closed:
+                self._add(branch, path, inner, outer, found)
+
+    # Receiving
+
+    def _add_receive(
+        self, event: tree.Receive, path: Path, scope: Scope, bodies: list[Body], found: Expansion
+    ) -> None:
+        for index, port in self._ports(event, path, scope):
+            if not self.received_types(port):
+                continue
+            for sender in self._senders(event, path, scope):
+                message = self._wanted(event, port, path, scope)
+                if message is None and event.template is not None:
+                    continue
+                guard = Guard(event.at, event.how, bodies, port, message, sender, event.redirect, scope)
+                guard.index = index
+                found.add(guard)
+
+    def _ports(self, event: tree.Receive, path: Path, scope: Scope) -> list[tuple[Optional[Form], str]]:
+        if event.port is None:
+            return [(None, name) for name in self.ports]
+        value = self.evaluate(event.port, path, scope)
+        if event.is_each and isinstance(value, Elements):
+            return [(_index(steps), name) for steps, name in _ports_in(value, ())]
+        if not isinstance(value, PortValue) or event.is_each:
+            refuse(event.port.at, "which port is meant isn't known here")
+        return [(None, value.name)]
+
+    def _senders(self, event: tree.Receive, path: Path, scope: Scope) -> list[Optional[Who]]:
+        if not event.senders:
+            return [None]
+        return [self.who(node, path, scope) for node in event.senders]
+
+    def _wanted(self, event: tree.Receive, port: str, path: Path, scope: Scope) -> Optional[Message]:
+        if event.template is None:
+            return None
+        if event.port is None and not self._can_come(event.template, port, path, scope):
+            return None
+        return self.wanted(event.template, port, path, scope)
+
+    def _can_come(self, node: Expression, port: str, path: Path, scope: Scope) -> bool:
+        """Of `any port`, whether this one receives the type at all."""
+        type = self.type_of(node, path, scope)
+        return type is None or type.root in [one.root for one in self.received_types(port)]
+
+    # Done and timeouts
+
+    def _add_find(
+        self, event: tree.Find, path: Path, scope: Scope, bodies: list[Body], found: Expansion
+    ) -> None:
+        if event.is_timer:
+            self._look_at_timers(event, path, scope)
+            return
+        if event.has_more:
+            refuse(event.at, f"this form of `{event.how.value}` isn't carried over")
+        open_ones = [number for number in self.asked_done(event, path, scope) if number not in path.state.done]
+        open_ones = [number for number in open_ones if number not in path.state.awaited]
+        if not open_ones:
+            self.flush(path, event.at)
+            found.add(Guard(event.at, None, bodies))
+        elif event.target is Any.ALL and len(open_ones) > 1:
+            refuse(event.at, "`all component.done` of several as a branch isn't carried over")
+        else:
+            for number in open_ones:
+                self.ask_done(number, event.at, path)
+                found.add(Guard(event.at, None, bodies, component=number))
+
+    def asked_done(self, event: tree.Find, path: Path, scope: Scope) -> list[int]:
+        raise NotImplementedError
+
+    def ask_done(self, number: int, at: Token, path: Path) -> None:
+        raise NotImplementedError
+
+    def _look_at_timers(self, event: tree.Find, path: Path, scope: Scope) -> None:
+        """A timer that surely isn't running never times out; of one that runs nothing is known."""
+        if isinstance(event.target, Any):
+            slots = path.state.variables.values()
+            if any(slot.value is TimerValue.RUNNING for slot in slots):
+                refuse(event.at, "a timer runs here, and there is no time in a run")
+            return
+        if self.evaluate(event.target, path, scope) is not TimerValue.STILL:
+            refuse(event.at, "this timer may run here, and there is no time in a run")
+
+
+def _ports_in(value: Form, steps: tuple[int, ...]) -> list[tuple[tuple[int, ...], str]]:
+    """The ports of an array, or of arrays in one, each with its indices."""
+    if isinstance(value, PortValue):
+        return [(steps, value.name)]
+    items = value.items if isinstance(value, Elements) else ()
+    return [port for number, item in enumerate(items) for port in _ports_in(item, (*steps, number))]
+
+
+def _index(steps: tuple[int, ...]) -> Form:
+    return steps[0] if len(steps) == 1 else Elements(steps)
+
+
+def is_repeat_alone(bodies: list[Body]) -> bool:
+    """Whether nothing is done but to begin the `alt` anew."""
+    statements = [statement for body in bodies for statement in body.block.statements]
+    if not statements or any(isinstance(item, tree.Dropped) and item.arguments for item in statements[:-1]):
+        statements = [item for item in statements if not _is_plain_log(item)]
+    if len(statements) != 1 or not isinstance(statements[0], tree.Leave):
+        return False
+    return statements[0].how is Leaving.REPEAT
+
+
+def _is_plain_log(statement: tree.Statement) -> bool:
+    return isinstance(statement, tree.Dropped) and all(
+        isinstance(item, (tree.Literal, tree.Name)) for item in statement.arguments
+    )
+
+
+def may_repeat(block: tree.Block) -> bool:
+    """Whether a `repeat` of the `alt` around it stands in the block."""
+    return any(map(_has_repeat, block.statements))
+
+
+def _has_repeat(statement: tree.Statement) -> bool:
+    if isinstance(statement, tree.Leave):
+        return statement.how is Leaving.REPEAT
+    if isinstance(statement, tree.Block):
+        return may_repeat(statement)
+    if isinstance(statement, tree.If):
+        blocks = [statement.then, *([statement.otherwise] if statement.otherwise else [])]
+        return any(map(may_repeat, blocks))
+    if isinstance(statement, (tree.For, tree.While)):
+        return may_repeat(statement.block)
+    return isinstance(statement, tree.Select) and any(may_repeat(case.block) for case in statement.cases)

@@ -1,0 +1,182 @@
+"""Follows lists of statements along all ways, and goes back where what was received must be told apart."""
+from __future__ import annotations
+
+from dataclasses import replace
+from typing import Optional
+
+from . import tree
+from .emitted import Emitted, GotDone, Verdict
+from .evaluating import Evaluator
+from .paths import Checkpoint, Exit, Path, Scope, Slot, Split, checkpoint, joined
+from .refusing import Refusal
+from .run import PortOf, Run, members_of
+from .tokens import Token
+from .tree import Expression, Statement
+from .types import Type
+from .values import Form, Mark, PortValue, Reference
+
+Plan = Optional[tuple[tuple[int, ...], Form, "Plan", "Plan"]]
+
+
+class ListFollower(Evaluator):
+    """One behaviour. `ports` are its component's; `plans` says of a receive into which branches it is split."""
+
+    def __init__(self, run: Run, own: int, type: Type, at: Token):
+        super().__init__(run.program, own)
+        self.run = run
+        self.parameters = run.parameters
+        self.type = type
+        self.members = members_of(self.types, type, at, self.size_of)
+        self.ports: dict[str, PortOf] = self.members.ports
+        self.counted = 0
+        self.plans: dict[int, Plan] = {}
+        self.frames: list[tuple[list[Statement], int] | frozenset[str]] = []
+        self.results: list[Optional[Type]] = []
+        self.hint = ""
+        self.root = self.new_scope(None)
+        self.has_verdict = run.program.has_word("getverdict")
+        # What a default speaks of may be asked for wherever something is waited for.
+        altsteps = run.program.altsteps if run.program.has_word("activate") else []
+        self.frames.append(frozenset().union(*map(run.program.reached_by, altsteps)))
+        self._suffixes: dict[int, list[frozenset[str]]] = {}
+
+    def begin(self, path: Path) -> None:
+        """The component's ports and its variables, as they are when its behaviour begins."""
+        variables, root = path.state.variables, self.root.number
+        for port in self.ports.values():
+            variables[root, port.name] = Slot(port.type, PortValue(port.name))
+        for name, ports in self.members.arrays.items():
+            variables[root, name] = Slot(None, ports)
+        for member in self.members.others:
+            self.declare(member, path, self.root)
+
+    def size_of(self, node: Expression) -> Form:
+        return self.evaluate(node, self.nowhere(), None)
+
+    # Lists of statements
+
+    def statements(self, listed: list[Statement], path: Path, scope: Scope) -> list[Path]:
+        """All ways behind the list. Where a message must be told apart it goes back to where that came."""
+        points: list[Checkpoint] = []
+        paths, index = [path], 0
+        open_now = (len(self.frames), len(self.results), self.depth)
+        while index < len(listed):
+            points.append(checkpoint(index, self.counted, paths))
+            try:
+                paths = self._one(listed, index, paths, scope)
+            except Split as split:
+                index, paths = self._back(points, split)
+                self._close(open_now)
+                continue
+            if self.counted == points[-1].counted:
+                points.pop()
+            index += 1
+        return paths
+
+    def _back(self, points: list[Checkpoint], split: Split) -> tuple[int, list[Path]]:
+        """The place before the statement that received the message, with a branch more planned for it."""
+        while points and points[-1].counted > split.symbol.number:
+            points.pop()
+        if not points:
+            raise split
+        self.run.step(split.at)
+        point = points.pop()
+        number = split.symbol.number
+        self.plans = {key: plan for key, plan in self.plans.items() if key <= number}
+        facts = list(split.symbol.facts.items())
+        self.plans[number] = _extended(self.plans.get(number), facts, split)
+        self.counted = point.counted
+        return point.index, point.restored()
+
+    def _close(self, open_then: tuple[int, int, int]) -> None:
+        """Forgets the lists, calls and expressions that were left on the way back."""
+        self.is_looking = False
+        frames, results, self.depth = open_then
+        del self.frames[frames:], self.results[results:]
+
+    def _one(self, listed: list[Statement], index: int, paths: list[Path], scope: Scope) -> list[Path]:
+        found: list[Path] = []
+        depth = len(self.frames)
+        self.frames.append((listed, index))
+        for path in paths:
+            if path.exit is Exit.ON:
+                found += self._guarded(listed[index], path, scope)
+            else:
+                found.append(path)
+        del self.frames[depth:]
+        if len(found) > 1 or found[0].fork is not None:
+            self.frames.append((listed, index + 1))
+            found = joined(found, self.live(), self.has_verdict)
+            del self.frames[depth:]
+        return found
+
+    def _guarded(self, statement: Statement, path: Path, scope: Scope) -> list[Path]:
+        """What is refused is told, and the rest looked at as if it weren't there."""
+        open_now = (len(self.frames), len(self.results), self.depth)
+        try:
+            self.run.step(statement.at)
+            return self.follow(statement, path, scope)
+        except Refusal as refusal:
+            self.run.tell(refusal)
+            self._close(open_now)
+            self._lose(statement, path, scope)
+            return [path]
+
+    def _lose(self, statement: Statement, path: Path, scope: Scope) -> None:
+        if isinstance(statement, tree.Declaration):
+            for variable in statement.variables:
+                path.state.variables[scope.number, variable.name] = Slot(None, Mark.LOST)
+        for word in self.program.names_in(statement):
+            key = self.find(word, scope, path)
+            if key is not None and not isinstance(path.state.variables[key].value, (PortValue, Reference)):
+                path.state.variables[key] = replace(path.state.variables[key], value=Mark.LOST)
+
+    def live(self) -> frozenset[str]:
+        """The names that are still spoken of, wherever this ends."""
+        parts = []
+        for frame in self.frames:
+            parts.append(frame if isinstance(frame, frozenset) else self._suffix(*frame))
+        return frozenset().union(*parts)
+
+    def _suffix(self, listed: list[Statement], index: int) -> frozenset[str]:
+        known = self._suffixes.get(id(listed))
+        if known is None:
+            known = [frozenset[str]()]
+            for statement in reversed(listed):
+                known.append(known[-1] | self.program.names_in(statement))
+            known.reverse()
+            self._suffixes[id(listed)] = known
+        return known[index]
+
+    def emit(self, path: Path, statement: Emitted) -> None:
+        """Writes a statement, behind what the behaviour waits for before it goes on."""
+        if not isinstance(statement, Verdict):
+            self.flush(path, statement.at)
+        self.run.write(statement.at)
+        path.code.append(statement)
+
+    def flush(self, path: Path, at: Token) -> None:
+        for number in sorted(path.state.awaited):
+            self.run.write(at)
+            path.code.append(GotDone(at, number))
+        path.state.done |= path.state.awaited
+        path.state.awaited = frozenset()
+
+    # What follows a statement
+
+    def follow(self, statement: Statement, path: Path, scope: Scope) -> list[Path]:
+        raise NotImplementedError
+
+    def declare(self, statement: tree.Declaration, path: Path, scope: Scope) -> list[Path]:
+        raise NotImplementedError
+
+
+def _extended(plan: Plan, facts: list[tuple[tuple[tuple[int, ...], Form], bool]], split: Split) -> Plan:
+    """The plan, with what is asked now at the end of the branch that the facts are of."""
+    if plan is None:
+        return (split.steps, split.template, None, None)
+    steps, template, yes, no = plan
+    is_yes = facts[0][1]
+    if is_yes:
+        return (steps, template, _extended(yes, facts[1:], split), no)
+    return (steps, template, yes, _extended(no, facts[1:], split))

@@ -1,0 +1,229 @@
+"""Where an execution has come to: its variables, what it has set up, and the code that was written for it.
+
+An execution forks where a message decides how it goes on. The ways join again behind the `alt` where they agree.
+"""
+from __future__ import annotations
+
+from dataclasses import dataclass, field, replace
+from enum import Enum
+from typing import Optional
+
+from . import tree
+from .emitted import Code
+from .tokens import Token
+from .types import Type
+from .values import Form, Mark, Reference, Symbol
+
+Key = tuple[int, str]
+
+
+@dataclass(frozen=True)
+class Slot:
+    """A variable, with its type. A constant `is_fixed`, and what is evaluated at its use `is_late`."""
+
+    type: Optional[Type]
+    value: Form
+    is_fixed: bool = False
+    is_late: bool = False
+
+
+class Scope:
+    """A block in which names are declared; what it stands in is asked for the others."""
+
+    def __init__(self, number: int, above: Optional[Scope]):
+        self.number = number
+        self.above = above
+
+
+@dataclass(frozen=True)
+class ActiveDefault:
+    number: int
+    altstep: tree.Altstep
+    arguments: tuple[tuple[str, Slot], ...]
+    at: Token
+
+
+@dataclass(frozen=True)
+class Created:
+    """A component: its type, and the name that it was given where it was created."""
+
+    type: Type
+    hint: str
+    at: Token
+    is_alive: bool
+
+
+@dataclass(frozen=True)
+class End:
+    """A port of a component, by the number of the component."""
+
+    component: int
+    port: str
+
+
+@dataclass(frozen=True)
+class Joined:
+    is_map: bool
+    one: End
+    other: End
+    at: Token
+    # The components that ran already: they may not have used these ports by then.
+    running: frozenset[int]
+
+
+@dataclass(frozen=True)
+class Started:
+    body: tree.Function | tree.Altstep
+    arguments: tuple[tuple[str, Slot], ...]
+    at: Token
+    # It waits for a message, since something came before its start.
+    is_told: bool
+
+
+@dataclass
+class State:
+    variables: dict[Key, Slot] = field(default_factory=dict)
+    defaults: tuple[ActiveDefault, ...] = ()
+    activated: int = 0
+    verdict: str = "none"
+    components: tuple[Created, ...] = ()
+    joins: tuple[Joined, ...] = ()
+    started: tuple[tuple[int, Started], ...] = ()
+    # Components that surely are done, and those that it only waits for before it goes on.
+    done: frozenset[int] = frozenset()
+    awaited: frozenset[int] = frozenset()
+    used: frozenset[str] = frozenset()
+    left: frozenset[str] = frozenset()
+    taken: tuple[tuple[str, int], ...] = ()
+
+    def copy(self) -> State:
+        return replace(self, variables=dict(self.variables))
+
+    def setup(self) -> tuple[object, ...]:
+        """All but the variables and what is counted."""
+        return (self.defaults, self.components, self.joins, self.started, self.done, self.awaited)
+
+
+class Exit(Enum):
+    """How a list of statements was left."""
+
+    ON = "on"
+    BREAK = "break"
+    CONTINUE = "continue"
+    REPEAT = "repeat"
+    RETURN = "return"
+    END = "end"
+
+
+@dataclass
+class Fork:
+    """An `alt` that ways come from: the code that it stands in, and how many ways there are."""
+
+    code: Code
+    above: Optional[Fork]
+    ways: int
+    depth: int
+
+
+@dataclass
+class Path:
+    code: Code
+    state: State
+    fork: Optional[Fork]
+    exit: Exit = Exit.ON
+    result: Optional[Form] = None
+
+    def copy(self) -> Path:
+        return Path(self.code, self.state.copy(), self.fork, self.exit, self.result)
+
+
+@dataclass
+class Checkpoint:
+    """The ways before a statement, and how much was written for each."""
+
+    index: int
+    counted: int
+    ways: list[tuple[Path, int]]
+
+    def restored(self) -> list[Path]:
+        for path, length in self.ways:
+            del path.code[length:]
+        return [path.copy() for path, _ in self.ways]
+
+
+def checkpoint(index: int, counted: int, paths: list[Path]) -> Checkpoint:
+    return Checkpoint(index, counted, [(path.copy(), len(path.code)) for path in paths])
+
+
+def joined(paths: list[Path], live: frozenset[str], has_verdict: bool) -> list[Path]:
+    """The ways, where those of one `alt` that agree in all that is still asked for are one."""
+    merged = True
+    while merged:
+        merged = False
+        for fork in {id(path.fork): path.fork for path in paths if path.fork}.values():
+            group = [path for path in paths if path.fork is fork]
+            if len(group) == fork.ways and _agree(group, live, has_verdict):
+                path = Path(fork.code, _common(group, live), fork.above)
+                place = paths.index(group[0])
+                paths = [other for other in paths if other.fork is not fork]
+                paths.insert(place, path)
+                merged = True
+                break
+    return paths
+
+
+def _agree(group: list[Path], live: frozenset[str], has_verdict: bool) -> bool:
+    first = group[0]
+    if any(path.exit is not Exit.ON for path in group):
+        return False
+    told = _told(first.state, live, has_verdict)
+    return all(_told(path.state, live, has_verdict) == told for path in group[1:])
+
+
+def _told(state: State, live: frozenset[str], has_verdict: bool) -> tuple[object, ...]:
+    kept = _live_keys(state, live)
+    variables = {key: slot.value for key, slot in state.variables.items() if key in kept}
+    # `True == 1` in Python, so the types are compared too.
+    kinds = {key: type(value) for key, value in variables.items()}
+    verdict = state.verdict if has_verdict else ""
+    return (variables, kinds, state.setup(), verdict)
+
+
+def _live_keys(state: State, live: frozenset[str]) -> set[Key]:
+    """The variables that are spoken of, and those that such a one stands for."""
+    found: set[Key] = set()
+    for key, slot in state.variables.items():
+        if key[1] in live or isinstance(slot.value, Reference):
+            found.add(key)
+            if isinstance(slot.value, Reference):
+                found.add((slot.value.scope, slot.value.name))
+    return found
+
+
+def _common(group: list[Path], live: frozenset[str]) -> State:
+    """What all know: variables that are asked for no more are forgotten, and of what was taken the least counts."""
+    state = group[0].state.copy()
+    kept = _live_keys(state, live)
+    state.variables = {
+        key: slot if key in kept else replace(slot, value=Mark.LOST)
+        for key, slot in state.variables.items()
+    }
+    state.used = frozenset().union(*(path.state.used for path in group))
+    state.left = frozenset().union(*(path.state.left for path in group))
+    counts = [dict(path.state.taken) for path in group]
+    ports = set(counts[0]).intersection(*counts[1:])
+    state.taken = tuple(sorted((port, min(count[port] for count in counts)) for port in ports))
+    worst = {path.state.verdict for path in group}
+    state.verdict = worst.pop() if len(worst) == 1 else "none"
+    return state
+
+
+class Split(Exception):
+    """How it goes on hangs on a part of what was received: the message gets a branch for each case."""
+
+    def __init__(self, symbol: Symbol, steps: tuple[int, ...], template: Form, at: Token):
+        super().__init__("a branch for each case")
+        self.symbol = symbol
+        self.steps = steps
+        self.template = template
+        self.at = at

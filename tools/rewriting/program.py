@@ -1,0 +1,137 @@
+"""A program: the definitions of all its modules, by their names."""
+from __future__ import annotations
+
+from typing import Mapping, Optional, Union
+
+from . import tree
+from .reading_modules import ModuleReader
+from .tokens import Kind, Refused, Source, Token, refused_at
+from .types import Types
+
+_Body = Union[tree.Function, tree.Altstep, tree.TestCase, tree.TemplateDefinition, tree.Constant]
+
+
+class Program:
+    def __init__(self, sources: list[Source]):
+        self.faults: list[Refused] = []
+        self.constants: dict[str, tree.Constant] = {}
+        self.templates: dict[str, tree.TemplateDefinition] = {}
+        self.functions: dict[str, tree.Function] = {}
+        self.altsteps: dict[str, tree.Altstep] = {}
+        self.cases: dict[str, tree.TestCase] = {}
+        self.executed: list[Token] = []
+        self.modules: list[tree.Module] = []
+        self._tokens: dict[str, list[Token]] = {}
+        self._types: dict[str, tree.TypeDefinition] = {}
+        self._names: dict[int, frozenset[str]] = {}
+        self._reached: dict[str, frozenset[str]] = {}
+        for source in sources:
+            self._read(source)
+        self._look_at_imports()
+        self.types = Types(self._types)
+
+    def _read(self, source: Source) -> None:
+        reader = ModuleReader(source)
+        modules = reader.modules()
+        self.faults += reader.faults
+        self._tokens[source.file] = source.tokens
+        for module in modules:
+            self.modules.append(module)
+            for definition in module.definitions:
+                self._add(definition)
+        tokens = source.tokens
+        for place, token in enumerate(tokens[:-2]):
+            if token.text == "execute" and token.kind is Kind.KEYWORD:
+                self.executed += tokens[place + 2 : place + 5]
+
+    def _add(self, definition: tree.Definition) -> None:
+        name, table = definition.name, self._table(definition)
+        if self._is_defined(name):
+            reason = f"`{name}` is defined twice in the modules that were given"
+            self.faults.append(refused_at(definition.at, reason))
+        table[name] = definition
+
+    def _table(self, definition: tree.Definition) -> dict[str, object]:
+        tables: dict[type, object] = {
+            tree.TypeDefinition: self._types,
+            tree.Constant: self.constants,
+            tree.TemplateDefinition: self.templates,
+            tree.Function: self.functions,
+            tree.Altstep: self.altsteps,
+            tree.TestCase: self.cases,
+        }
+        return tables[type(definition)]  # type: ignore[return-value]
+
+    def _is_defined(self, name: str) -> bool:
+        values: list[Mapping[str, object]] = [
+            self._types, self.constants, self.templates, self.functions, self.altsteps, self.cases,
+        ]
+        return any(name in table for table in values)
+
+    def _look_at_imports(self) -> None:
+        known = {module.name for module in self.modules}
+        for module in self.modules:
+            for name in module.imports:
+                if name.word not in known:
+                    reason = f"the module `{name.word}` isn't among the files that were given"
+                    self.faults.append(refused_at(name.at, reason))
+
+    def names_in(self, statement: tree.Statement) -> frozenset[str]:
+        """All names that stand in a statement, and in the functions and altsteps that it can come to."""
+        found = self._names.get(id(statement))
+        if found is None:
+            found = self._reach(self._spelled(statement.at.file, statement.span))
+            self._names[id(statement)] = found
+        return found
+
+    def has_word(self, word: str) -> bool:
+        """Whether a word stands anywhere in the modules."""
+        return any(token.text == word for tokens in self._tokens.values() for token in tokens)
+
+    def reached_by(self, name: str) -> frozenset[str]:
+        return self._reach(frozenset([name]))
+
+    def _spelled(self, file: str, span: tuple[int, int]) -> frozenset[str]:
+        tokens = self._tokens[file][span[0] : span[1]]
+        return frozenset(
+            token.text for token in tokens if token.kind is Kind.NAME or token.text == "getverdict"
+        )
+
+    def _reach(self, names: frozenset[str]) -> frozenset[str]:
+        found, open_names = set(names), [name for name in names if self._has_body(name)]
+        while open_names:
+            for name in self._of_body(open_names.pop()):
+                if name not in found:
+                    found.add(name)
+                    if self._has_body(name):
+                        open_names.append(name)
+        return frozenset(found)
+
+    def _has_body(self, name: str) -> bool:
+        return name in self.functions or name in self.altsteps
+
+    def _of_body(self, name: str) -> frozenset[str]:
+        found = self._reached.get(name)
+        if found is None:
+            function, altstep = self.functions.get(name), self.altsteps.get(name)
+            found = frozenset()
+            if function and function.body:
+                found = self._spelled(function.at.file, function.body.span)
+            if altstep:
+                found |= self._spelled(altstep.at.file, altstep.span)
+            self._reached[name] = found
+        return found
+
+    def chosen_case(self, name: Optional[str]) -> tree.TestCase | str:
+        """The test case that is named, or the only one, or the only one that is executed; else what is wrong."""
+        if name is not None:
+            return self.cases.get(name) or f"there is no test case `{name}`"
+        if len(self.cases) == 1:
+            return next(iter(self.cases.values()))
+        executed = {token.text for token in self.executed if token.text in self.cases}
+        if len(executed) == 1:
+            return self.cases[executed.pop()]
+        if not self.cases:
+            return "there is no test case"
+        listed = ", ".join(sorted(self.cases))
+        return f"there are several test cases; name one with --case: {listed}"

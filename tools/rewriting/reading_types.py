@@ -1,0 +1,298 @@
+"""Reads the definitions of types (ES 201 873-1, 6)."""
+from __future__ import annotations
+
+from typing import Callable, Optional
+
+from library.constructs import Construct
+
+from . import tree
+from .reading_expressions import ExpressionReader
+from .tokens import Kind, Token
+from .tree import Declared, Expression, TypeName
+
+_BASES = ("integer", "boolean", "charstring")
+_OTHER_BASES = {
+    "float": Construct.FLOAT, "bitstring": Construct.STRING_OF_BITS, "hexstring": Construct.STRING_OF_BITS,
+    "octetstring": Construct.STRING_OF_BITS, "verdicttype": Construct.OTHER_BASE,
+    "default": Construct.DEFAULT_TYPE, "anytype": Construct.ANYTYPE, "address": Construct.ADDRESS,
+}
+_NESTED = ("record", "set", "union", "enumerated")
+
+
+class TypeReader(ExpressionReader):
+    def is_type_ahead(self) -> bool:
+        token = self.token
+        words = (*_BASES, *_OTHER_BASES, "universal")
+        return token.kind is Kind.NAME or (token.kind is Kind.KEYWORD and token.text in words)
+
+    def type_name(self) -> TypeName:
+        at = self.token
+        if at.text == "universal":
+            self.note(Construct.UNIVERSAL, self.take())
+            self.expect("charstring")
+            return TypeName(at, "universal charstring")
+        if not self.is_type_ahead():
+            self.fail("a type is wanted here")
+        self.take()
+        if at.text in _OTHER_BASES and at.kind is Kind.KEYWORD:
+            self.note(_OTHER_BASES[at.text], at)
+        word = at.text
+        while self.is_at(".") and self.ahead(1).kind is Kind.NAME:
+            self.note(Construct.GLOBAL_NAME, at)
+            self.take()
+            word = self.take().text
+        return TypeName(at, word)
+
+    def sizes(self) -> list[Expression]:
+        """The sizes of an array, behind its name."""
+        found: list[Expression] = []
+        while self.is_at("["):
+            at = self.take()
+            self.note(Construct.ARRAY, at)
+            first = self.expression()
+            found.append(first)
+            self.expect("]")
+        return found
+
+    def type_definition(self, at: Token) -> tree.TypeDefinition:
+        read = _DEFINITIONS.get(self.token.text)
+        if read:
+            return read(self, at)
+        of = self.type_name()
+        if self.is_at("address"):
+            self.note(Construct.ADDRESS, self.take())
+            self.restriction()
+            return tree.TypeDefinition(at, "address", tree.OtherBody(at, "addresses aren't carried over"))
+        name = self.name("the name of the type").text
+        sizes = self.sizes()
+        restriction = self.restriction()
+        self.note(Construct.SUBTYPE if restriction else Construct.ALIAS, at)
+        of.sizes = sizes
+        return tree.TypeDefinition(at, name, tree.AliasBody(at, of, restriction))
+
+    def restriction(self) -> Optional[tree.Restriction]:
+        at = self.token
+        values: list[Expression] = []
+        lengths: list[Expression] = []
+        if self.is_at("("):
+            values = self.in_parentheses()
+        if self.accept("length"):
+            lengths = self.lengths()
+        return tree.Restriction(at, values, lengths) if values or lengths else None
+
+    def _structured(self, at: Token) -> tree.TypeDefinition:
+        """A record or a set, with fields or of elements; a union."""
+        word = self.take()
+        if word.text in ("set", "union"):
+            self.note(Construct.SET if word.text == "set" else Construct.UNION, word)
+        if word.text != "union" and (self.is_at("of", "length")):
+            body = self._list(word)
+            name = self.name("the name of the type").text
+            body.restriction = body.restriction or self.restriction()
+            return tree.TypeDefinition(at, name, body)
+        if self.is_at("address"):
+            self.note(Construct.ADDRESS, self.take())
+            self._fields()
+            return tree.TypeDefinition(at, "address", tree.OtherBody(at, "addresses aren't carried over"))
+        name = self.name("the name of the type").text
+        fields = self._fields()
+        self.restriction()
+        return tree.TypeDefinition(at, name, self._body(word, fields))
+
+    def _body(self, word: Token, fields: list[tree.FieldType]) -> tree.TypeBody:
+        if word.text == "union":
+            return tree.UnionBody(word, fields)
+        return tree.RecordBody(word, fields, word.text == "set")
+
+    def _list(self, word: Token) -> tree.ListBody:
+        restriction = None
+        if self.is_at("length"):
+            at = self.take()
+            restriction = tree.Restriction(at, [], self.lengths())
+        self.expect("of")
+        element = self._nested_type()
+        return tree.ListBody(word, element, word.text == "set", restriction)
+
+    def _nested_type(self) -> TypeName:
+        at = self.token
+        if not self.is_at(*_NESTED):
+            return self.type_name()
+        self.deeper()
+        word = self.take()
+        self.note(Construct.NESTED_TYPE, at)
+        body: tree.TypeBody
+        if word.text == "enumerated":
+            body = tree.EnumBody(at, self._enumerated_names())
+        elif word.text != "union" and self.is_at("of", "length"):
+            body = self._list(word)
+        else:
+            body = self._body(word, self._fields())
+        self.shallower()
+        return TypeName(at, "", body)
+
+    def _fields(self) -> list[tree.FieldType]:
+        self.expect("{")
+        fields: list[tree.FieldType] = []
+        while not self.is_at("}"):
+            fields.append(self._field())
+            if not self.accept(","):
+                break
+        self.expect("}")
+        return fields
+
+    def _field(self) -> tree.FieldType:
+        at = self.token
+        if self.token.kind is Kind.MODIFIER:
+            self.take()
+        of = self._nested_type()
+        name = self.name("the name of the field").text
+        of.sizes = self.sizes()
+        restriction = self.restriction()
+        is_optional = self.is_at("optional")
+        if is_optional:
+            self.note(Construct.OPTIONAL, self.take())
+        return tree.FieldType(at, of, name, is_optional, restriction)
+
+    def _enumerated(self, at: Token) -> tree.TypeDefinition:
+        self.note(Construct.ENUMERATED, self.take())
+        name = self.name("the name of the type").text
+        return tree.TypeDefinition(at, name, tree.EnumBody(at, self._enumerated_names()))
+
+    def _enumerated_names(self) -> list[str]:
+        self.expect("{")
+        names: list[str] = []
+        while not self.is_at("}"):
+            names.append(self.name().text)
+            if self.is_at("("):
+                self.skip_brackets()
+            if not self.accept(","):
+                break
+        self.expect("}")
+        return names
+
+    def _port(self, at: Token) -> tree.TypeDefinition:
+        self.take()
+        name = self.name("the name of the port type").text
+        kind = self.take()
+        if kind.text not in ("message", "procedure", "mixed", "stream"):
+            self.fail("`message` is wanted here")
+        if kind.text != "message":
+            self.note(Construct.PROCEDURE_PORT, kind)
+        while self.token.kind is Kind.MODIFIER or self.is_at("realtime"):
+            self.take()
+        body = tree.PortBody(at, kind.text == "message", [], [], False)
+        self.expect("{")
+        while not self.is_at("}"):
+            self._direction(body)
+            if not self.accept(";") and not self.is_at("}"):
+                self.fail("`;` or `}` is wanted here")
+        self.expect("}")
+        return tree.TypeDefinition(at, name, body)
+
+    def _direction(self, body: tree.PortBody) -> None:
+        word = self.take()
+        if word.text in ("map", "unmap", "address"):
+            self.note(Construct.PORT_PARAMETERS, word)
+            while not self.is_at(";", "}") and self.token.kind is not Kind.END:
+                self.skip_brackets() if self.is_at("(") else self.take()
+            return
+        if word.text not in ("in", "out", "inout"):
+            self.fail("`in`, `out` or `inout` is wanted before this")
+        while True:
+            if self.is_at("all"):
+                self.note(Construct.PORT_ALL, self.take())
+                body.has_all = True
+            else:
+                of = self.type_name()
+                body.sent += [of] if word.text != "in" else []
+                body.received += [of] if word.text != "out" else []
+            if not self.accept(","):
+                return
+
+    def _component(self, at: Token) -> tree.TypeDefinition:
+        self.take()
+        name = self.name("the name of the component type").text
+        body = tree.ComponentBody(at, [], [])
+        if self.is_at("extends"):
+            self.note(Construct.EXTENDS, self.take())
+            body.extends.append(tree.Name(self.name(), self.tokens[self.place - 1].text))
+            while self.accept(","):
+                body.extends.append(tree.Name(self.name(), self.tokens[self.place - 1].text))
+        self.expect("{")
+        while not self.is_at("}"):
+            body.members.append(self._member())
+        self.expect("}")
+        return tree.TypeDefinition(at, name, body)
+
+    def _member(self) -> tree.Declaration:
+        if self.accept("private", "public", "friend"):
+            self.note(Construct.VISIBILITY, self.tokens[self.place - 1])
+        at = self.token
+        if not self.is_at("port"):
+            self.note(Construct.COMPONENT_MEMBER, at)
+            return self.declaration()
+        self.take()
+        of = self.type_name()
+        variables = [self._declared()]
+        while self.accept(","):
+            variables.append(self._declared())
+        self.end()
+        return tree.Declaration(at, Declared.PORT, of, variables, False)
+
+    def _declared(self) -> tree.Variable:
+        at = self.name()
+        return tree.Variable(at, at.text, self.sizes(), None)
+
+    def declaration(self) -> tree.Declaration:
+        """A `var`, `const`, `template` or `timer` in a body or a component type."""
+        if not self.is_at("var", "const", "template", "timer"):
+            self.fail("a declaration is wanted here")
+        start, at = self.place, self.take()
+        kind = Declared.TEMPLATE if at.text == "template" else Declared(at.text)
+        if at.text == "var" and self.is_at("template"):
+            self.note(Construct.VAR_TEMPLATE, self.take())
+            kind = Declared.TEMPLATE
+            if self.is_at("("):
+                self.skip_brackets()
+        is_late = self.is_at("@lazy", "@fuzzy")
+        if is_late:
+            self.note(Construct.MODIFIER, self.take())
+        self.modifiers()
+        of = TypeName(at, "timer") if kind is Declared.TIMER else self.type_name()
+        if kind is Declared.TIMER:
+            self.note(Construct.TIMER, at)
+        if kind is Declared.CONSTANT:
+            self.note(Construct.CONST, at)
+        variables = [self._initialised(kind)]
+        while self.accept(","):
+            self.note(Construct.SEVERAL_VARIABLES, at)
+            variables.append(self._initialised(kind))
+        self.end()
+        return tree.Declaration(at, kind, of, variables, is_late, (start, self.place))
+
+    def _initialised(self, kind: Declared) -> tree.Variable:
+        at = self.name()
+        sizes = self.sizes()
+        value = None
+        if self.is_at(":="):
+            self.take()
+            value = self.expression()
+            if isinstance(value, tree.Create):
+                self.created.add(at.text)
+            if kind is Declared.VALUE and not _is_create(value):
+                self.note(Construct.INITIAL_VALUE, at)
+        return tree.Variable(at, at.text, sizes, value)
+
+
+def _is_create(value: Expression) -> bool:
+    return isinstance(value, tree.Create) and not value.arguments and not value.is_alive
+
+
+_DEFINITIONS: dict[str, Callable[[TypeReader, Token], tree.TypeDefinition]] = {
+    "record": TypeReader._structured,
+    "set": TypeReader._structured,
+    "union": TypeReader._structured,
+    "enumerated": TypeReader._enumerated,
+    "port": TypeReader._port,
+    "component": TypeReader._component,
+}

@@ -1,0 +1,19 @@
+"""What stops a rewrite at a place: a construct that can't be carried over."""
+from __future__ import annotations
+
+from typing import NoReturn
+
+from .tokens import Token
+
+
+class Refusal(Exception):
+    """A construct that can't be carried over; without a reason it follows from one that is told already."""
+
+    def __init__(self, at: Token, reason: str):
+        super().__init__(reason)
+        self.at = at
+        self.reason = reason
+
+
+def refuse(at: Token, reason: str) -> NoReturn:
+    raise Refusal(at, reason)

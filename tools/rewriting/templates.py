@@ -1,0 +1,229 @@
+"""What an expression's type is, how arguments are bound to parameters, and the matching mechanisms of Annex B."""
+from __future__ import annotations
+
+from itertools import permutations
+from typing import Optional
+
+from . import tree
+from .emitted import Code
+from .paths import Key, Path, Scope, Slot, State
+from .program import Program
+from .reading_expressions import NOT_IN_PATTERNS
+from .refusing import Refusal, refuse
+from .tokens import Token
+from .tree import Direction, Expression
+from .types import Kind, Type
+from .values import Elements, Form, IfPresent, Mark, Options, Reference, TextPattern, Wild, is_value
+
+_MOST_ORDERS = 24
+_MOST_LENGTHS = 40
+
+
+class Shaper:
+    def __init__(self, program: Program):
+        self.program = program
+        self.types = program.types
+        self.values: dict[str, Form] = {}
+        self.parameters: dict[str, Expression] = {}
+        self.scopes = 0
+
+    def new_scope(self, above: Optional[Scope]) -> Scope:
+        self.scopes += 1
+        return Scope(self.scopes, above)
+
+    def nowhere(self) -> Path:
+        """A way with no variables, for what is evaluated once for all."""
+        code: Code = []
+        return Path(code, State(), None)
+
+    # These are the evaluator's, which this is a part of.
+
+    def find(self, word: str, scope: Optional[Scope], path: Path) -> Optional[Key]:
+        raise NotImplementedError
+
+    def slot(self, key: Key, path: Path) -> Slot:
+        raise NotImplementedError
+
+    def evaluate(
+        self, node: Expression, path: Path, scope: Optional[Scope], type: Optional[Type] = None
+    ) -> Form:
+        raise NotImplementedError
+
+    # Types
+
+    def type_of(self, node: Expression, path: Path, scope: Optional[Scope]) -> Optional[Type]:
+        """The type that an expression is declared with; None where it has none of its own."""
+        if isinstance(node, tree.Typed):
+            return self.types.named(node.type.word, node.type.at)
+        if isinstance(node, tree.Name):
+            return self._type_of_name(node, path, scope)
+        if isinstance(node, tree.Call):
+            return self._type_of_call(node, path, scope)
+        if isinstance(node, tree.Modified):
+            return self.type_of(node.base, path, scope)
+        if isinstance(node, tree.OneOf) and len(node.items) == 1:
+            return self.type_of(node.items[0], path, scope)
+        if isinstance(node, (tree.FieldOf, tree.IndexOf)):
+            return self._type_of_part(node, path, scope)
+        return None
+
+    def _type_of_name(self, node: tree.Name, path: Path, scope: Optional[Scope]) -> Optional[Type]:
+        key = self.find(node.word, scope, path)
+        if key is not None:
+            return self.slot(key, path).type
+        found = self.program.constants.get(node.word) or self.program.templates.get(node.word)
+        return self.types.of(found.type, node.word) if found else None
+
+    def _type_of_call(self, node: tree.Call, path: Path, scope: Optional[Scope]) -> Optional[Type]:
+        word = node.called.word if isinstance(node.called, (tree.Name, tree.FieldOf)) else ""
+        if word in self.program.templates:
+            return self.types.of(self.program.templates[word].type, word)
+        function = self.program.functions.get(word)
+        if function and function.result:
+            return self.types.of(function.result, word)
+        if word == "valueof" and node.arguments:
+            return self.type_of(node.arguments[0].value, path, scope)
+        base = {"int2str": "charstring", "substr": "charstring", "lengthof": "integer", "str2int": "integer"}
+        return self.types.named(base[word], node.at) if word in base else None
+
+    def _type_of_part(
+        self, node: tree.FieldOf | tree.IndexOf, path: Path, scope: Optional[Scope]
+    ) -> Optional[Type]:
+        whole = self.type_of(node.value, path, scope)
+        if whole is None:
+            if isinstance(node, tree.FieldOf) and isinstance(node.value, tree.Name):
+                return self._type_of_name(tree.Name(node.at, node.word), path, None)
+            return None
+        if isinstance(node, tree.IndexOf):
+            return whole.root.element or whole.element
+        number = whole.field_number(node.word)
+        return whole.root.fields[number].type if number is not None else None
+
+    # Arguments
+
+    def bind(
+        self, parameters: list[tree.Parameter], arguments: list[tree.Argument], at: Token,
+        path: Path, scope: Optional[Scope],
+    ) -> list[tuple[str, Slot]]:
+        """Each parameter with its argument, in the order of the parameters."""
+        by_name = {item.name: item.value for item in arguments if item.name is not None}
+        in_order = [item.value for item in arguments if item.name is None]
+        known = {item.name for item in parameters}
+        if len(in_order) > len(parameters) or not set(by_name) <= known:
+            refuse(at, "there are more arguments than parameters")
+        bound: list[tuple[str, Slot]] = []
+        for number, parameter in enumerate(parameters):
+            value = in_order[number] if number < len(in_order) else by_name.get(parameter.name)
+            if isinstance(value, tree.Special) and value.sign is tree.Sign.NOT_USED:
+                value = None
+            bound.append((parameter.name, self._bound(parameter, value, at, path, scope)))
+        return bound
+
+    def _bound(
+        self, parameter: tree.Parameter, value: Optional[Expression], at: Token, path: Path, scope: Optional[Scope]
+    ) -> Slot:
+        type = self.types.of(parameter.type, parameter.name)
+        if value is None:
+            if parameter.value is None:
+                refuse(at, f"the parameter `{parameter.name}` has no argument")
+            return Slot(type, self.evaluate(parameter.value, path, None, type))
+        by_reference = parameter.direction is not Direction.IN or type.kind is Kind.TIMER
+        if by_reference and type.kind is not Kind.PORT:
+            key, steps = self.target(value, path, scope)
+            if steps:
+                refuse(value.at, "a part of a variable is an argument by reference")
+            return Slot(type, Reference(key[0], key[1], steps))
+        form = self.evaluate(value, path, scope, type)
+        if form is Mark.LOST:
+            raise Refusal(at, "")
+        return Slot(type, form)
+
+    def target(
+        self, node: Expression, path: Path, scope: Optional[Scope]
+    ) -> tuple[Key, tuple[int, ...]]:
+        """The variable that is meant, and the steps to the part of it."""
+        if isinstance(node, tree.Name):
+            key = self.find(node.word, scope, path)
+            if key is None:
+                refuse(node.at, f"the variable `{node.word}` isn't known here")
+            value = path.state.variables[key].value
+            if isinstance(value, Reference):
+                return (value.scope, value.name), value.steps
+            return key, ()
+        if isinstance(node, tree.IndexOf):
+            key, steps = self.target(node.value, path, scope)
+            index = self.evaluate(node.index, path, scope)
+            if isinstance(index, bool) or not isinstance(index, int) or not 0 <= index < 10_000:
+                refuse(node.at, "the index isn't known here")
+            return key, (*steps, index)
+        if isinstance(node, tree.FieldOf):
+            key, steps = self.target(node.value, path, scope)
+            whole = self.type_of(node.value, path, scope)
+            number = whole.field_number(node.word) if whole and whole.kind is Kind.RECORD else None
+            if number is None:
+                refuse(node.at, f"the field `{node.word}` isn't known here")
+            return key, (*steps, number)
+        refuse(node.at, "a variable is wanted here")
+
+    # Matching mechanisms
+
+    def pattern(self, text: Form, at: Token) -> Form:
+        if not isinstance(text, str):
+            refuse(at, "the text of a pattern is known before")
+        if NOT_IN_PATTERNS & set(text):
+            refuse(at, "a pattern has `?` and `*` here, and no other signs")
+        return TextPattern(text) if set(text) & {"?", "*"} else text
+
+    def other_matching(self, node: tree.OtherMatching, items: list[Form], type: Optional[Type]) -> Form:
+        if node.word == "ifpresent":
+            return IfPresent(items[0])
+        if node.word == "length":
+            return self._of_length(node.at, items, type)
+        refuse(node.at, f"`{node.word}` isn't carried over")
+
+    def _of_length(self, at: Token, items: list[Form], type: Optional[Type]) -> Form:
+        """`? length(2)`: as many `?` as there are elements, for each length one list."""
+        base, bounds = items[0], items[1:]
+        if is_value(base) and not isinstance(base, Mark):
+            return base
+        if base not in (Wild.ANY, Wild.ANY_OR_NONE) or type is None:
+            refuse(at, "a length behind this template isn't carried over")
+        low, high = bounds[0], bounds[-1]
+        if isinstance(low, bool) or not isinstance(low, int) or low < 0 or low > _MOST_LENGTHS:
+            refuse(at, "the length isn't known here")
+        if not isinstance(high, int):
+            refuse(at, "a length without an upper bound isn't carried over")
+        if high > _MOST_LENGTHS or high < low:
+            refuse(at, f"lengths are carried over up to {_MOST_LENGTHS}")
+        forms = tuple(self._all_of_length(count, type, at) for count in range(low, high + 1))
+        return forms[0] if len(forms) == 1 else Options(forms)
+
+    def _all_of_length(self, count: int, type: Type, at: Token) -> Form:
+        if type.kind is Kind.CHARSTRING:
+            return TextPattern("?" * count) if count else ""
+        if type.kind is Kind.LIST:
+            return Elements(tuple(Wild.ANY for _ in range(count)))
+        refuse(at, "only a charstring or a record of has a length here")
+
+    def with_permutations(self, node: tree.Braces, items: list[Form]) -> Form:
+        """The elements; `permutation` among them stands for a list of all its orders."""
+        lists: list[tuple[Form, ...]] = [()]
+        for item, form in zip(node.items, items):
+            if isinstance(item, tree.OtherMatching) and item.word == "permutation":
+                assert isinstance(form, Elements)
+                orders = _orders_of(form.items, item.at)
+            else:
+                orders = [(form,)]
+            lists = [(*before, *order) for before in lists for order in orders]
+            if len(lists) > _MOST_ORDERS:
+                refuse(node.at, f"permutations of more than {_MOST_ORDERS} orders aren't carried over")
+        if len(lists) == 1:
+            return Elements(lists[0])
+        return Options(tuple(Elements(found) for found in lists))
+
+
+def _orders_of(items: tuple[Form, ...], at: Token) -> list[tuple[Form, ...]]:
+    """All orders of what a permutation lists."""
+    if Wild.ANY_OR_NONE in items or len(items) > 4:
+        refuse(at, "a permutation of more than four elements, or with `*`, isn't carried over")
+    return list(dict.fromkeys(permutations(items)))

@@ -1,0 +1,297 @@
+"""Values and templates as a rewrite knows them, and whether a value matches a template (ES 201 873-1, Annex B).
+
+A form is a value where nothing in it is open. An integer, a boolean and a charstring stand for themselves.
+"""
+from __future__ import annotations
+
+import re
+from dataclasses import dataclass
+from enum import Enum
+from typing import Iterable, Optional, Union
+
+
+class Wild(Enum):
+    ANY = "?"
+    ANY_OR_NONE = "*"
+
+
+class Mark(Enum):
+    """What is no message: no value yet, `omit`, `null`, `-`, and what a refused statement would have set."""
+
+    UNSET = "unset"
+    OMIT = "omit"
+    NULL = "null"
+    NOT_USED = "-"
+    LOST = "lost"
+
+
+@dataclass(frozen=True)
+class Fields:
+    """A record's, in declared order."""
+
+    items: tuple[Form, ...]
+
+
+@dataclass(frozen=True)
+class Elements:
+    """Of a record of, or of an array."""
+
+    items: tuple[Form, ...]
+
+
+@dataclass(frozen=True)
+class Enumerated:
+    word: str
+
+
+@dataclass(frozen=True)
+class Chosen:
+    """A union with this alternative."""
+
+    name: str
+    value: Form
+
+
+@dataclass(frozen=True)
+class Digits:
+    digits: str
+    letter: str
+
+
+@dataclass(frozen=True)
+class Options:
+    items: tuple[Form, ...]
+
+
+@dataclass(frozen=True)
+class Excluded:
+    items: tuple[Form, ...]
+
+
+@dataclass(frozen=True)
+class Bounds:
+    low: Optional[int]
+    high: Optional[int]
+
+
+@dataclass(frozen=True)
+class TextPattern:
+    text: str
+
+
+@dataclass(frozen=True)
+class IfPresent:
+    form: Form
+
+
+@dataclass(frozen=True)
+class ComponentValue:
+    number: int
+
+
+@dataclass(frozen=True)
+class VerdictValue:
+    word: str
+
+
+@dataclass(frozen=True)
+class DefaultValue:
+    number: int
+
+
+@dataclass(frozen=True)
+class PortValue:
+    name: str
+
+
+class TimerValue(Enum):
+    STILL = "still"
+    RUNNING = "running"
+
+
+@dataclass(frozen=True)
+class Reference:
+    """A parameter that is another variable."""
+
+    scope: int
+    name: str
+    steps: tuple[int, ...] = ()
+
+
+class Symbol:
+    """A message that was received: what its template and the branches say of it, and no more."""
+
+    def __init__(self, number: int, type: object, template: Form, hint: str):
+        self.number = number
+        self.type = type
+        self.template = template
+        self.hint = hint
+        self.facts: dict[tuple[tuple[int, ...], Form], bool] = {}
+        self.is_used = False
+        self.name = ""
+        self.is_sender = False
+
+
+@dataclass(frozen=True)
+class Received:
+    """A message that was received, or a part of it, by its steps from the whole."""
+
+    symbol: Symbol
+    steps: tuple[int, ...] = ()
+
+
+Form = Union[
+    int, bool, str, float, Wild, Mark, Fields, Elements, Enumerated, Chosen, Digits, Options, Excluded, Bounds,
+    TextPattern, IfPresent, ComponentValue, VerdictValue, DefaultValue, PortValue, TimerValue, Reference, Received,
+]
+
+_OPEN = (Wild, Options, Excluded, Bounds, TextPattern, Received, IfPresent)
+VERDICTS = ("none", "pass", "inconc", "fail", "error")
+
+
+def worse(one: str, other: str) -> str:
+    return max(one, other, key=VERDICTS.index)
+
+
+def is_value(form: Form) -> bool:
+    """Whether nothing of it is open, and nothing unset."""
+    if isinstance(form, _OPEN) or form in (Mark.UNSET, Mark.NOT_USED, Mark.LOST):
+        return False
+    if isinstance(form, (Fields, Elements)):
+        return all(map(is_value, form.items))
+    return is_value(form.value) if isinstance(form, Chosen) else True
+
+
+def is_template(form: Form) -> bool:
+    """Whether it can stand in a receive: nothing unset, and nothing that was received."""
+    if isinstance(form, Received) or form in (Mark.UNSET, Mark.NOT_USED, Mark.LOST):
+        return False
+    if isinstance(form, (Fields, Elements, Options, Excluded)):
+        return all(map(is_template, form.items))
+    if isinstance(form, (Chosen, IfPresent)):
+        return is_template(form.value if isinstance(form, Chosen) else form.form)
+    return True
+
+
+def has_received(form: Form) -> bool:
+    if isinstance(form, Received):
+        return True
+    if isinstance(form, (Fields, Elements, Options, Excluded)):
+        return any(map(has_received, form.items))
+    if isinstance(form, (Chosen, IfPresent)):
+        return has_received(form.value if isinstance(form, Chosen) else form.form)
+    return False
+
+
+def same(one: Form, other: Form) -> bool:
+    """Equal, where `1` isn't `true`."""
+    if isinstance(one, bool) is not isinstance(other, bool):
+        return False
+    if isinstance(one, (Fields, Elements)) and type(one) is type(other):
+        assert isinstance(other, (Fields, Elements))
+        pairs = zip(one.items, other.items)
+        return len(one.items) == len(other.items) and all(same(a, b) for a, b in pairs)
+    return one == other
+
+
+def matches(value: Form, template: Form) -> bool:
+    """Whether a value matches a template. Both have one type."""
+    if isinstance(template, Wild):
+        return template is Wild.ANY_OR_NONE or value is not Mark.OMIT
+    if isinstance(template, IfPresent):
+        return value is Mark.OMIT or matches(value, template.form)
+    if isinstance(template, Options):
+        return any(matches(value, item) for item in template.items)
+    if isinstance(template, Excluded):
+        return value is not Mark.OMIT and not any(matches(value, item) for item in template.items)
+    if isinstance(template, Bounds):
+        return isinstance(value, int) and _within(value, template)
+    if isinstance(template, TextPattern):
+        return isinstance(value, str) and _fits_pattern(value, template.text)
+    return _matches_parts(value, template)
+
+
+def _matches_parts(value: Form, template: Form) -> bool:
+    if isinstance(template, Fields) and isinstance(value, Fields):
+        return all(matches(one, other) for one, other in zip(value.items, template.items))
+    if isinstance(template, Elements) and isinstance(value, Elements):
+        return _match_elements(value.items, template.items)
+    if isinstance(template, Chosen) and isinstance(value, Chosen):
+        return template.name == value.name and matches(value.value, template.value)
+    return same(value, template)
+
+
+def _within(value: int, bounds: Bounds) -> bool:
+    low = bounds.low is None or bounds.low <= value
+    return low and (bounds.high is None or value <= bounds.high)
+
+
+def _fits_pattern(text: str, pattern: str) -> bool:
+    letters = "".join({"?": ".", "*": ".*"}.get(letter, re.escape(letter)) for letter in pattern)
+    return re.fullmatch(letters, text, re.DOTALL) is not None
+
+
+def _match_elements(values: tuple[Form, ...], templates: tuple[Form, ...]) -> bool:
+    """A row for each number of templates: which numbers of values they match."""
+    ends = {0}
+    for template in templates:
+        if template is Wild.ANY_OR_NONE:
+            ends = set(range(min(ends), len(values) + 1)) if ends else ends
+        else:
+            ends = {end + 1 for end in ends if end < len(values) and matches(values[end], template)}
+    return len(values) in ends
+
+
+def at_steps(form: Form, steps: Iterable[int]) -> Form:
+    """What a template says of a part of what it matches; `?` where it says nothing."""
+    for step in steps:
+        if isinstance(form, (Fields, Elements)) and step < len(form.items):
+            form = form.items[step]
+        else:
+            return Wild.ANY
+    return form
+
+
+def decided(template: Form, asked: Form) -> Optional[bool]:
+    """Whether all values that match the template match the asked one, or none do; None where it is open."""
+    if is_value(template):
+        return matches(template, asked)
+    if asked is Wild.ANY:
+        return True
+    if isinstance(template, Options):
+        answers = {decided(item, asked) for item in template.items}
+        return answers.pop() if len(answers) == 1 else None
+    if isinstance(template, Bounds):
+        return _bounds_decided(template, asked)
+    return None
+
+
+def _bounds_decided(known: Bounds, asked: Form) -> Optional[bool]:
+    if isinstance(asked, int) and not isinstance(asked, bool):
+        asked = Bounds(asked, asked)
+    if not isinstance(asked, Bounds):
+        return None
+    both = _both(known, asked)
+    if both is None:
+        return False
+    return True if both == known else None
+
+
+def _both(one: Bounds, other: Bounds) -> Optional[Bounds]:
+    lows = [low for low in (one.low, other.low) if low is not None]
+    highs = [high for high in (one.high, other.high) if high is not None]
+    low, high = max(lows, default=None), min(highs, default=None)
+    return None if low is not None and high is not None and low > high else Bounds(low, high)
+
+
+def narrowed(template: Form, asked: Form) -> Optional[Form]:
+    """A template of what both match; None where that can't be said."""
+    if template is Wild.ANY:
+        return asked
+    if is_value(asked):
+        return asked if is_template(template) and matches(asked, template) else None
+    if isinstance(template, Bounds) and isinstance(asked, Bounds):
+        return _both(template, asked)
+    if isinstance(template, Options) and all(map(is_value, template.items)):
+        return Options(tuple(item for item in template.items if matches(item, asked)))
+    return None

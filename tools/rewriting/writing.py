@@ -1,0 +1,382 @@
+"""Writes the script of the profile: its types, components and behaviours, and which line each statement comes from."""
+from __future__ import annotations
+
+import os
+from dataclasses import dataclass, field
+from typing import Optional
+
+from .emitted import Code, Emitted, Got, GotDone, Message, Operated, Sent, Told, Verdict, Way, Ways, Who
+from .following import Followed, Part, peers, statements_of, tells_of
+from .layout import Names, form_text, type_text
+from .paths import End, Joined
+from .refusing import refuse
+from .run import PortOf, Run, members_of
+from .tokens import Token
+from .types import Type
+from .values import Received, Symbol
+from .writing_types import TypeWriter
+
+MOST_BRACKETS = 32
+MOST_BYTES = 1_048_576
+
+
+@dataclass(frozen=True)
+class Origin:
+    """A line of the script that was written, and the place that it comes from."""
+
+    line: int
+    at: Token
+
+
+@dataclass
+class Lines:
+    """The lines, each with the place that it comes from where it has one."""
+
+    texts: list[str] = field(default_factory=list)
+    origins: list[Origin] = field(default_factory=list)
+    has_files: bool = False
+
+    def add(self, text: str, at: Optional[Token] = None) -> None:
+        if at is not None:
+            self.origins.append(Origin(len(self.texts) + 1, at))
+            text = f"{text:<60} // {self._place(at)}"
+        self.texts.append(text)
+
+    def _place(self, at: Token) -> str:
+        name = "".join(letter if letter.isprintable() else "?" for letter in os.path.basename(at.file))
+        return f"{name}:{at.line}" if self.has_files else str(at.line)
+
+
+@dataclass
+class Shape:
+    """A component as it is written: its name, its type's, and the ports that it has besides."""
+
+    part: Part
+    name: str
+    type_name: str = ""
+    loops: dict[str, str] = field(default_factory=dict)
+    controls: dict[int, str] = field(default_factory=dict)
+
+
+class Writer:
+    def __init__(self, run: Run, followed: Followed, files: list[str]):
+        self.run = run
+        self.followed = followed
+        self.names = Names()
+        self.lines = Lines(has_files=len(files) > 1)
+        self.files = files
+        self.shapes: dict[int, Shape] = {}
+        self.types = TypeWriter(run.program.types, followed.case.at)
+        self.control_type = ""
+        self.system_name = ""
+        self.started: list[tuple[str, str, Token]] = []
+
+    def write(self) -> Lines:
+        self._name_all()
+        for part in self.followed.parts:
+            self._add_loops(part)
+            self._add_controls(part)
+        case = self.followed.case
+        self._head()
+        self.lines.add(f"module {self.module_name} {{")
+        self._definitions()
+        for number, shape in self.shapes.items():
+            if number != 0:
+                self._function(shape)
+        self._case(self.shapes[0])
+        self.lines.add("}")
+        self._look_at_limits(case.at)
+        return self.lines
+
+    def _head(self) -> None:
+        files = ", ".join(os.path.basename(file) for file in self.files)
+        files = "".join(letter if letter.isprintable() else "?" for letter in files)
+        self.lines.add(f"// Written by tools/rewrite from {files}: behind each statement stands where it comes from.")
+
+    def _look_at_limits(self, at: Token) -> None:
+        if sum(len(text) + 1 for text in self.lines.texts) > MOST_BYTES:
+            refuse(at, f"the script that was written has more than {MOST_BYTES:,} bytes")
+
+    # Names
+
+    def _name_all(self) -> None:
+        """Types and ports keep their names; components and variables get ones that nothing else has."""
+        program, followed = self.run.program, self.followed
+        self.names.keep(program.types.definitions)
+        self.case_name = followed.case.name[:60]
+        self.names.keep([self.case_name])
+        for part in followed.parts:
+            self.names.keep(part.behaviour.ports)
+        if followed.system is not None:
+            self.names.keep(port for port in self._system_ports())
+        self.module_name = program.modules[0].name[:60]
+        for module in program.modules:
+            if any(definition is followed.case for definition in module.definitions):
+                self.module_name = module.name[:60]
+        for part in followed.parts:
+            name = {0: "mtc", -1: "system"}.get(part.number) or self.names.free(part.hint)
+            self.shapes[part.number] = Shape(part, name)
+
+    def _system_ports(self) -> dict[str, PortOf]:
+        assert self.followed.system is not None
+        size_of = self.followed.parts[0].behaviour.size_of
+        at = self.followed.case.at
+        return members_of(self.run.program.types, self.followed.system, at, size_of).ports
+
+    # Ports that a component gets besides
+
+    def _add_loops(self, part: Part) -> None:
+        shape = self.shapes[part.number]
+        for join in self.followed.joins:
+            if join.one == join.other and join.one.component == part.number:
+                port = join.one.port
+                if len(peers(self.followed.joins, join.one)) > 1:
+                    refuse(join.at, f"`{port}` is connected with itself and with another port")
+                shape.loops[port] = self.names.free(f"{port}_loop")
+
+    def _add_controls(self, part: Part) -> None:
+        """A port to each component that it tells to begin, or whose end it waits for, and one there."""
+        shape = self.shapes[part.number]
+        for number in sorted(tells_of(part.code)):
+            other = self.shapes[number]
+            if number not in shape.controls:
+                shape.controls[number] = self.names.free(f"{other.name}_control")
+                other.controls[part.number] = self.names.free(f"{shape.name}_control_{other.name}")
+
+    # Definitions
+
+    def _definitions(self) -> None:
+        shapes = list(self.shapes.values())
+        ports = {port.type.root: port.type for shape in shapes for port in shape.part.behaviour.ports.values()}
+        system = self._system_ports() if self.followed.system is not None else {}
+        ports.update({port.type.root: port.type for port in system.values()})
+        self.types.write(list(ports.values()), self._messages(), self.lines.add)
+        if any(shape.controls for shape in shapes):
+            self.control_type = self.names.free("Control")
+            self.lines.add(f"  type port {self.control_type} message {{ inout boolean; }}")
+        self._component_types(shapes, system)
+
+    def _messages(self) -> list[Type]:
+        found: dict[Type, None] = {}
+        for part in self.followed.parts:
+            for statement in statements_of(part.code):
+                message = statement.message if isinstance(statement, (Sent, Got)) else None
+                if message is not None:
+                    found[message.type.root] = None
+        return list(found)
+
+    def _component_types(self, shapes: list[Shape], system: dict[str, PortOf]) -> None:
+        written: dict[tuple[Type, tuple[str, ...]], str] = {}
+        for shape in shapes:
+            extra = [*shape.loops.values(), *shape.controls.values()]
+            key = (shape.part.type.root, tuple(extra))
+            if key not in written:
+                wanted = shape.part.type.root.name
+                written[key] = self.names.free(f"{wanted}_{shape.name}") if extra else wanted
+                self._component_type(written[key], shape)
+            shape.type_name = written[key]
+        if self.followed.system is not None:
+            key = (self.followed.system.root, ())
+            self.system_name = written.get(key, self.followed.system.root.name)
+            if key not in written:
+                self.lines.add(f"  type component {self.system_name} {{{_members(_listed(system))}}}")
+
+    def _component_type(self, name: str, shape: Shape) -> None:
+        behaviour = shape.part.behaviour
+        members = _listed(behaviour.ports)
+        members += [(loop, behaviour.ports[port].type.root.name) for port, loop in shape.loops.items()]
+        members += [(control, self.control_type) for control in shape.controls.values()]
+        if len(members) > 64:
+            refuse(shape.part.at, "a component would have more than 64 ports")
+        self.lines.add(f"  type component {name} {{{_members(members)}}}")
+
+    # Behaviours
+
+    def _function(self, shape: Shape) -> None:
+        part = shape.part
+        is_system = part.number < 0
+        started = part.started
+        wanted = started.body.name if started else f"idle_{shape.name}"
+        name = "sut" if is_system else self.names.free(wanted)
+        at = started.at if started else part.at
+        self.lines.add(f"  function {name}() runs on {shape.type_name} {{", at)
+        code = Block(self, shape)
+        code.variables(part.code)
+        if started and started.is_told:
+            self.lines.add(f"    {shape.controls[0]}.receive(boolean:true);", started.at)
+        code.statements(part.code, 2)
+        for number in self._told_of_end(shape):
+            self.lines.add(f"    {shape.controls[number]}.send(boolean:true);", at)
+        self.lines.add("  }")
+        if not is_system:
+            self.started.append((shape.name, name, at))
+
+    def _told_of_end(self, shape: Shape) -> list[int]:
+        """Who waits for the end of this component's behaviour."""
+        number = shape.part.number
+        found = []
+        for other in self.followed.parts:
+            waited = {one.component for one in statements_of(other.code) if isinstance(one, GotDone)}
+            if number in waited:
+                found.append(other.number)
+        return found
+
+    def _case(self, shape: Shape) -> None:
+        case = self.followed.case
+        system = f" system {self.system_name}" if self.followed.system is not None else ""
+        self.lines.add(f"  testcase {self.case_name}() runs on {shape.type_name}{system} {{", case.at)
+        for other in self.shapes.values():
+            if other.part.number > 0:
+                text = f"    var {other.type_name} {other.name} := {other.type_name}.create;"
+                self.lines.add(text, other.part.at)
+        for join in self.followed.joins:
+            self._join(join)
+        self._join_controls()
+        for component, function, at in self.started:
+            self.lines.add(f"    {component}.start({function}());", at)
+        block = Block(self, shape)
+        block.variables(shape.part.code)
+        block.statements(shape.part.code, 2)
+        if len(self.shapes) > 1:
+            self.lines.add("    all component.done;")
+        self.lines.add("  }")
+
+    def _join(self, join: Joined) -> None:
+        one = self._place(join.one)
+        other = self._place(join.other)
+        if join.one == join.other:
+            shape = self.shapes[join.one.component]
+            other = f"{shape.name}:{shape.loops[join.one.port]}"
+        self.lines.add(f"    {'map' if join.is_map else 'connect'}({one}, {other});", join.at)
+
+    def _place(self, end: End) -> str:
+        return f"{'system' if end.component < 0 else self.shapes[end.component].name}:{end.port}"
+
+    def _join_controls(self) -> None:
+        for shape in self.shapes.values():
+            for number, control in shape.controls.items():
+                other = self.shapes[number]
+                if shape.part.number < number:
+                    back = other.controls[shape.part.number]
+                    self.lines.add(f"    connect({shape.name}:{control}, {other.name}:{back});")
+
+
+def _listed(ports: dict[str, PortOf]) -> list[tuple[str, str]]:
+    return [(name, port.type.root.name) for name, port in ports.items()]
+
+
+def _members(members: list[tuple[str, str]]) -> str:
+    return " " + " ".join(f"port {type} {name};" for name, type in members) + " " if members else " "
+
+
+class Block:
+    """The statements of one behaviour."""
+
+    def __init__(self, writer: Writer, shape: Shape):
+        self.writer = writer
+        self.shape = shape
+        self.lines = writer.lines
+
+    def variables(self, code: Code) -> None:
+        """A variable for each message that is spoken of later, and for each sender."""
+        for statement in statements_of(code):
+            if not isinstance(statement, Got):
+                continue
+            for symbol in (statement.value, statement.sent_by):
+                if symbol is not None and symbol.is_used:
+                    self._variable(symbol, statement.at)
+
+    def _variable(self, symbol: Symbol, at: Token) -> None:
+        symbol.name = self.writer.names.free(symbol.hint or "v_message")
+        if symbol.is_sender:
+            type = self.writer.shapes[0].type_name
+        else:
+            assert isinstance(symbol.type, Type)
+            type = type_text(symbol.type)
+        self.lines.add(f"    var {type} {symbol.name};", at)
+
+    def statements(self, code: Code, depth: int) -> None:
+        for statement in code:
+            self._statement(statement, depth)
+
+    def _statement(self, statement: Emitted, depth: int) -> None:
+        if isinstance(statement, Ways):
+            self._ways(statement, depth)
+            return
+        for text in self._texts(statement):
+            self.lines.add(f"{'  ' * depth}{text};", statement.at)
+
+    def _texts(self, statement: Emitted) -> list[str]:
+        if isinstance(statement, Sent):
+            return [self._sent(statement)]
+        if isinstance(statement, (Got, GotDone)):
+            return [self._got(statement)]
+        if isinstance(statement, Told):
+            return [f"{self.shape.controls[statement.component]}.send(boolean:true)"]
+        if isinstance(statement, Operated):
+            return self._operated(statement)
+        assert isinstance(statement, Verdict)
+        return [f"setverdict({statement.word})"]
+
+    def _ways(self, statement: Ways, depth: int) -> None:
+        # Each `alt` has two brackets open, beside those of the module and the body.
+        if 2 * depth + 4 > MOST_BRACKETS:
+            refuse(statement.at, f"what follows from the branches would have more than {MOST_BRACKETS} brackets open")
+        space = "  " * depth
+        self.lines.add(f"{space}alt {{", statement.at)
+        for way in statement.branches:
+            self._way(way, depth + 1)
+        self.lines.add(f"{space}}}")
+
+    def _way(self, way: Way, depth: int) -> None:
+        space = "  " * depth
+        head = "[else]" if way.operation is None else f"[] {self._got(way.operation)}"
+        if not way.code:
+            self.lines.add(f"{space}{head} {{ }}", way.at)
+            return
+        self.lines.add(f"{space}{head} {{", way.at)
+        self.statements(way.code, depth + 1)
+        self.lines.add(f"{space}}}")
+
+    def _sent(self, statement: Sent) -> str:
+        port = self.shape.loops.get(statement.port, statement.port)
+        to = " to all component" if statement.to_all else ""
+        if statement.to is not None:
+            to = f" to {self._who(statement.to)}"
+        return f"{port}.send({self._message(statement.message)}){to}"
+
+    def _message(self, message: Message) -> str:
+        if isinstance(message.form, Received):
+            return message.form.symbol.name
+        return f"{type_text(message.type)}:{form_text(message.form)}"
+
+    def _who(self, who: Who) -> str:
+        return self.writer.shapes[who].name if isinstance(who, int) else who.name
+
+    def _got(self, operation: Got | GotDone) -> str:
+        if isinstance(operation, GotDone):
+            return f"{self.shape.controls[operation.component]}.receive(boolean:true)"
+        wanted = f"({self._message(operation.message)})" if operation.message else ""
+        sender = f" from {self._who(operation.sender)}" if operation.sender is not None else ""
+        text = f"{wanted}{sender}{self._redirect(operation)}"
+        if operation.how == "check":
+            return f"{operation.port}.check(receive{text})"
+        return f"{operation.port}.{operation.how}{text}"
+
+    def _redirect(self, operation: Got) -> str:
+        words = []
+        if operation.value is not None and operation.value.is_used:
+            words.append(f"value {operation.value.name}")
+        if operation.sent_by is not None and operation.sent_by.is_used:
+            words.append(f"sender {operation.sent_by.name}")
+        return " -> " + " ".join(words) if words else ""
+
+    def _operated(self, statement: Operated) -> list[str]:
+        if statement.is_all and not self.shape.controls:
+            return [f"all port.{statement.act}"]
+        found = []
+        for port in statement.ports:
+            found.append(f"{port}.{statement.act}")
+            if port in self.shape.loops:
+                found.append(f"{self.shape.loops[port]}.{statement.act}")
+        return found

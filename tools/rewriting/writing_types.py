@@ -1,0 +1,117 @@
+"""Writes the types of messages and of ports."""
+from __future__ import annotations
+
+from typing import Callable, Optional
+
+from . import tree
+from .layout import type_text
+from .refusing import refuse
+from .tokens import Token
+from .types import Kind, Type, Types
+
+_Add = Callable[[str, Optional[Token]], None]
+_BASES = (Kind.INTEGER, Kind.BOOLEAN, Kind.CHARSTRING)
+_ENCODED = {
+    Kind.ENUM: "an enumerated type", Kind.UNION: "a union", Kind.BITS: "a string of bits, hex digits or octets",
+}
+
+
+class TypeWriter:
+    def __init__(self, types: Types, nowhere: Token):
+        self.types = types
+        # Where a type stands that no module defines.
+        self.nowhere = nowhere
+        self._written: set[Type] = set()
+
+    def write(self, ports: list[Type], messages: list[Type], add: _Add) -> None:
+        """The types of messages that ports list, and the ports' own. A type that no message has may be left out."""
+        listed: dict[Type, str] = {}
+        lists = [(port, self._directions(port, messages, listed)) for port in ports]
+        for type in listed:
+            self._message_type(type, add, type.at)
+        for port, (sent, received) in lists:
+            self._port_type(port.root, sent, received, add)
+
+    def _directions(
+        self, port: Type, messages: list[Type], listed: dict[Type, str]
+    ) -> tuple[list[Type], list[Type]]:
+        body = port.root.port
+        assert body is not None
+        if not body.is_message:
+            return [], []
+        sent = self._roots(body.sent, messages, listed)
+        return sent, self._roots(body.received, messages, listed)
+
+    def _roots(
+        self, names: list[tree.TypeName], messages: list[Type], listed: dict[Type, str]
+    ) -> list[Type]:
+        found: list[Type] = []
+        for name in names:
+            if name.word in ("anytype", "address") or name.word.startswith("universal"):
+                continue
+            type = self.types.named(name.word, name.at)
+            root = type.root
+            if root not in messages and not is_plain(root, []):
+                continue
+            if listed.setdefault(root, type.name) != type.name:
+                both = f"`{listed[root]}` and `{type.name}`"
+                refuse(name.at, f"{both} are one type here, so that a message of the one would match the other")
+            if root not in found:
+                found.append(root)
+        return found
+
+    def _message_type(self, type: Type, add: _Add, at: Optional[Token]) -> None:
+        if type.root in self._written or type.kind in _BASES:
+            return
+        self._written.add(type.root)
+        root = type.root
+        self._look_at_kind(root)
+        if root.kind is Kind.LIST:
+            assert root.element is not None
+            self._message_type(root.element, add, at)
+            add(f"  type record of {type_text(root.element)} {root.name};", root.at)
+            return
+        for field in root.fields:
+            self._message_type(field.type, add, at)
+        fields = ", ".join(f"{type_text(field.type)} {field.name}" for field in root.fields)
+        add(f"  type record {root.name} {{ {fields} }}" if fields else f"  type record {root.name} {{ }}", root.at)
+
+    def _look_at_kind(self, root: Type) -> None:
+        at = root.at or self.nowhere
+        if root.kind in _ENCODED:
+            refuse(at, f"{_ENCODED[root.kind]} isn't carried over")
+        if root.kind not in (Kind.RECORD, Kind.LIST):
+            refuse(at, root.reason or f"no message has the type `{root.name}`")
+        if root.is_set and root.kind is Kind.LIST:
+            refuse(at, "a set of isn't carried over: the order of its elements doesn't count")
+        if any(field.is_optional for field in root.fields):
+            refuse(at, "an optional field isn't carried over")
+
+    def _port_type(self, port: Type, sent: list[Type], received: list[Type], add: _Add) -> None:
+        if port in self._written:
+            return
+        self._written.add(port)
+        both = [type for type in sent if type in received]
+        lists = {
+            "inout": both,
+            "out": [type for type in sent if type not in both],
+            "in": [type for type in received if type not in both],
+        }
+        text = " ".join(
+            f"{word} {', '.join(map(type_text, types))};" for word, types in lists.items() if types
+        )
+        # A port that nothing is sent to must list something.
+        add(f"  type port {port.name} message {{ {text or 'inout boolean;'} }}", port.at)
+
+
+def is_plain(type: Type, above: list[Type]) -> bool:
+    """Whether the profile has the type as it is, and all that it is made of."""
+    if type in above:
+        return True
+    if type.kind is Kind.LIST:
+        element = type.root.element
+        return element is not None and not type.is_set and is_plain(element.root, [*above, type])
+    if type.kind is Kind.RECORD:
+        fields = type.root.fields
+        return all(not field.is_optional and is_plain(field.type.root, [*above, type]) for field in fields)
+    return type.kind in _BASES
