@@ -1,9 +1,7 @@
 //! Where a statement stands: what its names may mean, and its refusals.
 use crate::scope::{BehaviourKind, Scope, Variables};
-use tp_name::fault::refused;
+use tp_name::fault::{ModuleFault, ModuleRule, refused};
 use tp_name::name::Name;
-use tp_refusal::refusal::Refusal;
-use tp_token::fault::ScriptFault;
 use tp_tree::tree::ComponentName;
 use tp_value::types::Ty;
 
@@ -26,32 +24,32 @@ impl<'a, 'v, 'm> Context<'a, 'v, 'm> {
     ghost use Rattle.tp_name.specs.Refused.{Breaks};
 
     /// 11 `Unknown`.
-    pub fn unknown(&self) -> ScriptFault
-        ensures { result ≡ ScriptFault.Refused Refusal.Unknown self.now.line }
+    pub fn unknown(&self) -> ModuleFault
+        ensures { result ≡ ModuleFault.Refused ModuleRule.Unknown self.now.line }
     {
-        refused(Refusal::Unknown, self.line)
+        refused(ModuleRule::Unknown, self.line)
     }
 
     /// 12 `Duplicate`.
-    pub fn duplicate(&self) -> ScriptFault
-        ensures { result ≡ ScriptFault.Refused Refusal.Duplicate self.now.line }
+    pub fn duplicate(&self) -> ModuleFault
+        ensures { result ≡ ModuleFault.Refused ModuleRule.Duplicate self.now.line }
     {
-        refused(Refusal::Duplicate, self.line)
+        refused(ModuleRule::Duplicate, self.line)
     }
 
     /// 13 `WrongType`.
-    pub fn wrong_type(&self) -> ScriptFault
-        ensures { result ≡ ScriptFault.Refused Refusal.WrongType self.now.line }
+    pub fn wrong_type(&self) -> ModuleFault
+        ensures { result ≡ ModuleFault.Refused ModuleRule.WrongType self.now.line }
     {
-        refused(Refusal::WrongType, self.line)
+        refused(ModuleRule::WrongType, self.line)
     }
 
     /// 13 `WrongType` where the type isn't the one that is wanted.
-    pub fn check_type(&self, ty: Ty, wanted: Ty) -> Result<(), ScriptFault>
+    pub fn check_type(&self, ty: Ty, wanted: Ty) -> Result<(), ModuleFault>
         ensures ok { OnOk result (ty ≡ wanted) }
         ensures other { OnErr result (ty ≢ wanted) }
         ensures err { IfErr result (λ fault.
-            fault ≡ ScriptFault.Refused Refusal.WrongType self.now.line) }
+            fault ≡ ModuleFault.Refused ModuleRule.WrongType self.now.line) }
     {
         if ty != wanted {
             return Err(self.wrong_type());
@@ -60,33 +58,33 @@ impl<'a, 'v, 'm> Context<'a, 'v, 'm> {
     }
 
     /// 14 `Direction`.
-    pub fn direction(&self) -> ScriptFault
-        ensures { result ≡ ScriptFault.Refused Refusal.Direction self.now.line }
+    pub fn direction(&self) -> ModuleFault
+        ensures { result ≡ ModuleFault.Refused ModuleRule.Direction self.now.line }
     {
-        refused(Refusal::Direction, self.line)
+        refused(ModuleRule::Direction, self.line)
     }
 
     /// 16 `NotInSut` in the system under test, for what can't stand there.
-    pub fn check_not_in_sut(&self) -> Result<(), ScriptFault>
+    pub fn check_not_in_sut(&self) -> Result<(), ModuleFault>
         ensures ok { OnOk result (self.now.scope.now.behaviour ≢ BehaviourKind.SystemUnderTest) }
         ensures err { IfErr result (λ fault.
-            fault ≡ ScriptFault.Refused Refusal.NotInSut self.now.line) }
+            fault ≡ ModuleFault.Refused ModuleRule.NotInSut self.now.line) }
         ensures refused { IfErr result
             (Breaks (self.now.scope.now.behaviour ≢ BehaviourKind.SystemUnderTest)) }
     {
         if self.scope.behaviour == BehaviourKind::SystemUnderTest {
-            return Err(refused(Refusal::NotInSut, self.line));
+            return Err(refused(ModuleRule::NotInSut, self.line));
         }
         Ok(())
     }
 
     /// What a name is refused with that may not stand there: 13 `WrongType` for a variable of the
     /// body, otherwise 11 `Unknown`, also for a loop variable.
-    pub fn no_turn(&self, name: &str) -> ScriptFault
+    pub fn no_turn(&self, name: &str) -> ModuleFault
         ensures variable { Contains self.now.variables.now.names name.now
-            → result ≡ ScriptFault.Refused Refusal.WrongType self.now.line }
+            → result ≡ ModuleFault.Refused ModuleRule.WrongType self.now.line }
         ensures other { (Contains self.now.variables.now.names name.now → ⊥)
-            → result ≡ ScriptFault.Refused Refusal.Unknown self.now.line }
+            → result ≡ ModuleFault.Refused ModuleRule.Unknown self.now.line }
     {
         if self.variables.names.has(name) {
             self.wrong_type()
@@ -98,14 +96,14 @@ impl<'a, 'v, 'm> Context<'a, 'v, 'm> {
     /// What a name is refused with where a variable has to stand, and that is neither a variable
     /// nor a loop variable: 13 `WrongType` for a parameter or a component variable, otherwise
     /// 11 `Unknown`.
-    pub fn no_variable(&self, name: &str) -> ScriptFault
+    pub fn no_variable(&self, name: &str) -> ModuleFault
         ensures parameter { Contains self.now.scope.now.parameters.now name.now
-            → result ≡ ScriptFault.Refused Refusal.WrongType self.now.line }
+            → result ≡ ModuleFault.Refused ModuleRule.WrongType self.now.line }
         ensures component { Contains self.now.scope.now.components.now name.now
-            → result ≡ ScriptFault.Refused Refusal.WrongType self.now.line }
+            → result ≡ ModuleFault.Refused ModuleRule.WrongType self.now.line }
         ensures other { (Contains self.now.scope.now.parameters.now name.now → ⊥)
             → (Contains self.now.scope.now.components.now name.now → ⊥)
-            → result ≡ ScriptFault.Refused Refusal.Unknown self.now.line }
+            → result ≡ ModuleFault.Refused ModuleRule.Unknown self.now.line }
     {
         if self.scope.parameters.has(name) || self.scope.components.has(name) {
             return self.wrong_type();
@@ -115,7 +113,7 @@ impl<'a, 'v, 'm> Context<'a, 'v, 'm> {
 
     /// What a name behind `from` is refused with that is no reference: 13 `WrongType` for a
     /// variable, otherwise 11 `Unknown`.
-    pub fn no_reference(&self, component: &ComponentName) -> ScriptFault {
+    pub fn no_reference(&self, component: &ComponentName) -> ModuleFault {
         if let ComponentName::Named(name) = component {
             return self.no_turn(name.as_str());
         }

@@ -12,8 +12,8 @@ use crate::context::Context;
 use crate::placing::field_places;
 use crate::plain::{resolve_text, resolve_turn};
 use std::alloc::Global;
+use tp_name::fault::ModuleFault;
 use tp_play::body::SendValue;
-use tp_token::fault::ScriptFault;
 use tp_tree::message::{Value, ValueField};
 use tp_value::items::Items;
 use tp_value::types::{Field, Ty, TypeDef};
@@ -31,7 +31,7 @@ pub fn resolve_value(
     context: &Context,
     ty: Ty,
     value: &Value,
-) -> Result<SendValue, ScriptFault>
+) -> Result<SendValue, ModuleFault>
     ensures stands { IfOk result
         (IsValue context.now.scope.now.types.now (texts context.now.turns.now) ty value.now) }
     ensures refused { IsSoundScope context.now.scope.now
@@ -86,7 +86,7 @@ fn resolve_elements(
     context: &Context,
     ty: Ty,
     values: &[Value],
-) -> Result<Items<SendValue>, ScriptFault>
+) -> Result<Items<SendValue>, ModuleFault>
     ensures stand { IfOk result
         (AreElements context.now.scope.now.types.now (texts context.now.turns.now) ty values.now) }
     ensures refused { IsSoundScope context.now.scope.now
@@ -110,7 +110,7 @@ fn resolve_fields(
     context: &Context,
     fields: &[Field],
     values: &[Value],
-) -> Result<Items<SendValue>, ScriptFault>
+) -> Result<Items<SendValue>, ModuleFault>
     ensures stand { IfOk result
         (AreFields context.now.scope.now.types.now (texts context.now.turns.now)
         fields.now values.now) }
@@ -138,7 +138,7 @@ fn resolve_named(
     context: &Context,
     fields: &[Field],
     entries: &[ValueField],
-) -> Result<Items<SendValue>, ScriptFault>
+) -> Result<Items<SendValue>, ModuleFault>
     ensures named { IfOk result (λ made. AreNamed
         context.now.scope.now.types.now (texts context.now.turns.now) entries.now fields.now made) }
     ensures count { IfOk result (λ _. length entries.now ≡ length fields.now) }

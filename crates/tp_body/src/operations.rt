@@ -14,12 +14,11 @@ use crate::messages::resolve_value;
 use crate::templates::resolve_template;
 use std::alloc::Global;
 use tp_config::type_list::TypeList;
+use tp_name::fault::{ModuleFault, ModuleRule};
 use tp_name::name::find;
 use tp_play::body::{
     Receiver, Receiving, RecvMsg, SendMsg, SendOperation, SendValue, Sent, VariableType,
 };
-use tp_refusal::refusal::Refusal;
-use tp_token::fault::ScriptFault;
 use tp_tree::message::{Message, MessageTemplate};
 use tp_tree::tree;
 use tp_tree::tree::{ComponentName, Destination, VerdictName};
@@ -33,7 +32,7 @@ fn resolve_written(
     context: &Context,
     sendable: &TypeList,
     message: &Message,
-) -> Result<SendMsg, ScriptFault>
+) -> Result<SendMsg, ModuleFault>
     ensures message { IfOk result
         (IsMessage context.now.scope.now.types.now (texts context.now.turns.now) message.now) }
     ensures listed { IfOk result (λ m. Contains sendable.now m.ty) }
@@ -56,7 +55,7 @@ fn resolve_counter(
     context: &Context,
     sendable: &TypeList,
     place: usize,
-) -> Result<SendMsg, ScriptFault>
+) -> Result<SendMsg, ModuleFault>
     ensures value { IfOk result (λ m.
         m ≡ record { ty = Ty.Integer; value = SendValue.Turn place }) }
     ensures listed { IfOk result (λ _. Contains sendable.now Ty.Integer) }
@@ -73,7 +72,7 @@ fn resolve_counter(
 
 /// The variable that has this name: its place, and what it holds. 13 `WrongType` for a loop
 /// variable, a parameter or a component variable, 11 `Unknown` for any other name.
-fn variable_named(context: &Context, name: &str) -> Result<(usize, VariableType), ScriptFault>
+fn variable_named(context: &Context, name: &str) -> Result<(usize, VariableType), ModuleFault>
     ensures no_turn { IfOk result (λ _. IsAbsent (texts context.now.turns.now) name.now) }
     ensures held { IfOk result (λ found.
         IsVariable context.now.variables.now name.now found.0 found.1) }
@@ -92,7 +91,7 @@ fn variable_named(context: &Context, name: &str) -> Result<(usize, VariableType)
 
 /// The variable of messages that has this name: its place, and its type. 11 `Unknown` for an
 /// unknown name, 13 `WrongType` for a name of anything else.
-fn message_variable(context: &Context, name: &str) -> Result<(usize, Ty), ScriptFault>
+fn message_variable(context: &Context, name: &str) -> Result<(usize, Ty), ModuleFault>
     ensures no_turn { IfOk result (λ _. IsAbsent (texts context.now.turns.now) name.now) }
     ensures held { IfOk result (λ found.
         IsVariable context.now.variables.now name.now found.0 (VariableType.Message found.1)) }
@@ -109,7 +108,7 @@ fn message_variable(context: &Context, name: &str) -> Result<(usize, Ty), Script
 
 /// The place of the variable of components that has this name. 11 `Unknown` for an unknown name, 13
 /// `WrongType` for a name of anything else.
-fn component_variable(context: &Context, name: &str) -> Result<usize, ScriptFault>
+fn component_variable(context: &Context, name: &str) -> Result<usize, ModuleFault>
     ensures no_turn { IfOk result (λ _. IsAbsent (texts context.now.turns.now) name.now) }
     ensures held { IfOk result (λ place.
         IsVariable context.now.variables.now name.now place VariableType.Component) }
@@ -132,7 +131,7 @@ fn resolve_sent(
     context: &Context,
     sendable: &TypeList,
     sent: &tree::Sent,
-) -> Result<Sent, ScriptFault>
+) -> Result<Sent, ModuleFault>
     ensures stands { IfOk result (IsSent
         context.now.scope.now context.now.variables.now (texts context.now.turns.now)
         sendable.now sent.now) }
@@ -164,7 +163,7 @@ fn resolve_sent(
 /// The component behind `to`: a variable's, or a reference. 13 `WrongType` for a variable of
 /// messages, 11 `Unknown` for any other name that is no component.
 #[tactic(auto, using(crate::proofs::OperationRules::cases))]
-fn resolve_component(context: &Context, component: &ComponentName) -> Result<Receiver, ScriptFault>
+fn resolve_component(context: &Context, component: &ComponentName) -> Result<Receiver, ModuleFault>
     ensures stands { IfOk result (IsReceiver
         context.now.scope.now context.now.variables.now (texts context.now.turns.now)
         (Some (Destination.Component component.now))) }
@@ -188,7 +187,7 @@ fn resolve_component(context: &Context, component: &ComponentName) -> Result<Rec
 
 /// To whom is sent.
 #[tactic(auto, using(crate::proofs::OperationRules::cases))]
-fn resolve_receiver(context: &Context, to: &Option<Destination>) -> Result<Receiver, ScriptFault>
+fn resolve_receiver(context: &Context, to: &Option<Destination>) -> Result<Receiver, ModuleFault>
     ensures stands { IfOk result (IsReceiver
         context.now.scope.now context.now.variables.now (texts context.now.turns.now) to.now) }
     ensures refused { AreTyped context.now.variables.now → IfErr result
@@ -212,7 +211,7 @@ pub fn resolve_send(
     alloc: Global,
     context: &Context,
     send: &tree::Send,
-) -> Result<SendOperation, ScriptFault>
+) -> Result<SendOperation, ModuleFault>
     ensures stands { IfOk result (IsSend
         context.now.scope.now context.now.variables.now (texts context.now.turns.now) send.now) }
     ensures refused { IsSoundScope context.now.scope.now → AreTyped context.now.variables.now
@@ -241,7 +240,7 @@ fn resolve_wanted(
     context: &Context,
     receivable: &TypeList,
     template: &Option<MessageTemplate>,
-) -> Result<RecvMsg, ScriptFault>
+) -> Result<RecvMsg, ModuleFault>
     ensures stands { IfOk result (IsWanted
         context.now.scope.now (texts context.now.turns.now) receivable.now template.now) }
     ensures refused { IsSoundScope context.now.scope.now → IfErr result
@@ -267,7 +266,7 @@ fn resolve_wanted(
 fn resolve_sender(
     context: &Context,
     sender: &Option<ComponentName>,
-) -> Result<Option<usize>, ScriptFault>
+) -> Result<Option<usize>, ModuleFault>
     ensures stands { IfOk result (IsFrom
         context.now.scope.now context.now.variables.now (texts context.now.turns.now) sender.now) }
     ensures refused { IfErr result (Breaks ((y : Option ℕ) × IsFrom
@@ -290,7 +289,7 @@ fn resolve_value_target(
     context: &Context,
     wanted: &RecvMsg,
     target: &Option<String>,
-) -> Result<Option<usize>, ScriptFault>
+) -> Result<Option<usize>, ModuleFault>
     ensures stands { IfOk result (IsValueTarget
         context.now.variables.now (texts context.now.turns.now) wanted.now target.now) }
     ensures refused { AreTyped context.now.variables.now → IfErr result
@@ -318,7 +317,7 @@ fn resolve_value_target(
 fn resolve_sender_target(
     context: &Context,
     target: &Option<String>,
-) -> Result<Option<usize>, ScriptFault>
+) -> Result<Option<usize>, ModuleFault>
     ensures stands { IfOk result (IsSenderTarget
         context.now.variables.now (texts context.now.turns.now) target.now) }
     ensures refused { AreTyped context.now.variables.now → IfErr result
@@ -341,7 +340,7 @@ pub fn resolve_receive(
     alloc: Global,
     context: &Context,
     receive: &tree::Receive,
-) -> Result<Receiving, ScriptFault>
+) -> Result<Receiving, ModuleFault>
     ensures stands { IfOk result (IsReceive
         context.now.scope.now context.now.variables.now (texts context.now.turns.now) receive.now) }
     ensures refused { IsSoundScope context.now.scope.now → AreTyped context.now.variables.now
@@ -371,10 +370,10 @@ pub fn resolve_receive(
 
 /// The verdict that a statement names: 13 `WrongType` at the line of the context for `error`.
 #[tactic(auto, using(crate::proofs::OperationRules::cases))]
-pub fn resolve_verdict(context: &Context, name: VerdictName) -> Result<Verdict, ScriptFault>
+pub fn resolve_verdict(context: &Context, name: VerdictName) -> Result<Verdict, ModuleFault>
     ensures verdict { IfOk result (IsVerdict name) }
     ensures error { IfErr result (λ fault.
-        fault ≡ ScriptFault.Refused Refusal.WrongType context.now.line) }
+        fault ≡ ModuleFault.Refused ModuleRule.WrongType context.now.line) }
     ensures refused { IfErr result (Breaks ((verdict : Verdict) × IsVerdict name verdict)) }
 {
     match name {

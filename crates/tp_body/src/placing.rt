@@ -8,10 +8,8 @@ ghost use Rattle.tp_body.specs.Placing.{HaveEntries, IsPlacing, IsTable, field_n
 
 use indexmap::IndexSet;
 use std::alloc::Global;
-use tp_name::fault::refused;
+use tp_name::fault::{ModuleFault, ModuleRule, refused};
 use tp_refusal::memory::Memory;
-use tp_refusal::refusal::Refusal;
-use tp_token::fault::ScriptFault;
 use tp_tree::message::{TemplateField, ValueField};
 use tp_value::types::Field;
 
@@ -67,15 +65,15 @@ impl Drop for FieldTable<'_> {
 
 /// Puts the names of the fields into the table, in declared order. A name that stands twice is put
 /// in once. 50 `Memory` only where an allocation was refused.
-fn list_names<'f>(table: &mut FieldTable<'f>, fields: &'f [Field]) -> Result<(), ScriptFault>
+fn list_names<'f>(table: &mut FieldTable<'f>, fields: &'f [Field]) -> Result<(), ModuleFault>
     requires { table.old.names.keys ≡ [] }
     ensures ok { AreDistinct (field_names fields.now)
         → OnOk result (map (λ n. n.now) table.new.names.keys ≡ field_names fields.now) }
-    ensures err { IfErr result (λ fault. fault ≡ ScriptFault.Memory (record {})) }
+    ensures err { IfErr result (λ fault. fault ≡ ModuleFault.Memory (record {})) }
 {
     for field in fields {
         let Ok(_) = table.names.insert(field.name.as_slice()) else {
-            return Err(ScriptFault::Memory(Memory));
+            return Err(ModuleFault::Memory(Memory));
         };
     }
     Ok(())
@@ -90,7 +88,7 @@ fn find_field<'f>(
     table: &mut FieldTable<'f>,
     likely: usize,
     name: &str,
-) -> Result<Option<usize>, ScriptFault>
+) -> Result<Option<usize>, ModuleFault>
     requires { AreDistinct (field_names fields.now)
         → IsTable fields.now (map (λ n. n.now) table.old.names.keys) }
     ensures found { IfOk result (λ found. IfSome found (λ place.
@@ -99,7 +97,7 @@ fn find_field<'f>(
         → IfOk result (λ found. IfNone found (IsAbsent (field_names fields.now) name.now)) }
     ensures table { AreDistinct (field_names fields.now)
         → OnOk result (IsTable fields.now (map (λ n. n.now) table.new.names.keys)) }
-    ensures err { IfErr result (λ fault. fault ≡ ScriptFault.Memory (record {})) }
+    ensures err { IfErr result (λ fault. fault ≡ ModuleFault.Memory (record {})) }
 {
     if is_field(fields, likely, name) {
         return Ok(Some(likely));
@@ -151,14 +149,14 @@ pub fn field_places<E: NamedField>(
     fields: &[Field],
     entries: &[E],
     line: u32,
-) -> Result<Vec<usize>, ScriptFault>
+) -> Result<Vec<usize>, ModuleFault>
     ensures placed { IfOk result (λ places.
         IsPlacing fields.now (map E.name entries.now) places.items) }
     ensures refused { AreDistinct (field_names fields.now)
         → IfErr result (Breaks (HaveEntries fields.now (map E.name entries.now))) }
 {
     if entries.len() != fields.len() {
-        return Err(refused(Refusal::WrongType, line));
+        return Err(refused(ModuleRule::WrongType, line));
     }
     let mut taken = vec![in alloc; false; fields.len()]?;
     let mut table = FieldTable {
@@ -168,15 +166,15 @@ pub fn field_places<E: NamedField>(
     for (index, entry) in entries.iter().enumerate() {
         let found = find_field(fields, &mut table, index, entry.name())?;
         let Some(place) = found else {
-            return Err(refused(Refusal::WrongType, line));
+            return Err(refused(ModuleRule::WrongType, line));
         };
         if !occupy(&mut taken, place) {
-            return Err(refused(Refusal::WrongType, line));
+            return Err(refused(ModuleRule::WrongType, line));
         }
         places.push_reserved(place);
     }
     if !are_all(&taken) {
-        return Err(refused(Refusal::WrongType, line));
+        return Err(refused(ModuleRule::WrongType, line));
     }
     Ok(places)
 }

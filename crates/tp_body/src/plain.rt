@@ -6,8 +6,8 @@ ghost use Rattle.tp_value.specs.HasType.{ArePrintable};
 
 use crate::context::Context;
 use std::alloc::Global;
+use tp_name::fault::ModuleFault;
 use tp_name::name::find;
-use tp_token::fault::ScriptFault;
 use tp_value::shared::Shared;
 use tp_value::types::Ty;
 use tp_value::typing::are_printable;
@@ -19,7 +19,7 @@ pub fn resolve_text(
     context: &Context,
     ty: Ty,
     text: &[u8],
-) -> Result<Shared<u8>, ScriptFault>
+) -> Result<Shared<u8>, ModuleFault>
     ensures text { IfOk result (λ made. made ≡ text.now) }
     ensures charstring { OnOk result (ty ≡ Ty.Charstring) }
     ensures printable { OnOk result (ArePrintable text.now) }
@@ -36,7 +36,7 @@ pub fn resolve_text(
 /// The place of the loop variable of this name, which stands for an integer. At the line of the
 /// context 13 `WrongType` for a variable, and for another type than `integer`; 11 `Unknown` for
 /// any other name.
-pub fn resolve_turn(context: &Context, ty: Ty, name: &str) -> Result<usize, ScriptFault>
+pub fn resolve_turn(context: &Context, ty: Ty, name: &str) -> Result<usize, ModuleFault>
     ensures place { IfOk result (IsPlace (texts context.now.turns.now) name.now) }
     ensures integer { OnOk result (ty ≡ Ty.Integer) }
     ensures refused { IfErr result (Breaks ((place : ℕ) × (ty ≡ Ty.Integer)

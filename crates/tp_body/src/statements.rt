@@ -13,12 +13,10 @@ use crate::operations::{resolve_receive, resolve_send, resolve_verdict};
 use crate::scope::Scope;
 use crate::variables::{are_no_ports, is_new, resolve_variables};
 use std::alloc::Global;
-use tp_name::fault::refused;
+use tp_name::fault::{ModuleFault, ModuleRule, refused};
 use tp_name::name::Name;
 use tp_play::body::{Body, Branch, Statement};
 use tp_queue::operation::PortOperation;
-use tp_refusal::refusal::Refusal;
-use tp_token::fault::ScriptFault;
 use tp_tree::tree;
 use tp_tree::tree::{Action, BranchBody, Control, Counted, Turns, Variable, VerdictName};
 use tp_value::items::Items;
@@ -29,9 +27,9 @@ fn turns_inside<'m>(
     alloc: Global,
     turns: &[Name<'m>],
     name: &'m str,
-) -> Result<Vec<Name<'m>>, ScriptFault>
+) -> Result<Vec<Name<'m>>, ModuleFault>
     ensures inside { IfOk result (λ inside. texts inside.items ≡ texts turns.now ++ name.now ∷ []) }
-    ensures memory { IfErr result (λ fault. fault ≡ ScriptFault.Memory (record {})) }
+    ensures memory { IfErr result (λ fault. fault ≡ ModuleFault.Memory (record {})) }
 {
     let mut inside = Vec::from_slice(alloc, turns)?;
     inside.push(Name { text: name })?;
@@ -48,7 +46,7 @@ fn counted_for(turns: &Turns, block: Items<Statement>) -> Statement
 /// What an operation on one port stands for: 16 `NotInSut` in the system under test, then
 /// 11 `Unknown` for the port.
 #[tactic(auto, using(crate::proofs::StatementRules::cases))]
-fn resolve_control(context: &Context, control: &Control) -> Result<Statement, ScriptFault>
+fn resolve_control(context: &Context, control: &Control) -> Result<Statement, ModuleFault>
     ensures stands { IfOk result (IsStatement
         context.now.scope.now context.now.variables.now (texts context.now.turns.now)
         (Action.Control control.now)) }
@@ -66,7 +64,7 @@ fn resolve_control(context: &Context, control: &Control) -> Result<Statement, Sc
 
 /// What an operation on all ports stands for: 16 `NotInSut` in the system under test.
 #[tactic(auto, using(crate::proofs::StatementRules::cases))]
-fn resolve_all_ports(context: &Context, operation: PortOperation) -> Result<Statement, ScriptFault>
+fn resolve_all_ports(context: &Context, operation: PortOperation) -> Result<Statement, ModuleFault>
     ensures stands { IfOk result (IsStatement
         context.now.scope.now context.now.variables.now (texts context.now.turns.now)
         (Action.AllPorts operation)) }
@@ -81,7 +79,7 @@ fn resolve_all_ports(context: &Context, operation: PortOperation) -> Result<Stat
 /// What `setverdict` stands for: 16 `NotInSut` in the system under test, then 13 `WrongType` for
 /// `error`.
 #[tactic(auto, using(crate::proofs::StatementRules::cases))]
-fn resolve_set_verdict(context: &Context, name: VerdictName) -> Result<Statement, ScriptFault>
+fn resolve_set_verdict(context: &Context, name: VerdictName) -> Result<Statement, ModuleFault>
     ensures stands { IfOk result (IsStatement
         context.now.scope.now context.now.variables.now (texts context.now.turns.now)
         (Action.SetVerdict name)) }
@@ -106,7 +104,7 @@ fn resolve_statement<'m>(
     alloc: Global,
     context: &Context<'_, '_, 'm>,
     action: &'m Action,
-) -> Result<Statement, ScriptFault>
+) -> Result<Statement, ModuleFault>
     ensures stands { IfOk result (IsStatement
         context.now.scope.now context.now.variables.now (texts context.now.turns.now) action.now) }
     ensures refused { IsSoundScope context.now.scope.now → AreTyped context.now.variables.now
@@ -146,7 +144,7 @@ fn resolve_for<'m>(
     alloc: Global,
     context: &Context<'_, '_, 'm>,
     looped: &'m Counted,
-) -> Result<Statement, ScriptFault>
+) -> Result<Statement, ModuleFault>
     ensures stands { IfOk result (IsStatement
         context.now.scope.now context.now.variables.now (texts context.now.turns.now)
         (Action.For looped.now)) }
@@ -175,7 +173,7 @@ fn resolve_block<'m>(
     alloc: Global,
     context: &Context<'_, '_, 'm>,
     block: &'m [tree::Statement],
-) -> Result<Items<Statement>, ScriptFault>
+) -> Result<Items<Statement>, ModuleFault>
     ensures stands { IfOk result (IsBlock
         context.now.scope.now context.now.variables.now (texts context.now.turns.now) block.now) }
     ensures refused { IsSoundScope context.now.scope.now → AreTyped context.now.variables.now
@@ -202,7 +200,7 @@ fn resolve_after<'m>(
     alloc: Global,
     context: &Context<'_, '_, 'm>,
     body: &'m BranchBody,
-) -> Result<Items<Statement>, ScriptFault>
+) -> Result<Items<Statement>, ModuleFault>
     ensures stands { IfOk result (IsAfter
         context.now.scope.now context.now.variables.now (texts context.now.turns.now) body.now) }
     ensures refused { IsSoundScope context.now.scope.now → AreTyped context.now.variables.now
@@ -223,7 +221,7 @@ fn resolve_branch<'m>(
     alloc: Global,
     context: &Context<'_, '_, 'm>,
     branch: &'m tree::Branch,
-) -> Result<Branch, ScriptFault>
+) -> Result<Branch, ModuleFault>
     ensures stands { IfOk result (IsBranch
         context.now.scope.now context.now.variables.now (texts context.now.turns.now) branch.now) }
     ensures refused { IsSoundScope context.now.scope.now → AreTyped context.now.variables.now
@@ -247,7 +245,7 @@ fn resolve_branches<'m>(
     alloc: Global,
     context: &Context<'_, '_, 'm>,
     branches: &'m [tree::Branch],
-) -> Result<Items<Branch>, ScriptFault>
+) -> Result<Items<Branch>, ModuleFault>
     ensures stands { IfOk result (AreBranches
         context.now.scope.now context.now.variables.now (texts context.now.turns.now)
         branches.now) }
@@ -280,7 +278,7 @@ pub fn resolve_body(
     line: u32,
     declared: &[Variable],
     statements: &[tree::Statement],
-) -> Result<Body, ScriptFault>
+) -> Result<Body, ModuleFault>
     ensures body { IfOk result (IsBody scope.now declared.now statements.now) }
     ensures refused { IsSoundScope scope.now → IfErr result
         (Breaks ((body : Body) × IsBody scope.now declared.now statements.now body)) }
@@ -289,7 +287,7 @@ pub fn resolve_body(
         IfOk result (IsPlayable scope.now.types.now ports (reference_count scope.now)) }
 {
     if !are_no_ports(scope) {
-        return Err(refused(Refusal::Duplicate, line));
+        return Err(refused(ModuleRule::Duplicate, line));
     }
     let variables = resolve_variables(alloc, scope, declared)?;
     let context = Context {

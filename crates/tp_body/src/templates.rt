@@ -12,8 +12,8 @@ use crate::context::Context;
 use crate::placing::field_places;
 use crate::plain::{resolve_text, resolve_turn};
 use std::alloc::Global;
+use tp_name::fault::ModuleFault;
 use tp_play::body::{RecvTemplate, SendValue};
-use tp_token::fault::ScriptFault;
 use tp_tree::message::{Template, TemplateField};
 use tp_value::fitting::are_ordered;
 use tp_value::items::Items;
@@ -34,9 +34,9 @@ fn pattern_part(character: u8) -> PatternPart
 }
 
 /// The parts of a pattern.
-fn parts(alloc: Global, text: &[u8]) -> Result<Items<PatternPart>, ScriptFault>
+fn parts(alloc: Global, text: &[u8]) -> Result<Items<PatternPart>, ModuleFault>
     ensures parts { IfOk result (λ parts. parts ≡ map part_of text.now) }
-    ensures refused { IfErr result (λ fault. fault ≡ ScriptFault.Memory (record {})) }
+    ensures refused { IfErr result (λ fault. fault ≡ ModuleFault.Memory (record {})) }
 {
     let mut parts = Items::new(alloc);
     for character in text {
@@ -53,7 +53,7 @@ fn resolve_range(
     ty: Ty,
     lower: Option<i64>,
     upper: Option<i64>,
-) -> Result<RecvTemplate, ScriptFault>
+) -> Result<RecvTemplate, ModuleFault>
     ensures stands { IfOk result
         (IsTemplate context.now.scope.now.types.now (texts context.now.turns.now)
         ty (Template.Range lower upper)) }
@@ -82,7 +82,7 @@ pub fn resolve_template(
     context: &Context,
     ty: Ty,
     template: &Template,
-) -> Result<RecvTemplate, ScriptFault>
+) -> Result<RecvTemplate, ModuleFault>
     ensures stands { IfOk result
         (IsTemplate context.now.scope.now.types.now (texts context.now.turns.now) ty template.now) }
     ensures refused { IsSoundScope context.now.scope.now
@@ -139,7 +139,7 @@ fn resolve_list(
     context: &Context,
     ty: Ty,
     members: &[Template],
-) -> Result<RecvTemplate, ScriptFault>
+) -> Result<RecvTemplate, ModuleFault>
     ensures stands { IfOk result (IsListTemplate
         context.now.scope.now.types.now (texts context.now.turns.now) ty members.now) }
     ensures refused { IsSoundScope context.now.scope.now
@@ -168,7 +168,7 @@ fn resolve_record(
     context: &Context,
     ty: Ty,
     entries: &[TemplateField],
-) -> Result<RecvTemplate, ScriptFault>
+) -> Result<RecvTemplate, ModuleFault>
     ensures stands { IfOk result (IsRecordTemplate
         context.now.scope.now.types.now (texts context.now.turns.now) ty entries.now) }
     ensures refused { IsSoundScope context.now.scope.now
@@ -190,7 +190,7 @@ fn resolve_members(
     context: &Context,
     ty: Ty,
     members: &[Template],
-) -> Result<Items<RecvTemplate>, ScriptFault>
+) -> Result<Items<RecvTemplate>, ModuleFault>
     ensures stand { IfOk result
         (AreMembers context.now.scope.now.types.now (texts context.now.turns.now) ty members.now) }
     ensures refused { IsSoundScope context.now.scope.now
@@ -214,7 +214,7 @@ fn resolve_element_template(
     context: &Context,
     ty: Ty,
     member: &Template,
-) -> Result<RecvTemplate, ScriptFault>
+) -> Result<RecvTemplate, ModuleFault>
     ensures stands { IfOk result
         (IsElementTemplate context.now.scope.now.types.now (texts context.now.turns.now)
         ty member.now) }
@@ -237,7 +237,7 @@ fn resolve_element_templates(
     context: &Context,
     ty: Ty,
     members: &[Template],
-) -> Result<Items<RecvTemplate>, ScriptFault>
+) -> Result<Items<RecvTemplate>, ModuleFault>
     ensures stand { IfOk result
         (AreElementTemplates context.now.scope.now.types.now (texts context.now.turns.now)
         ty members.now) }
@@ -262,7 +262,7 @@ fn resolve_field_templates(
     context: &Context,
     fields: &[Field],
     members: &[Template],
-) -> Result<Items<RecvTemplate>, ScriptFault>
+) -> Result<Items<RecvTemplate>, ModuleFault>
     ensures stand { IfOk result (AreFieldTemplates
         context.now.scope.now.types.now (texts context.now.turns.now)
         fields.now members.now) }
@@ -291,7 +291,7 @@ fn resolve_named_templates(
     context: &Context,
     fields: &[Field],
     entries: &[TemplateField],
-) -> Result<Items<RecvTemplate>, ScriptFault>
+) -> Result<Items<RecvTemplate>, ModuleFault>
     ensures named { IfOk result (λ made. AreNamedTemplates
         context.now.scope.now.types.now (texts context.now.turns.now) entries.now fields.now made) }
     ensures count { IfOk result (λ _. length entries.now ≡ length fields.now) }

@@ -10,10 +10,10 @@ use crate::context::Context;
 use crate::lookup::{find_type, place_of_port};
 use crate::scope::{BehaviourKind, Scope, Variables};
 use std::alloc::Global;
+use tp_name::fault::ModuleFault;
 use tp_name::name::find;
 use tp_name::name_set::NameSet;
 use tp_play::body::VariableType;
-use tp_token::fault::ScriptFault;
 use tp_tree::message::TypeName;
 use tp_tree::tree::Variable;
 use tp_value::items::Items;
@@ -73,7 +73,7 @@ fn add_variable<'m>(
     name: &'m str,
     held: VariableType,
     line: u32,
-) -> Result<(), ScriptFault>
+) -> Result<(), ModuleFault>
     ensures names { OnOk result (variables.new.names ≡ variables.old.names ++ name.now ∷ []) }
     ensures types { OnOk result (variables.new.types ≡ variables.old.types ++ held ∷ []) }
     ensures numbered { IsNumbered variables.new.names }
@@ -95,7 +95,7 @@ pub fn resolve_variables<'m>(
     alloc: Global,
     scope: &Scope,
     declared: &'m [Variable],
-) -> Result<Variables<'m>, ScriptFault>
+) -> Result<Variables<'m>, ModuleFault>
     ensures declared { IfOk result (AreVariables scope.now declared.now) }
     ensures refused { IfErr result
         (Breaks ((vs : Variables) × AreVariables scope.now declared.now vs)) }

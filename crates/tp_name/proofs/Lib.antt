@@ -1,3 +1,4 @@
 pub mod Numbering
 pub mod Places
 pub mod NameTables
+pub mod Telling

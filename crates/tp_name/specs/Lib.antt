@@ -1,3 +1,4 @@
 pub mod Tables
 pub mod Named
 pub mod Refused
+pub mod Told

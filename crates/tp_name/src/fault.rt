@@ -1,12 +1,115 @@
-//! Refusals of a script, at a line.
+//! The rules of a module, and why the checks refuse one.
 ghost use Rattle.std.specs.Prelude.{◌≡◌};
+ghost use Rattle.tp_name.specs.Told.{rule_refusal};
+ghost use Rattle.tp_name.specs.declared.fault.ModuleFault.TheVariants as module_fault;
 
+use std::alloc::{AllocError, AllocFailed};
+use std::fmt;
+use thiserror::Error;
+use tp_refusal::memory::Memory;
 use tp_refusal::refusal::Refusal;
-use tp_token::fault::ScriptFault;
 
-/// The refusal at this line.
-pub fn refused(refusal: Refusal, line: u32) -> ScriptFault
-    ensures { result ≡ ScriptFault.Refused refusal line }
+/// A rule that a module breaks, by the name of its [`Refusal`]: those of 11 to 18 and of 20 to 28.
+/// There is no other.
+#[derive(Clone, Copy, Debug, PartialEq, Eq)]
+pub enum ModuleRule {
+    Unknown,
+    Duplicate,
+    WrongType,
+    Direction,
+    Limit,
+    NotInSut,
+    NoDone,
+    NotStarted,
+    Directions,
+    TwoPortsOfOne,
+    Mixed,
+    NotOneToOne,
+    MapDirections,
+    SystemPort,
+    SamePort,
+    Already,
+    NotSystem,
+}
+
+impl ModuleRule {
+    /// The refusal that tells the rule: from 11 to 18, or from 20 to 28.
+    pub fn refusal(self) -> Refusal
+        ensures { result ≡ rule_refusal self }
+    {
+        match self {
+            ModuleRule::Unknown => Refusal::Unknown,
+            ModuleRule::Duplicate => Refusal::Duplicate,
+            ModuleRule::WrongType => Refusal::WrongType,
+            ModuleRule::Direction => Refusal::Direction,
+            ModuleRule::Limit => Refusal::Limit,
+            ModuleRule::NotInSut => Refusal::NotInSut,
+            ModuleRule::NoDone => Refusal::NoDone,
+            ModuleRule::NotStarted => Refusal::NotStarted,
+            ModuleRule::Directions => Refusal::Directions,
+            ModuleRule::TwoPortsOfOne => Refusal::TwoPortsOfOne,
+            ModuleRule::Mixed => Refusal::Mixed,
+            ModuleRule::NotOneToOne => Refusal::NotOneToOne,
+            ModuleRule::MapDirections => Refusal::MapDirections,
+            ModuleRule::SystemPort => Refusal::SystemPort,
+            ModuleRule::SamePort => Refusal::SamePort,
+            ModuleRule::Already => Refusal::Already,
+            ModuleRule::NotSystem => Refusal::NotSystem,
+        }
+    }
+}
+
+/// The number and the name of its refusal.
+impl fmt::Display for ModuleRule {
+    fn fmt<W: fmt::Write>(&self, f: &mut fmt::Formatter<W>) -> fmt::Result {
+        let refusal = self.refusal();
+        write!(f, "{refusal}")
+    }
+}
+
+/// Why a module is not accepted.
+#[derive(Clone, Copy, Debug, PartialEq, Eq, Error)]
+pub enum ModuleFault {
+    /// The module breaks a rule.
+    #[error("refused {rule} line {line}")]
+    Refused {
+        /// The rule.
+        rule: ModuleRule,
+        /// The line at which what breaks it begins.
+        line: u32,
+    },
+    /// 50: memory was refused, which says nothing about the module.
+    #[error("fault {}", Refusal::Memory)]
+    Memory(Memory),
+}
+
+/// The module breaks the rule at this line.
+pub fn refused(rule: ModuleRule, line: u32) -> ModuleFault
+    ensures { result ≡ ModuleFault.Refused rule line }
 {
-    ScriptFault::Refused { refusal, line }
+    ModuleFault::Refused { rule, line }
+}
+
+impl From<Memory> for ModuleFault {
+    ghost from_gives = { λ memory made. made ≡ module_fault.Memory memory };
+
+    fn from(memory: Memory) -> ModuleFault {
+        ModuleFault::Memory(memory)
+    }
+}
+
+impl From<AllocError> for ModuleFault {
+    ghost from_gives = { λ _ made. made ≡ module_fault.Memory (record {}) };
+
+    fn from(_refused: AllocError) -> ModuleFault {
+        ModuleFault::Memory(Memory)
+    }
+}
+
+impl<T: Drop> From<AllocFailed<T>> for ModuleFault {
+    ghost from_gives = { λ _ made. made ≡ module_fault.Memory (record {}) };
+
+    fn from(_refused: AllocFailed<T>) -> ModuleFault {
+        ModuleFault::Memory(Memory)
+    }
 }

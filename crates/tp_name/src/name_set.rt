@@ -1,14 +1,12 @@
 //! Names, each once.
 ghost use Rattle.std.specs.Prelude.{◌≡◌, ◌<◌, ◌≤◌, ◌∷◌, ◌++◌, ◌↔◌, [], length, Contains, IfNone, IfSome, OnOk, IsErrOf, IsSome, IsTrue, OnErr, is_some};
 
-use crate::fault::refused;
+use crate::fault::{ModuleFault, ModuleRule, refused};
 use indexmap::IndexSet;
 use std::alloc::Global;
 use std::marker::Model;
 use thiserror::Error;
 use tp_refusal::memory::Memory;
-use tp_refusal::refusal::Refusal;
-use tp_token::fault::ScriptFault;
 
 /// Why a name was not added.
 #[derive(Clone, Copy, Debug, Error)]
@@ -42,13 +40,17 @@ impl NameFault {
     ghost use Rattle.std.specs.Prelude.{◌≡◌};
 
     /// This fault at a line.
-    pub fn at(self, line: u32) -> ScriptFault
-        ensures memory { self ≡ NameFault.Memory → result ≡ ScriptFault.Memory (record {}) }
+    pub fn at(self, line: u32) -> ModuleFault
+        ensures duplicate { self ≡ NameFault.Duplicate
+            → result ≡ ModuleFault.Refused ModuleRule.Duplicate line }
+        ensures limit { self ≡ NameFault.Limit
+            → result ≡ ModuleFault.Refused ModuleRule.Limit line }
+        ensures memory { self ≡ NameFault.Memory → result ≡ ModuleFault.Memory (record {}) }
     {
         match self {
-            NameFault::Duplicate => refused(Refusal::Duplicate, line),
-            NameFault::Limit => refused(Refusal::Limit, line),
-            NameFault::Memory => ScriptFault::Memory(Memory),
+            NameFault::Duplicate => refused(ModuleRule::Duplicate, line),
+            NameFault::Limit => refused(ModuleRule::Limit, line),
+            NameFault::Memory => ModuleFault::Memory(Memory),
         }
     }
 }

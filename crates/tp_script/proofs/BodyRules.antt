@@ -1,6 +1,6 @@
 -- A body that is refused in one scope stands for nothing in any scope of what it may speak of.
 use Rattle.std.proofs.Common.{◌≡◌, ℕ, List, Result, Ok, Err, IfErr}
-use Rattle.tp_token.specs.declared.fault.ScriptFault.{ScriptFault}
+use Rattle.tp_name.specs.declared.fault.ModuleFault.{ModuleFault}
 use Rattle.tp_tree.specs.declared.tree.Statement.{Statement}
 use Rattle.tp_tree.specs.declared.tree.Variable.{Variable}
 use Rattle.tp_name.specs.Refused.{Breaks}
@@ -15,7 +15,7 @@ use Rattle.tp_script.proofs.Sound.{sound_scope}
 use Rattle.tp_script.proofs.Views.{in_each_scope}
 
 refused_everywhere : (known : Known) (plays : BehaviourKind) (runs_on : List ℕ) (names : List (List ℕ)) (s : Scope) (xs : List Variable)
-    (statements : List Statement) (r : Result Body ScriptFault) → IsScope known plays runs_on names s
+    (statements : List Statement) (r : Result Body ModuleFault) → IsScope known plays runs_on names s
     → IfErr r (Breaks ((body : Body) × IsBody s xs statements body)) → IfErr r (Breaks ((body : Body) × StandsFor known plays runs_on names xs statements body))
 refused_everywhere known plays runs_on names s xs statements (Ok body) is refused = tt
 refused_everywhere known plays runs_on names s xs statements (Err f) is refused =
@@ -26,7 +26,7 @@ refused_everywhere known plays runs_on names s xs statements (Err f) is refused 
 
 -- the same, where the parts of the rule are given by equations
 pub body_refused : (known : Known) (plays plays_so : BehaviourKind) (runs_on runs_so : List ℕ) (names named : List (List ℕ)) (s : Scope) (xs ys : List Variable)
-    (statements stated : List Statement) (r : Result Body ScriptFault) → plays ≡ plays_so → runs_on ≡ runs_so → names ≡ named → xs ≡ ys
+    (statements stated : List Statement) (r : Result Body ModuleFault) → plays ≡ plays_so → runs_on ≡ runs_so → names ≡ named → xs ≡ ys
     → statements ≡ stated → IsSoundKnown known → IsScope known plays runs_on names s
     → (IsSoundScope s → IfErr r (Breaks ((body : Body) × IsBody s xs statements body)))
     → IfErr r (Breaks ((body : Body) × StandsFor known plays_so runs_so named ys stated body))

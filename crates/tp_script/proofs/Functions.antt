@@ -6,7 +6,7 @@ use Rattle.tp_tree.specs.declared.tree.Definition.{Definition}
 use Rattle.tp_tree.specs.declared.tree.Function.{Function}
 use Rattle.std.proofs.lemmas.Option.{slice_get-get_or, same_Some}
 use Rattle.tp_tree.specs.declared.tree.Defined.{Defined}
-use Rattle.tp_token.specs.declared.fault.ScriptFault.{ScriptFault}
+use Rattle.tp_name.specs.declared.fault.ModuleFault.{ModuleFault}
 use Rattle.tp_name.specs.Refused.{Breaks}
 use Rattle.tp_name.specs.Tables.{IsNumbered}
 use Rattle.tp_setup.specs.Definitions.{among, declared, function_of, inner_names}
@@ -59,7 +59,7 @@ module _ (known : Known) (xs : List Definition) (i : ℕ) (x : Definition) (f : 
       (body.0, body.2)
 
   -- a function without a body refuses all
-  pub one_refused : HaveOwnNames xs → (fault : ScriptFault)
+  pub one_refused : HaveOwnNames xs → (fault : ModuleFault)
       → (IsNumbered (map (λ p. declared p.name) f.parameters.items) → Breaks ((body : Body) × IsFunctionBody known f body) fault)
       → Breaks ((bodies : List Body) × AllZip (IsFunctionBody known) (among function_of xs) bodies) fault
   one_refused own fault broken = breaks_part one_of_all fault (broken (own_parameters own))

@@ -3,3 +3,4 @@ pub mod Behaviours
 pub mod TestCases
 pub mod Instances
 pub mod Scripts
+pub mod Told

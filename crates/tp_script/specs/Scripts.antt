@@ -1,12 +1,14 @@
 -- What a text says, read as a script.
-use Rattle.std.specs.Prelude.{◌≤◌, ◌⊎◌, ℕ, List}
+use Rattle.std.specs.Prelude.{◌≤◌, ℕ, List}
 use Rattle.tp_tree.specs.declared.tree.Module.{Module}
-use Rattle.tp_token.specs.declared.fault.ScriptFault.{ScriptFault}
-use Rattle.tp_name.specs.Refused.{Breaks}
+use Rattle.tp_token.specs.declared.fault.ScriptFault.TheVariants as script_fault
 use Rattle.tp_syntax.specs.Definitions.{IsReadAs}
 use Rattle.tp_syntax.specs.Nesting.{module_depth}
 use Rattle.tp_syntax.specs.Refusals.{HasTokens, IsUnread}
 use Rattle.tp_play.specs.TestCases.{Made}
+use Rattle.tp_script.specs.declared.fault.ScriptRule.TheVariants as script_rule
+use Rattle.tp_script.specs.declared.fault.TestCaseFault.{TestCaseFault}
+use Rattle.tp_script.specs.declared.fault.TestCaseFault.TheVariants as test_case_fault
 use Rattle.tp_script.specs.TestCases.{IsTestCaseOf, WellFormed}
 
 -- the text is read as this module, within the limits: of the text, of names and numbers, and of open brackets
@@ -22,8 +24,11 @@ pub record IsScriptOf (text : List ℕ) (made : Made) : Type 0 where
   pub well_formed : WellFormed parsed
   pub test_case : IsTestCaseOf parsed made
 
--- the text is refused so: for a fault that `parse` may answer for it; or it is read as a module, within the limits,
--- and refused for want of memory, or since the module doesn't obey the rules
-abbrev pub IsScriptFaultOf : List ℕ → ScriptFault → Type 0
-IsScriptFaultOf text fault =
-    IsUnread text fault ⊎ ((parsed : Module) × IsModuleOf text parsed × Breaks (WellFormed parsed) fault)
+-- the text is refused so: for a rule of texts, as `parse` may tell it; or it is read as a module, within the limits,
+-- that doesn't obey the rules of modules; or memory was refused
+abbrev pub IsScriptFaultOf : List ℕ → TestCaseFault → Type 0
+IsScriptFaultOf text (test_case_fault.Refused (script_rule.Text rule) line) =
+    IsUnread text (script_fault.Refused rule line)
+IsScriptFaultOf text (test_case_fault.Refused (script_rule.Module rule) line) =
+    (parsed : Module) × IsModuleOf text parsed × ¬ WellFormed parsed
+IsScriptFaultOf text (test_case_fault.Memory m) = Unit {0}

@@ -12,13 +12,13 @@ use crate::scopes::{parameter_names, scope_of};
 use std::alloc::Global;
 use tp_body::scope::BehaviourKind;
 use tp_body::statements::resolve_body;
+use tp_name::fault::ModuleFault;
 use tp_name::name_set::NameSet;
 use tp_play::bodies::Bodies;
 use tp_play::body::Body;
 use tp_setup::definitions::is_sut;
 use tp_setup::prepared::Prepared;
 use tp_setup::sorted::as_function;
-use tp_token::fault::ScriptFault;
 use tp_tree::tree::{Definition, Function, Module};
 
 /// Whose body a function's is: a function named `sut` plays the system under test. Takes no memory.
@@ -33,7 +33,7 @@ fn plays(function: &Function) -> BehaviourKind
 }
 
 /// The test case's own body.
-fn resolve_main(alloc: Global, prepared: &Prepared) -> Result<Body, ScriptFault>
+fn resolve_main(alloc: Global, prepared: &Prepared) -> Result<Body, ModuleFault>
     ensures body { IfOk result (IsMainBody (known_in prepared.now) prepared.now.case.case.now) }
     ensures refused { IsSoundKnown (known_in prepared.now) → IfErr result (Breaks ((body : Body)
         × IsMainBody (known_in prepared.now) prepared.now.case.case.now body)) }
@@ -58,7 +58,7 @@ fn resolve_function<'m>(
     prepared: &Prepared<'m>,
     function: &'m Function,
     line: u32,
-) -> Result<Body, ScriptFault>
+) -> Result<Body, ModuleFault>
     ensures body { IfOk result (IsFunctionBody (known_in prepared.now) function.now) }
     ensures refused { IsSoundKnown (known_in prepared.now)
         → IsNumbered (map (λ p. declared p.name) function.now.parameters.items)
@@ -82,7 +82,7 @@ fn resolve_functions<'m>(
     alloc: Global,
     definitions: &'m [Definition],
     prepared: &Prepared<'m>,
-) -> Result<Vec<Body>, ScriptFault>
+) -> Result<Vec<Body>, ModuleFault>
     ensures bodies { IfOk result (λ bodies. AllZip (IsFunctionBody (known_in prepared.now))
         (among function_of definitions.now) bodies.items) }
     ensures refused { IsSoundKnown (known_in prepared.now) → HaveOwnNames definitions.now
@@ -111,7 +111,7 @@ pub fn resolve_bodies<'m>(
     alloc: Global,
     parsed: &'m Module,
     prepared: &Prepared<'m>,
-) -> Result<Bodies, ScriptFault>
+) -> Result<Bodies, ModuleFault>
     ensures main { IfOk result (λ b.
         IsMainBody (known_in prepared.now) prepared.now.case.case.now b.main) }
     ensures functions { IfOk result (λ b. AllZip (IsFunctionBody (known_in prepared.now))

@@ -15,11 +15,11 @@ use crate::bodies::resolve_bodies;
 use crate::instances::make_instances;
 use crate::total::check_size;
 use std::alloc::Global;
+use tp_name::fault::ModuleFault;
 use tp_play::bodies::Behaviours;
 use tp_play::test_case::TestCase;
 use tp_setup::prepared::Prepared;
 use tp_setup::preparing::prepare;
-use tp_token::fault::ScriptFault;
 use tp_tree::tree::Module;
 
 /// The fourth pass and the fifth: the bodies, and what each component does with them. The first
@@ -28,7 +28,7 @@ fn resolve_behaviours<'m>(
     alloc: Global,
     parsed: &'m Module,
     prepared: &Prepared<'m>,
-) -> Result<Behaviours, ScriptFault>
+) -> Result<Behaviours, ModuleFault>
     ensures main { IfOk result (λ b.
         IsMainBody (known_in prepared.now) prepared.now.case.case.now b.bodies.main) }
     ensures functions { IfOk result (λ b. AllZip (IsFunctionBody (known_in prepared.now))
@@ -66,14 +66,15 @@ fn assemble(prepared: Prepared<'_>, behaviours: Behaviours) -> TestCase
 
 /// Checks a module, and makes its test case.
 ///
-/// The first fault of the first pass that finds one is the answer, at its line. The passes are: the
-/// names, 11 `Unknown` and 12 `Duplicate`; the definitions, 11, 15 `Limit` and 16 `NotInSut`; the
-/// setup and the starts, 11, 12, 13 `WrongType`, 15, 16, 17 `NoDone`, 18 `NotStarted` and the
-/// refusals of [`Config::connect`](tp_config::config::Config::connect) and
+/// The first fault of the first pass that finds one is the answer: a
+/// [`ModuleRule`](tp_name::fault::ModuleRule), at its line. The passes are: the names, 11 `Unknown`
+/// and 12 `Duplicate`; the definitions, 11, 15 `Limit` and 16 `NotInSut`; the setup and the starts,
+/// 11, 12, 13 `WrongType`, 15, 16, 17 `NoDone`, 18 `NotStarted` and the refusals of
+/// [`Config::connect`](tp_config::config::Config::connect) and
 /// [`Config::map`](tp_config::config::Config::map), 20 to 28; the bodies, 11, 12, 13,
 /// 14 `Direction` and 16; and the size, 15. 50 `Memory` only where an allocation was refused;
 /// whatever else is answered, the module breaks a rule.
-pub fn check(alloc: Global, parsed: &Module) -> Result<TestCase, ScriptFault>
+pub fn check(alloc: Global, parsed: &Module) -> Result<TestCase, ModuleFault>
     ensures well_formed { OnOk result (WellFormed parsed.now) }
     ensures made { IfOk result (IsTestCaseOf parsed.now) }
     ensures refused { IfErr result (Breaks (WellFormed parsed.now)) }

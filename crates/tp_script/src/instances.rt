@@ -7,18 +7,16 @@ ghost use Rattle.tp_script.specs.Instances.{AreFew, AreInstances, IsInstance, in
 
 use std::alloc::Global;
 use tp_config::port_type::CompId;
-use tp_name::fault::refused;
+use tp_name::fault::{ModuleFault, ModuleRule, refused};
 use tp_play::instance::{Instance, Source};
-use tp_refusal::refusal::Refusal;
 use tp_setup::prepared::Prepared;
 use tp_setup::starts::{Started, Starts};
-use tp_token::fault::ScriptFault;
 
 /// Adds the components of so many component variables, which are numbered from 1.
-fn add_variables(references: &mut Vec<CompId>, count: u32) -> Result<(), ScriptFault>
+fn add_variables(references: &mut Vec<CompId>, count: u32) -> Result<(), ModuleFault>
     ensures numbers { OnOk result (Numbers count
         (map (λ c. c.0) references.old.items) (map (λ c. c.0) references.new.items)) }
-    ensures refused { IfErr result (λ fault. fault ≡ ScriptFault.Memory (record {})) }
+    ensures refused { IfErr result (λ fault. fault ≡ ModuleFault.Memory (record {})) }
 {
     for place in 0..count {
         references.push(CompId(place + 1))?;
@@ -32,10 +30,10 @@ fn references(
     itself: CompId,
     arguments: &[CompId],
     count: u32,
-) -> Result<Vec<CompId>, ScriptFault>
+) -> Result<Vec<CompId>, ModuleFault>
     ensures references { IfOk result (λ made. AreReferences
         itself.0 (map (λ c. c.0) arguments.now) count (map (λ c. c.0) made.items)) }
-    ensures refused { IfErr result (λ fault. fault ≡ ScriptFault.Memory (record {})) }
+    ensures refused { IfErr result (λ fault. fault ≡ ModuleFault.Memory (record {})) }
 {
     let mut made = Vec::new(alloc);
     made.push(CompId(0))?;
@@ -46,13 +44,13 @@ fn references(
 }
 
 /// How many component variables there are. 15 `Limit` where there are more than 4,294,967,295.
-fn variable_count(prepared: &Prepared) -> Result<u32, ScriptFault>
+fn variable_count(prepared: &Prepared) -> Result<u32, ModuleFault>
     ensures count { IfOk result (λ count. count ≡ length prepared.now.variables) }
     ensures refused { IfErr result (λ _. 4294967295 < length prepared.now.variables) }
 {
     let count = prepared.variables.len();
     if count > u32::MAX as usize {
-        return Err(ScriptFault::limit(prepared.case.line));
+        return Err(refused(ModuleRule::Limit, prepared.case.line));
     }
     Ok(count as u32)
 }
@@ -83,11 +81,11 @@ fn start_at(starts: &Starts, place: u32) -> Option<&Started>
 }
 
 /// What `mtc` does.
-fn main_instance(alloc: Global, count: u32) -> Result<Instance, ScriptFault>
+fn main_instance(alloc: Global, count: u32) -> Result<Instance, ModuleFault>
     ensures source { IfOk result (λ instance. instance.source ≡ source.TestCase) }
     ensures references { IfOk result (λ instance.
         AreReferences 0 [] count (map (λ c. c.0) instance.references.items)) }
-    ensures refused { IfErr result (λ fault. fault ≡ ScriptFault.Memory (record {})) }
+    ensures refused { IfErr result (λ fault. fault ≡ ModuleFault.Memory (record {})) }
 {
     let references = references(alloc, CompId(0), &[], count)?;
     Ok(Instance {
@@ -103,19 +101,19 @@ fn started_instance(
     place: usize,
     start: u32,
     count: u32,
-) -> Result<Instance, ScriptFault>
+) -> Result<Instance, ModuleFault>
     requires count { count ≡ length prepared.now.variables }
     requires start { slice_get prepared.now.starts.places.items place ≡ Some start }
     ensures instance { IfOk result (λ instance.
         IsInstance prepared.now (place + 1) (Some instance)) }
     ensures refused { AreFew prepared.now
-        → IfErr result (λ fault. fault ≡ ScriptFault.Memory (record {})) }
+        → IfErr result (λ fault. fault ≡ ModuleFault.Memory (record {})) }
 {
     let Some(itself) = component_behind(place) else {
-        return Err(ScriptFault::limit(prepared.case.line));
+        return Err(refused(ModuleRule::Limit, prepared.case.line));
     };
     let Some(started) = start_at(&prepared.starts, start) else {
-        return Err(refused(Refusal::NotStarted, prepared.case.line));
+        return Err(refused(ModuleRule::NotStarted, prepared.case.line));
     };
     let references = references(alloc, itself, &started.arguments, count)?;
     Ok(Instance {
@@ -130,19 +128,19 @@ fn system_instance(
     alloc: Global,
     prepared: &Prepared,
     count: u32,
-) -> Result<Option<Instance>, ScriptFault>
+) -> Result<Option<Instance>, ModuleFault>
     requires count { count ≡ length prepared.now.variables }
     requires system { IsSome prepared.now.case.case.now.system }
     ensures instance { IfOk result (IsInstance
         prepared.now (length prepared.now.starts.places.items + 1)) }
     ensures refused { AreFew prepared.now
-        → IfErr result (λ fault. fault ≡ ScriptFault.Memory (record {})) }
+        → IfErr result (λ fault. fault ≡ ModuleFault.Memory (record {})) }
 {
     let Some(place) = prepared.sorted.function_names.find("sut") else {
         return Ok(None);
     };
     let Some(itself) = component_behind(started_count(&prepared.starts)) else {
-        return Err(ScriptFault::limit(prepared.case.line));
+        return Err(refused(ModuleRule::Limit, prepared.case.line));
     };
     let references = references(alloc, itself, &[], count)?;
     Ok(Some(Instance {
@@ -156,13 +154,13 @@ fn test_instances(
     alloc: Global,
     prepared: &Prepared,
     count: u32,
-) -> Result<Vec<Option<Instance>>, ScriptFault>
+) -> Result<Vec<Option<Instance>>, ModuleFault>
     requires { count ≡ length prepared.now.variables }
     ensures instances { IfOk result (λ instances. AreInstances prepared.now instances.items) }
     ensures count { IfOk result (λ instances.
         length instances.items ≡ length prepared.now.starts.places.items + 1) }
     ensures refused { AreFew prepared.now
-        → IfErr result (λ fault. fault ≡ ScriptFault.Memory (record {})) }
+        → IfErr result (λ fault. fault ≡ ModuleFault.Memory (record {})) }
 {
     let mut instances = Vec::new(alloc);
     let main = main_instance(alloc, count)?;
@@ -183,12 +181,12 @@ fn test_instances(
 pub fn make_instances(
     alloc: Global,
     prepared: &Prepared,
-) -> Result<Vec<Option<Instance>>, ScriptFault>
+) -> Result<Vec<Option<Instance>>, ModuleFault>
     ensures instances { IfOk result (λ instances. AreInstances prepared.now instances.items) }
     ensures count { IfOk result (λ instances.
         length instances.items ≡ instance_count prepared.now) }
     ensures refused { AreFew prepared.now
-        → IfErr result (λ fault. fault ≡ ScriptFault.Memory (record {})) }
+        → IfErr result (λ fault. fault ≡ ModuleFault.Memory (record {})) }
 {
     let count = variable_count(prepared)?;
     let mut instances = test_instances(alloc, prepared, count)?;

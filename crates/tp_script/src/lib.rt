@@ -4,6 +4,7 @@
 
 mod bodies;
 pub mod checking;
+pub mod fault;
 mod instances;
 pub mod reading;
 mod scopes;

@@ -11,12 +11,10 @@ ghost use Rattle.tp_script.specs.Scopes.{IsScope};
 use std::alloc::Global;
 use tp_body::scope::{BehaviourKind, Scope};
 use tp_config::port_type::CompType;
-use tp_name::fault::refused;
+use tp_name::fault::{ModuleFault, ModuleRule, refused};
 use tp_name::name_set::NameSet;
-use tp_refusal::refusal::Refusal;
 use tp_setup::prepared::Prepared;
 use tp_setup::unique_names::declare_parameters;
-use tp_token::fault::ScriptFault;
 use tp_tree::tree::Parameter;
 
 /// The component type at this place. Takes no memory.
@@ -28,7 +26,7 @@ fn kind_at(kinds: &[CompType], place: u32) -> Option<&CompType>
 
 /// The names of the parameters, in their order. 12 `Duplicate` at the line of the second of two
 /// that are equal, 15 `Limit` at the line of one behind 4,294,967,295 others; 50.
-pub fn parameter_names(alloc: Global, parameters: &[Parameter]) -> Result<NameSet<'_>, ScriptFault>
+pub fn parameter_names(alloc: Global, parameters: &[Parameter]) -> Result<NameSet<'_>, ModuleFault>
     ensures names { IfOk result (λ names. names ≡ map (λ p. declared p.name) parameters.now) }
     ensures refused { IfErr result (Breaks (IsNumbered
         (map (λ p. declared p.name) parameters.now))) }
@@ -46,17 +44,17 @@ pub fn scope_of<'m>(
     behaviour: BehaviourKind,
     parameters: &'m NameSet<'m>,
     line: u32,
-) -> Result<Scope<'m>, ScriptFault>
+) -> Result<Scope<'m>, ModuleFault>
     ensures scope { IfOk result (IsScope
         (known_in prepared.now) behaviour runs_on.now parameters.now) }
     ensures refused { IfErr result (Breaks ((scope : Scope)
         × IsScope (known_in prepared.now) behaviour runs_on.now parameters.now scope)) }
 {
     let Some(place) = prepared.sorted.component_names.find(runs_on) else {
-        return Err(refused(Refusal::Unknown, line));
+        return Err(refused(ModuleRule::Unknown, line));
     };
     let Some(ports) = kind_at(prepared.config.types(), place) else {
-        return Err(refused(Refusal::Unknown, line));
+        return Err(refused(ModuleRule::Unknown, line));
     };
     Ok(Scope {
         types: &prepared.types,

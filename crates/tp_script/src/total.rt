@@ -9,16 +9,16 @@ ghost use Rattle.tp_script.specs.Instances.{size_of_instance};
 
 use std::alloc::Global;
 use tp_body::size::{COUNTED, cap, count_body};
+use tp_name::fault::{ModuleFault, ModuleRule, refused};
 use tp_play::bodies::Bodies;
 use tp_play::body::Body;
 use tp_play::instance::{Instance, Source};
-use tp_token::fault::ScriptFault;
 
 /// How many statements each body has, up to [`COUNTED`].
-fn count_bodies(alloc: Global, bodies: &[Body]) -> Result<Vec<u64>, ScriptFault>
+fn count_bodies(alloc: Global, bodies: &[Body]) -> Result<Vec<u64>, ModuleFault>
     ensures sizes { IfOk result (λ sizes.
         sizes.items ≡ map (λ b. capped (size_of_body b)) bodies.now) }
-    ensures refused { IfErr result (λ fault. fault ≡ ScriptFault.Memory (record {})) }
+    ensures refused { IfErr result (λ fault. fault ≡ ModuleFault.Memory (record {})) }
 {
     let mut sizes = Vec::new(alloc);
     for body in bodies {
@@ -69,7 +69,7 @@ pub fn check_size(
     bodies: &Bodies,
     instances: &[Option<Instance>],
     line: u32,
-) -> Result<(), ScriptFault>
+) -> Result<(), ModuleFault>
     ensures few { OnOk result (
         sum (map size_of_behaviour (map (behaviour_of bodies.now) instances.now)) ≤ 100000) }
     ensures refused { IfErr result (Breaks (
@@ -78,7 +78,7 @@ pub fn check_size(
     let main = count_body(&bodies.main);
     let functions = count_bodies(alloc, &bodies.functions)?;
     if count_instances(main, &functions, instances) >= COUNTED {
-        return Err(ScriptFault::limit(line));
+        return Err(refused(ModuleRule::Limit, line));
     }
     Ok(())
 }

@@ -5,10 +5,7 @@ use Rattle.std.specs.declared.string.String.{String}
 use Rattle.tp_tree.specs.declared.tree.TestCase.{TestCase}
 use Rattle.tp_config.specs.declared.port_type.Role.TheVariants as role
 use Rattle.std.proofs.lemmas.List.{get_or_at, length-append, length-map, map-append}
-use Rattle.tp_token.specs.declared.fault.ScriptFault.{ScriptFault}
-use Rattle.tp_token.specs.declared.fault.ScriptFault.TheVariants as script_fault
-use Rattle.tp_refusal.specs.declared.refusal.Refusal.{Refusal}
-use Rattle.tp_refusal.specs.declared.refusal.Refusal.TheVariants as refusal
+use Rattle.tp_name.specs.declared.fault.ModuleFault.{ModuleFault}
 use Rattle.tp_tree.specs.declared.tree.Creation.{Creation}
 use Rattle.tp_config.specs.declared.creating.CreateFault.{CreateFault}
 use Rattle.tp_config.specs.declared.creating.CreateFault.TheVariants as create_fault
@@ -18,6 +15,8 @@ use Rattle.tp_config.specs.Causes.{CanCreate, CreateRefused, IsTaken}
 use Rattle.tp_config.specs.Faults.{create_refusal}
 use Rattle.tp_name.specs.Refused.{Breaks}
 use Rattle.tp_name.specs.Tables.{AreDistinct}
+use Rattle.tp_name.specs.Told.{fault_refusal}
+use Rattle.tp_name.proofs.Telling.{told_memory}
 use Rattle.tp_setup.specs.Components.{AddsAll, CanAdd, CanAddAll, Declared, HasSoundVariables, IsSoundVariable, created, interface, variable}
 use Rattle.tp_setup.proofs.Naming.{distinct_first}
 use Rattle.tp_setup.proofs.Zips.{not_before}
@@ -29,18 +28,17 @@ can_create types x s kind can = (free, can.room) where
   free (inl there) = can.new_name there
   free (inr (system, there)) = can.one_interface system there
 
-fault_broken : (s : Setup) (m : Member) (f : CreateFault) (r : Refusal) (fault : ScriptFault) → CreateRefused s m f → r ≡ create_refusal f
-    → (r ≡ refusal.Memory → fault ≡ script_fault.Memory (record {})) → Breaks (CanCreate s m) fault
-fault_broken s m create_fault.Duplicate r fault h e memory = inr h.1
-fault_broken s m create_fault.Limit r fault h e memory = inr h.1
-fault_broken s m create_fault.Memory r fault h e memory = inl (memory e)
+fault_broken : (s : Setup) (m : Member) (f : CreateFault) (fault : ModuleFault) → CreateRefused s m f → fault_refusal fault ≡ create_refusal f
+    → Breaks (CanCreate s m) fault
+fault_broken s m create_fault.Duplicate fault h e = inr h.1
+fault_broken s m create_fault.Limit fault h e = inr h.1
+fault_broken s m create_fault.Memory fault h e = inl (told_memory fault e)
 
 -- a create that is refused
-pub create_broken : (types : List (List ℕ)) (x : Declared) (s : Setup) (name : List ℕ) (kind : ℕ) (f : CreateFault) (r : Refusal) (fault : ScriptFault)
-    → name ≡ x.name → CreateRefused s (member name kind x.role) f → r ≡ create_refusal f
-    → (r ≡ refusal.Memory → fault ≡ script_fault.Memory (record {})) → Breaks (CanAdd types x s) fault
-create_broken types x s name kind f r fault named h e memory =
-    by (fault_broken s (member name kind x.role) f r fault h e memory)
+pub create_broken : (types : List (List ℕ)) (x : Declared) (s : Setup) (name : List ℕ) (kind : ℕ) (f : CreateFault) (fault : ModuleFault)
+    → name ≡ x.name → CreateRefused s (member name kind x.role) f → fault_refusal fault ≡ create_refusal f → Breaks (CanAdd types x s) fault
+create_broken types x s name kind f fault named h e =
+    by (fault_broken s (member name kind x.role) f fault h e)
   where
     by : Breaks (CanCreate s (member name kind x.role)) fault → Breaks (CanAdd types x s) fault
     by (inl want) = inl want

@@ -4,10 +4,7 @@ use Rattle.std.specs.Option.{option_map_or}
 use Rattle.std.proofs.lemmas.Bool.{cases_lt}
 use Rattle.std.proofs.Math.ListN.{get_or-eq_default}
 use Rattle.std.proofs.lemmas.Option.{same_Some}
-use Rattle.tp_token.specs.declared.fault.ScriptFault.{ScriptFault}
-use Rattle.tp_token.specs.declared.fault.ScriptFault.TheVariants as script_fault
-use Rattle.tp_refusal.specs.declared.refusal.Refusal.{Refusal}
-use Rattle.tp_refusal.specs.declared.refusal.Refusal.TheVariants as refusal
+use Rattle.tp_name.specs.declared.fault.ModuleFault.{ModuleFault}
 use Rattle.tp_tree.specs.declared.tree.PairEnd.{PairEnd}
 use Rattle.tp_config.specs.declared.port_type.CompId.{CompId}
 use Rattle.tp_config.specs.declared.port_type.PortRef.{PortRef}
@@ -21,6 +18,8 @@ use Rattle.tp_config.specs.Causes.{ConnectRefused, MapRefused}
 use Rattle.tp_config.specs.Faults.{connect_refusal, map_refusal}
 use Rattle.tp_name.specs.Refused.{Breaks}
 use Rattle.tp_name.specs.Tables.{AreDistinct}
+use Rattle.tp_name.specs.Told.{fault_refusal}
+use Rattle.tp_name.proofs.Telling.{told_memory}
 use Rattle.tp_setup.specs.Configuring.{Connects, HaveOwnPorts, IsEnd, Maps, component_at, names_of_ports}
 use Rattle.tp_setup.proofs.Refusing.{breaks_part}
 use Rattle.tp_setup.proofs.Steps.{contains_at}
@@ -67,9 +66,9 @@ module _ (s : Setup) (names : List (List ℕ)) (system : Option ℕ) where
       (subst (λ i. slice_get (port_names s (port_at i r.0.port).comp) r.0.port ≡ Some (string_bytes x.port)) same r.1.port_known))
 
   module _ (own : HaveOwnPorts s.types) (x y : PairEnd) (p q : PortRef) (first : IsEnd s names system x p) (second : IsEnd s names system y q)
-      (r : Refusal) (fault : ScriptFault) (memory : r ≡ refusal.Memory → fault ≡ script_fault.Memory (record {})) where
-    connect_told : (f : ConnectFault) → ConnectRefused s p q f → r ≡ connect_refusal f → Breaks (CanConnect s p q) fault
-    connect_told connect_fault.Memory h e = inl (memory e)
+      (fault : ModuleFault) where
+    connect_told : (f : ConnectFault) → ConnectRefused s p q f → fault_refusal fault ≡ connect_refusal f → Breaks (CanConnect s p q) fault
+    connect_told connect_fault.Memory h e = inl (told_memory fault e)
     connect_told connect_fault.SystemPort h e = inr h.1
     connect_told connect_fault.SamePort h e = inr h.1
     connect_told connect_fault.Already h e = inr h.1
@@ -77,15 +76,15 @@ module _ (s : Setup) (names : List (List ℕ)) (system : Option ℕ) where
     connect_told connect_fault.TwoPortsOfOne h e = inr h.1
     connect_told connect_fault.Directions h e = inr h.1
 
-    map_told : (f : MapFault) → MapRefused s p q f → r ≡ map_refusal f → Breaks (CanMap s p q) fault
-    map_told map_fault.Memory h e = inl (memory e)
+    map_told : (f : MapFault) → MapRefused s p q f → fault_refusal fault ≡ map_refusal f → Breaks (CanMap s p q) fault
+    map_told map_fault.Memory h e = inl (told_memory fault e)
     map_told map_fault.NotSystem h e = inr h.1
     map_told map_fault.Mixed h e = inr h.1
     map_told map_fault.NotOneToOne h e = inr h.1
     map_told map_fault.MapDirections h e = inr h.1
 
     -- a connect that is refused
-    pub connect_broken : (f : ConnectFault) → ConnectRefused s p q f → r ≡ connect_refusal f → Breaks ((t : Setup) × Connects s names system x y t) fault
+    pub connect_broken : (f : ConnectFault) → ConnectRefused s p q f → fault_refusal fault ≡ connect_refusal f → Breaks ((t : Setup) × Connects s names system x y t) fault
     connect_broken f h e =
         breaks_part ((t : Setup) × Connects s names system x y t) (CanConnect s p q) fault
         (λ w. subst (λ a. CanConnect s a q) (same_end own x w.1.p p w.1.first first)
@@ -93,7 +92,7 @@ module _ (s : Setup) (names : List (List ℕ)) (system : Option ℕ) where
         (connect_told f h e)
 
     -- a map that is refused
-    pub map_broken : (f : MapFault) → MapRefused s p q f → r ≡ map_refusal f → Breaks ((t : Setup) × Maps s names system x y t) fault
+    pub map_broken : (f : MapFault) → MapRefused s p q f → fault_refusal fault ≡ map_refusal f → Breaks ((t : Setup) × Maps s names system x y t) fault
     map_broken f h e =
         breaks_part ((t : Setup) × Maps s names system x y t) (CanMap s p q) fault
         (λ w. subst (λ a. CanMap s a q) (same_end own x w.1.p p w.1.first first)

@@ -5,43 +5,43 @@ use Rattle.std.specs.Result.{IsErrAnd}
 use Rattle.std.proofs.lemmas.Result.{err_from_is_err_and}
 use Rattle.std.proofs.lemmas.List.{get_or-map, length-map, take-append-drop, map-append, map_push}
 use Rattle.std.proofs.lemmas.List.Concat.{flat_map-append}
-use Rattle.tp_token.specs.declared.fault.ScriptFault.{ScriptFault}
-use Rattle.tp_token.specs.declared.fault.ScriptFault.TheVariants as script_fault
+use Rattle.tp_name.specs.declared.fault.ModuleFault.{ModuleFault}
+use Rattle.tp_name.specs.declared.fault.ModuleFault.TheVariants as module_fault
 use Rattle.tp_name.specs.declared.name_set.NameFault.{NameFault}
 use Rattle.tp_name.specs.declared.name_set.NameFault.TheVariants as name_fault
 use Rattle.tp_name.specs.Refused.{Breaks}
 use Rattle.tp_setup.proofs.Steps.{flat_more, pushed}
 
 -- what breaks a part of a rule breaks the rule
-pub breaks_part : (R P : Type 0) (f : ScriptFault) → (R → P) → Breaks P f → Breaks R f
+pub breaks_part : (R P : Type 0) (f : ModuleFault) → (R → P) → Breaks P f → Breaks R f
 breaks_part R P f part (inl e) = inl e
 breaks_part R P f part (inr h) = inr (λ r. h (part r))
 
 -- a `?` hands on a fault that breaks a part of the rule, and one for want of memory
-pub handed_on : {T R P : Type 0} (r : Result T ScriptFault) (f : ScriptFault) → IsErrAnd r (λ y. y ≡ f) → Breaks P f → (R → P) → IfErr r (Breaks R)
+pub handed_on : {T R P : Type 0} (r : Result T ModuleFault) (f : ModuleFault) → IsErrAnd r (λ y. y ≡ f) → Breaks P f → (R → P) → IfErr r (Breaks R)
 handed_on {R} {P} r f is broken part =
     let p = err_from_is_err_and r is in
     rw (p.1, p.2) (breaks_part R P f part broken)
 
 -- a `?` hands on a fault that shows the rule to be broken
-pub handed_break : {T : Type 0} (R : Type 0) (r : Result T ScriptFault) (f : ScriptFault) → IsErrAnd r (λ y. y ≡ f) → (R → ⊥) → IfErr r (Breaks R)
+pub handed_break : {T : Type 0} (R : Type 0) (r : Result T ModuleFault) (f : ModuleFault) → IsErrAnd r (λ y. y ≡ f) → (R → ⊥) → IfErr r (Breaks R)
 handed_break R r f is broken =
     let p = err_from_is_err_and r is in
     rw (p.1, p.2) (inr broken)
 
 -- a `?` hands on whatever a fault shows
-pub handed_fact : {T : Type 0} (N : Type 0) (r : Result T ScriptFault) (f : ScriptFault) → IsErrAnd r (λ y. y ≡ f) → N → IfErr r (λ _. N)
+pub handed_fact : {T : Type 0} (N : Type 0) (r : Result T ModuleFault) (f : ModuleFault) → IsErrAnd r (λ y. y ≡ f) → N → IfErr r (λ _. N)
 handed_fact N r f is fact =
     let p = err_from_is_err_and r is in
     rw p.1 fact
 
-pub no_memory : {T : Type 0} (R : Type 0) (r : Result T ScriptFault) → IsErrAnd r (λ y. y ≡ script_fault.Memory (record {})) → IfErr r (Breaks R)
+pub no_memory : {T : Type 0} (R : Type 0) (r : Result T ModuleFault) → IsErrAnd r (λ y. y ≡ module_fault.Memory (record {})) → IfErr r (Breaks R)
 no_memory R r is =
     let p = err_from_is_err_and r is in
     rw (p.1, p.2) (inl refl)
 
 -- a name that isn't added is refused at its line
-pub name_refused : (R P : Type 0) (fault : NameFault) (made : ScriptFault) → (fault ≡ name_fault.Memory → made ≡ script_fault.Memory (record {}))
+pub name_refused : (R P : Type 0) (fault : NameFault) (made : ModuleFault) → (fault ≡ name_fault.Memory → made ≡ module_fault.Memory (record {}))
     → (fault ≡ name_fault.Memory) ⊎ (P → ⊥) → (R → P) → Breaks R made
 name_refused R P fault made memory (inl e) part = inl (memory e)
 name_refused R P fault made memory (inr h) part = inr (λ r. h (part r))

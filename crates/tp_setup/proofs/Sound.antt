@@ -10,7 +10,7 @@ use Rattle.tp_tree.specs.declared.tree.PortType.{PortType}
 use Rattle.tp_tree.specs.declared.tree.ComponentType.{ComponentType}
 use Rattle.tp_tree.specs.declared.tree.Function.{Function}
 use Rattle.tp_tree.specs.declared.tree.TestCase.{TestCase}
-use Rattle.tp_token.specs.declared.fault.ScriptFault.{ScriptFault}
+use Rattle.tp_name.specs.declared.fault.ModuleFault.{ModuleFault}
 use Rattle.tp_name.specs.Tables.{place_of}
 use Rattle.tp_setup.specs.Definitions.{declared_ports}
 use Rattle.tp_setup.specs.Resolved.{ty_of}
@@ -57,7 +57,7 @@ module _ (types ports components : List (List ℕ)) (system : Option (List ℕ))
       rw e (record { types_known = tt; port_types_known = tt; component_types_known = (runs, known); few_ports = tt; plays_system = tt })
 
   -- a component type that is refused, and a port type with an unknown message type
-  pub unsound_component : (c : ComponentType) (line : ℕ) (fault : ScriptFault) → x ≡ d.Component c → IsComponentFault ports c line fault
+  pub unsound_component : (c : ComponentType) (line : ℕ) (fault : ModuleFault) → x ≡ d.Component c → IsComponentFault ports c line fault
       → IsSound types ports components system x → ⊥
   unsound_component c line fault e (inl isnt) h =
       isnt.0 (each_there ports (λ p. string_bytes p.type_name) c.ports.items (subst (ArePortTypesKnown ports) e h.port_types_known))

@@ -11,9 +11,9 @@ use Rattle.tp_tree.specs.declared.tree.Function.{Function}
 use Rattle.tp_tree.specs.declared.tree.Direction.{Direction}
 use Rattle.tp_tree.specs.declared.tree.PortType.{PortType}
 use Rattle.tp_tree.specs.declared.tree.TestCase.{TestCase}
-use Rattle.tp_refusal.specs.declared.refusal.Refusal.TheVariants.{Unknown, Limit}
-use Rattle.tp_token.specs.declared.fault.ScriptFault.{ScriptFault}
-use Rattle.tp_token.specs.declared.fault.ScriptFault.TheVariants.{Refused}
+use Rattle.tp_name.specs.declared.fault.ModuleRule.TheVariants.{Unknown, Limit}
+use Rattle.tp_name.specs.declared.fault.ModuleFault.{ModuleFault}
+use Rattle.tp_name.specs.declared.fault.ModuleFault.TheVariants.{Refused}
 use Rattle.std.specs.List.{list_all}
 use Rattle.tp_name.specs.Tables.{AreDistinct, IsNumbered, place_of}
 use Rattle.tp_setup.specs.Definitions.{among, case_of, declared_ports, definition_names, inner_names, name_of}
@@ -97,7 +97,7 @@ has_known_parameters components f =
 
 -- a component type is refused so, at its line: the type of a port is unknown; or each is known, and there are more
 -- than 64 ports
-abbrev pub IsComponentFault : List (List ℕ) → ComponentType → ℕ → ScriptFault → Type 0
+abbrev pub IsComponentFault : List (List ℕ) → ComponentType → ℕ → ModuleFault → Type 0
 IsComponentFault ports c line fault =
     ((¬ IsTrue (has_known_ports ports c)) × (fault ≡ Refused Unknown line))
     ⊎ (IsTrue (has_known_ports ports c) × (64 < length (declared_ports c.ports.items)) × (fault ≡ Refused Limit line))

@@ -1,33 +1,20 @@
 //! The third pass of the checks: the components of the test case.
-ghost use Rattle.std.specs.Prelude.{◌≡◌, All, ◌≢◌, ◌≤◌, ◌+◌, ◌++◌, ◌∷◌, [], List, ℕ, Contains, IfErr, IfNone, IfOk, IfSome, None, OnErr, OnOk, Some, length, map, option_map, slice_get, string_bytes};
+ghost use Rattle.std.specs.Prelude.{◌≡◌, All, ◌≤◌, ◌+◌, ◌++◌, ◌∷◌, [], List, ℕ, Contains, IfErr, IfNone, IfOk, IfSome, None, OnErr, OnOk, Some, length, map, option_map, slice_get, string_bytes};
 ghost use Rattle.std.specs.Option.{option_copied};
 ghost use Rattle.tp_name.specs.Tables.{AreDistinct, IsNumbered, place_of};
 ghost use Rattle.tp_name.specs.Refused.{Breaks};
 ghost use Rattle.tp_setup.specs.Components.{Adds, AddsAll, AreNumbered, CanAdd, CanAddAll, HasPorts, HasSoundVariables, HasStopped, IsSoundVariable, component_number, created, creation_of, creations, interface, variable, variables};
 ghost use Rattle.tp_setup.specs.Sorted.{AreComponentsNamed, component_types_in};
 
+use crate::config_faults::create_fault_at;
 use crate::sorted::{Sorted, definition_at};
 use crate::unique_names::declare_ports;
 use std::alloc::Global;
 use tp_config::config::Config;
 use tp_config::port_type::{CompId, Role};
-use tp_name::fault::refused;
+use tp_name::fault::{ModuleFault, ModuleRule, refused};
 use tp_name::name_set::NameSet;
-use tp_refusal::memory::Memory;
-use tp_refusal::refusal::Refusal;
-use tp_token::fault::ScriptFault;
 use tp_tree::tree::{ComponentType, Creation, SetupAction, SetupStatement, TestCase};
-
-/// The refusal at this line, or want of memory, which has none.
-pub(crate) fn fault_at(refusal: Refusal, line: u32) -> ScriptFault
-    ensures memory { refusal ≡ Refusal.Memory → result ≡ ScriptFault.Memory (record {}) }
-    ensures other { refusal ≢ Refusal.Memory → result ≡ ScriptFault.Refused refusal line }
-{
-    match refusal {
-        Refusal::Memory => ScriptFault::Memory(Memory),
-        _ => refused(refusal, line),
-    }
-}
 
 /// A component as the text declares it, and the line for its refusals.
 #[derive(Clone, Copy)]
@@ -51,7 +38,7 @@ pub(crate) fn add_component(
     config: &mut Config,
     types: &NameSet,
     component: &DeclaredComponent,
-) -> Result<CompId, ScriptFault>
+) -> Result<CompId, ModuleFault>
     ensures added { OnOk result (Adds types.now
         (record {
           name = component.now.name.now;
@@ -68,15 +55,15 @@ pub(crate) fn add_component(
         }) config.old)) }
 {
     let Some(kind) = types.find(component.type_name) else {
-        return Err(refused(Refusal::Unknown, component.line));
+        return Err(refused(ModuleRule::Unknown, component.line));
     };
     if kind as usize >= config.types().len() {
-        return Err(refused(Refusal::Unknown, component.line));
+        return Err(refused(ModuleRule::Unknown, component.line));
     }
     let name = String::from_str(alloc, component.name)?;
     match config.create(name, kind, component.role) {
         Ok(comp) => Ok(comp),
-        Err(fault) => Err(fault_at(fault.refusal(), component.line)),
+        Err(fault) => Err(create_fault_at(fault, component.line)),
     }
 }
 
@@ -99,7 +86,7 @@ fn check_variable<'m>(
     rules: &VariableRules,
     creation: &'m Creation,
     line: u32,
-) -> Result<(), ScriptFault>
+) -> Result<(), ModuleFault>
     ensures added { OnOk result (variables.new ≡ variables.old ++ variable creation.now ∷ []) }
     ensures numbered { IsNumbered variables.new }
     ensures no_port { OnOk result (Contains rules.now.ports.now (variable creation.now) → ⊥) }
@@ -115,16 +102,16 @@ fn check_variable<'m>(
         return Err(fault.at(line));
     }
     if rules.ports.has(creation.name.as_str()) {
-        return Err(refused(Refusal::Duplicate, line));
+        return Err(refused(ModuleRule::Duplicate, line));
     }
     if !rules.types.has(creation.type_name.as_str()) {
-        return Err(refused(Refusal::Unknown, line));
+        return Err(refused(ModuleRule::Unknown, line));
     }
     if creation.type_name.as_str() != creation.created.as_str() {
-        return Err(refused(Refusal::WrongType, line));
+        return Err(refused(ModuleRule::WrongType, line));
     }
     if variables.len() > rules.most {
-        return Err(ScriptFault::limit(line));
+        return Err(refused(ModuleRule::Limit, line));
     }
     Ok(())
 }
@@ -136,7 +123,7 @@ pub struct Stopped<'m> {
     /// The statements before it.
     pub before: &'m [SetupStatement],
     /// The fault.
-    pub fault: ScriptFault,
+    pub fault: ModuleFault,
 }
 
 /// The component that the statement makes.
@@ -182,7 +169,7 @@ fn create<'m>(
     variables: &mut NameSet<'m>,
     rules: &VariableRules,
     at: CreationAt<'m>,
-) -> Result<(), ScriptFault>
+) -> Result<(), ModuleFault>
     ensures added { OnOk result (
         variables.new ≡ variables.old ++ variable at.entry.creation.now ∷ []) }
     ensures numbered { IsNumbered variables.new }
@@ -258,7 +245,7 @@ pub(crate) fn ports_of_type<'m>(
     sorted: &Sorted<'m>,
     name: &str,
     line: u32,
-) -> Result<NameSet<'m>, ScriptFault>
+) -> Result<NameSet<'m>, ModuleFault>
     requires { AreComponentsNamed sorted.now }
     ensures ports { IfOk result (HasPorts (component_types_in sorted.now) name.now) }
     ensures distinct { AreDistinct sorted.now.component_names }
@@ -267,10 +254,10 @@ pub(crate) fn ports_of_type<'m>(
         × HasPorts (component_types_in sorted.now) name.now ports)) }
 {
     let Some(place) = sorted.component_names.find(name) else {
-        return Err(refused(Refusal::Unknown, line));
+        return Err(refused(ModuleRule::Unknown, line));
     };
     let Some(component) = definition_at(&sorted.components, place) else {
-        return Err(refused(Refusal::Unknown, line));
+        return Err(refused(ModuleRule::Unknown, line));
     };
     let mut ports = NameSet::new(alloc);
     declare_ports(&mut ports, &component.ports)?;
@@ -286,7 +273,7 @@ pub(crate) fn add_interface(
     types: &NameSet,
     case: &TestCase,
     line: u32,
-) -> Result<Option<CompId>, ScriptFault>
+) -> Result<Option<CompId>, ModuleFault>
     ensures added { OnOk result (AddsAll types.now (interface case.now) config.old config.new) }
     ensures number { IfOk result (λ found. component_number found
         ≡ option_map (λ _. length config.old.components) case.now.system) }

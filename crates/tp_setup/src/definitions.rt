@@ -16,10 +16,8 @@ use crate::sorted::{Sorted, sort};
 use crate::unique_names::CaseAt;
 use std::alloc::Global;
 use tp_config::port_type::CompType;
-use tp_name::fault::refused;
+use tp_name::fault::{ModuleFault, ModuleRule, refused};
 use tp_name::name_set::NameSet;
-use tp_refusal::refusal::Refusal;
-use tp_token::fault::ScriptFault;
 use tp_tree::tree::{
     ComponentType, Defined, Definition, Direction, FieldType, Function, Module, Parameter,
     PortDeclaration, TestCase,
@@ -90,14 +88,14 @@ fn are_ports_few(ports: &[PortDeclaration]) -> bool
 }
 
 /// Nothing, or 11 `Unknown` at the line where not everything is known.
-fn known(is_known: bool, line: u32) -> Result<(), ScriptFault>
+fn known(is_known: bool, line: u32) -> Result<(), ModuleFault>
     ensures known { OnOk result (IsTrue is_known) }
     ensures refused { IfErr result (λ _. ¬ IsTrue is_known) }
 {
     if is_known {
         Ok(())
     } else {
-        Err(refused(Refusal::Unknown, line))
+        Err(refused(ModuleRule::Unknown, line))
     }
 }
 
@@ -107,16 +105,16 @@ fn check_component(
     port_types: &NameSet,
     component: &ComponentType,
     line: u32,
-) -> Result<(), ScriptFault>
+) -> Result<(), ModuleFault>
     ensures known { OnOk result (IsTrue (has_known_ports port_types.now component.now)) }
     ensures few { OnOk result (length (declared_ports component.now.ports.items) ≤ 64) }
     ensures refused { IfErr result (IsComponentFault port_types.now component.now line) }
 {
     if !are_ports_known(port_types, &component.ports) {
-        return Err(refused(Refusal::Unknown, line));
+        return Err(refused(ModuleRule::Unknown, line));
     }
     if !are_ports_few(&component.ports) {
-        return Err(ScriptFault::limit(line));
+        return Err(refused(ModuleRule::Limit, line));
     }
     Ok(())
 }
@@ -138,7 +136,7 @@ fn check_function(
     system: &Option<String>,
     function: &Function,
     line: u32,
-) -> Result<(), ScriptFault>
+) -> Result<(), ModuleFault>
     ensures runs_on { OnOk result (Contains components.now (string_bytes function.now.runs_on)) }
     ensures parameters { OnOk result (IsTrue (has_known_parameters components.now function.now)) }
     ensures sut { OnOk result (string_bytes function.now.name ≡ sut
@@ -149,7 +147,7 @@ fn check_function(
     known(components.has(function.runs_on.as_str()), line)?;
     known(are_parameters_known(components, &function.parameters), line)?;
     if is_sut(function.name.as_str()) && !plays_system(system, function) {
-        return Err(refused(Refusal::NotInSut, line));
+        return Err(refused(ModuleRule::NotInSut, line));
     }
     Ok(())
 }
@@ -162,7 +160,7 @@ pub fn is_sut(name: &str) -> bool
 }
 
 /// Looks at the test case.
-fn check_case(components: &NameSet, case: &TestCase, line: u32) -> Result<(), ScriptFault>
+fn check_case(components: &NameSet, case: &TestCase, line: u32) -> Result<(), ModuleFault>
     ensures runs_on { OnOk result (Contains components.now (string_bytes case.now.runs_on)) }
     ensures system { OnOk result (
         IfSome case.now.system (λ s. Contains components.now (string_bytes s))) }
@@ -182,7 +180,7 @@ fn check_definition(
     sorted: &Sorted,
     system: &Option<String>,
     definition: &Definition,
-) -> Result<(), ScriptFault>
+) -> Result<(), ModuleFault>
     ensures sound { OnOk result (
         IsSoundIn sorted.now (option_map string_bytes system.now) definition.now) }
     ensures refused { IfErr result (λ _.
@@ -212,7 +210,7 @@ fn check_definitions(
     sorted: &Sorted,
     system: &Option<String>,
     definitions: &[Definition],
-) -> Result<(), ScriptFault>
+) -> Result<(), ModuleFault>
     ensures sound { OnOk result (
         AreSound sorted.now (option_map string_bytes system.now) definitions.now) }
     ensures refused { IfErr result (λ _.
@@ -230,7 +228,7 @@ fn sort_sound<'m>(
     alloc: Global,
     parsed: &'m Module,
     case: &TestCase,
-) -> Result<Sorted<'m>, ScriptFault>
+) -> Result<Sorted<'m>, ModuleFault>
     ensures sorted { IfOk result (AreSorted parsed.now) }
     ensures sound { OnOk result (HasSoundDefinitions parsed.now case.now) }
     ensures refused { IfErr result (
@@ -251,7 +249,7 @@ struct MadeTypes {
 }
 
 /// The component types, in the order of the text, where the port types have their own names.
-fn make_component_types(alloc: Global, sorted: &Sorted) -> Result<Vec<CompType>, ScriptFault>
+fn make_component_types(alloc: Global, sorted: &Sorted) -> Result<Vec<CompType>, ModuleFault>
     requires { ArePortsNamed sorted.now }
     ensures components { IfOk result (λ r. AreComponentTypesIn sorted.now r.items) }
     ensures few { IfOk result (λ r. All (λ t. length t.ports.entries ≤ 64) r.items) }
@@ -262,7 +260,7 @@ fn make_component_types(alloc: Global, sorted: &Sorted) -> Result<Vec<CompType>,
 }
 
 /// The types and the component types, where the port types have their own names.
-fn make(alloc: Global, sorted: &Sorted) -> Result<MadeTypes, ScriptFault>
+fn make(alloc: Global, sorted: &Sorted) -> Result<MadeTypes, ModuleFault>
     requires { ArePortsNamed sorted.now }
     ensures types { IfOk result (λ made.
         AllZip (IsNamedType sorted.now.type_names) (types_in sorted.now) made.types) }
@@ -290,7 +288,7 @@ pub fn define<'m>(
     alloc: Global,
     parsed: &'m Module,
     case: CaseAt<'m>,
-) -> Result<Definitions<'m>, ScriptFault>
+) -> Result<Definitions<'m>, ModuleFault>
     ensures defined { IfOk result (IsDefined parsed.now) }
     ensures sound { OnOk result (HasSoundDefinitions parsed.now case.entry.case.now) }
     ensures case { IfOk result (λ d. d.case.case.now ≡ case.entry.case.now) }

@@ -2,6 +2,7 @@
 #![tactic(auto)]
 
 mod components;
+mod config_faults;
 pub mod definitions;
 mod ports;
 pub mod prepared;

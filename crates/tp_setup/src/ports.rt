@@ -17,10 +17,8 @@ use indexmap::IndexMap;
 use std::alloc::Global;
 use tp_config::port_type::{CompType, PORT_LIMIT, PortType};
 use tp_config::type_list::TypeList;
-use tp_name::fault::refused;
+use tp_name::fault::{ModuleFault, ModuleRule, refused};
 use tp_name::name_set::NameSet;
-use tp_refusal::refusal::Refusal;
-use tp_token::fault::ScriptFault;
 use tp_tree::message::TypeName;
 use tp_tree::tree::{self, ComponentType, DeclaredName, Direction, PortDeclaration, Way};
 use tp_value::items::Items;
@@ -47,13 +45,13 @@ fn goes_out(way: Way) -> bool
 }
 
 /// Adds the types that these names name. 11 `Unknown` at line 0 where one names none.
-fn add_types(types: &NameSet, names: &[TypeName], made: &mut Items<Ty>) -> Result<(), ScriptFault>
+fn add_types(types: &NameSet, names: &[TypeName], made: &mut Items<Ty>) -> Result<(), ModuleFault>
     ensures added { OnOk result (Appends types.now names.now made.old made.new) }
     ensures refused { IfErr result (Breaks (All (NamesType types.now) names.now)) }
 {
     for name in names {
         let Some(ty) = resolve(types, name) else {
-            return Err(refused(Refusal::Unknown, 0));
+            return Err(refused(ModuleRule::Unknown, 0));
         };
         made.push(ty)?;
     }
@@ -65,7 +63,7 @@ fn received(
     alloc: Global,
     types: &NameSet,
     directions: &[Direction],
-) -> Result<Items<Ty>, ScriptFault>
+) -> Result<Items<Ty>, ModuleFault>
     ensures made { IfOk result (AllZip (Names types.now) (flat_map received directions.now)) }
     ensures refused { IfErr result (
         Breaks (All (λ w. All (NamesType types.now) w.types.items) directions.now)) }
@@ -81,7 +79,7 @@ fn received(
 }
 
 /// The types that a port with these directions sends.
-fn sent(alloc: Global, types: &NameSet, directions: &[Direction]) -> Result<Items<Ty>, ScriptFault>
+fn sent(alloc: Global, types: &NameSet, directions: &[Direction]) -> Result<Items<Ty>, ModuleFault>
     ensures made { IfOk result (AllZip (Names types.now) (flat_map sent directions.now)) }
     ensures refused { IfErr result (
         Breaks (All (λ w. All (NamesType types.now) w.types.items) directions.now)) }
@@ -101,7 +99,7 @@ fn make_port_type(
     alloc: Global,
     types: &NameSet,
     port_type: &tree::PortType,
-) -> Result<PortType, ScriptFault>
+) -> Result<PortType, ModuleFault>
     ensures made { IfOk result (λ made.
         IsPortType types.now port_type.now made.ins made.outs) }
     ensures refused { IfErr result (Breaks (AreMessagesKnown types.now port_type.now)) }
@@ -122,7 +120,7 @@ pub fn make_port_types(
     alloc: Global,
     types: &NameSet,
     port_types: &[&tree::PortType],
-) -> Result<Vec<PortType>, ScriptFault>
+) -> Result<Vec<PortType>, ModuleFault>
     ensures made { IfOk result (λ made.
         AllZip (IsMade types.now) (map (λ p. p.now) port_types.now) made.items) }
     ensures refused { IfErr result (
@@ -137,10 +135,10 @@ pub fn make_port_types(
 }
 
 /// The same lists for one more port, which stand in memory once however many ports share them.
-fn share(port_type: &PortType) -> Result<PortType, ScriptFault>
+fn share(port_type: &PortType) -> Result<PortType, ModuleFault>
     ensures shared { IfOk result (λ shared.
         (shared.ins ≡ port_type.now.ins) × (shared.outs ≡ port_type.now.outs)) }
-    ensures refused { IfErr result (λ fault. fault ≡ ScriptFault.Memory (record {})) }
+    ensures refused { IfErr result (λ fault. fault ≡ ModuleFault.Memory (record {})) }
 {
     let ins = port_type.ins.share()?;
     let outs = port_type.outs.share()?;
@@ -153,14 +151,14 @@ fn add_port(
     component: &mut CompType,
     name: &DeclaredName,
     port_type: &PortType,
-) -> Result<(), ScriptFault>
+) -> Result<(), ModuleFault>
     ensures added { OnOk result (ports_of component.new
         ≡ ports_of component.old ++ port_decl port_type.now name.now ∷ []) }
     ensures refused { IfErr result (Breaks (
         AreDistinct (map (λ p. p.name) (ports_of component.old) ++ declared name.now ∷ []))) }
 {
     let None = component.ports.get_index_of(name.name.as_str()) else {
-        return Err(refused(Refusal::Duplicate, name.line));
+        return Err(refused(ModuleRule::Duplicate, name.line));
     };
     let text = String::from_str(alloc, name.name.as_str())?;
     let shared = share(port_type)?;
@@ -174,7 +172,7 @@ fn add_ports(
     component: &mut CompType,
     names: &[DeclaredName],
     port_type: &PortType,
-) -> Result<(), ScriptFault>
+) -> Result<(), ModuleFault>
     ensures added { OnOk result (ports_of component.new
         ≡ ports_of component.old ++ map (port_decl port_type.now) names.now) }
     ensures refused { IfErr result (Breaks (
@@ -224,7 +222,7 @@ fn make_component(
     sorted: &Sorted,
     made: &[PortType],
     component: &ComponentType,
-) -> Result<CompType, ScriptFault>
+) -> Result<CompType, ModuleFault>
     requires { HasMade sorted.now made.now }
     ensures ports { IfOk result (
         IsComponentType sorted.now.type_names (port_types_in sorted.now) component.now) }
@@ -237,12 +235,12 @@ fn make_component(
     };
     for declaration in &component.ports {
         let Some(port_type) = find_made(sorted, made, declaration.type_name.as_str()) else {
-            return Err(refused(Refusal::Unknown, 0));
+            return Err(refused(ModuleRule::Unknown, 0));
         };
         add_ports(alloc, &mut ports, &declaration.names, port_type)?;
     }
     if !has_room(0, ports.ports.len()) {
-        return Err(ScriptFault::limit(0));
+        return Err(refused(ModuleRule::Limit, 0));
     }
     Ok(ports)
 }
@@ -257,7 +255,7 @@ pub fn make_components(
     alloc: Global,
     sorted: &Sorted,
     made: &[PortType],
-) -> Result<Vec<CompType>, ScriptFault>
+) -> Result<Vec<CompType>, ModuleFault>
     requires { HasMade sorted.now made.now }
     ensures components { IfOk result (λ r. AreComponentTypesIn sorted.now r.items) }
     ensures few { IfOk result (λ r. All (λ t. length t.ports.entries ≤ 64) r.items) }

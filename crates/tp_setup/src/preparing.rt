@@ -21,11 +21,11 @@ use crate::starts::Starts;
 use crate::unique_names::{CaseAt, check_names};
 use std::alloc::Global;
 use tp_config::port_type::CompType;
-use tp_token::fault::ScriptFault;
+use tp_name::fault::ModuleFault;
 use tp_tree::tree::Module;
 
 /// The first two passes: names and definitions.
-fn find_definitions(alloc: Global, parsed: &Module) -> Result<Definitions<'_>, ScriptFault>
+fn find_definitions(alloc: Global, parsed: &Module) -> Result<Definitions<'_>, ModuleFault>
     ensures names { OnOk result (HasUniqueNames parsed.now) }
     ensures case { IfOk result (λ d. test_cases parsed.now ≡ d.case.case.now ∷ []) }
     ensures sound { IfOk result (λ d. HasSoundDefinitions parsed.now d.case.case.now) }
@@ -52,7 +52,7 @@ fn set_up_and_start<'m>(
     sorted: &Sorted<'m>,
     case: CaseAt<'m>,
     components: Vec<CompType>,
-) -> Result<Configured<'m>, ScriptFault>
+) -> Result<Configured<'m>, ModuleFault>
     requires components { AreComponentsNamed sorted.now }
     requires functions { AreFunctionsNamed sorted.now }
     requires few { All (λ t. length t.ports.entries ≤ 64) components.items }
@@ -80,7 +80,7 @@ fn set_up_and_start<'m>(
 /// The first fault of the first pass that finds one is the answer, each with its line: see
 /// [`check_names`], [`define`], [`set_up`] and [`check_starts`]. 50 `Memory` only where an
 /// allocation was refused; whatever else is answered, the module breaks a rule of these passes.
-pub fn prepare(alloc: Global, parsed: &Module) -> Result<Prepared<'_>, ScriptFault>
+pub fn prepare(alloc: Global, parsed: &Module) -> Result<Prepared<'_>, ModuleFault>
     ensures rules { OnOk result (IsWellDeclared parsed.now) }
     ensures made { IfOk result (IsPreparedOf parsed.now) }
     ensures refused { IfErr result (Breaks (IsWellDeclared parsed.now)) }

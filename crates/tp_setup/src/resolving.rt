@@ -10,11 +10,9 @@ ghost use Rattle.tp_value.specs.declared.types.TypeDef.{TypeDef};
 
 use crate::unique_names::defined_name;
 use std::alloc::Global;
-use tp_name::fault::refused;
+use tp_name::fault::{ModuleFault, ModuleRule, refused};
 use tp_name::name_set::NameSet;
 use tp_refusal::memory::Memory;
-use tp_refusal::refusal::Refusal;
-use tp_token::fault::ScriptFault;
 use tp_tree::message::TypeName;
 use tp_tree::tree::{Defined, FieldType};
 use tp_value::items::Items;
@@ -56,12 +54,12 @@ fn make_field(
     types: &NameSet,
     field: &FieldType,
     line: u32,
-) -> Result<Field, ScriptFault>
+) -> Result<Field, ModuleFault>
     ensures made { IfOk result (IsField types.now field.now) }
     ensures refused { IfErr result (Breaks (NamesType types.now field.now.type_name)) }
 {
     let Some(ty) = resolve(types, &field.type_name) else {
-        return Err(refused(Refusal::Unknown, line));
+        return Err(refused(ModuleRule::Unknown, line));
     };
     let name = Items::from_slice(alloc, field.name.name.as_bytes())?;
     Ok(Field { name, ty })
@@ -73,7 +71,7 @@ fn make_fields(
     types: &NameSet,
     fields: &[FieldType],
     line: u32,
-) -> Result<Items<Field>, ScriptFault>
+) -> Result<Items<Field>, ModuleFault>
     ensures made { IfOk result (AllZip (IsField types.now) fields.now) }
     ensures refused { IfErr result (
         Breaks (All (λ f. NamesType types.now f.type_name) fields.now)) }
@@ -92,7 +90,7 @@ fn make_type(
     types: &NameSet,
     defined: &Defined,
     line: u32,
-) -> Result<TypeDef, ScriptFault>
+) -> Result<TypeDef, ModuleFault>
     ensures made { IfOk result (IsTypeDef types.now defined.now) }
     ensures refused { IfErr result (
         Breaks (IsSome (type_of defined.now) × AreTypesKnown types.now defined.now)) }
@@ -104,11 +102,11 @@ fn make_type(
         }
         Defined::List(list) => {
             let Some(element) = resolve(types, &list.element) else {
-                return Err(refused(Refusal::Unknown, line));
+                return Err(refused(ModuleRule::Unknown, line));
             };
             Ok(TypeDef::ListOf(element))
         }
-        _ => Err(refused(Refusal::Unknown, line)),
+        _ => Err(refused(ModuleRule::Unknown, line)),
     }
 }
 
@@ -123,7 +121,7 @@ pub fn make_types(
     alloc: Global,
     names: &NameSet,
     definitions: &[&Defined],
-) -> Result<Types, ScriptFault>
+) -> Result<Types, ModuleFault>
     ensures made { IfOk result (
         AllZip (IsNamedType names.now) (map (λ x. x.now) definitions.now)) }
     ensures refused { IfErr result (
@@ -142,7 +140,7 @@ fn add_type(
     names: &NameSet,
     defined: &Defined,
     types: &mut Types,
-) -> Result<(), ScriptFault>
+) -> Result<(), ModuleFault>
     ensures added { OnOk result ((t : List ℕ × TypeDef) × IsNamedType names.now defined.now t
         × (types.new ≡ types.old ++ t ∷ [])) }
     ensures refused { IfErr result (
@@ -152,11 +150,11 @@ fn add_type(
     let definition = make_type(alloc, names, defined, 0)?;
     let name = String::from_str(alloc, defined_name(defined))?;
     if types.len() >= u32::MAX as usize {
-        return Err(ScriptFault::limit(0));
+        return Err(refused(ModuleRule::Limit, 0));
     }
     match types.add(name, definition) {
         Ok(_) => Ok(()),
-        Err(AddFault::Duplicate) => Err(refused(Refusal::Duplicate, 0)),
-        Err(AddFault::Memory) => Err(ScriptFault::Memory(Memory)),
+        Err(AddFault::Duplicate) => Err(refused(ModuleRule::Duplicate, 0)),
+        Err(AddFault::Memory) => Err(ModuleFault::Memory(Memory)),
     }
 }

@@ -12,17 +12,16 @@ ghost use Rattle.tp_setup.specs.Configuring.{AreOwnPorts, AreSoundVariables, Can
 
 use crate::components::{
     DeclaredComponent, Stopped, VariableRules, add_component, add_interface, create_components,
-    fault_at, ports_of_type, variable_component,
+    ports_of_type, variable_component,
 };
+use crate::config_faults::{connect_fault_at, map_fault_at};
 use crate::sorted::Sorted;
 use crate::unique_names::CaseAt;
 use std::alloc::Global;
 use tp_config::config::Config;
 use tp_config::port_type::{COMPONENT_LIMIT, CompId, CompType, PortRef, Role};
-use tp_name::fault::refused;
+use tp_name::fault::{ModuleFault, ModuleRule, refused};
 use tp_name::name_set::NameSet;
-use tp_refusal::refusal::Refusal;
-use tp_token::fault::ScriptFault;
 use tp_tree::tree::{EndComponent, PairEnd, SetupAction, SetupStatement, TestCase};
 
 /// The component that is named, where the component variables so far have these names, or `None`
@@ -51,16 +50,16 @@ fn find_end(
     system: Option<CompId>,
     end: &PairEnd,
     line: u32,
-) -> Result<PortRef, ScriptFault>
+) -> Result<PortRef, ModuleFault>
     ensures end { IfOk result (IsEnd config.now known.now (component_number system) end.now) }
     ensures refused { IsNumbered known.now → IfErr result (Breaks ((p : PortRef)
         × IsEnd config.now known.now (component_number system) end.now p)) }
 {
     let Some(comp) = find_end_component(known, system, &end.component) else {
-        return Err(refused(Refusal::Unknown, line));
+        return Err(refused(ModuleRule::Unknown, line));
     };
     let Some(port) = config.port_of(comp, end.port.as_str()) else {
-        return Err(refused(Refusal::Unknown, line));
+        return Err(refused(ModuleRule::Unknown, line));
     };
     Ok(port)
 }
@@ -72,7 +71,7 @@ fn find_ends(
     system: Option<CompId>,
     ends: (&PairEnd, &PairEnd),
     line: u32,
-) -> Result<(PortRef, PortRef), ScriptFault>
+) -> Result<(PortRef, PortRef), ModuleFault>
     ensures first { IfOk result (λ ports.
         IsEnd config.now known.now (component_number system) ends.entry.0.now ports.0) }
     ensures second { IfOk result (λ ports.
@@ -94,7 +93,7 @@ fn connect_ends(
     system: Option<CompId>,
     ends: (&PairEnd, &PairEnd),
     line: u32,
-) -> Result<(), ScriptFault>
+) -> Result<(), ModuleFault>
     ensures connected { OnOk result (Connects config.old known.now (component_number system)
         ends.entry.0.now ends.entry.1.now config.new) }
     ensures refused { IsNumbered known.now → HaveOwnPorts config.old.types
@@ -104,7 +103,7 @@ fn connect_ends(
     let (p, q) = find_ends(config, known, system, ends, line)?;
     match config.connect(p, q) {
         Ok(()) => Ok(()),
-        Err(fault) => Err(fault_at(fault.refusal(), line)),
+        Err(fault) => Err(connect_fault_at(fault, line)),
     }
 }
 
@@ -116,7 +115,7 @@ fn map_ends(
     system: Option<CompId>,
     ends: (&PairEnd, &PairEnd),
     line: u32,
-) -> Result<(), ScriptFault>
+) -> Result<(), ModuleFault>
     ensures mapped { OnOk result (Maps config.old known.now (component_number system)
         ends.entry.0.now ends.entry.1.now config.new) }
     ensures refused { IsNumbered known.now → HaveOwnPorts config.old.types
@@ -126,7 +125,7 @@ fn map_ends(
     let (p, q) = find_ends(config, known, system, ends, line)?;
     match config.map(p, q) {
         Ok(()) => Ok(()),
-        Err(fault) => Err(fault_at(fault.refusal(), line)),
+        Err(fault) => Err(map_fault_at(fault, line)),
     }
 }
 
@@ -138,7 +137,7 @@ fn add_setup<'m>(
     known: &mut NameSet<'m>,
     system: Option<CompId>,
     setup: &'m SetupStatement,
-) -> Result<(), ScriptFault>
+) -> Result<(), ModuleFault>
     ensures step { OnOk result (
         IsStep config.old known.old (component_number system) setup.now.action config.new) }
     ensures known { OnOk result (known.new
@@ -178,7 +177,7 @@ pub fn connect_all<'m>(
     config: &mut Config,
     system: Option<CompId>,
     setups: &'m [SetupStatement],
-) -> Result<NameSet<'m>, ScriptFault>
+) -> Result<NameSet<'m>, ModuleFault>
     ensures known { IfOk result (λ known. known ≡ variables setups.now) }
     ensures makes { OnOk result (Makes (component_number system) config.old setups.now config.new) }
     ensures numbered { IfOk result (λ known. IsNumbered known) }
@@ -223,7 +222,7 @@ fn first_fault(
     rules: &VariableRules,
     case: CaseAt<'_>,
     stopped: Stopped<'_>,
-) -> ScriptFault
+) -> ModuleFault
     requires first { HasFirst rules.now.types.now case.case.now stopped.before.now config.old }
     requires broken { HavePorts rules.now.types.now config.old.types
         → Breaks (CanSetUpBeside rules.now.types.now rules.now.ports.now config.old.types
@@ -250,7 +249,7 @@ fn create_beside(
     types: &NameSet,
     ports: &NameSet,
     case: CaseAt<'_>,
-) -> Result<(), ScriptFault>
+) -> Result<(), ModuleFault>
     requires main { AddsAll types.now (main_component case.case.now ∷ [])
         (empty_setup config.old.types) config.old }
     ensures sound { OnOk result (HasSoundVariables types.now ports.now
@@ -277,7 +276,7 @@ fn create_all(
     config: &mut Config,
     sorted: &Sorted,
     case: CaseAt<'_>,
-) -> Result<(), ScriptFault>
+) -> Result<(), ModuleFault>
     requires named { AreComponentsNamed sorted.now }
     requires main { AddsAll sorted.now.component_names (main_component case.case.now ∷ [])
         (empty_setup config.old.types) config.old }
@@ -300,7 +299,7 @@ fn add_components(
     config: &mut Config,
     sorted: &Sorted,
     case: CaseAt<'_>,
-) -> Result<(), ScriptFault>
+) -> Result<(), ModuleFault>
     requires named { AreComponentsNamed sorted.now }
     requires empty { config.old ≡ empty_setup config.old.types }
     ensures added { OnOk result (AddsAll sorted.now.component_names
@@ -330,7 +329,7 @@ fn configure<'m>(
     config: &mut Config,
     sorted: &Sorted,
     case: CaseAt<'m>,
-) -> Result<NameSet<'m>, ScriptFault>
+) -> Result<NameSet<'m>, ModuleFault>
     requires named { AreComponentsNamed sorted.now }
     requires empty { config.old ≡ empty_setup config.old.types }
     ensures config { OnOk result (IsSetUp sorted.now.component_names config.old.types
@@ -365,7 +364,7 @@ pub fn set_up<'m>(
     sorted: &Sorted<'m>,
     case: CaseAt<'m>,
     components: Vec<CompType>,
-) -> Result<SetUp<'m>, ScriptFault>
+) -> Result<SetUp<'m>, ModuleFault>
     requires named { AreComponentsNamed sorted.now }
     requires few { All (λ t. length t.ports.entries ≤ 64) components.items }
     ensures config { IfOk result (λ s. IsSetUp sorted.now.component_names

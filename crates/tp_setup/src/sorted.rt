@@ -10,8 +10,8 @@ ghost use Rattle.tp_setup.specs.Sorted.{AreOfKind, AreSorted};
 
 use crate::unique_names::defined_name;
 use std::alloc::Global;
+use tp_name::fault::ModuleFault;
 use tp_name::name_set::NameSet;
-use tp_token::fault::ScriptFault;
 use tp_tree::tree::{ComponentType, Defined, Definition, Function, Module, PortType};
 
 /// The definitions of a module, each kind in the order of the text with its names. A name's number
@@ -142,7 +142,7 @@ impl DefinitionKind for Function {
 fn sort_kind<'m, K: DefinitionKind>(
     alloc: Global,
     definitions: &'m [Definition],
-) -> Result<(NameSet<'m>, Vec<&'m K>), ScriptFault>
+) -> Result<(NameSet<'m>, Vec<&'m K>), ModuleFault>
     ensures sorted { IfOk result (λ r.
         AreOfKind K.as_kind K.name definitions.now r.0 (map (λ x. x.now) r.1.items)) }
     ensures refused { IfErr result (Breaks (
@@ -167,7 +167,7 @@ fn sort_kind<'m, K: DefinitionKind>(
 /// Where two of one kind have one name, 12 `Duplicate` at the line of the second; 15 `Limit` at the
 /// line of one behind 4,294,967,295 others of its kind. 50 `Memory` only where an allocation was
 /// refused.
-pub fn sort(alloc: Global, parsed: &Module) -> Result<Sorted<'_>, ScriptFault>
+pub fn sort(alloc: Global, parsed: &Module) -> Result<Sorted<'_>, ModuleFault>
     ensures sorted { IfOk result (AreSorted parsed.now) }
     ensures refused { IfErr result (Breaks (HasUniqueNames parsed.now)) }
 {

@@ -18,10 +18,8 @@ use crate::starts::{Started, Starts};
 use crate::unique_names::CaseAt;
 use std::alloc::Global;
 use tp_config::port_type::CompId;
-use tp_name::fault::refused;
+use tp_name::fault::{ModuleFault, ModuleRule, refused};
 use tp_name::name_set::{NameFault, NameSet};
-use tp_refusal::refusal::Refusal;
-use tp_token::fault::ScriptFault;
 use tp_tree::tree::{ComponentName, ComponentStart, Function, Parameter, SetupStatement, TestCase};
 
 /// The component that the argument names, or `None` where there is none. Takes no memory.
@@ -65,7 +63,7 @@ fn check_argument(
     parameter: &Parameter,
     argument: &ComponentName,
     line: u32,
-) -> Result<CompId, ScriptFault>
+) -> Result<CompId, ModuleFault>
     ensures known { IfOk result (IsArgument variables.now argument.now) }
     ensures fits { IfOk result (HasParameterType (map (λ t. t.now) types.now) parameter.now) }
     ensures refused { IsNumbered variables.now → IfErr result (Breaks ((comp : CompId)
@@ -73,10 +71,10 @@ fn check_argument(
         × HasParameterType (map (λ t. t.now) types.now) parameter.now comp)) }
 {
     let Some(comp) = find_argument(variables, argument) else {
-        return Err(refused(Refusal::Unknown, line));
+        return Err(refused(ModuleRule::Unknown, line));
     };
     if !is_of_type(types, comp, parameter.type_name.as_str()) {
-        return Err(refused(Refusal::WrongType, line));
+        return Err(refused(ModuleRule::WrongType, line));
     }
     Ok(comp)
 }
@@ -88,7 +86,7 @@ fn check_arguments(
     types: &[&str],
     parameters: &[Parameter],
     start: &ComponentStart,
-) -> Result<Vec<CompId>, ScriptFault>
+) -> Result<Vec<CompId>, ModuleFault>
     ensures known { IfOk result (λ made.
         AllZip (IsArgument variables.now) start.now.arguments.items made.items) }
     ensures fits { IfOk result (λ made.
@@ -99,7 +97,7 @@ fn check_arguments(
 {
     let arguments = start.arguments.as_slice();
     if arguments.len() != parameters.len() {
-        return Err(refused(Refusal::WrongType, start.line));
+        return Err(refused(ModuleRule::WrongType, start.line));
     }
     let mut made = Vec::new(alloc);
     for i in 0..arguments.len() {
@@ -116,7 +114,7 @@ fn check_start(
     variables: &NameSet,
     types: &[&str],
     start: &ComponentStart,
-) -> Result<Started, ScriptFault>
+) -> Result<Started, ModuleFault>
     requires { AreFunctionsNamed sorted.now }
     ensures start { IfOk result (IsStartOf (functions_in sorted.now) variables.now
         (map (λ t. t.now) types.now) start.now) }
@@ -126,19 +124,19 @@ fn check_start(
 {
     let line = start.line;
     let Some(comp) = variable_component(variables, start.component.as_str()) else {
-        return Err(refused(Refusal::Unknown, line));
+        return Err(refused(ModuleRule::Unknown, line));
     };
     let Some(place) = sorted.function_names.find(start.function.as_str()) else {
-        return Err(refused(Refusal::Unknown, line));
+        return Err(refused(ModuleRule::Unknown, line));
     };
     let Some(function) = definition_at(&sorted.functions, place) else {
-        return Err(refused(Refusal::Unknown, line));
+        return Err(refused(ModuleRule::Unknown, line));
     };
     if is_sut(start.function.as_str()) {
-        return Err(refused(Refusal::NotInSut, line));
+        return Err(refused(ModuleRule::NotInSut, line));
     }
     if !is_of_type(types, comp, function.runs_on.as_str()) {
-        return Err(refused(Refusal::WrongType, line));
+        return Err(refused(ModuleRule::WrongType, line));
     }
     let arguments = check_arguments(alloc, variables, types, &function.parameters, start)?;
     Ok(Started {
@@ -148,9 +146,9 @@ fn check_start(
 }
 
 /// The names of the types of `mtc` and of the components that are made.
-fn component_types(alloc: Global, case: &TestCase) -> Result<Vec<&str>, ScriptFault>
+fn component_types(alloc: Global, case: &TestCase) -> Result<Vec<&str>, ModuleFault>
     ensures types { IfOk result (λ made. map (λ t. t.now) made.items ≡ type_names_of case.now) }
-    ensures refused { IfErr result (λ fault. fault ≡ ScriptFault.Memory (record {})) }
+    ensures refused { IfErr result (λ fault. fault ≡ ModuleFault.Memory (record {})) }
 {
     let mut types = Vec::new(alloc);
     types.push(case.runs_on.as_str())?;
@@ -169,7 +167,7 @@ fn add_started<'m>(
     variables: &NameSet,
     started: &mut NameSet<'m>,
     start: &'m ComponentStart,
-) -> Result<(), ScriptFault>
+) -> Result<(), ModuleFault>
     ensures added { OnOk result (started.new
         ≡ started.old ++ string_bytes start.now.component ∷ []) }
     ensures numbered { OnOk result (IsNumbered started.new) }
@@ -178,11 +176,11 @@ fn add_started<'m>(
         × IsNumbered (started.old ++ string_bytes start.now.component ∷ []))) }
 {
     if !variables.has(start.component.as_str()) {
-        return Err(refused(Refusal::Unknown, start.line));
+        return Err(refused(ModuleRule::Unknown, start.line));
     }
     match started.add(start.component.as_str()) {
         Ok(()) => Ok(()),
-        Err(NameFault::Duplicate) => Err(refused(Refusal::NotStarted, start.line)),
+        Err(NameFault::Duplicate) => Err(refused(ModuleRule::NotStarted, start.line)),
         Err(fault) => Err(fault.at(start.line)),
     }
 }
@@ -193,7 +191,7 @@ fn find_starts(
     alloc: Global,
     started: &NameSet,
     setups: &[SetupStatement],
-) -> Result<Vec<u32>, ScriptFault>
+) -> Result<Vec<u32>, ModuleFault>
     ensures places { IfOk result (λ places.
         AllZip (IsStartPlace started.now) (variables setups.now) places.items) }
     ensures refused { IfErr result (Breaks ((places : List ℕ)
@@ -205,7 +203,7 @@ fn find_starts(
             continue;
         };
         let Some(place) = started.find(creation.name.as_str()) else {
-            return Err(refused(Refusal::NotStarted, setup.line));
+            return Err(refused(ModuleRule::NotStarted, setup.line));
         };
         places.push(place)?;
     }
@@ -214,14 +212,14 @@ fn find_starts(
 
 /// 17 `NoDone` at the line where the test case starts components and does not end with
 /// `all component.done`.
-fn check_done(case: &TestCase, places: &[u32], line: u32) -> Result<(), ScriptFault>
+fn check_done(case: &TestCase, places: &[u32], line: u32) -> Result<(), ModuleFault>
     ensures done { OnOk result (0 < length places.now → IsSome case.now.all_done) }
     ensures refused { IfErr result (Breaks (0 < length places.now → IsSome case.now.all_done)) }
 {
     if case.all_done.is_some() || places.is_empty() {
         return Ok(());
     }
-    Err(refused(Refusal::NoDone, line))
+    Err(refused(ModuleRule::NoDone, line))
 }
 
 /// What the starts start, one after the other, and the components that they start.
@@ -231,7 +229,7 @@ fn check_each<'m>(
     variables: &NameSet,
     types: &[&str],
     starts: &'m [ComponentStart],
-) -> Result<(NameSet<'m>, Vec<Started>), ScriptFault>
+) -> Result<(NameSet<'m>, Vec<Started>), ModuleFault>
     requires { AreFunctionsNamed sorted.now }
     ensures started { IfOk result (λ r. AllZip
         (IsStartOf (functions_in sorted.now) variables.now (map (λ t. t.now) types.now))
@@ -258,7 +256,7 @@ fn start_all<'m>(
     sorted: &Sorted,
     case: &'m TestCase,
     names: &NameSet,
-) -> Result<(NameSet<'m>, Vec<Started>), ScriptFault>
+) -> Result<(NameSet<'m>, Vec<Started>), ModuleFault>
     requires { AreFunctionsNamed sorted.now }
     ensures started { IfOk result (λ r. AllZip
         (IsStartOf (functions_in sorted.now) names.now (type_names_of case.now))
@@ -274,7 +272,7 @@ fn start_all<'m>(
 }
 
 /// The places of the starts of the component variables, where the test case ends as it has to.
-fn place_starts(alloc: Global, started: &NameSet, case: CaseAt<'_>) -> Result<Vec<u32>, ScriptFault>
+fn place_starts(alloc: Global, started: &NameSet, case: CaseAt<'_>) -> Result<Vec<u32>, ModuleFault>
     ensures places { IfOk result (λ places. AllZip (IsStartPlace started.now)
         (variables case.entry.case.now.setups.items) places.items) }
     ensures done { OnOk result (0 < length (creations case.entry.case.now.setups.items)
@@ -305,7 +303,7 @@ pub fn check_starts(
     sorted: &Sorted,
     case: CaseAt<'_>,
     names: &NameSet,
-) -> Result<Starts, ScriptFault>
+) -> Result<Starts, ModuleFault>
     requires named { AreFunctionsNamed sorted.now }
     requires variables { names.now ≡ variables case.case.now.setups.items }
     ensures starts { IfOk result (AreStarts (functions_in sorted.now) case.entry.case.now) }

@@ -10,10 +10,8 @@ ghost use Rattle.tp_setup.specs.Cases.{cases_of};
 ghost use Rattle.tp_tree.specs.declared.tree.Definition.{Definition};
 
 use std::alloc::Global;
-use tp_name::fault::refused;
+use tp_name::fault::{ModuleFault, ModuleRule, refused};
 use tp_name::name_set::NameSet;
-use tp_refusal::refusal::Refusal;
-use tp_token::fault::ScriptFault;
 use tp_tree::tree::{
     DeclaredName, Defined, Definition, FieldType, Module, Parameter, PortDeclaration, TestCase,
 };
@@ -28,7 +26,7 @@ pub struct CaseAt<'m> {
 }
 
 /// Adds the name that is declared. 12 `Duplicate` at its line.
-fn add_name<'m>(names: &mut NameSet<'m>, name: &'m DeclaredName) -> Result<(), ScriptFault>
+fn add_name<'m>(names: &mut NameSet<'m>, name: &'m DeclaredName) -> Result<(), ModuleFault>
     ensures names { OnOk result (names.new ≡ names.old ++ declared name.now ∷ []) }
     ensures numbered { IsNumbered names.new }
     ensures refused { IfErr result (Breaks (IsNumbered (names.old ++ declared name.now ∷ []))) }
@@ -40,7 +38,7 @@ fn add_name<'m>(names: &mut NameSet<'m>, name: &'m DeclaredName) -> Result<(), S
 }
 
 /// Adds the names that are declared.
-fn declare_all<'m>(names: &mut NameSet<'m>, list: &'m [DeclaredName]) -> Result<(), ScriptFault>
+fn declare_all<'m>(names: &mut NameSet<'m>, list: &'m [DeclaredName]) -> Result<(), ModuleFault>
     requires { IsNumbered names.old }
     ensures names { OnOk result (names.new ≡ names.old ++ map declared list.now) }
     ensures numbered { IsNumbered names.new }
@@ -60,7 +58,7 @@ fn declare_all<'m>(names: &mut NameSet<'m>, list: &'m [DeclaredName]) -> Result<
 pub(crate) fn declare_ports<'m>(
     names: &mut NameSet<'m>,
     ports: &'m [PortDeclaration],
-) -> Result<(), ScriptFault>
+) -> Result<(), ModuleFault>
     requires { IsNumbered names.old }
     ensures names { OnOk result (names.new ≡ names.old ++ declared_ports ports.now) }
     ensures numbered { IsNumbered names.new }
@@ -74,7 +72,7 @@ pub(crate) fn declare_ports<'m>(
 }
 
 /// Adds the names of the fields.
-fn declare_fields<'m>(names: &mut NameSet<'m>, fields: &'m [FieldType]) -> Result<(), ScriptFault>
+fn declare_fields<'m>(names: &mut NameSet<'m>, fields: &'m [FieldType]) -> Result<(), ModuleFault>
     requires { IsNumbered names.old }
     ensures names { OnOk result (names.new ≡ names.old ++ map (λ f. declared f.name) fields.now) }
     ensures numbered { IsNumbered names.new }
@@ -95,7 +93,7 @@ fn declare_fields<'m>(names: &mut NameSet<'m>, fields: &'m [FieldType]) -> Resul
 pub fn declare_parameters<'m>(
     names: &mut NameSet<'m>,
     parameters: &'m [Parameter],
-) -> Result<(), ScriptFault>
+) -> Result<(), ModuleFault>
     requires { AreDistinct names.old }
     ensures names { OnOk result (names.new
         ≡ names.old ++ map (λ p. declared p.name) parameters.now) }
@@ -112,7 +110,7 @@ pub fn declare_parameters<'m>(
 
 /// Adds the names of the fields, ports or parameters of a definition, behind no others. 12
 /// `Duplicate` at the line of the second of two that are equal.
-fn declare_inner<'m>(names: &mut NameSet<'m>, defined: &'m Defined) -> Result<(), ScriptFault>
+fn declare_inner<'m>(names: &mut NameSet<'m>, defined: &'m Defined) -> Result<(), ModuleFault>
     requires empty { names.old ≡ [] }
     requires numbered { IsNumbered names.old }
     ensures numbered { OnOk result (IsNumbered (inner_names defined.now)) }
@@ -128,7 +126,7 @@ fn declare_inner<'m>(names: &mut NameSet<'m>, defined: &'m Defined) -> Result<()
 
 /// Looks at the names of the fields, ports or parameters of a definition. 12 `Duplicate` at the
 /// line of the second of two that are equal.
-fn check_inner(alloc: Global, definition: &Definition) -> Result<(), ScriptFault>
+fn check_inner(alloc: Global, definition: &Definition) -> Result<(), ModuleFault>
     ensures numbered { OnOk result (IsNumbered (inner_names definition.now.defined)) }
     ensures refused { IfErr result (Breaks (IsNumbered (inner_names definition.now.defined))) }
 {
@@ -155,7 +153,7 @@ pub(crate) fn defined_name(defined: &Defined) -> &str
 fn next_case<'m>(
     before: Option<CaseAt<'m>>,
     definition: &'m Definition,
-) -> Result<Option<CaseAt<'m>>, ScriptFault>
+) -> Result<Option<CaseAt<'m>>, ModuleFault>
     ensures case { IfOk result (λ after. cases_of after
         ≡ cases_of before.entry ++ option_to_list (case_of definition.now.defined)) }
     ensures refused { IfErr result (λ _.
@@ -165,7 +163,7 @@ fn next_case<'m>(
         return Ok(before);
     };
     if before.is_some() {
-        return Err(refused(Refusal::Duplicate, definition.line));
+        return Err(refused(ModuleRule::Duplicate, definition.line));
     }
     Ok(Some(CaseAt {
         line: definition.line,
@@ -194,7 +192,7 @@ fn check_name<'m>(
     alloc: Global,
     names: &mut NameSet<'m>,
     definition: &'m Definition,
-) -> Result<(), ScriptFault>
+) -> Result<(), ModuleFault>
     ensures names { OnOk result (names.new ≡ names.old ++ name_of definition.now.defined ∷ []) }
     ensures numbered { OnOk result (IsNumbered names.new) }
     ensures inner { OnOk result (IsNumbered (inner_names definition.now.defined)) }
@@ -213,7 +211,7 @@ fn check_name<'m>(
 fn find_case<'m>(
     alloc: Global,
     definitions: &'m [Definition],
-) -> Result<Option<CaseAt<'m>>, ScriptFault>
+) -> Result<Option<CaseAt<'m>>, ModuleFault>
     ensures case { IfOk result (λ case. cases_of case ≡ among case_of definitions.now) }
     ensures names { OnOk result (
         IsNumbered (map (λ (x : Definition). name_of x.defined) definitions.now)) }
@@ -237,17 +235,17 @@ fn find_case<'m>(
 /// and of the second of two equal names of fields, ports or parameters in one definition; 15
 /// `Limit` at the line of a name behind 4,294,967,295 others. 50 `Memory` only where an allocation
 /// was refused.
-pub fn check_names(alloc: Global, parsed: &Module) -> Result<CaseAt<'_>, ScriptFault>
+pub fn check_names(alloc: Global, parsed: &Module) -> Result<CaseAt<'_>, ModuleFault>
     ensures case { IfOk result (λ found. test_cases parsed.now ≡ found.case.now ∷ []) }
     ensures names { OnOk result (HasUniqueNames parsed.now) }
     ensures refused { IfErr result (
         Breaks (HasUniqueNames parsed.now × HasOneTestCase parsed.now)) }
 {
     if !has_case(&parsed.definitions) {
-        return Err(refused(Refusal::Unknown, parsed.line));
+        return Err(refused(ModuleRule::Unknown, parsed.line));
     }
     match find_case(alloc, &parsed.definitions)? {
         Some(found) => Ok(found),
-        None => Err(refused(Refusal::Unknown, parsed.line)),
+        None => Err(refused(ModuleRule::Unknown, parsed.line)),
     }
 }

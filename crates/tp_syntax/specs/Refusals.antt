@@ -1,6 +1,6 @@
 -- When a text is refused, and how long it may be.
 use Rattle.std.specs.Prelude.{◌≡◌, ℕ, ◌≤◌, ◌⊎◌, List, length}
-use Rattle.tp_refusal.specs.declared.refusal.Refusal.TheVariants.{Syntax, Limit}
+use Rattle.tp_token.specs.declared.fault.TextRule.TheVariants.{Syntax, Limit}
 use Rattle.tp_token.specs.declared.fault.ScriptFault.{ScriptFault}
 use Rattle.tp_token.specs.declared.fault.ScriptFault.TheVariants.{Refused, Memory}
 use Rattle.tp_token.specs.Lexeme.{PlacedLexeme}

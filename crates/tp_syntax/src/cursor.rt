@@ -1,7 +1,7 @@
 //! What is left to read, and its first tokens.
 ghost use Rattle.std.specs.Prelude.{◌≡◌, ◌+◌, ◌≤◌, ◌∷◌, length, IfErr, IfOk, OnErr, OnOk, string_bytes};
 ghost use Rattle.std.specs.Bool.{OnTrue, OnFalse};
-ghost use Rattle.tp_refusal.specs.declared.refusal.Refusal.TheVariants.{Limit};
+ghost use Rattle.tp_token.specs.declared.fault.TextRule.TheVariants.{Limit};
 ghost use Rattle.tp_token.specs.Lexeme.{name, symbol, word, lexeme_of};
 ghost use Rattle.tp_syntax.specs.Ahead.{ahead, before};
 ghost use Rattle.tp_syntax.specs.Passing.{Passes};

@@ -2,7 +2,7 @@
 use Rattle.std.proofs.Common.{◌≡◌, ◌≢◌, ℕ, ◌+◌, true, false, List, [], ◌∷◌, ◌++◌, take, drop, refl, ap, sym, ◌∙◌, subst, arith, inl, inr, ◌⊎◌}
 use Rattle.std.proofs.lemmas.Bool.Decides.{eqb_tells}
 use Rattle.std.proofs.lemmas.List.{append_cancel_left, take-append-drop}
-use Rattle.tp_refusal.specs.declared.refusal.Refusal.{Refusal}
+use Rattle.tp_token.specs.declared.fault.TextRule.{TextRule}
 use Rattle.tp_token.specs.declared.fault.ScriptFault.TheVariants.{Refused, Memory}
 use Rattle.tp_token.specs.declared.byte.Kind.TheVariants.{Letter, Digit, Quote, Blank, Other}
 use Rattle.tp_token.specs.Byte.{is_printable}
@@ -105,7 +105,7 @@ limit_at n (line_comment cs ∷ ps) us l bs h = limit_at (n + newlines (piece_by
 limit_at n (block_comment cs ∷ ps) us l bs h = limit_at (n + newlines (piece_bytes (block_comment cs))) ps us l bs h
 limit_at n (token m cs ∷ ps) us l bs h = limit_at (n + newlines (piece_bytes (token m cs))) ps us l bs h.1
 
-no_fault : (ps us : List Piece) (rest : List ℕ) (r : Refusal) → Cuts us rest [] → AreWithinLimits (tokens_in 1 (ps ++ us)) → IsFaulty r rest → ⊥
+no_fault : (ps us : List Piece) (rest : List ℕ) (r : TextRule) → Cuts us rest [] → AreWithinLimits (tokens_in 1 (ps ++ us)) → IsFaulty r rest → ⊥
 no_fault ps [] rest r h w f = f.0 h
 no_fault ps (u ∷ us) rest r h w f = elim f.1 [
   | inl (at, nothing) ↦ nothing u h.0 h.2 h.1

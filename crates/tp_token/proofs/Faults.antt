@@ -5,8 +5,8 @@ use Rattle.std.specs.Str.{IsAscii}
 use Rattle.std.specs.Prelude.{nat_le, if◌then◌else◌, ◌||◌}
 use Rattle.std.proofs.lemmas.Bool.{le-leb, lt-leb}
 use Rattle.std.proofs.lemmas.Bool.Decides.{leb_tells, eqb_tells}
-use Rattle.tp_refusal.specs.declared.refusal.Refusal.{Refusal}
-use Rattle.tp_refusal.specs.declared.refusal.Refusal.TheVariants.{Syntax, Limit}
+use Rattle.tp_token.specs.declared.fault.TextRule.{TextRule}
+use Rattle.tp_token.specs.declared.fault.TextRule.TheVariants.{Syntax, Limit}
 use Rattle.tp_token.specs.declared.fault.ScriptFault.{ScriptFault}
 use Rattle.tp_token.specs.declared.fault.ScriptFault.TheVariants.{Refused, Memory}
 use Rattle.tp_token.specs.declared.byte.Kind.{Kind}
@@ -218,7 +218,7 @@ pub refused_open : (bytes : List ℕ) (line : ℕ) (f : ScriptFault) → f ≡ R
 refused_open bytes line f e h = subst (λ (z : ScriptFault). IsUnclosed bytes line z) (sym e) (refl, refl, h)
 
 pub refused_text : (bytes : List ℕ) (line : ℕ) (f : ScriptFault) → BeginsWith Quote bytes → IsUnclosed (drop 1 bytes) line f → IsFaultAt bytes line f
-refused_text bytes line (Refused r n) q h = (h.0, subst (λ (z : Refusal). IsFaulty z bytes) (sym h.1) (open_text bytes q h.2))
+refused_text bytes line (Refused r n) q h = (h.0, subst (λ (z : TextRule). IsFaulty z bytes) (sym h.1) (open_text bytes q h.2))
 refused_text bytes line (Memory m) q h = tt
 
 pub starts_kind : (k : Kind) (bytes : List ℕ) → 0 < length bytes → k ≡ kind_of (get_or bytes 0 0) → BeginsWith k bytes

@@ -1,8 +1,8 @@
 -- When a text is refused, and where.
 use Rattle.std.specs.Prelude.{◌≡◌, ◌≢◌, ℕ, ◌<◌, ◌≤◌, false, List, [], ◌∷◌, ◌++◌, length, Option, Some, None, ◌⊎◌}
 use Rattle.std.specs.List.{AllByRecursion}
-use Rattle.tp_refusal.specs.declared.refusal.Refusal.{Refusal}
-use Rattle.tp_refusal.specs.declared.refusal.Refusal.TheVariants.{Syntax, Limit}
+use Rattle.tp_token.specs.declared.fault.TextRule.{TextRule}
+use Rattle.tp_token.specs.declared.fault.TextRule.TheVariants.{Syntax, Limit}
 use Rattle.tp_token.specs.declared.fault.ScriptFault.{ScriptFault}
 use Rattle.tp_token.specs.declared.fault.ScriptFault.TheVariants.{Refused, Memory}
 use Rattle.tp_token.specs.declared.token.Symbol.{Symbol}
@@ -52,7 +52,7 @@ IsBeyondLimits bytes = (l : Lexeme) × (size : ℕ) × TokenAt bytes l size × �
 
 -- the front of the bytes is refused so: 10 where no piece can stand or a text isn't closed, 15 where a token is beyond
 -- the limits
-abbrev pub IsFaulty : Refusal → List ℕ → Type 0
+abbrev pub IsFaulty : TextRule → List ℕ → Type 0
 IsFaulty r bytes =
     (bytes ≢ []) × (((r ≡ Syntax) × HasNoPiece bytes)
     ⊎ (((r ≡ Syntax) × HasOpenText bytes) ⊎ ((r ≡ Limit) × IsBeyondLimits bytes)))
@@ -63,7 +63,7 @@ IsFaultAt bytes line (Refused r n) = (n ≡ line) × IsFaulty r bytes
 IsFaultAt bytes line (Memory m) = Unit {0}
 
 -- the first fault of the text: pieces within the limits stand before it, and it stands on this line
-abbrev pub IsFirstFault : List ℕ → Refusal → ℕ → Type 0
+abbrev pub IsFirstFault : List ℕ → TextRule → ℕ → Type 0
 IsFirstFault bytes r n =
     (ps : List Piece) × (rest : List ℕ) × Cuts ps bytes rest × AreWithinLimits (tokens_in 1 ps)
     × (n ≡ line_after 1 ps) × IsFaulty r rest

@@ -4,3 +4,4 @@ pub mod Fault
 pub mod Lexeme
 pub mod Spelling
 pub mod Word
+pub mod Told

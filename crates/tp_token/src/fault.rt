@@ -1,20 +1,51 @@
 //! Why a text of the notation is refused.
 ghost use Rattle.std.specs.Prelude.{◌≡◌};
+ghost use Rattle.tp_token.specs.Told.{text_refusal};
 ghost use Rattle.tp_token.specs.declared.fault.ScriptFault.TheVariants as script_fault;
 
 use std::alloc::{AllocError, AllocFailed};
+use std::fmt;
 use thiserror::Error;
 use tp_refusal::memory::Memory;
 use tp_refusal::refusal::Refusal;
 
-/// Why a text is not accepted.
+/// A rule that a text breaks as it is read, by the name of its [`Refusal`]. There is no other.
+#[derive(Clone, Copy, Debug, PartialEq, Eq)]
+pub enum TextRule {
+    /// 10: no token, or not this one, can stand there.
+    Syntax,
+    /// 15: there is more of something than the profile allows.
+    Limit,
+}
+
+impl TextRule {
+    /// The refusal that tells the rule: 10 or 15.
+    pub fn refusal(self) -> Refusal
+        ensures { result ≡ text_refusal self }
+    {
+        match self {
+            TextRule::Syntax => Refusal::Syntax,
+            TextRule::Limit => Refusal::Limit,
+        }
+    }
+}
+
+/// The number and the name of its refusal.
+impl fmt::Display for TextRule {
+    fn fmt<W: fmt::Write>(&self, f: &mut fmt::Formatter<W>) -> fmt::Result {
+        let refusal = self.refusal();
+        write!(f, "{refusal}")
+    }
+}
+
+/// Why a text is not read.
 #[derive(Clone, Copy, Debug, PartialEq, Eq, Error)]
 pub enum ScriptFault {
     /// The text breaks a rule of the notation.
-    #[error("refused {refusal} line {line}")]
+    #[error("refused {rule} line {line}")]
     Refused {
-        /// The rule, by its number and name.
-        refusal: Refusal,
+        /// The rule.
+        rule: TextRule,
         /// Where: one more than the number of bytes 10 before the place, or 0 for a text that is
         /// too long.
         line: u32,
@@ -27,20 +58,20 @@ pub enum ScriptFault {
 impl ScriptFault {
     /// 10 `Syntax` at the line: no token, or not this one, can stand there.
     pub fn syntax(line: u32) -> ScriptFault
-        ensures { result ≡ ScriptFault.Refused Refusal.Syntax line }
+        ensures { result ≡ ScriptFault.Refused TextRule.Syntax line }
     {
         ScriptFault::Refused {
-            refusal: Refusal::Syntax,
+            rule: TextRule::Syntax,
             line,
         }
     }
 
     /// 15 `Limit` at the line: there is more of something than the profile allows.
     pub fn limit(line: u32) -> ScriptFault
-        ensures { result ≡ ScriptFault.Refused Refusal.Limit line }
+        ensures { result ≡ ScriptFault.Refused TextRule.Limit line }
     {
         ScriptFault::Refused {
-            refusal: Refusal::Limit,
+            rule: TextRule::Limit,
             line,
         }
     }

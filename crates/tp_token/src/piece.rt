@@ -9,11 +9,10 @@ ghost use Rattle.tp_token.specs.Lexeme.{lexeme_of, number, symbol, text};
 ghost use Rattle.tp_token.specs.Spelling.{Run, value_on, doubled};
 
 use crate::byte::{Kind, is_digit, is_printable, is_word_byte, kind_of};
-use crate::fault::ScriptFault;
+use crate::fault::{ScriptFault, TextRule};
 use crate::token::{Symbol, Token};
 use crate::word::word_of;
 use std::alloc::Global;
-use tp_refusal::refusal::Refusal;
 
 /// How many characters a name may have.
 const LONGEST_NAME: usize = 64;
@@ -131,7 +130,7 @@ fn spelled_number(digits: &[u8], line: u32) -> Result<u64, ScriptFault>
     requires { Run is_digit digits.now }
     ensures value { IfOk result (λ n. n ≡ value_on 0 digits.now) }
     ensures limits { IfOk result (λ n. n ≤ GREATEST_IN_TOKEN) }
-    ensures refused { IfErr result (λ fault. fault ≡ ScriptFault.Refused Refusal.Limit line) }
+    ensures refused { IfErr result (λ fault. fault ≡ ScriptFault.Refused TextRule.Limit line) }
     ensures great { OnErr result (GREATEST_IN_TOKEN < value_on 0 digits.now) }
 {
     let mut value: u64 = 0;

@@ -5,8 +5,8 @@ use Rattle.std.proofs.lemmas.List.{length-append}
 use Rattle.tp_text.specs.declared.text.ReadFault.{ReadFault}
 use Rattle.tp_text.specs.declared.text.ReadFault.TheVariants as read
 use Rattle.tp_text.specs.Reading.{TakesBytes}
-use Rattle.tp_token.specs.declared.fault.ScriptFault.{ScriptFault}
-use Rattle.tp_token.specs.declared.fault.ScriptFault.TheVariants as script
+use Rattle.tp_script.specs.declared.fault.TestCaseFault.{TestCaseFault}
+use Rattle.tp_script.specs.declared.fault.TestCaseFault.TheVariants as script
 use Rattle.tpr.specs.declared.checking.CheckFault.TheVariants as fault
 use Rattle.tp_play.specs.TestCases.{Made}
 use Rattle.tp_script.specs.Scripts.{IsScriptFaultOf, IsScriptOf}
@@ -19,16 +19,16 @@ reading_fault read.Read (Some text) new taken = taken
 reading_fault read.Limit None new taken = (taken.0, taken.1, tt)
 reading_fault read.Limit (Some text) None taken = absurd taken.1
 reading_fault read.Limit (Some text) (Some rest) taken =
-    (taken.0, taken.1, (omega (arith, taken.2), inl (inl (inl (omega (arith, ap length taken.1, length-append taken.0 rest, taken.2), refl, refl)))))
+    (taken.0, taken.1, (omega (arith, taken.2), inl (inl (omega (arith, ap length taken.1, length-append taken.0 rest, taken.2), refl, refl))))
 reading_fault read.Memory None new taken = (taken.0, taken.1, tt)
 reading_fault read.Memory (Some text) new taken = (taken.0, taken.1, (taken.2.0, inl taken.2.1))
 
 -- a fault of the checks, of a text that was read
-script_fault : (f : ScriptFault) (text : List ℕ) (taken : ℕ) → length text ≤ 1048576 → taken ≤ 1048576 → IsScriptFaultOf text f → IsScriptFaultIn text taken f
-script_fault (script.Refused r line) text taken short few h = (omega (arith, few), h)
+script_fault : (f : TestCaseFault) (text : List ℕ) (taken : ℕ) → length text ≤ 1048576 → taken ≤ 1048576 → IsScriptFaultOf text f → IsScriptFaultIn text taken f
+script_fault (script.Refused rule line) text taken short few h = (omega (arith, few), h)
 script_fault (script.Memory m) text taken short few h = (few, inr short)
 
-pub checking_fault : (f : ScriptFault) (old new : Option (List ℕ)) (text : List ℕ) → IfSome old (λ all. text ≡ all) → length text ≤ 1048576
+pub checking_fault : (f : TestCaseFault) (old new : Option (List ℕ)) (text : List ℕ) → IfSome old (λ all. text ≡ all) → length text ≤ 1048576
     → TakesBytes old new None → IsScriptFaultOf text f → HasCheckFault old new (fault.Script f)
 checking_fault f None new text is short taken h = (taken.0, taken.1, tt)
 checking_fault f (Some all) new text is short taken h =

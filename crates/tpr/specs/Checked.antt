@@ -6,11 +6,13 @@ use Rattle.tp_text.specs.declared.watched.Watched.{Watched}
 use Rattle.tp_text.specs.Watching.{HasFailed, left_in}
 use Rattle.tp_text.specs.declared.text.ReadFault.{ReadFault}
 use Rattle.tp_text.specs.declared.text.ReadFault.TheVariants as read_fault
-use Rattle.tp_refusal.specs.declared.refusal.Refusal.TheVariants as refusal
-use Rattle.tp_token.specs.declared.fault.ScriptFault.{ScriptFault}
-use Rattle.tp_token.specs.declared.fault.ScriptFault.TheVariants as script_fault
+use Rattle.tp_token.specs.declared.fault.TextRule.TheVariants as text_rule
 use Rattle.tp_play.specs.TestCases.{Made}
+use Rattle.tp_script.specs.declared.fault.ScriptRule.TheVariants as script_rule
+use Rattle.tp_script.specs.declared.fault.TestCaseFault.{TestCaseFault}
+use Rattle.tp_script.specs.declared.fault.TestCaseFault.TheVariants as test_case_fault
 use Rattle.tp_script.specs.Scripts.{IsScriptFaultOf, IsScriptOf}
+use Rattle.tp_script.specs.Told.{script_refusal}
 use Rattle.tpr.specs.declared.checking.CheckFault.{CheckFault}
 use Rattle.tpr.specs.declared.checking.CheckFault.TheVariants as check_fault
 use Rattle.tpr.specs.Outcome.{memory_text, refused_text, unread_text}
@@ -18,21 +20,22 @@ use Rattle.tpr.specs.Outcome.{memory_text, refused_text, unread_text}
 -- a text that is too long has its fault at line 0
 abbrev pub check_fault_of : ReadFault → CheckFault
 check_fault_of read_fault.Read = check_fault.Read
-check_fault_of read_fault.Limit = check_fault.Script (script_fault.Refused refusal.Limit 0)
-check_fault_of read_fault.Memory = check_fault.Script (script_fault.Memory (record {}))
+check_fault_of read_fault.Limit =
+    check_fault.Script (test_case_fault.Refused (script_rule.Text text_rule.Limit) 0)
+check_fault_of read_fault.Memory = check_fault.Script (test_case_fault.Memory (record {}))
 
-abbrev pub script_fault_text : ScriptFault → List ℕ
-script_fault_text (script_fault.Refused r line) = refused_text r line
-script_fault_text (script_fault.Memory m) = memory_text
+abbrev pub script_fault_text : TestCaseFault → List ℕ
+script_fault_text (test_case_fault.Refused rule line) = refused_text (script_refusal rule) line
+script_fault_text (test_case_fault.Memory m) = memory_text
 
 -- what is printed of a fault of mode check
 abbrev pub check_fault_text : CheckFault → List ℕ
 check_fault_text check_fault.Read = unread_text
 check_fault_text (check_fault.Script f) = script_fault_text f
 
-abbrev pub script_fault_status : ScriptFault → ℕ
-script_fault_status (script_fault.Refused r line) = 2
-script_fault_status (script_fault.Memory m) = 3
+abbrev pub script_fault_status : TestCaseFault → ℕ
+script_fault_status (test_case_fault.Refused rule line) = 2
+script_fault_status (test_case_fault.Memory m) = 3
 
 -- and the status: 2 where the text was refused, 3 where the fault isn't the text's
 abbrev pub check_fault_status : CheckFault → ℕ
@@ -50,10 +53,10 @@ IsRight text = (made : Made) × IsScriptOf text made
 -- the same of a text that is read first, where reading took so many bytes of it, of a text that is too long one more
 -- than the limit: memory may be wanting where the room for the text is full, whatever the text, and then for a text
 -- that isn't too long
-abbrev pub IsScriptFaultIn : List ℕ → ℕ → ScriptFault → Type 0
-IsScriptFaultIn text taken (script_fault.Refused r line) =
-    (taken ≤ 1048577) × IsScriptFaultOf text (script_fault.Refused r line)
-IsScriptFaultIn text taken (script_fault.Memory m) = (taken ≤ 1048576) × (IsFull taken ⊎ (length text ≤ 1048576))
+abbrev pub IsScriptFaultIn : List ℕ → ℕ → TestCaseFault → Type 0
+IsScriptFaultIn text taken (test_case_fault.Refused rule line) =
+    (taken ≤ 1048577) × IsScriptFaultOf text (test_case_fault.Refused rule line)
+IsScriptFaultIn text taken (test_case_fault.Memory m) = (taken ≤ 1048576) × (IsFull taken ⊎ (length text ≤ 1048576))
 
 -- and the reader may fail anywhere within the limit
 abbrev pub IsCheckFaultOf : List ℕ → ℕ → CheckFault → Type 0

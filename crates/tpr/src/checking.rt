@@ -10,10 +10,11 @@ use std::alloc::Global;
 use std::io::{Read, Write};
 use tp_play::test_case::TestCase;
 use tp_refusal::memory::Memory;
+use tp_script::fault::{ScriptRule, TestCaseFault};
 use tp_script::reading::read_script;
 use tp_text::text::{ReadFault, read_text};
 use tp_text::watched::{Watched, write_bytes};
-use tp_token::fault::ScriptFault;
+use tp_token::fault::TextRule;
 
 /// Why a script isn't accepted.
 #[derive(Clone, Copy)]
@@ -21,7 +22,7 @@ pub enum CheckFault {
     /// 2 Read: the reader answered an error.
     Read,
     /// The script breaks a rule, or memory was refused.
-    Script(ScriptFault),
+    Script(TestCaseFault),
 }
 
 impl From<ReadFault> for CheckFault {
@@ -33,8 +34,11 @@ impl From<ReadFault> for CheckFault {
     fn from(read: ReadFault) -> CheckFault {
         match read {
             ReadFault::Read => CheckFault::Read,
-            ReadFault::Limit => CheckFault::Script(ScriptFault::limit(0)),
-            ReadFault::Memory => CheckFault::Script(ScriptFault::Memory(Memory)),
+            ReadFault::Limit => CheckFault::Script(TestCaseFault::Refused {
+                rule: ScriptRule::Text(TextRule::Limit),
+                line: 0,
+            }),
+            ReadFault::Memory => CheckFault::Script(TestCaseFault::Memory(Memory)),
         }
     }
 }
@@ -63,10 +67,10 @@ fn write_check_fault<W: Write>(writer: &mut Watched<W>, fault: CheckFault)
 {
     match fault {
         CheckFault::Read => write_unread(writer),
-        CheckFault::Script(ScriptFault::Refused { refusal, line }) => {
-            write_refused(writer, refusal, line as u64)
+        CheckFault::Script(TestCaseFault::Refused { rule, line }) => {
+            write_refused(writer, rule.refusal(), line as u64)
         }
-        CheckFault::Script(ScriptFault::Memory(_)) => write_memory(writer),
+        CheckFault::Script(TestCaseFault::Memory(_)) => write_memory(writer),
     }
 }
 
@@ -75,8 +79,8 @@ fn check_fault_status(fault: CheckFault) -> u8
     ensures { result ≡ check_fault_status fault }
 {
     match fault {
-        CheckFault::Read | CheckFault::Script(ScriptFault::Refused { .. }) => REFUSED,
-        CheckFault::Script(ScriptFault::Memory(_)) => FAULTED,
+        CheckFault::Read | CheckFault::Script(TestCaseFault::Refused { .. }) => REFUSED,
+        CheckFault::Script(TestCaseFault::Memory(_)) => FAULTED,
     }
 }
 
@@ -101,9 +105,9 @@ fn answer_accepted<W: Write>(writer: &mut Watched<W>) -> Option<u8>
 /// first fault.
 ///
 /// The status is 0 where it is right; 2 where it was refused: `refused 2 Read`, or
-/// `refused CODE NAME line L` with 10 to 18 and 20 to 28, as [`read_script`] says; 3 where
-/// memory was refused, `fault 50 Memory`. `None` where the writer failed: a front of one of these
-/// answers is printed then.
+/// `refused CODE NAME line L` for a [`ScriptRule`], as [`read_script`] says; 3 where memory was
+/// refused, `fault 50 Memory`. `None` where the writer failed: a front of one of these answers is
+/// printed then.
 pub fn answer_check<R: Read, W: Write>(
     alloc: Global,
     reader: &mut Watched<R>,

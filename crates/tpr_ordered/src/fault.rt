@@ -3,8 +3,8 @@ use std::alloc::{AllocError, AllocFailed};
 use thiserror::Error;
 use tp_refusal::memory::Memory;
 use tp_refusal::refusal::Refusal;
+use tp_script::fault::TestCaseFault;
 use tp_text::text::ReadFault;
-use tp_token::fault::ScriptFault;
 
 /// Why one of the two files was refused.
 #[derive(Clone, Copy, Debug, PartialEq, Eq, Error)]
@@ -12,40 +12,42 @@ pub enum FileFault {
     /// 2 Read: the file could not be read, or is no text.
     #[error("refused {}", Refusal::Read)]
     Read,
-    /// The text breaks a rule, or memory was refused.
+    /// 15 Limit: the file is too long.
+    #[error("refused {} line 0", Refusal::Limit)]
+    Limit,
+    /// 11 Unknown: an order has a name that no component has.
+    #[error("refused {} line {line}", Refusal::Unknown)]
+    Unknown {
+        /// The line of the order.
+        line: u32,
+    },
+    /// The script has no test case.
     #[error("{0}")]
-    Text(ScriptFault),
-}
-
-impl FileFault {
-    /// 11 `Unknown` at the line: a name that no component has.
-    pub fn unknown(line: u32) -> FileFault {
-        FileFault::Text(ScriptFault::Refused {
-            refusal: Refusal::Unknown,
-            line,
-        })
-    }
+    Script(TestCaseFault),
+    /// 50: memory was refused.
+    #[error("fault {}", Refusal::Memory)]
+    Memory(Memory),
 }
 
 impl From<ReadFault> for FileFault {
     fn from(fault: ReadFault) -> FileFault {
         match fault {
             ReadFault::Read => FileFault::Read,
-            ReadFault::Limit => FileFault::Text(ScriptFault::limit(0)),
+            ReadFault::Limit => FileFault::Limit,
             ReadFault::Memory => FileFault::from(Memory),
         }
     }
 }
 
-impl From<ScriptFault> for FileFault {
-    fn from(fault: ScriptFault) -> FileFault {
-        FileFault::Text(fault)
+impl From<TestCaseFault> for FileFault {
+    fn from(fault: TestCaseFault) -> FileFault {
+        FileFault::Script(fault)
     }
 }
 
 impl From<Memory> for FileFault {
     fn from(refused: Memory) -> FileFault {
-        FileFault::Text(ScriptFault::Memory(refused))
+        FileFault::Memory(refused)
     }
 }
 

@@ -21,10 +21,10 @@ use std::thread::Threads;
 use std::{env, io, mem};
 use tp_play::test_case::TestCase;
 use tp_refusal::memory::Memory;
+use tp_script::fault::TestCaseFault;
 use tp_script::reading::read_script;
 use tp_text::text::read_text;
 use tp_text::watched::Watched;
-use tp_token::fault::ScriptFault;
 
 /// The status where all orders were run.
 const ANSWERED: u8 = 0;
@@ -45,8 +45,9 @@ fn usage<R: Eprint>(rt: &R) -> u8 {
 /// The status of a fault.
 fn file_fault_status(fault: FileFault) -> u8 {
     match fault {
-        FileFault::Read | FileFault::Text(ScriptFault::Refused { .. }) => REFUSED,
-        FileFault::Text(ScriptFault::Memory(_)) => FAULTED,
+        FileFault::Read | FileFault::Limit | FileFault::Unknown { .. } => REFUSED,
+        FileFault::Script(TestCaseFault::Refused { .. }) => REFUSED,
+        FileFault::Script(TestCaseFault::Memory(_)) | FileFault::Memory(_) => FAULTED,
     }
 }
 

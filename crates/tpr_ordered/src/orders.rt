@@ -59,7 +59,7 @@ fn steps_of(
     }
     for word in line.split(' ') {
         let Some(step) = step_of(config, word) else {
-            return Err(FileFault::unknown(number));
+            return Err(FileFault::Unknown { line: number });
         };
         steps.push(step)?;
     }

@@ -6,5 +6,5 @@ pub returns-in-Err-clause-refused : goal.returns-in-Err-clause-refused
 returns-in-Err-clause-refused c =
     create_broken c.args.types.now
     (record { name = c.args.component.now.name.now; type_name = c.args.component.now.type_name.now; role = c.args.component.now.role })
-    c.args.config.now _ c.in-Some.kind c.in-Err.fault c.refusal.result c.fault_at.result c.in_ok-name.ensures.ok c.in-Err.ensures.err.1 c.refusal.ensures
-    c.fault_at.ensures.memory
+    c.args.config.now _ c.in-Some.kind c.in-Err.fault c.create_fault_at.result c.in_ok-name.ensures.ok c.in-Err.ensures.err.1
+    c.create_fault_at.ensures.told

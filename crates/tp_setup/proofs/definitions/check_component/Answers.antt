@@ -1,14 +1,14 @@
 -- A component type is refused for an unknown port type first, and else for too many ports.
 use Rattle.std.proofs.Common.{◌≡◌, ◌≤◌, ◌∙◌, ℕ, Bool, true, false, List, arith, inl, inr, length, sym}
-use Rattle.tp_refusal.specs.declared.refusal.Refusal.TheVariants.{Unknown, Limit}
-use Rattle.tp_token.specs.declared.fault.ScriptFault.{ScriptFault}
-use Rattle.tp_token.specs.declared.fault.ScriptFault.TheVariants.{Refused}
+use Rattle.tp_name.specs.declared.fault.ModuleRule.TheVariants.{Unknown, Limit}
+use Rattle.tp_name.specs.declared.fault.ModuleFault.{ModuleFault}
+use Rattle.tp_name.specs.declared.fault.ModuleFault.TheVariants.{Refused}
 use Rattle.tp_tree.specs.declared.tree.ComponentType.{ComponentType}
 use Rattle.tp_setup.specs.Definitions.{declared_ports}
 use Rattle.tp_setup.specs.Rules.{IsComponentFault, has_known_ports}
 use Rattle.tp_setup.proofs.definitions.check_component.Goals as goal
 
-module _ (names : List (List ℕ)) (x : ComponentType) (line : ℕ) (fault : ScriptFault) where
+module _ (names : List (List ℕ)) (x : ComponentType) (line : ℕ) (fault : ModuleFault) where
   -- the type of a port is unknown
   of_unknown : has_known_ports names x ≡ false → fault ≡ Refused Unknown line → IsComponentFault names x line fault
   of_unknown isnt is = inl (λ h. absurd (cc), is)
@@ -27,5 +27,5 @@ pub returns-then-not-are_ports_few-clause-refused : goal.returns-then-not-are_po
 returns-then-not-are_ports_few-clause-refused c =
     let known = rw c.deref.ensures.value at c.are_ports_known.ensures in
     let few = rw c.deref-2.ensures.value at c.are_ports_few.ensures in
-    of_many c.args.port_types.now c.args.component.now c.args.line c.limit.result c.are_ports_few.result
-    (sym known ∙ c.if-not-are_ports_known.false) few.1 c.if-not-are_ports_few.true c.limit.ensures
+    of_many c.args.port_types.now c.args.component.now c.args.line c.refused-then-not-are_ports_few.result c.are_ports_few.result
+    (sym known ∙ c.if-not-are_ports_known.false) few.1 c.if-not-are_ports_few.true c.refused-then-not-are_ports_few.ensures
