@@ -3,6 +3,7 @@ use Rattle.std.specs.Prelude.{◌≤◌, ℕ, List}
 use Rattle.tp_tree.specs.declared.tree.Module.{Module}
 use Rattle.tp_token.specs.declared.fault.ScriptFault.TheVariants as script_fault
 use Rattle.tp_syntax.specs.Definitions.{IsReadAs}
+use Rattle.tp_syntax.specs.Grammar.{IsGrammatical}
 use Rattle.tp_syntax.specs.Nesting.{module_depth}
 use Rattle.tp_syntax.specs.Refusals.{HasTokens, IsUnread}
 use Rattle.tp_play.specs.TestCases.{Made}
@@ -11,11 +12,13 @@ use Rattle.tp_script.specs.declared.fault.TestCaseFault.{TestCaseFault}
 use Rattle.tp_script.specs.declared.fault.TestCaseFault.TheVariants as test_case_fault
 use Rattle.tp_script.specs.TestCases.{IsTestCaseOf, WellFormed}
 
--- the text is read as this module, within the limits: of the text, of names and numbers, and of open brackets
+-- the text is read as this module of the grammar, within the limits: of the text, of names and numbers, and of open
+-- brackets
 pub record IsModuleOf (text : List ℕ) (parsed : Module) : Type 0 where
   pub read : IsReadAs text parsed
   pub within : HasTokens text
   pub nested : module_depth parsed ≤ 32
+  pub grammatical : IsGrammatical parsed
 
 -- the text is a script of this test case: it is read as a module that obeys the rules and has that test case
 pub record IsScriptOf (text : List ℕ) (made : Made) : Type 0 where

@@ -1,9 +1,10 @@
 -- What is left to read: the tokens, each `-` directly before the number 0 left out.
-use Rattle.std.specs.Prelude.{zero, Bool, true, false, List, [], ◌∷◌, map}
+use Rattle.std.specs.Prelude.{ℕ, zero, Bool, true, false, List, [], ◌∷◌, map, Option, Some, None, option_map, slice_get}
+use Rattle.tp_token.specs.declared.word.Word.{Word}
 use Rattle.tp_token.specs.declared.token.Symbol.{Symbol}
 use Rattle.tp_token.specs.declared.token.Symbol.TheVariants.{Minus}
 use Rattle.tp_token.specs.declared.token.Placed.{Placed}
-use Rattle.tp_token.specs.Lexeme.{Lexeme, number, symbol, lexeme_of}
+use Rattle.tp_token.specs.Lexeme.{Lexeme, name, word, number, symbol, lexeme_of}
 
 -- the tokens without their lines
 abbrev pub lexemes : List Placed → List Lexeme
@@ -46,3 +47,27 @@ ahead ps = plain (lexemes ps)
 -- what is left to read at this token with these behind it
 abbrev pub before : Lexeme → List Placed → List Lexeme
 before t ps = token_before (starts_zero (lexemes ps)) t (ahead ps)
+
+-- the token at this place, counted from 0 at the next one
+abbrev pub token_at : List Placed → ℕ → Option Lexeme
+token_at ps place = option_map (λ (p : Placed). lexeme_of p.token) (slice_get ps place)
+
+-- the symbol that it is, if it is one
+abbrev pub symbol_in : Option Lexeme → Option Symbol
+symbol_in (Some (symbol s)) = Some s
+symbol_in _ = None
+
+-- the reserved word that it is, if it is one
+abbrev pub word_in : Option Lexeme → Option Word
+word_in (Some (word w)) = Some w
+word_in _ = None
+
+-- whether it is a name
+abbrev pub is_name_in : Option Lexeme → Bool
+is_name_in (Some (name n)) = true
+is_name_in _ = false
+
+-- whether it is a number
+abbrev pub is_number_in : Option Lexeme → Bool
+is_number_in (Some (number n)) = true
+is_number_in _ = false

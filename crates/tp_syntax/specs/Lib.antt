@@ -1,9 +1,11 @@
 pub mod Ahead
 pub mod Definitions
+pub mod Grammar
 pub mod Nesting
 pub mod Passing
 pub mod Refusals
 pub mod Sequences
+pub mod Standing
 pub mod Statements
 pub mod Templates
 pub mod Values

@@ -1,12 +1,13 @@
 //! What is left to read, and its first tokens.
-ghost use Rattle.std.specs.Prelude.{◌≡◌, ◌+◌, ◌≤◌, ◌∷◌, length, IfErr, IfOk, OnErr, OnOk, string_bytes};
+ghost use Rattle.std.specs.Prelude.{◌≡◌, ◌+◌, ◌≤◌, ◌∷◌, ◌||◌, ◌↔◌, IsTrue, length, IfErr, IfOk, OnErr, OnOk, Some, string_bytes};
 ghost use Rattle.std.specs.Bool.{OnTrue, OnFalse};
 ghost use Rattle.tp_token.specs.declared.fault.TextRule.TheVariants.{Limit};
 ghost use Rattle.tp_token.specs.Lexeme.{name, symbol, word, lexeme_of};
-ghost use Rattle.tp_syntax.specs.Ahead.{ahead, before};
+ghost use Rattle.tp_syntax.specs.Ahead.{ahead, before, is_name_in, is_number_in, symbol_in, token_at, word_in};
 ghost use Rattle.tp_syntax.specs.Passing.{Passes};
 ghost use Rattle.tp_syntax.specs.Sequences.{end_lexemes};
 ghost use Rattle.tp_syntax.specs.Refusals.{IsOfGrammar};
+ghost use Rattle.tp_syntax.specs.Standing.{IsEnd};
 
 use std::alloc::Global;
 use tp_token::fault::ScriptFault;
@@ -171,7 +172,9 @@ impl<'a, 't> Parser<'a, 't> {
     }
 
     /// The symbol at this place, counted from 0 at the next token, if one stands there.
-    pub fn symbol_at(&self, place: usize) -> Option<Symbol> {
+    pub fn symbol_at(&self, place: usize) -> Option<Symbol>
+        ensures { result ≡ symbol_in (token_at self.now.rest.now place) }
+    {
         match self.rest.get(place) {
             Some(placed) => match placed.token {
                 Token::Symbol(found) => Some(found),
@@ -182,7 +185,9 @@ impl<'a, 't> Parser<'a, 't> {
     }
 
     /// The word at this place, counted from 0 at the next token, if one stands there.
-    pub fn word_at(&self, place: usize) -> Option<Word> {
+    pub fn word_at(&self, place: usize) -> Option<Word>
+        ensures { result ≡ word_in (token_at self.now.rest.now place) }
+    {
         match self.rest.get(place) {
             Some(placed) => match placed.token {
                 Token::Word(found) => Some(found),
@@ -193,7 +198,9 @@ impl<'a, 't> Parser<'a, 't> {
     }
 
     /// Whether a name stands at this place, counted from 0 at the next token.
-    pub fn is_name_at(&self, place: usize) -> bool {
+    pub fn is_name_at(&self, place: usize) -> bool
+        ensures { result ≡ is_name_in (token_at self.now.rest.now place) }
+    {
         match self.rest.get(place) {
             Some(placed) => matches!(&placed.token, Token::Name(_)),
             None => false,
@@ -201,7 +208,9 @@ impl<'a, 't> Parser<'a, 't> {
     }
 
     /// Whether a number stands at this place, counted from 0 at the next token.
-    pub fn is_number_at(&self, place: usize) -> bool {
+    pub fn is_number_at(&self, place: usize) -> bool
+        ensures { result ≡ is_number_in (token_at self.now.rest.now place) }
+    {
         match self.rest.get(place) {
             Some(placed) => matches!(&placed.token, Token::Number(_)),
             None => false,
@@ -209,7 +218,9 @@ impl<'a, 't> Parser<'a, 't> {
     }
 
     /// Whether this symbol stands at this place.
-    pub fn is_symbol_at(&self, place: usize, want: Symbol) -> bool {
+    pub fn is_symbol_at(&self, place: usize, want: Symbol) -> bool
+        ensures { IsTrue result ↔ (token_at self.now.rest.now place ≡ Some (symbol want)) }
+    {
         match self.symbol_at(place) {
             Some(found) => found.is(want),
             None => false,
@@ -217,7 +228,9 @@ impl<'a, 't> Parser<'a, 't> {
     }
 
     /// Whether this word stands at this place.
-    pub fn is_word_at(&self, place: usize, want: Word) -> bool {
+    pub fn is_word_at(&self, place: usize, want: Word) -> bool
+        ensures { IsTrue result ↔ (token_at self.now.rest.now place ≡ Some (word want)) }
+    {
         match self.word_at(place) {
             Some(found) => found.is(want),
             None => false,
@@ -228,6 +241,7 @@ impl<'a, 't> Parser<'a, 't> {
     /// before any token. 10 `Syntax`: it is missing elsewhere.
     pub fn end(&mut self, is_closed: bool) -> Result<bool, ScriptFault>
         ensures tokens { IfOk result (λ e. Passes self.old (end_lexemes e) self.new) }
+        ensures grammatical { IfOk result (λ e. IsEnd (is_closed || e) self.new) }
         ensures shorter { OnOk result (length self.new.rest.now ≤ length self.old.rest.now) }
         ensures fault { IfErr result IsOfGrammar }
     {

@@ -1,9 +1,11 @@
 //! Functions, definitions and the module.
-ghost use Rattle.std.specs.Prelude.{◌<◌, ◌≤◌, length, IfErr, IfOk, OnOk};
+ghost use Rattle.std.specs.Prelude.{◌≡◌, ◌<◌, ◌≤◌, IsTrue, length, map, IfErr, IfOk, OnOk};
 ghost use Rattle.tp_syntax.specs.Definitions.{parameter_lexemes, parameters_lexemes, function_lexemes, defined_lexemes, definition_lexemes, definitions_lexemes, module_lexemes};
+ghost use Rattle.tp_syntax.specs.Grammar.{defined_part, definition_part, IsGrammatical};
 ghost use Rattle.tp_syntax.specs.Nesting.{defined_depth, definitions_depth, module_depth};
 ghost use Rattle.tp_syntax.specs.Passing.{Passes};
 ghost use Rattle.tp_syntax.specs.Refusals.{IsOfGrammar};
+ghost use Rattle.tp_syntax.specs.Standing.{GoesOver, HasPassed};
 
 use crate::cursor::Parser;
 use std::alloc::Global;
@@ -11,6 +13,13 @@ use tp_token::fault::ScriptFault;
 use tp_token::token::Symbol;
 use tp_token::word::Word;
 use tp_tree::tree::{Defined, Definition, Function, Module, Parameter};
+
+/// Whether a definition ends in a `}`, so that no `;` is needed behind it.
+fn ends_in_brace(defined: &Defined) -> bool
+    ensures { result ≡ (defined_part defined.now).is_ended }
+{
+    !matches!(defined, Defined::List(_))
+}
 
 impl<'a, 't> Parser<'a, 't> {
     /// A parameter.
@@ -50,6 +59,8 @@ impl<'a, 't> Parser<'a, 't> {
         ensures tokens { IfOk result (λ x. Passes self.old (function_lexemes x) self.new) }
         ensures shorter { OnOk result (length self.new.rest.now < length self.old.rest.now) }
         ensures nested { IfOk result (λ x. defined_depth (Defined.Function x) ≤ left) }
+        ensures grammatical { IfOk result (λ x.
+            IsTrue (defined_part (Defined.Function x)).is_right) }
         ensures fault { IfErr result IsOfGrammar }
     {
         self.word(Word::Function)?;
@@ -79,6 +90,7 @@ impl<'a, 't> Parser<'a, 't> {
         ensures tokens { IfOk result (λ x. Passes self.old (defined_lexemes x) self.new) }
         ensures shorter { OnOk result (length self.new.rest.now < length self.old.rest.now) }
         ensures nested { IfOk result (λ x. defined_depth x ≤ left) }
+        ensures grammatical { IfOk result (λ x. IsTrue (defined_part x).is_right) }
         ensures fault { IfErr result IsOfGrammar }
     {
         match self.word_at(0) {
@@ -100,11 +112,12 @@ impl<'a, 't> Parser<'a, 't> {
         ensures tokens { IfOk result (λ x. Passes self.old (definition_lexemes x) self.new) }
         ensures shorter { OnOk result (length self.new.rest.now < length self.old.rest.now) }
         ensures nested { IfOk result (λ x. defined_depth x.defined ≤ left) }
+        ensures grammatical { IfOk result (λ x. HasPassed (definition_part x) self.new) }
         ensures fault { IfErr result IsOfGrammar }
     {
         let line = self.line();
-        let is_closed = !self.is_list_type();
         let defined = self.defined(alloc, left)?;
+        let is_closed = ends_in_brace(&defined);
         let has_semicolon = self.end(is_closed)?;
         Ok(Definition {
             line,
@@ -118,6 +131,8 @@ impl<'a, 't> Parser<'a, 't> {
         ensures tokens { IfOk result (λ x. Passes self.old (definitions_lexemes x.items) self.new) }
         ensures shorter { OnOk result (length self.new.rest.now ≤ length self.old.rest.now) }
         ensures nested { IfOk result (λ x. definitions_depth x.items ≤ left) }
+        ensures grammatical { IfOk result (λ x.
+            GoesOver self.old (map definition_part x.items) self.new) }
         ensures fault { IfErr result IsOfGrammar }
     {
         let mut definitions = Vec::new(alloc);
@@ -134,6 +149,7 @@ impl<'a, 't> Parser<'a, 't> {
         ensures tokens { IfOk result (λ x. Passes self.old (module_lexemes x) self.new) }
         ensures shorter { OnOk result (length self.new.rest.now < length self.old.rest.now) }
         ensures nested { IfOk result (λ x. module_depth x ≤ left) }
+        ensures grammatical { IfOk result IsGrammatical }
         ensures fault { IfErr result IsOfGrammar }
     {
         let line = self.line();

@@ -1,8 +1,9 @@
 //! Operations on ports: sends, receiving operations, and those that start or stop a port.
-ghost use Rattle.std.specs.Prelude.{◌≡◌, ◌+◌, ◌<◌, ◌≤◌, ◌∷◌, ◌++◌, length, IfErr, IfOk, OnOk};
+ghost use Rattle.std.specs.Prelude.{◌≡◌, ◌+◌, ◌<◌, ◌≤◌, ◌∷◌, ◌++◌, IsTrue, length, IfErr, IfOk, OnOk};
 ghost use Rattle.tp_syntax.specs.Ahead.{ahead};
 ghost use Rattle.tp_syntax.specs.Passing.{Passes};
 ghost use Rattle.tp_syntax.specs.Statements.{component_lexemes, sent_lexemes, to_lexemes, send_lexemes, template_part, from_lexemes, named_part, redirect_lexemes, receive_lexemes, port_operation_lexeme, control_lexemes, all_ports_lexemes};
+ghost use Rattle.tp_syntax.specs.Grammar.{is_sent, is_template_part};
 ghost use Rattle.tp_syntax.specs.Nesting.{part_depth, receive_depth, sent_depth};
 ghost use Rattle.tp_syntax.specs.Refusals.{IsOfGrammar};
 
@@ -47,6 +48,7 @@ impl<'a, 't> Parser<'a, 't> {
         ensures tokens { IfOk result (λ s. Passes self.old (sent_lexemes s) self.new) }
         ensures shorter { OnOk result (length self.new.rest.now < length self.old.rest.now) }
         ensures nested { IfOk result (λ s. sent_depth s ≤ left) }
+        ensures grammatical { IfOk result (λ s. IsTrue (is_sent s)) }
         ensures fault { IfErr result IsOfGrammar }
     {
         if self.is_name_at(0) && self.is_symbol_at(1, Symbol::RightParen) {
@@ -80,6 +82,7 @@ impl<'a, 't> Parser<'a, 't> {
         ensures tokens { IfOk result (λ s. Passes self.old (send_lexemes s) self.new) }
         ensures shorter { OnOk result (length self.new.rest.now < length self.old.rest.now) }
         ensures nested { IfOk result (λ s. sent_depth s.sent + 1 ≤ left) }
+        ensures grammatical { IfOk result (λ s. IsTrue (is_sent s.sent)) }
         ensures fault { IfErr result IsOfGrammar }
     {
         let port = self.name(alloc)?;
@@ -102,6 +105,7 @@ impl<'a, 't> Parser<'a, 't> {
         ensures tokens { IfOk result (λ t. Passes self.old (template_part t) self.new) }
         ensures shorter { OnOk result (length self.new.rest.now ≤ length self.old.rest.now) }
         ensures nested { IfOk result (λ t. part_depth t ≤ left) }
+        ensures grammatical { IfOk result (λ t. IsTrue (is_template_part t)) }
         ensures fault { IfErr result IsOfGrammar }
     {
         if !self.is_symbol_at(0, Symbol::LeftParen) {
@@ -177,6 +181,7 @@ impl<'a, 't> Parser<'a, 't> {
             ++ (redirect_lexemes r.redirect ++ ahead self.new.rest.now))) }
         ensures shorter { OnOk result (length self.new.rest.now ≤ length self.old.rest.now) }
         ensures nested { IfOk result (λ r. part_depth r.template ≤ left) }
+        ensures grammatical { IfOk result (λ r. IsTrue (is_template_part r.template)) }
         ensures fault { IfErr result IsOfGrammar }
     {
         let template = self.template_part(alloc, left)?;
@@ -195,6 +200,7 @@ impl<'a, 't> Parser<'a, 't> {
         ensures tokens { IfOk result (λ r. Passes self.old (receive_lexemes r) self.new) }
         ensures shorter { OnOk result (length self.new.rest.now < length self.old.rest.now) }
         ensures nested { IfOk result (λ r. receive_depth r ≤ left) }
+        ensures grammatical { IfOk result (λ r. IsTrue (is_template_part r.template)) }
         ensures fault { IfErr result IsOfGrammar }
     {
         let port = self.name(alloc)?;

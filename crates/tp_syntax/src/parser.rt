@@ -1,6 +1,7 @@
 //! From a text to its module.
 ghost use Rattle.std.specs.Prelude.{◌≡◌, ◌≤◌, IfErr, IfOk, OnOk, length};
 ghost use Rattle.tp_syntax.specs.Definitions.{IsReadAs};
+ghost use Rattle.tp_syntax.specs.Grammar.{IsGrammatical};
 ghost use Rattle.tp_syntax.specs.Nesting.{module_depth};
 ghost use Rattle.tp_syntax.specs.Refusals.{HasTokens, IsUnread};
 
@@ -14,8 +15,9 @@ use tp_tree::tree::Module;
 const BRACKETS: u32 = 32;
 
 /// The module that the text spells, all of the text: its tokens are those of the text, none left
-/// out, added or moved, but for a `-` directly before the number 0, which is left out. Its brackets
-/// nest at most 32 deep.
+/// out, added or moved, but for a `-` directly before the number 0, which is left out. It is one of
+/// the grammar: what may not be empty isn't, patterns have plain characters, and a `;` is missing
+/// only where it may. Its brackets nest at most 32 deep.
 ///
 /// It makes the whole text into tokens first, by `lex` of `tp_token`, whose refusals come before
 /// those of the grammar. Of these the first in the text is answered:
@@ -30,6 +32,7 @@ pub fn parse(alloc: Global, text: &[u8]) -> Result<Module, ScriptFault>
     ensures read { IfOk result (IsReadAs text.now) }
     ensures within { OnOk result (HasTokens text.now) }
     ensures nested { IfOk result (λ m. module_depth m ≤ 32) }
+    ensures grammatical { IfOk result IsGrammatical }
     ensures refused { IfErr result (IsUnread text.now) }
 {
     let tokens = lex(alloc, text)?;

@@ -1,13 +1,16 @@
 //! Statements: variables, verdicts, `alt`, `for` and blocks.
-ghost use Rattle.std.specs.Prelude.{◌≡◌, ◌+◌, ◌<◌, ◌≤◌, ◌∷◌, length, IfErr, IfOk, OnOk, string_bytes};
+ghost use Rattle.std.specs.Prelude.{◌≡◌, ◌+◌, ◌<◌, ◌≤◌, ◌∷◌, IsTrue, length, map, IfErr, IfOk, OnOk, string_bytes};
+ghost use Rattle.std.specs.Bool.{OnFalse};
 ghost use Rattle.tp_token.specs.Lexeme.{number, symbol, word};
 ghost use Rattle.tp_syntax.specs.Ahead.{ahead};
 ghost use Rattle.tp_syntax.specs.Passing.{Passes};
 ghost use Rattle.tp_syntax.specs.Sequences.{braced};
 ghost use Rattle.tp_syntax.specs.Values.{int_lexemes};
 ghost use Rattle.tp_syntax.specs.Statements.{step_lexemes, turns_lexemes, verdict_lexeme, set_verdict_lexemes, variable_lexemes, variables_lexemes, action_lexemes, branch_lexemes, body_lexemes, counted_lexemes, otherwise_lexemes, statement_lexemes, statements_lexemes, branches_lexemes};
+ghost use Rattle.tp_syntax.specs.Grammar.{action_part, are_parts, body_part, branch_part, branches_parts, counted_part, otherwise_parts, statement_part, statements_parts, variable_part};
 ghost use Rattle.tp_syntax.specs.Nesting.{action_depth, body_depth, branch_depth, branches_depth, counted_depth, otherwise_depth, statement_depth, statements_depth};
 ghost use Rattle.tp_syntax.specs.Refusals.{IsOfGrammar};
+ghost use Rattle.tp_syntax.specs.Standing.{GoesOn, GoesOver, HasPassed};
 
 use crate::cursor::Parser;
 use std::alloc::Global;
@@ -27,6 +30,31 @@ enum Beginning {
     SetVerdict,
     Alt,
     For,
+}
+
+/// Whether what a statement does ends in a block, so that no `;` is needed behind it.
+fn ends_in_block(action: &Action) -> bool
+    ensures { result ≡ (action_part action.now).is_ended }
+{
+    match action {
+        Action::Send(_) => false,
+        Action::Receive(_) => false,
+        Action::Control(_) => false,
+        Action::AllPorts(_) => false,
+        Action::SetVerdict(_) => false,
+        Action::Alt(..) => true,
+        Action::For(_) => true,
+    }
+}
+
+/// Whether a block stands behind the operation of a branch, so that no `;` is needed behind it.
+fn is_block(body: &BranchBody) -> bool
+    ensures { result ≡ (body_part body.now).is_ended }
+{
+    match body {
+        BranchBody::Block(_) => true,
+        BranchBody::Nothing => false,
+    }
 }
 
 impl<'a, 't> Parser<'a, 't> {
@@ -68,6 +96,7 @@ impl<'a, 't> Parser<'a, 't> {
     fn variable(&mut self, alloc: Global) -> Result<Variable, ScriptFault>
         ensures tokens { IfOk result (λ v. Passes self.old (variable_lexemes v) self.new) }
         ensures shorter { OnOk result (length self.new.rest.now < length self.old.rest.now) }
+        ensures grammatical { IfOk result (λ v. HasPassed (variable_part v) self.new) }
         ensures fault { IfErr result IsOfGrammar }
     {
         let line = self.line();
@@ -87,6 +116,8 @@ impl<'a, 't> Parser<'a, 't> {
     pub fn variables(&mut self, alloc: Global) -> Result<Vec<Variable>, ScriptFault>
         ensures tokens { IfOk result (λ v. Passes self.old (variables_lexemes v.items) self.new) }
         ensures shorter { OnOk result (length self.new.rest.now ≤ length self.old.rest.now) }
+        ensures grammatical { IfOk result (λ v.
+            GoesOver self.old (map variable_part v.items) self.new) }
         ensures fault { IfErr result IsOfGrammar }
     {
         let mut variables = Vec::new(alloc);
@@ -190,15 +221,11 @@ impl<'a, 't> Parser<'a, 't> {
         }
     }
 
-    /// Whether a statement that comes next may have no `;` wherever it stands, since it ends in a
-    /// `}`.
-    fn is_closed(&self) -> bool {
-        self.is_word_at(0, Word::Alt) || self.is_word_at(0, Word::For)
-    }
-
     /// Whether no statement comes next: the end of a block, or, in the body of a test case, `all
     /// component`.
-    fn is_end(&self, is_case: bool) -> bool {
+    fn is_end(&self, is_case: bool) -> bool
+        ensures { OnFalse result (GoesOn self.now) }
+    {
         self.is_symbol_at(0, Symbol::RightBrace)
             || is_case && self.is_word_at(0, Word::All) && self.is_word_at(1, Word::Component)
     }
@@ -210,12 +237,12 @@ impl<'a, 't> Parser<'a, 't> {
         ensures tokens { IfOk result (λ s. Passes self.old (statement_lexemes s) self.new) }
         ensures shorter { OnOk result (length self.new.rest.now < length self.old.rest.now) }
         ensures nested { IfOk result (λ s. statement_depth s ≤ left) }
+        ensures grammatical { IfOk result (λ s. HasPassed (statement_part s) self.new) }
         ensures fault { IfErr result IsOfGrammar }
     {
         let line = self.line();
-        let is_closed = self.is_closed();
         let action = self.action(alloc, left)?;
-        let has_semicolon = self.end(is_closed)?;
+        let has_semicolon = self.end(ends_in_block(&action))?;
         Ok(Statement {
             line,
             action,
@@ -230,6 +257,7 @@ impl<'a, 't> Parser<'a, 't> {
         ensures tokens { IfOk result (λ a. Passes self.old (action_lexemes a) self.new) }
         ensures shorter { OnOk result (length self.new.rest.now < length self.old.rest.now) }
         ensures nested { IfOk result (λ a. action_depth a ≤ left) }
+        ensures grammatical { IfOk result (λ a. IsTrue (action_part a).is_right) }
         ensures fault { IfErr result IsOfGrammar }
     {
         match self.beginning() {
@@ -268,15 +296,16 @@ impl<'a, 't> Parser<'a, 't> {
         ensures tokens { IfOk result (λ a. Passes self.old (action_lexemes a) self.new) }
         ensures shorter { OnOk result (length self.new.rest.now < length self.old.rest.now) }
         ensures nested { IfOk result (λ a. action_depth a ≤ left) }
+        ensures grammatical { IfOk result (λ a. IsTrue (action_part a).is_right) }
         ensures fault { IfErr result IsOfGrammar }
     {
         self.word(Word::Alt)?;
         let inner = self.open(Symbol::LeftBrace, left)?;
-        if !self.is_symbol_at(0, Symbol::LeftBracket) {
-            return Err(ScriptFault::syntax(self.line()));
-        }
         let branches = self.branches(alloc, inner)?;
         let otherwise = self.otherwise(alloc, inner)?;
+        if branches.is_empty() && otherwise.is_none() {
+            return Err(ScriptFault::syntax(self.line()));
+        }
         self.symbol(Symbol::RightBrace)?;
         Ok(Action::Alt(branches, otherwise))
     }
@@ -287,6 +316,8 @@ impl<'a, 't> Parser<'a, 't> {
         ensures tokens { IfOk result (λ v. Passes self.old (branches_lexemes v.items) self.new) }
         ensures shorter { OnOk result (length self.new.rest.now ≤ length self.old.rest.now) }
         ensures nested { IfOk result (λ v. branches_depth v.items ≤ left) }
+        ensures grammatical { IfOk result (λ v.
+            GoesOver self.old (branches_parts v.items) self.new) }
         ensures fault { IfErr result IsOfGrammar }
     {
         let mut branches = Vec::new(alloc);
@@ -304,15 +335,15 @@ impl<'a, 't> Parser<'a, 't> {
         ensures tokens { IfOk result (λ b. Passes self.old (branch_lexemes b) self.new) }
         ensures shorter { OnOk result (length self.new.rest.now < length self.old.rest.now) }
         ensures nested { IfOk result (λ b. branch_depth b ≤ left) }
+        ensures grammatical { IfOk result (λ b. HasPassed (branch_part b) self.new) }
         ensures fault { IfErr result IsOfGrammar }
     {
         let line = self.line();
         self.open(Symbol::LeftBracket, left)?;
         self.symbol(Symbol::RightBracket)?;
         let receive = self.receive(alloc, left)?;
-        let is_closed = self.is_symbol_at(0, Symbol::LeftBrace);
         let body = self.body(alloc, left)?;
-        let has_semicolon = self.end(is_closed)?;
+        let has_semicolon = self.end(is_block(&body))?;
         Ok(Branch {
             line,
             receive,
@@ -328,6 +359,7 @@ impl<'a, 't> Parser<'a, 't> {
         ensures tokens { IfOk result (λ b. Passes self.old (body_lexemes b) self.new) }
         ensures shorter { OnOk result (length self.new.rest.now ≤ length self.old.rest.now) }
         ensures nested { IfOk result (λ b. body_depth b ≤ left) }
+        ensures grammatical { IfOk result (λ b. IsTrue (body_part b).is_right) }
         ensures fault { IfErr result IsOfGrammar }
     {
         if !self.is_symbol_at(0, Symbol::LeftBrace) {
@@ -344,6 +376,7 @@ impl<'a, 't> Parser<'a, 't> {
         ensures tokens { IfOk result (λ e. Passes self.old (otherwise_lexemes e) self.new) }
         ensures shorter { OnOk result (length self.new.rest.now ≤ length self.old.rest.now) }
         ensures nested { IfOk result (λ e. otherwise_depth e ≤ left) }
+        ensures grammatical { IfOk result (λ e. GoesOver self.old (otherwise_parts e) self.new) }
         ensures fault { IfErr result IsOfGrammar }
     {
         if !self.is_symbol_at(0, Symbol::LeftBracket) {
@@ -367,6 +400,7 @@ impl<'a, 't> Parser<'a, 't> {
         ensures tokens { IfOk result (λ f. Passes self.old (counted_lexemes f) self.new) }
         ensures shorter { OnOk result (length self.new.rest.now < length self.old.rest.now) }
         ensures nested { IfOk result (λ f. counted_depth f ≤ left) }
+        ensures grammatical { IfOk result (λ f. IsTrue (counted_part f).is_right) }
         ensures fault { IfErr result IsOfGrammar }
     {
         let turns = self.turns(alloc, left)?;
@@ -382,6 +416,7 @@ impl<'a, 't> Parser<'a, 't> {
             Passes self.old (braced (statements_lexemes v.items)) self.new) }
         ensures shorter { OnOk result (length self.new.rest.now < length self.old.rest.now) }
         ensures nested { IfOk result (λ v. statements_depth v.items + 1 ≤ left) }
+        ensures grammatical { IfOk result (λ v. IsTrue (are_parts (statements_parts v.items))) }
         ensures fault { IfErr result IsOfGrammar }
     {
         let inner = self.open(Symbol::LeftBrace, left)?;
@@ -401,6 +436,8 @@ impl<'a, 't> Parser<'a, 't> {
         ensures tokens { IfOk result (λ v. Passes self.old (statements_lexemes v.items) self.new) }
         ensures shorter { OnOk result (length self.new.rest.now ≤ length self.old.rest.now) }
         ensures nested { IfOk result (λ v. statements_depth v.items ≤ left) }
+        ensures grammatical { IfOk result (λ v.
+            GoesOver self.old (statements_parts v.items) self.new) }
         ensures fault { IfErr result IsOfGrammar }
     {
         let mut statements = Vec::new(alloc);

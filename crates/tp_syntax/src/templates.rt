@@ -1,10 +1,12 @@
 //! Templates.
-ghost use Rattle.std.specs.Prelude.{◌≡◌, ◌+◌, ◌<◌, ◌≤◌, ◌∷◌, ◌++◌, length, map, IfErr, IfOk, OnOk};
+ghost use Rattle.std.specs.Prelude.{◌≡◌, ◌+◌, ◌<◌, ◌≤◌, ◌∷◌, ◌++◌, IsTrue, length, map, IfErr, IfOk, OnOk};
+ghost use Rattle.std.specs.List.{list_all};
 ghost use Rattle.tp_token.specs.Lexeme.{symbol, word};
 ghost use Rattle.tp_syntax.specs.Ahead.{ahead};
 ghost use Rattle.tp_syntax.specs.Passing.{Passes};
 ghost use Rattle.tp_syntax.specs.Sequences.{by_commas};
 ghost use Rattle.tp_syntax.specs.Templates.{low_lexemes, high_lexemes, template_lexemes, template_field_lexemes, message_template_lexemes};
+ghost use Rattle.tp_syntax.specs.Grammar.{is_plain, is_template, is_template_field, one_and_each};
 ghost use Rattle.tp_syntax.specs.Nesting.{deepest, template_depth, template_field_depth};
 ghost use Rattle.tp_syntax.specs.Refusals.{IsOfGrammar};
 
@@ -18,7 +20,9 @@ use tp_tree::message::{MessageTemplate, Template, TemplateField};
 
 /// Whether the text of a `pattern` may hold this character: the others have a meaning in TTCN-3
 /// that this profile leaves out.
-fn is_plain(character: u8) -> bool {
+fn is_plain(character: u8) -> bool
+    ensures { result ≡ is_plain character }
+{
     !matches!(
         character,
         b'\\' | b'[' | b']' | b'{' | b'}' | b'(' | b')' | b'|' | b'#' | b'+' | b'"'
@@ -26,7 +30,9 @@ fn is_plain(character: u8) -> bool {
 }
 
 /// Whether the text may stand behind `pattern`.
-fn is_pattern(characters: &[u8]) -> bool {
+fn is_pattern(characters: &[u8]) -> bool
+    ensures { result ≡ list_all is_plain characters.now }
+{
     characters.iter().all(|character| is_plain(*character))
 }
 
@@ -41,6 +47,7 @@ impl<'a, 't> Parser<'a, 't> {
         ensures tokens { IfOk result (λ m. Passes self.old (message_template_lexemes m) self.new) }
         ensures shorter { OnOk result (length self.new.rest.now < length self.old.rest.now) }
         ensures nested { IfOk result (λ m. template_depth m.template ≤ left) }
+        ensures grammatical { IfOk result (λ m. IsTrue (is_template m.template)) }
         ensures fault { IfErr result IsOfGrammar }
     {
         let type_name = self.type_name(alloc)?;
@@ -98,6 +105,7 @@ impl<'a, 't> Parser<'a, 't> {
             ≡ template_lexemes t ++ ahead self.new.rest.now) }
         ensures shorter { OnOk result (length self.new.rest.now < length self.old.rest.now) }
         ensures nested { IfOk result (λ t. template_depth t ≡ 0) }
+        ensures grammatical { IfOk result (λ t. IsTrue (is_template t)) }
         ensures fault { IfErr result IsOfGrammar }
     {
         let placed = self.take()?;
@@ -117,6 +125,7 @@ impl<'a, 't> Parser<'a, 't> {
         ensures tokens { IfOk result (λ t. Passes self.old (template_lexemes t) self.new) }
         ensures shorter { OnOk result (length self.new.rest.now < length self.old.rest.now) }
         ensures nested { IfOk result (λ t. template_depth t ≤ left) }
+        ensures grammatical { IfOk result (λ t. IsTrue (is_template t)) }
         ensures fault { IfErr result IsOfGrammar }
     {
         let placed = self.take()?;
@@ -164,6 +173,7 @@ impl<'a, 't> Parser<'a, 't> {
             ≡ template_lexemes t ++ ahead self.new.rest.now) }
         ensures shorter { OnOk result (length self.new.rest.now < length self.old.rest.now) }
         ensures nested { IfOk result (λ t. template_depth t ≤ left + 1) }
+        ensures grammatical { IfOk result (λ t. IsTrue (is_template t)) }
         ensures fault { IfErr result IsOfGrammar }
     {
         if self.is_range() {
@@ -187,6 +197,7 @@ impl<'a, 't> Parser<'a, 't> {
             ≡ template_lexemes t ++ ahead self.new.rest.now) }
         ensures shorter { OnOk result (length self.new.rest.now < length self.old.rest.now) }
         ensures nested { IfOk result (λ t. template_depth t ≤ left) }
+        ensures grammatical { IfOk result (λ t. IsTrue (is_template t)) }
         ensures fault { IfErr result IsOfGrammar }
     {
         let inner = self.open(Symbol::LeftParen, left)?;
@@ -204,6 +215,7 @@ impl<'a, 't> Parser<'a, 't> {
             ≡ template_lexemes t ++ ahead self.new.rest.now) }
         ensures shorter { OnOk result (length self.new.rest.now < length self.old.rest.now) }
         ensures nested { IfOk result (λ t. template_depth t ≤ left + 1) }
+        ensures grammatical { IfOk result (λ t. IsTrue (is_template t)) }
         ensures fault { IfErr result IsOfGrammar }
     {
         if self.has_symbol(Symbol::RightBrace) {
@@ -226,6 +238,7 @@ impl<'a, 't> Parser<'a, 't> {
             Passes self.old (by_commas (map template_lexemes v.items)) self.new) }
         ensures shorter { OnOk result (length self.new.rest.now < length self.old.rest.now) }
         ensures nested { IfOk result (λ v. deepest (map template_depth v.items) ≤ left) }
+        ensures grammatical { IfOk result (λ v. IsTrue (one_and_each (map is_template v.items))) }
         ensures fault { IfErr result IsOfGrammar }
     {
         let mut templates = Vec::new(alloc);
@@ -249,6 +262,8 @@ impl<'a, 't> Parser<'a, 't> {
             Passes self.old (by_commas (map template_field_lexemes v.items)) self.new) }
         ensures shorter { OnOk result (length self.new.rest.now < length self.old.rest.now) }
         ensures nested { IfOk result (λ v. deepest (map template_field_depth v.items) ≤ left) }
+        ensures grammatical { IfOk result (λ v.
+            IsTrue (one_and_each (map is_template_field v.items))) }
         ensures fault { IfErr result IsOfGrammar }
     {
         let mut fields = Vec::new(alloc);
@@ -268,6 +283,7 @@ impl<'a, 't> Parser<'a, 't> {
         ensures tokens { IfOk result (λ f. Passes self.old (template_field_lexemes f) self.new) }
         ensures shorter { OnOk result (length self.new.rest.now < length self.old.rest.now) }
         ensures nested { IfOk result (λ f. template_field_depth f ≤ left) }
+        ensures grammatical { IfOk result (λ f. IsTrue (is_template_field f)) }
         ensures fault { IfErr result IsOfGrammar }
     {
         let name = self.name(alloc)?;

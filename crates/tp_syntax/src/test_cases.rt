@@ -1,10 +1,13 @@
 //! Test cases, with their setup statements and starts.
-ghost use Rattle.std.specs.Prelude.{◌≡◌, ◌<◌, ◌≤◌, ◌∷◌, length, IfErr, IfOk, OnOk};
+ghost use Rattle.std.specs.Prelude.{◌≡◌, ◌<◌, ◌≤◌, ◌∷◌, IsTrue, length, map, IfErr, IfOk, OnOk};
+ghost use Rattle.std.specs.Bool.{OnTrue};
 ghost use Rattle.tp_syntax.specs.Ahead.{ahead};
 ghost use Rattle.tp_syntax.specs.Definitions.{end_component_lexeme, end_point_lexemes, ends_lexemes, setup_action_lexemes, setup_lexemes, setups_lexemes, arguments_lexemes, start_lexemes, starts_lexemes, all_done_lexemes, system_lexemes, test_case_lexemes};
+ghost use Rattle.tp_syntax.specs.Grammar.{all_done_parts, defined_part, setup_part, start_part};
 ghost use Rattle.tp_syntax.specs.Nesting.{defined_depth};
 ghost use Rattle.tp_syntax.specs.Passing.{Passes};
 ghost use Rattle.tp_syntax.specs.Refusals.{IsOfGrammar};
+ghost use Rattle.tp_syntax.specs.Standing.{GoesOn, GoesOver, HasPassed};
 
 use crate::cursor::Parser;
 use std::alloc::Global;
@@ -109,6 +112,7 @@ impl<'a, 't> Parser<'a, 't> {
     fn setup(&mut self, alloc: Global) -> Result<SetupStatement, ScriptFault>
         ensures tokens { IfOk result (λ x. Passes self.old (setup_lexemes x) self.new) }
         ensures shorter { OnOk result (length self.new.rest.now < length self.old.rest.now) }
+        ensures grammatical { IfOk result (λ x. HasPassed (setup_part x) self.new) }
         ensures fault { IfErr result IsOfGrammar }
     {
         let line = self.line();
@@ -122,7 +126,9 @@ impl<'a, 't> Parser<'a, 't> {
     }
 
     /// Whether a setup statement comes next. A `var` without `:=` declares a variable.
-    fn is_setup(&self) -> bool {
+    fn is_setup(&self) -> bool
+        ensures { OnTrue result (GoesOn self.now) }
+    {
         match self.word_at(0) {
             Some(Word::Connect) => true,
             Some(Word::Map) => true,
@@ -137,6 +143,8 @@ impl<'a, 't> Parser<'a, 't> {
     fn setups(&mut self, alloc: Global) -> Result<Vec<SetupStatement>, ScriptFault>
         ensures tokens { IfOk result (λ x. Passes self.old (setups_lexemes x.items) self.new) }
         ensures shorter { OnOk result (length self.new.rest.now ≤ length self.old.rest.now) }
+        ensures grammatical { IfOk result (λ x.
+            GoesOver self.old (map setup_part x.items) self.new) }
         ensures fault { IfErr result IsOfGrammar }
     {
         let mut setups = Vec::new(alloc);
@@ -171,6 +179,7 @@ impl<'a, 't> Parser<'a, 't> {
     fn start(&mut self, alloc: Global) -> Result<ComponentStart, ScriptFault>
         ensures tokens { IfOk result (λ x. Passes self.old (start_lexemes x) self.new) }
         ensures shorter { OnOk result (length self.new.rest.now < length self.old.rest.now) }
+        ensures grammatical { IfOk result (λ x. HasPassed (start_part x) self.new) }
         ensures fault { IfErr result IsOfGrammar }
     {
         let line = self.line();
@@ -194,7 +203,9 @@ impl<'a, 't> Parser<'a, 't> {
     }
 
     /// Whether the start of a component comes next: without the `(` it is an operation on a port.
-    fn is_start(&self) -> bool {
+    fn is_start(&self) -> bool
+        ensures { OnTrue result (GoesOn self.now) }
+    {
         self.is_name_at(0)
             && self.is_symbol_at(1, Symbol::Dot)
             && self.is_word_at(2, Word::Start)
@@ -205,6 +216,8 @@ impl<'a, 't> Parser<'a, 't> {
     fn starts(&mut self, alloc: Global) -> Result<Vec<ComponentStart>, ScriptFault>
         ensures tokens { IfOk result (λ x. Passes self.old (starts_lexemes x.items) self.new) }
         ensures shorter { OnOk result (length self.new.rest.now ≤ length self.old.rest.now) }
+        ensures grammatical { IfOk result (λ x.
+            GoesOver self.old (map start_part x.items) self.new) }
         ensures fault { IfErr result IsOfGrammar }
     {
         let mut starts = Vec::new(alloc);
@@ -219,11 +232,13 @@ impl<'a, 't> Parser<'a, 't> {
     fn all_done(&mut self) -> Result<Option<AllDone>, ScriptFault>
         ensures tokens { IfOk result (λ x. Passes self.old (all_done_lexemes x) self.new) }
         ensures shorter { OnOk result (length self.new.rest.now ≤ length self.old.rest.now) }
+        ensures grammatical { IfOk result (λ x. GoesOver self.old (all_done_parts x) self.new) }
         ensures fault { IfErr result IsOfGrammar }
     {
-        if !self.has_word(Word::All) {
+        if !self.is_word_at(0, Word::All) {
             return Ok(None);
         }
+        self.word(Word::All)?;
         self.word(Word::Component)?;
         self.symbol(Symbol::Dot)?;
         self.word(Word::Done)?;
@@ -250,6 +265,8 @@ impl<'a, 't> Parser<'a, 't> {
         ensures tokens { IfOk result (λ x. Passes self.old (test_case_lexemes x) self.new) }
         ensures shorter { OnOk result (length self.new.rest.now < length self.old.rest.now) }
         ensures nested { IfOk result (λ x. defined_depth (Defined.TestCase x) ≤ left) }
+        ensures grammatical { IfOk result (λ x.
+            IsTrue (defined_part (Defined.TestCase x)).is_right) }
         ensures fault { IfErr result IsOfGrammar }
     {
         self.word(Word::Testcase)?;

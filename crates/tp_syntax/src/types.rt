@@ -1,10 +1,12 @@
 //! Types: of records and lists, of ports, of components.
-ghost use Rattle.std.specs.Prelude.{◌≡◌, ◌<◌, ◌≤◌, ◌∷◌, length, IfErr, IfOk, OnOk};
+ghost use Rattle.std.specs.Prelude.{◌≡◌, ◌<◌, ◌≤◌, ◌∷◌, IsTrue, length, map, IfErr, IfOk, OnOk};
 ghost use Rattle.tp_syntax.specs.Ahead.{ahead};
 ghost use Rattle.tp_syntax.specs.Definitions.{field_type_lexemes, field_types_lexemes, record_type_lexemes, list_type_lexemes, way_lexeme, types_lexemes, direction_lexemes, directions_lexemes, port_type_lexemes, declared_name_lexemes, declared_names_lexemes, port_declaration_lexemes, port_declarations_lexemes, component_type_lexemes, defined_lexemes};
+ghost use Rattle.tp_syntax.specs.Grammar.{defined_part, direction_part, has_one, port_declaration_part};
 ghost use Rattle.tp_syntax.specs.Nesting.{defined_depth};
 ghost use Rattle.tp_syntax.specs.Passing.{Passes};
 ghost use Rattle.tp_syntax.specs.Refusals.{IsOfGrammar};
+ghost use Rattle.tp_syntax.specs.Standing.{GoesOver, HasPassed};
 
 use crate::cursor::Parser;
 use std::alloc::Global;
@@ -111,6 +113,7 @@ impl<'a, 't> Parser<'a, 't> {
     fn types(&mut self, alloc: Global) -> Result<Vec<TypeName>, ScriptFault>
         ensures tokens { IfOk result (λ x. Passes self.old (types_lexemes x.items) self.new) }
         ensures shorter { OnOk result (length self.new.rest.now < length self.old.rest.now) }
+        ensures grammatical { IfOk result (λ x. IsTrue (has_one x.items)) }
         ensures fault { IfErr result IsOfGrammar }
     {
         let mut types = Vec::new(alloc);
@@ -128,6 +131,7 @@ impl<'a, 't> Parser<'a, 't> {
     fn direction(&mut self, alloc: Global) -> Result<Direction, ScriptFault>
         ensures tokens { IfOk result (λ x. Passes self.old (direction_lexemes x) self.new) }
         ensures shorter { OnOk result (length self.new.rest.now < length self.old.rest.now) }
+        ensures grammatical { IfOk result (λ x. HasPassed (direction_part x) self.new) }
         ensures fault { IfErr result IsOfGrammar }
     {
         let way = self.way()?;
@@ -144,6 +148,8 @@ impl<'a, 't> Parser<'a, 't> {
     fn directions(&mut self, alloc: Global) -> Result<Vec<Direction>, ScriptFault>
         ensures tokens { IfOk result (λ x. Passes self.old (directions_lexemes x.items) self.new) }
         ensures shorter { OnOk result (length self.new.rest.now ≤ length self.old.rest.now) }
+        ensures grammatical { IfOk result (λ x.
+            GoesOver self.old (map direction_part x.items) self.new) }
         ensures fault { IfErr result IsOfGrammar }
     {
         let mut directions = Vec::new(alloc);
@@ -159,6 +165,7 @@ impl<'a, 't> Parser<'a, 't> {
     fn port_type(&mut self, alloc: Global) -> Result<PortType, ScriptFault>
         ensures tokens { IfOk result (λ x. Passes self.old (port_type_lexemes x) self.new) }
         ensures shorter { OnOk result (length self.new.rest.now < length self.old.rest.now) }
+        ensures grammatical { IfOk result (λ x. IsTrue (defined_part (Defined.Port x)).is_right) }
         ensures fault { IfErr result IsOfGrammar }
     {
         self.word(Word::Type)?;
@@ -166,10 +173,10 @@ impl<'a, 't> Parser<'a, 't> {
         let name = self.name(alloc)?;
         self.word(Word::Message)?;
         self.symbol(Symbol::LeftBrace)?;
-        if self.is_symbol_at(0, Symbol::RightBrace) {
+        let directions = self.directions(alloc)?;
+        if directions.is_empty() {
             return Err(ScriptFault::syntax(self.line()));
         }
-        let directions = self.directions(alloc)?;
         self.symbol(Symbol::RightBrace)?;
         Ok(PortType { name, directions })
     }
@@ -179,6 +186,7 @@ impl<'a, 't> Parser<'a, 't> {
         ensures tokens { IfOk result (λ x.
             Passes self.old (declared_names_lexemes x.items) self.new) }
         ensures shorter { OnOk result (length self.new.rest.now < length self.old.rest.now) }
+        ensures grammatical { IfOk result (λ x. IsTrue (has_one x.items)) }
         ensures fault { IfErr result IsOfGrammar }
     {
         let mut names = Vec::new(alloc);
@@ -196,6 +204,7 @@ impl<'a, 't> Parser<'a, 't> {
     fn port_declaration(&mut self, alloc: Global) -> Result<PortDeclaration, ScriptFault>
         ensures tokens { IfOk result (λ x. Passes self.old (port_declaration_lexemes x) self.new) }
         ensures shorter { OnOk result (length self.new.rest.now < length self.old.rest.now) }
+        ensures grammatical { IfOk result (λ x. HasPassed (port_declaration_part x) self.new) }
         ensures fault { IfErr result IsOfGrammar }
     {
         self.word(Word::Port)?;
@@ -214,6 +223,8 @@ impl<'a, 't> Parser<'a, 't> {
         ensures tokens { IfOk result (λ x.
             Passes self.old (port_declarations_lexemes x.items) self.new) }
         ensures shorter { OnOk result (length self.new.rest.now ≤ length self.old.rest.now) }
+        ensures grammatical { IfOk result (λ x.
+            GoesOver self.old (map port_declaration_part x.items) self.new) }
         ensures fault { IfErr result IsOfGrammar }
     {
         let mut ports = Vec::new(alloc);
@@ -229,6 +240,8 @@ impl<'a, 't> Parser<'a, 't> {
     fn component_type(&mut self, alloc: Global) -> Result<ComponentType, ScriptFault>
         ensures tokens { IfOk result (λ x. Passes self.old (component_type_lexemes x) self.new) }
         ensures shorter { OnOk result (length self.new.rest.now < length self.old.rest.now) }
+        ensures grammatical { IfOk result (λ x.
+            IsTrue (defined_part (Defined.Component x)).is_right) }
         ensures fault { IfErr result IsOfGrammar }
     {
         self.word(Word::Type)?;
@@ -246,6 +259,7 @@ impl<'a, 't> Parser<'a, 't> {
         ensures tokens { IfOk result (λ x. Passes self.old (defined_lexemes x) self.new) }
         ensures shorter { OnOk result (length self.new.rest.now < length self.old.rest.now) }
         ensures nested { IfOk result (λ x. defined_depth x ≡ 0) }
+        ensures grammatical { IfOk result (λ x. IsTrue (defined_part x).is_right) }
         ensures fault { IfErr result IsOfGrammar }
     {
         match self.word_at(1) {
@@ -266,10 +280,5 @@ impl<'a, 't> Parser<'a, 't> {
                 Ok(Defined::Record(record))
             }
         }
-    }
-
-    /// Whether a list type comes next: it is the one definition that ends in no `}`.
-    pub fn is_list_type(&self) -> bool {
-        self.is_word_at(0, Word::Type) && self.is_word_at(2, Word::Of)
     }
 }

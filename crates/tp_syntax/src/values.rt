@@ -1,10 +1,11 @@
 //! Values, types and messages.
-ghost use Rattle.std.specs.Prelude.{◌≡◌, ◌+◌, ◌<◌, ◌≤◌, ◌∷◌, ◌++◌, length, map, pos, IfErr, IfOk, OnOk};
+ghost use Rattle.std.specs.Prelude.{◌≡◌, ◌+◌, ◌<◌, ◌≤◌, ◌∷◌, ◌++◌, IsTrue, length, map, pos, IfErr, IfOk, OnOk};
 ghost use Rattle.tp_token.specs.Lexeme.{symbol};
 ghost use Rattle.tp_syntax.specs.Ahead.{ahead, before};
 ghost use Rattle.tp_syntax.specs.Passing.{Passes};
 ghost use Rattle.tp_syntax.specs.Sequences.{by_commas};
 ghost use Rattle.tp_syntax.specs.Values.{int_lexemes, type_lexemes, value_lexemes, value_field_lexemes, message_lexemes};
+ghost use Rattle.tp_syntax.specs.Grammar.{is_value, is_value_field, one_and_each};
 ghost use Rattle.tp_syntax.specs.Nesting.{deepest, value_depth, value_field_depth};
 ghost use Rattle.tp_syntax.specs.Refusals.{IsOfGrammar};
 
@@ -87,6 +88,7 @@ impl<'a, 't> Parser<'a, 't> {
         ensures tokens { IfOk result (λ m. Passes self.old (message_lexemes m) self.new) }
         ensures shorter { OnOk result (length self.new.rest.now < length self.old.rest.now) }
         ensures nested { IfOk result (λ m. value_depth m.value ≤ left) }
+        ensures grammatical { IfOk result (λ m. IsTrue (is_value m.value)) }
         ensures fault { IfErr result IsOfGrammar }
     {
         let type_name = self.type_name(alloc)?;
@@ -102,6 +104,7 @@ impl<'a, 't> Parser<'a, 't> {
         ensures tokens { IfOk result (λ v. Passes self.old (value_lexemes v) self.new) }
         ensures shorter { OnOk result (length self.new.rest.now < length self.old.rest.now) }
         ensures nested { IfOk result (λ v. value_depth v ≤ left) }
+        ensures grammatical { IfOk result (λ v. IsTrue (is_value v)) }
         ensures fault { IfErr result IsOfGrammar }
     {
         let placed = self.take()?;
@@ -141,6 +144,7 @@ impl<'a, 't> Parser<'a, 't> {
             ≡ value_lexemes v ++ ahead self.new.rest.now) }
         ensures shorter { OnOk result (length self.new.rest.now < length self.old.rest.now) }
         ensures nested { IfOk result (λ v. value_depth v ≤ left + 1) }
+        ensures grammatical { IfOk result (λ v. IsTrue (is_value v)) }
         ensures fault { IfErr result IsOfGrammar }
     {
         if self.has_symbol(Symbol::RightBrace) {
@@ -163,6 +167,7 @@ impl<'a, 't> Parser<'a, 't> {
             Passes self.old (by_commas (map value_lexemes v.items)) self.new) }
         ensures shorter { OnOk result (length self.new.rest.now < length self.old.rest.now) }
         ensures nested { IfOk result (λ v. deepest (map value_depth v.items) ≤ left) }
+        ensures grammatical { IfOk result (λ v. IsTrue (one_and_each (map is_value v.items))) }
         ensures fault { IfErr result IsOfGrammar }
     {
         let mut values = Vec::new(alloc);
@@ -182,6 +187,8 @@ impl<'a, 't> Parser<'a, 't> {
             Passes self.old (by_commas (map value_field_lexemes v.items)) self.new) }
         ensures shorter { OnOk result (length self.new.rest.now < length self.old.rest.now) }
         ensures nested { IfOk result (λ v. deepest (map value_field_depth v.items) ≤ left) }
+        ensures grammatical { IfOk result (λ v.
+            IsTrue (one_and_each (map is_value_field v.items))) }
         ensures fault { IfErr result IsOfGrammar }
     {
         let mut fields = Vec::new(alloc);
@@ -201,6 +208,7 @@ impl<'a, 't> Parser<'a, 't> {
         ensures tokens { IfOk result (λ f. Passes self.old (value_field_lexemes f) self.new) }
         ensures shorter { OnOk result (length self.new.rest.now < length self.old.rest.now) }
         ensures nested { IfOk result (λ f. value_field_depth f ≤ left) }
+        ensures grammatical { IfOk result (λ f. IsTrue (is_value_field f)) }
         ensures fault { IfErr result IsOfGrammar }
     {
         let name = self.name(alloc)?;

@@ -2,6 +2,8 @@
 use Rattle.std.proofs.Common.{◌≡◌, ◌+◌, ◌*◌, ◌≤◌, ◌++◌, length}
 use Rattle.tp_syntax.specs.Ahead.{ahead}
 use Rattle.tp_syntax.specs.Statements.{statements_lexemes, branches_lexemes}
+use Rattle.tp_syntax.specs.Grammar.{branches_parts, statements_parts}
+use Rattle.tp_syntax.specs.Standing.{GoesOver}
 use Rattle.tp_syntax.specs.Nesting.{branches_depth, statements_depth}
 use Rattle.tp_syntax.proofs.cursor.Parser.+statement.Given as goal
 
@@ -39,6 +41,7 @@ abbrev pub invariant-statements-more : goal.invariant-statements-more
 invariant-statements-more l = record {
   tokens : ahead l.fn.self.rest.now ≡ statements_lexemes l.statements.items ++ ahead l.self.rest.now;
   nested : statements_depth l.statements.items ≤ l.left;
+  grammatical : GoesOver l.fn.self (statements_parts l.statements.items) l.self;
   shorter : length l.self.rest.now ≤ length l.fn.self.rest.now;
 }
 
@@ -49,6 +52,7 @@ abbrev pub invariant-branches-more : goal.invariant-branches-more
 invariant-branches-more l = record {
   tokens : ahead l.fn.self.rest.now ≡ branches_lexemes l.branches.items ++ ahead l.self.rest.now;
   nested : branches_depth l.branches.items ≤ l.left;
+  grammatical : GoesOver l.fn.self (branches_parts l.branches.items) l.self;
   shorter : length l.self.rest.now ≤ length l.fn.self.rest.now;
 }
 

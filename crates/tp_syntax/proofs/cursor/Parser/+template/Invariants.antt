@@ -1,8 +1,9 @@
 -- The tokens passed are those read so far, no deeper than allowed; a bracket leaves one fewer.
-use Rattle.std.proofs.Common.{◌≡◌, ◌+◌, ◌*◌, ◌<◌, ◌≤◌, ◌++◌, length, map}
+use Rattle.std.proofs.Common.{◌≡◌, true, ◌+◌, ◌*◌, ◌<◌, ◌≤◌, ◌++◌, length, map}
 use Rattle.tp_syntax.specs.Ahead.{ahead}
 use Rattle.tp_syntax.specs.Sequences.{by_commas}
 use Rattle.tp_syntax.specs.Templates.{template_lexemes, template_field_lexemes}
+use Rattle.tp_syntax.specs.Grammar.{one_and_each, is_template, is_template_field}
 use Rattle.tp_syntax.specs.Nesting.{deepest, template_depth, template_field_depth}
 use Rattle.tp_syntax.proofs.cursor.Parser.+template.Given as goal
 
@@ -31,6 +32,7 @@ abbrev pub invariant-templates-more : goal.invariant-templates-more
 invariant-templates-more l = record {
   tokens : ahead l.fn.self.rest.now ≡ by_commas (map template_lexemes l.templates.items) ++ ahead l.self.rest.now;
   nested : deepest (map template_depth l.templates.items) ≤ l.left;
+  grammatical : one_and_each (map is_template l.templates.items) ≡ true;
   some : 0 < length l.templates.items;
   shorter : length l.self.rest.now < length l.fn.self.rest.now;
 }
@@ -42,6 +44,7 @@ abbrev pub invariant-template_fields-more : goal.invariant-template_fields-more
 invariant-template_fields-more l = record {
   tokens : ahead l.fn.self.rest.now ≡ by_commas (map template_field_lexemes l.fields.items) ++ ahead l.self.rest.now;
   nested : deepest (map template_field_depth l.fields.items) ≤ l.left;
+  grammatical : one_and_each (map is_template_field l.fields.items) ≡ true;
   some : 0 < length l.fields.items;
   shorter : length l.self.rest.now < length l.fn.self.rest.now;
 }

@@ -1,8 +1,9 @@
 -- The tokens passed are those read so far, no deeper than allowed; a bracket leaves one fewer.
-use Rattle.std.proofs.Common.{◌≡◌, ◌+◌, ◌*◌, ◌<◌, ◌≤◌, ◌++◌, length, map}
+use Rattle.std.proofs.Common.{◌≡◌, true, ◌+◌, ◌*◌, ◌<◌, ◌≤◌, ◌++◌, length, map}
 use Rattle.tp_syntax.specs.Ahead.{ahead}
 use Rattle.tp_syntax.specs.Sequences.{by_commas}
 use Rattle.tp_syntax.specs.Values.{value_lexemes, value_field_lexemes}
+use Rattle.tp_syntax.specs.Grammar.{one_and_each, is_value, is_value_field}
 use Rattle.tp_syntax.specs.Nesting.{deepest, value_depth, value_field_depth}
 use Rattle.tp_syntax.proofs.cursor.Parser.+value.Given as goal
 
@@ -25,6 +26,7 @@ abbrev pub invariant-values-more : goal.invariant-values-more
 invariant-values-more l = record {
   tokens : ahead l.fn.self.rest.now ≡ by_commas (map value_lexemes l.values.items) ++ ahead l.self.rest.now;
   nested : deepest (map value_depth l.values.items) ≤ l.left;
+  grammatical : one_and_each (map is_value l.values.items) ≡ true;
   some : 0 < length l.values.items;
   shorter : length l.self.rest.now < length l.fn.self.rest.now;
 }
@@ -36,6 +38,7 @@ abbrev pub invariant-value_fields-more : goal.invariant-value_fields-more
 invariant-value_fields-more l = record {
   tokens : ahead l.fn.self.rest.now ≡ by_commas (map value_field_lexemes l.fields.items) ++ ahead l.self.rest.now;
   nested : deepest (map value_field_depth l.fields.items) ≤ l.left;
+  grammatical : one_and_each (map is_value_field l.fields.items) ≡ true;
   some : 0 < length l.fields.items;
   shorter : length l.self.rest.now < length l.fn.self.rest.now;
 }

@@ -1,14 +1,17 @@
 -- The tokens passed are those of the definitions so far, which nest no deeper than allowed.
-use Rattle.std.proofs.Common.{◌≡◌, ◌≤◌, ◌++◌, length}
+use Rattle.std.proofs.Common.{◌≡◌, ◌≤◌, ◌++◌, length, map}
 use Rattle.tp_syntax.specs.Ahead.{ahead}
 use Rattle.tp_syntax.specs.Definitions.{definitions_lexemes}
 use Rattle.tp_syntax.specs.Nesting.{definitions_depth}
+use Rattle.tp_syntax.specs.Grammar.{definition_part}
+use Rattle.tp_syntax.specs.Standing.{GoesOver}
 use Rattle.tp_syntax.proofs.cursor.Parser.definitions.Given as goal
 
 abbrev pub invariant-more : goal.invariant-more
 invariant-more l = record {
   tokens : ahead l.fn.self.rest.now ≡ definitions_lexemes l.definitions.items ++ ahead l.self.rest.now;
   nested : definitions_depth l.definitions.items ≤ l.left;
+  grammatical : GoesOver l.fn.self (map definition_part l.definitions.items) l.self;
   shorter : length l.self.rest.now ≤ length l.fn.self.rest.now;
 }
 

@@ -1,12 +1,15 @@
 -- The tokens passed are those of the declarations of ports so far.
-use Rattle.std.proofs.Common.{◌≡◌, ◌≤◌, ◌++◌, length}
+use Rattle.std.proofs.Common.{◌≡◌, ◌≤◌, ◌++◌, length, map}
 use Rattle.tp_syntax.specs.Ahead.{ahead}
 use Rattle.tp_syntax.specs.Definitions.{port_declarations_lexemes}
+use Rattle.tp_syntax.specs.Grammar.{port_declaration_part}
+use Rattle.tp_syntax.specs.Standing.{GoesOver}
 use Rattle.tp_syntax.proofs.cursor.Parser.ports.Given as goal
 
 abbrev pub invariant-more : goal.invariant-more
 invariant-more l = record {
   tokens : ahead l.fn.self.rest.now ≡ port_declarations_lexemes l.ports.items ++ ahead l.self.rest.now;
+  grammatical : GoesOver l.fn.self (map port_declaration_part l.ports.items) l.self;
   shorter : length l.self.rest.now ≤ length l.fn.self.rest.now;
 }
 
