@@ -1,10 +1,11 @@
--- One more order is written after the others.
+-- One more order is written after the others, until all are, or the writer has failed.
+use Rattle.std.proofs.Common.{sym}
+use Rattle.tp_text.proofs.Writing.{not_both}
 use Rattle.tpr_ordered.proofs.Written.{first_of_them, none_yet, written_more}
 use Rattle.tpr_ordered.proofs.ordering.write_orders.Goals as goal
 
 pub loop-order-init : goal.loop-order-init
-loop-order-init g c =
-    none_yet _ _ _ _
+loop-order-init g c = none_yet g.W.Write.contents _ c.args.orders.now _
 
 pub loop-order-preserved : goal.loop-order-preserved
 loop-order-preserved g c =
@@ -13,8 +14,9 @@ loop-order-preserved g c =
 
 pub returns-then-has_failed : goal.returns-then-has_failed
 returns-then-has_failed g c =
-    ?
+    first_of_them g.W.Write.contents _ c.args.orders.now _ _ c.loop-order.order-index (λ well. absurd (not_both _ (sym c.if-has_failed.ensures) well))
+    c.loop-order.invariant
 
 pub returns : goal.returns
 returns g c =
-    ?
+    first_of_them g.W.Write.contents _ c.args.orders.now _ _ c.loop-order.order-index (λ well. c.loop-order-test.false) c.loop-order.invariant
