@@ -12,7 +12,7 @@ loop-entry-preserved g c =
     let done = c.write_entry.ensures in
     record {
       written = one_more g.W.Write.contents _ c.args.entries.now c.loop-entry.entry-index c.entry-item.result c.loop-entry-test.true c.entry-item.is _ _ _
-        c.loop-entry.invariant.written done.written;
+          c.loop-entry.invariant.written done.written;
       sent = done.sent;
       received = done.received;
     }

@@ -11,6 +11,6 @@ returns g c =
       codes "order " ++ string_bytes c.args.order.now.line ++ codes "\n" ++ run.0 ++ codes "\n",
       record { run = run.0; is_run = run.1; is = refl },
       writes_first g.W.Write.contents _ _ _ _
-      (writes_both _ _ _ _ _ _ (writes_both _ _ _ _ _ _ (writes_both _ _ _ _ _ _ (writes_both _ _ _ _ _ _ c.write_bytes.ensures line) c.write_bytes-3.ensures) run.2) c.write_bytes-4.ensures)
-      c.flush.ensures,
+          (writes_both _ _ _ _ _ _ (writes_both _ _ _ _ _ _ (writes_both _ _ _ _ _ _ (writes_both _ _ _ _ _ _ c.write_bytes.ensures line) c.write_bytes-3.ensures) run.2) c.write_bytes-4.ensures)
+          c.flush.ensures,
     )
