@@ -1,5 +1,5 @@
 -- What is written through a watched writer, piece by piece.
-use Rattle.std.proofs.Common.{◌≡◌, ℕ, zero, suc, ◌+◌, ◌<◌, ◌≤◌, ◌∷◌, get_or, add-one, Bool, true, false, Option, Some, None, List, [], ◌++◌, length, take, drop, length-take, ◌-◌, IsTrue, refl, sym, ap, subst, ◌∙◌, arith, append_assoc, take-append-drop}
+use Rattle.std.proofs.Common.{◌≡◌, ℕ, zero, suc, ◌+◌, ◌<◌, ◌≤◌, ◌∷◌, get_or, add-one, Bool, true, false, Option, Some, None, List, [], ◌++◌, length, take, drop, length-drop, length-take, ◌-◌, IsTrue, refl, sym, ap, subst, ◌∙◌, arith, append_assoc, take-append-drop}
 use Rattle.std.proofs.lemmas.List.{append-nil, take_all}
 use Rattle.std.specs.List.{flat_map}
 use Rattle.std.proofs.lemmas.Grind.{flat_map-append}
@@ -108,6 +108,11 @@ pub all_of_them : {W X : Type 0} (contents : W → Option (List ℕ)) (text : X 
     → (start now : Watched W) → Writes contents start now (flat_map text (take i xs)) → Writes contents start now (flat_map text xs)
 all_of_them contents text xs i h start now p = subst (Writes contents start now) (ap (flat_map text) (take_all i xs h)) p
 
+-- the first bytes, and those behind them
+pub all_parts : (bytes : List ℕ) (n : ℕ) → n ≤ length bytes → take n bytes ++ take (length bytes - n) (drop n bytes) ≡ bytes
+all_parts bytes n fits =
+    ap (λ l. take n bytes ++ l) (take_all (length bytes - n) (drop n bytes) (omega (arith, length-drop n bytes))) ∙ take-append-drop n bytes
+
 -- the first bytes are written, all that there are to be, and nothing by a writer that had failed
 pub record HasWritten {W : Type 0} (contents : W → Option (List ℕ)) (old new : Watched W) (bytes : List ℕ) (at : ℕ) : Type 0 where
   pub within : at ≤ length bytes
@@ -149,6 +154,20 @@ module _ {W : Type 0} (contents : W → Option (List ℕ)) where
         kept = λ failed. absurd (not_both b.failed (h.still failed) well);
         still = λ failed. absurd (not_both b.failed (h.still failed) well);
       }
+
+  -- one write of a writer that hasn't failed took some bytes
+  pub took_some : (a b : Watched W) (text : List ℕ) → a.failed ≡ false → Appends (contents a.inner) (contents b.inner) text → Writes contents a b text
+  took_some a b text well added =
+      record {
+        front = record { front = text; rest = []; is = sym (append-nil text); added = added };
+        whole = λ after. added;
+        kept = λ failed. absurd (not_both a.failed failed well);
+        still = λ failed. absurd (not_both a.failed failed well);
+      }
+
+  -- or none
+  pub took_nothing : (a b : Watched W) → a.failed ≡ false → Keeps (contents a.inner) (contents b.inner) → Writes contents a b []
+  took_nothing a b well stayed = took_some a b [] well (grows_by_none _ _ stayed)
 
   -- in the end all are written, or the writer has failed
   pub ends_written : (a b c : Watched W) (bytes : List ℕ) (at : ℕ) → HasWritten contents a b bytes at → c.inner ≡ b.inner → (HasFailed b → HasFailed c)

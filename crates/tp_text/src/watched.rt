@@ -1,5 +1,5 @@
 //! A reader or a writer that remembers whether it failed, and what is written through it.
-ghost use Rattle.std.specs.Prelude.{◌≡◌, ◌≢◌, ◌⊎◌, [], false, IfErr, IsErr, IsTrue, MatchResult, Ok};
+ghost use Rattle.std.specs.Prelude.{◌≡◌, ◌≢◌, ◌⊎◌, ◌≤◌, [], false, IfErr, IsErr, IsTrue, MatchResult, Ok, length, take};
 ghost use Rattle.std.specs.Fmt.{decimal};
 ghost use Rattle.std.specs.Io.{ReadsAtMost, WritesAtMost};
 ghost use Rattle.std.specs.Io.KnownBytes.{Keeps, ReadConsumes, WriteAppends};
@@ -89,6 +89,7 @@ impl<W: Write> Write for Watched<W> {
 
     ghost contents = { λ w. W.contents w.inner };
 
+    #[inline(always)]
     fn write(&mut self, buf: &[u8]) -> io::Result<usize>
         ensures bound { WritesAtMost result buf.now }
         ensures bytes { WriteAppends (W.contents self.old.inner) (W.contents self.new.inner)
@@ -126,9 +127,26 @@ impl<W: Write> Write for Watched<W> {
     }
 }
 
-/// Writes these bytes: all of them, or a front of them, and then the writer has failed. Nothing is
-/// written by a writer that has failed before. An interrupted write is tried again.
-pub fn write_bytes<W: Write>(bytes: &[u8], out: &mut Watched<W>)
+/// One write of these bytes: how many of them the writer took. None where there are none, or it has
+/// failed before.
+#[inline(always)]
+fn write_some<W: Write>(bytes: &[u8], out: &mut Watched<W>) -> usize
+    ensures few { result ≤ length bytes.now }
+    ensures written { Writes W.contents out.old out.new (take result bytes.now) }
+{
+    if out.failed || bytes.is_empty() {
+        return 0;
+    }
+    match out.write(bytes) {
+        Ok(count) => count,
+        Err(_) => 0,
+    }
+}
+
+/// Writes these bytes, write by write. It stands apart, so that what is mostly enough is inlined.
+#[cold]
+#[inline(never)]
+fn write_rest<W: Write>(bytes: &[u8], out: &mut Watched<W>)
     ensures { Writes W.contents out.old out.new bytes.now }
 {
     let mut at = 0;
@@ -142,6 +160,18 @@ pub fn write_bytes<W: Write>(bytes: &[u8], out: &mut Watched<W>)
     }
     // It was interrupted 18,446,744,073,709,551,615 times.
     out.give_up();
+}
+
+/// Writes these bytes: all of them, or a front of them, and then the writer has failed. Nothing is
+/// written by a writer that has failed before. An interrupted write is tried again.
+#[inline(always)]
+pub fn write_bytes<W: Write>(bytes: &[u8], out: &mut Watched<W>)
+    ensures { Writes W.contents out.old out.new bytes.now }
+{
+    let count = write_some(bytes, out);
+    if count < bytes.len() {
+        write_rest(&bytes[count..], out);
+    }
 }
 
 /// Writes a number, in decimal.
