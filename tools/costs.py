@@ -30,7 +30,7 @@ from collections import Counter
 
 sys.dont_write_bytecode = True
 
-from library import command  # noqa: E402
+from tpr_tools import command
 
 USAGE = "usage: tools/costs.py CRATE_FOLDER [COUNT]\n"
 NOT_CHECKED = 1  # no check has left a module

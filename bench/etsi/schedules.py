@@ -1,9 +1,9 @@
-"""The verdicts that a script can come to, over all orders of its acts, by the model of runs in tests/orders/."""
+"""The verdicts that a script can come to, over all orders of its acts, by the model of runs in tools/tpr_tools/model/."""
 from __future__ import annotations
 
-from bodies import TestCase  # type: ignore[import-not-found]
-from model import Act, Run  # type: ignore[import-not-found]
-from reading import read_script  # type: ignore[import-not-found]
+from tpr_tools.model.bodies import TestCase
+from tpr_tools.model.reading import read_script
+from tpr_tools.model.run import Act, Run
 
 MOST_STATES = 100_000
 

@@ -19,12 +19,12 @@ from typing import Optional
 
 sys.dont_write_bytecode = True
 
-import changes  # noqa: E402
-import grammar  # noqa: E402
-import limits  # noqa: E402
-import many  # noqa: E402
-import passes  # noqa: E402
-from asking import Asking, Case, Group, Script  # noqa: E402
+import changes
+import grammar
+import limits
+import many
+import passes
+from asking import Asking, Case, Group, Script
 
 TABLES = {it.__name__: it.groups for it in (changes, grammar, limits, many, passes)}
 

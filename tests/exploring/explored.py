@@ -8,7 +8,7 @@
     explored.py told SCRIPT ANSWER
 
 `each` runs what the reduction finds on PROGRAM, which forces orders, and compares the classes with those of every
-order of steps in the model of runs (tests/orders/). A line `passed ORDERS RUNS SCRIPT` for each script says how many
+order of steps in the model of runs (tools/tpr_tools/model/). A line `passed ORDERS RUNS SCRIPT` for each script says how many
 orders there are, and how many were run. Then, with the sends to all components written as sends to each, with
 those of every order of acts, which are smaller than steps. Where a script has an `alt` of which each look is a step
 of its own, they are compared with those of acts at once. `acts` does the same with those of acts alone, on scripts
@@ -37,21 +37,21 @@ from unittest.mock import patch
 
 sys.dont_write_bytecode = True
 ROOT = os.path.dirname(os.path.dirname(os.path.dirname(os.path.realpath(__file__))))
-sys.path.insert(0, os.path.join(ROOT, "tools"))
+sys.path[:0] = [f"{ROOT}/tools", f"{ROOT}/tests/orders"]
 
-from library import reduction, touching  # noqa: E402
-from library.exploration import Bounds, Exploration  # noqa: E402
-from library.forced_runs import ForcedRuns  # noqa: E402
-from library.forced_script import ForcedScript, forced_script  # noqa: E402
-from library.model_of_runs import Act, Run, TestCase  # noqa: E402
-from library.run_classes import class_of  # noqa: E402
-from library.twins import left_of_twins, processes_of  # noqa: E402
-from library.words import VERDICTS  # noqa: E402
-
-from generator import some_script  # noqa: E402  (tests/orders/, which the library has brought in)
-from judged import expected_beside  # noqa: E402
-from orders import orders_of  # noqa: E402
-from reading import read_script  # noqa: E402
+from generator import some_script
+from judged import expected_beside
+from orders import orders_of
+from tpr_tools.explore import reduction, touching
+from tpr_tools.explore.exploration import Bounds, Exploration
+from tpr_tools.explore.forced_runs import ForcedRuns
+from tpr_tools.explore.forced_script import ForcedScript, forced_script
+from tpr_tools.explore.run_classes import class_of
+from tpr_tools.explore.twins import left_of_twins, processes_of
+from tpr_tools.model.bodies import TestCase
+from tpr_tools.model.reading import read_script
+from tpr_tools.model.run import Act, Run
+from tpr_tools.words import VERDICTS
 
 Classes = set[tuple[str, ...]]
 MOST_STATES = 4_000

@@ -27,8 +27,8 @@ sys.dont_write_bytecode = True
 ROOT = Path(__file__).resolve().parents[2]
 sys.path.append(str(ROOT / "tests" / "checking"))
 
-import changes  # noqa: E402
-import grammar  # noqa: E402
+import changes
+import grammar
 
 LIST = ROOT / "tests" / "gate" / "cases.list"
 ENDINGS = (".queue", ".ttcn")

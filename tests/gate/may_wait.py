@@ -16,8 +16,8 @@ import sys
 
 sys.dont_write_bytecode = True
 
-from wrong_body_basis import files_of, sum_of, text_of  # noqa: E402
-from wrong_body_edits import ROOT, read, write  # noqa: E402
+from wrong_body_basis import files_of, sum_of, text_of
+from wrong_body_edits import ROOT, read, write
 
 KNOWN = f"{ROOT}/out/may_wait"
 COUNTS = ("may_wait", "tests_may")

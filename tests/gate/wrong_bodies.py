@@ -36,11 +36,11 @@ from concurrent.futures import ThreadPoolExecutor
 
 sys.dont_write_bytecode = True
 
-from wrong_body_basis import below  # noqa: E402
-from wrong_body_edits import (  # noqa: E402
+from wrong_body_basis import below
+from wrong_body_edits import (
     ROOT, TOLD, Edit, Unfit, crates, files_of, place_at, read, write,
 )
-from wrong_body_record import Basis, read_record, update, wanting  # noqa: E402
+from wrong_body_record import Basis, read_record, update, wanting
 
 AT_ONCE = 16
 USAGE = "usage: ./test wrong_bodies [--jobs N] [stale | CRATE | CRATE/NAME ..]"

@@ -28,11 +28,11 @@ import tempfile
 
 sys.dont_write_bytecode = True
 
-from wrong_bodies import (  # noqa: E402
+from wrong_bodies import (
     REFUSED, UNTOLD, UNTRIED, batches, check, edits_of, is_over, printing, try_each, try_them,
 )
-from wrong_body_basis import PARTS, below  # noqa: E402
-from wrong_body_edits import ROOT, crates, of_each_run  # noqa: E402
+from wrong_body_basis import PARTS, below
+from wrong_body_edits import ROOT, crates, of_each_run
 
 USAGE = "usage: tests/gate/wrong_bodies_of_a_run.py [--jobs N] | stale_libraries"
 

@@ -22,11 +22,11 @@ import sys
 
 sys.dont_write_bytecode = True
 
-from wrong_body_basis import basis, sum_of, toolchain  # noqa: E402
-from wrong_body_edits import (  # noqa: E402
+from wrong_body_basis import basis, sum_of, toolchain
+from wrong_body_edits import (
     ROOT, Edit, Unfit, crates, files_of, of_each_run, read, shelves, write,
 )
-from wrong_body_names import Names  # noqa: E402
+from wrong_body_names import Names
 
 RECORD = f"{ROOT}/tests/wrong_bodies/record"
 LINE = re.compile(r"(\w+/[\w.-]+) ([0-9a-f]{32}) (\S+)")

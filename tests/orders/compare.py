@@ -12,10 +12,12 @@ import sys
 import tempfile
 from concurrent.futures import ProcessPoolExecutor
 
-from bodies import TestCase
-from model import Run
+sys.path.append(os.path.join(os.path.dirname(os.path.realpath(__file__)), "..", "..", "tools"))
+
 from orders import Ordered, orders_of
-from reading import read_script
+from tpr_tools.model.bodies import TestCase
+from tpr_tools.model.reading import read_script
+from tpr_tools.model.run import Run
 
 MOST_SECONDS = 60
 

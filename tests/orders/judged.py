@@ -14,10 +14,12 @@ import re
 import sys
 from concurrent.futures import ProcessPoolExecutor
 
-from bodies import TestCase
+sys.path.append(os.path.join(os.path.dirname(os.path.realpath(__file__)), "..", "..", "tools"))
+
 from judge import is_allowed
-from model import Act, Run
-from reading import read_script
+from tpr_tools.model.bodies import TestCase
+from tpr_tools.model.reading import read_script
+from tpr_tools.model.run import Act, Run
 
 MOST_STATES, MOST_LINES, ALTERED = 20_000, 100, 40
 

@@ -9,15 +9,18 @@ only by the component's next one. So a component's last step stands in no order:
 a loop without a turn, or a send that fails, which touch nothing of another component. Nor does a step stand
 there that waits for good.
 """
+import os
 import random
 import sys
 from collections.abc import Iterator
 from dataclasses import dataclass
 
-from bodies import Begun, TestCase
-from model import Run
-from reading import read_script
-from tree import Setverdict
+sys.path.append(os.path.join(os.path.dirname(os.path.realpath(__file__)), "..", "..", "tools"))
+
+from tpr_tools.model.bodies import Begun, TestCase
+from tpr_tools.model.reading import read_script
+from tpr_tools.model.run import Run
+from tpr_tools.model.tree import Setverdict
 
 
 class Unordered(Exception):

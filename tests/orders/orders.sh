@@ -1,5 +1,5 @@
 # Every order of the steps of small scripts (tests/orders/*/*.ttcn): what tpr_ordered reports of each must be what
-# the model of runs says (tests/orders/model.py). `built_by_gate` is that of ./test.
+# the model of runs says (tools/tpr_tools/model/). `built_by_gate` is that of ./test.
 
 # How many scripts with a behaviour that waits in the end there are at least, and how many orders of all scripts.
 least_waiting=10

@@ -21,11 +21,11 @@ from typing import NamedTuple
 
 sys.dont_write_bytecode = True
 
-from refusing import NO_MEMORY, NO_READ, PROGRAM, ROOT, Case, Ran, Refusing, Wrong, try_each  # noqa: E402
+from refusing import NO_MEMORY, NO_READ, PROGRAM, ROOT, Case, Ran, Refusing, Wrong, try_each
 
 sys.path.append(str(ROOT / "tests" / "traces"))
 
-from oracle import answer_of  # noqa: E402
+from oracle import answer_of
 
 MOST_CALLS, MOST_CALLS_OF_A_TEST = 5000, 500
 QUEUES = (

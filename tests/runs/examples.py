@@ -8,7 +8,7 @@ from pathlib import Path
 ROOT = Path(__file__).resolve().parents[2]
 sys.path.append(str(ROOT / "tests" / "program"))
 
-from refusing import Ran  # noqa: E402
+from refusing import Ran
 
 
 def names() -> list[str]:

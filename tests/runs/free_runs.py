@@ -24,8 +24,8 @@ from pathlib import Path
 
 sys.dont_write_bytecode = True
 
-from examples import is_report, names, reports, script  # noqa: E402
-from refusing import NO_MEMORY, NO_THREAD, Wrong, run  # noqa: E402
+from examples import is_report, names, reports, script
+from refusing import NO_MEMORY, NO_THREAD, Wrong, run
 
 AGAIN, AGAIN_OF_ALL_WAIT, BESIDE_A_LOAD = 50, 1000, 20
 MOST_KIB, STEP_KIB, AROUND_KIB = 1 << 20, 32, 800

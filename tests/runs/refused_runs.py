@@ -17,8 +17,8 @@ from pathlib import Path
 
 sys.dont_write_bytecode = True
 
-from examples import is_report, reports, script  # noqa: E402
-from refusing import NO_MEMORY, NO_READ, NO_THREAD, PROGRAM, Case, Ran, Refusing, try_each  # noqa: E402
+from examples import is_report, reports, script
+from refusing import NO_MEMORY, NO_READ, NO_THREAD, PROGRAM, Case, Ran, Refusing, try_each
 
 MOST_CALLS = 5000
 OF_EACH_ALLOCATION = (

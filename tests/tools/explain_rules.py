@@ -18,10 +18,10 @@ ROOT = os.path.dirname(os.path.dirname(os.path.dirname(os.path.realpath(__file__
 sys.dont_write_bytecode = True
 sys.path.insert(0, os.path.join(ROOT, "tools"))
 
-from library.constructs import Construct  # noqa: E402
-from library.refusal_rules import BEYOND_SCRIPTS, RULES_OF  # noqa: E402
-from library.refusals import SEND_FAULTS, Refusal  # noqa: E402
-from library.words import RESERVED, RESERVED_ELSEWHERE  # noqa: E402
+from tpr_tools.refusals import SEND_FAULTS, Refusal
+from tpr_tools.script.constructs import Construct
+from tpr_tools.script.refusal_rules import BEYOND_SCRIPTS, RULES_OF
+from tpr_tools.words import RESERVED, RESERVED_ELSEWHERE
 
 
 class Wrong(Exception):
@@ -132,10 +132,10 @@ def check_numbers():
     page = read(f"{ROOT}/docs/REFUSALS.md").partition("\n## Numbers and names\n")[2].partition("\n## ")[0]
     rows = "\n".join(line for line in page.splitlines() if line.startswith("|"))
     listed = re.findall("([0-9]+) ([A-Za-z]+)", rows)
-    must(listed == table, f"docs/REFUSALS.md has {listed}, and tools/library/refusals.py {table}")
+    must(listed == table, f"docs/REFUSALS.md has {listed}, and tools/tpr_tools/refusals.py {table}")
     source = read(f"{ROOT}/crates/tp_refusal/src/refusal.rt")
     printed = re.findall(r'Refusal::\w+ => \(([0-9]+), "(\w+)"\)', source)
-    must(printed == table, f"the program prints {printed}, and tools/library/refusals.py has {table}")
+    must(printed == table, f"the program prints {printed}, and tools/tpr_tools/refusals.py has {table}")
     with_rules = sorted([*RULES_OF, *BEYOND_SCRIPTS])
     wanted = [it for it in Refusal if it != Refusal.WRITE]
     must(with_rules == wanted, f"{with_rules} have rules, and all but {Refusal.WRITE} are printed")

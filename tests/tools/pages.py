@@ -14,10 +14,10 @@ ROOT = os.path.dirname(os.path.dirname(os.path.dirname(os.path.realpath(__file__
 
 sys.path[:0] = [os.path.join(ROOT, "tools")]
 
-from browser import Browser, program  # noqa: E402
-from library.page import page_of  # noqa: E402
-from library.reader import read_report  # noqa: E402
-from library.sequence import sequence_of  # noqa: E402
+from browser import Browser, program
+from tpr_tools.chart.page import page_of
+from tpr_tools.chart.sequence import sequence_of
+from tpr_tools.report.reader import read_report
 
 ALL = "[...document.querySelectorAll('{}')]"
 NAMES = ALL.format(".name") + ".map((it) => it.dataset.name).join()"

@@ -5,7 +5,7 @@ used: a queue, a status, and how many messages are ahead of the mark. So each re
 """
 import random
 
-from library.refusals import SEND_FAULTS
+from tpr_tools.refusals import SEND_FAULTS
 
 VERDICTS = ("none", "pass", "inconc", "fail", "error")
 MESSAGES = ("integer:7", "boolean:true", 'charstring:"a ""b"" {c}"', "List:{1, -2}", 'Pair:{one := "", two := {}}')

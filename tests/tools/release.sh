@@ -42,7 +42,8 @@ tar_entries() {
 in_the_tree() {
     printf 'x tpr\nf GATE\n'
     (cd tree && find CHANGELOG.md LICENSE README.md VERSION docs examples tools ! -name '.*' \
-        ! -path 'tools/release' ! -path 'tools/releasing*' ! -path tools/costs.py ! -path tools/explore \
+        ! -path 'tools/release' ! -path tools/costs.py ! -path tools/explore \
+        ! -path 'tools/tpr_tools/release*' ! -path 'tools/tpr_tools/explore*' ! -path 'tools/tpr_tools/model*' \
         -printf '%y %p\n') |
         sed -E 's!^f (tools/[a-z]+)$!x \1!'
 }
@@ -55,7 +56,7 @@ in_the_package() {
     in_the_tree | sed -E '/^d/d
         s!^f docs/tpr\.1$!f usr/share/man/man1/tpr.1.gz!;t
         s!^x !x usr/lib/tpr/!;t
-        s!^f (tools/(library|rewriting)/)!f usr/lib/tpr/\1!;t
+        s!^f (tools/(tpr_tools|rewriting)/)!f usr/lib/tpr/\1!;t
         s!^f !f usr/share/doc/tpr/!'
     printf 'f usr/share/doc/tpr/%s\n' changelog.gz copyright
     printf 'f usr/share/lintian/overrides/tpr\n'
@@ -125,8 +126,8 @@ tells_planted() { # WHAT, FILE OF tools/, SED SCRIPT, WHAT IS TOLD
 }
 
 planted_releases() {
-    local tree=releasing/tree.py archives=releasing/archives.py
-    tells_planted "no library of the tools" $tree 's!"tools/costs.py"!"tools/library/"!' /tools/library/page.py
+    local tree=tpr_tools/release/tree.py archives=tpr_tools/release/archives.py
+    tells_planted "no library of the tools" $tree 's!"tools/costs.py"!"tools/tpr_tools/chart/"!' /tools/tpr_tools/chart/page.py
     tells_planted "an archive of another version" release 's!f"tpr-\{release.version\}"!"tpr-99.0.0"!' tpr-99.0.0/
     tells_planted "commands that a group may write" $tree 's!0o755!0o775!g' "-rwxrwxr-x 0/0"
     tells_planted "folders for one alone" $archives 's!(_OF_A_FOLDER = )0o755!\10o700!' "drwx------ 0/0"
@@ -137,7 +138,7 @@ planted_releases() {
 }
 
 planted_packages() {
-    local debian=releasing/debian.py
+    local debian=tpr_tools/release/debian.py
     tells_planted "no tool in the package" $debian 's!^    entries = \[_place.*!&[:1]!' ./usr/lib/tpr/tools/chart
     tells_planted "a package of another version" $debian 's!^Version: !&1!' "Version: 1$version"
     tells_planted "a link to nowhere" $debian 's!\.\./lib/tpr/tpr"!../lib/tpr"!' "tpr -> ../lib/tpr"
@@ -325,7 +326,7 @@ package_is_installed() {
 archive_is_used() {
     look_at made
     mkdir unpacked && tar -xzf "$archive" -C unpacked || return
-    observe diff -r -x '.*' -x crates -x out -x 'releas*' -x costs.py -x explore tree "unpacked/tpr-$version"
+    observe diff -r -x '.*' -x crates -x out -x 'releas*' -x costs.py -x explore -x model tree "unpacked/tpr-$version"
     printf "Only in unpacked/tpr-$version: %s\n" GATE tpr >to_be_said
     tool_must "what is unpacked" 1 cmp -- to_be_said "$room/printed"
     observe cmp -- "$tpr" "unpacked/tpr-$version/tpr"

@@ -31,18 +31,18 @@ ROOT = os.path.dirname(os.path.dirname(os.path.dirname(os.path.realpath(__file__
 sys.dont_write_bytecode = True
 sys.path[:0] = [os.path.join(ROOT, "tools"), os.path.dirname(os.path.realpath(__file__))]
 
-from library.deliveries import deliveries_of  # noqa: E402
-from library.differences import EQUAL, compare  # noqa: E402
-from library.letters import letters_of  # noqa: E402
-from library.order import rows_of  # noqa: E402
-from library.part import Asked, part_of  # noqa: E402
-from library.reader import read_report  # noqa: E402
-from library.report import NotAReport  # noqa: E402
-from library.sequence import sequence_of  # noqa: E402
-from library.svg import svg_of  # noqa: E402
-from pages import report_of_many  # noqa: E402
-from played import Played, Small, Unplayable, changed, has_order  # noqa: E402
-from random_reports import Run  # noqa: E402
+from pages import report_of_many
+from played import Played, Small, Unplayable, changed, has_order
+from random_reports import Run
+from tpr_tools.chart.letters import letters_of
+from tpr_tools.chart.part import Asked, part_of
+from tpr_tools.chart.sequence import sequence_of
+from tpr_tools.chart.svg import svg_of
+from tpr_tools.report.deliveries import deliveries_of
+from tpr_tools.report.differences import EQUAL, compare
+from tpr_tools.report.order import rows_of
+from tpr_tools.report.reader import read_report
+from tpr_tools.report.report import NotAReport
 
 SVG = "{http://www.w3.org/2000/svg}"
 ENDS = ("took", "found", "dropped", "left")

@@ -266,7 +266,7 @@ comparisons_of_examples() {
     tool_must "compare: one file" 4 grep -q '^usage: compare' "$room/said"
 }
 
-# What the tools have in common (tools/library/command.py). Without PYTHONUNBUFFERED what can't be written stays, and is
+# What the tools have in common (tools/tpr_tools/command.py). Without PYTHONUNBUFFERED what can't be written stays, and is
 # tried again at the very end.
 words_that_nobody_gets() {
     local tool
@@ -287,7 +287,7 @@ words_that_nobody_gets() {
     status=$?
     tool_must "what titan can't read, and a full standard error" 5 \
         cmp -s -- "$room/printed" "$root/tests/titan/odd/trace"
-    PYTHONPATH=$root/tools observe python3 -B -c 'from library import command
+    PYTHONPATH=$root/tools observe python3 -B -c 'from tpr_tools import command
 command.run("tool", lambda: len(bytes(1 << 62)))'
     tool_must "a tool that is refused memory" 1 says_alone "tool: memory was refused"
 }

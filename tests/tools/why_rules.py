@@ -1,5 +1,5 @@
 #!/usr/bin/env python3
-"""What tools/why says of reports, beside the model of runs in tests/orders, which shares no code with it.
+"""What tools/why says of reports, beside the model of runs in tools/tpr_tools/model, which shares no code with it.
 
     why_rules.py examples REPORT..     the lines of each report are those of some run of the model that
                                        has this report
@@ -25,22 +25,21 @@ ROOT = os.path.dirname(os.path.dirname(os.path.dirname(os.path.realpath(__file__
 sys.dont_write_bytecode = True
 sys.path[:0] = [os.path.join(ROOT, "tools"), os.path.join(ROOT, "tests", "orders")]
 
-from bodies import TestCase, Tried  # noqa: E402
-from generator import some_script  # noqa: E402
-from judge import MOST_STATES, acted, hurry, is_over, state, wanted_by  # noqa: E402
-from model import Act, Run  # noqa: E402
-from reading import TOKENS, Reader  # noqa: E402
-from tree import Control  # noqa: E402
-
-from library.listed_ways import listing_of  # noqa: E402
-from library.reader import read_report  # noqa: E402
-from library.reasons import reasons_of  # noqa: E402
-from library.report import NotAReport  # noqa: E402
-from library.script_case import Case  # noqa: E402
-from library.script_checks import check_script  # noqa: E402
-from library.script_tokens import Text  # noqa: E402
-from library.walk import DoesNotFit  # noqa: E402
-from library.ways import Ways  # noqa: E402
+from generator import some_script
+from judge import MOST_STATES, acted, hurry, is_over, state, wanted_by
+from tpr_tools.model.bodies import TestCase, Tried
+from tpr_tools.model.reading import TOKENS, Reader
+from tpr_tools.model.run import Act, Run
+from tpr_tools.model.tree import Control
+from tpr_tools.report.reader import read_report
+from tpr_tools.report.report import NotAReport
+from tpr_tools.script.case import Case
+from tpr_tools.script.checks import check_script
+from tpr_tools.script.tokens import Text
+from tpr_tools.why.listed_ways import listing_of
+from tpr_tools.why.reasons import reasons_of
+from tpr_tools.why.walk import DoesNotFit
+from tpr_tools.why.ways import Ways
 
 RECEIVED = ("took", "found", "dropped", "left")
 

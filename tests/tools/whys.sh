@@ -1,5 +1,5 @@
 # What tools/why says of reports: the line of the script that each line comes from, and why a result isn't pass.
-# The lines are held against a table worked out by hand, and against the model of runs in tests/orders; the
+# The lines are held against a table worked out by hand, and against the model of runs in tools/tpr_tools/model; the
 # reasons against files worked out by hand. What a shell can't see is looked at by why_rules.py. `find_reports` is that
 # of tools.sh, `chart_in_letters` and `prints_in_letters` are those of parts.sh.
 

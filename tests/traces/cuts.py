@@ -10,8 +10,8 @@ import sys
 
 sys.path.append(os.path.join(os.path.dirname(os.path.realpath(__file__)), "..", "..", "tools"))
 
-from library.titan_log import NotALog, read_log  # noqa: E402
-from library.titan_trace import section_of  # noqa: E402
+from tpr_tools.titan.log import NotALog, read_log
+from tpr_tools.titan.trace import section_of
 
 
 def wrong(text: str, length: int, whole: list) -> str | None:

@@ -1,4 +1,4 @@
-"""Plays a script in an order made by chance, on the model of runs (tests/orders/model.py), and prints the trace:
+"""Plays a script in an order made by chance, on the model of runs (tools/tpr_tools/model/), and prints the trace:
 the report, with a line `came` wherever a message came into a queue.
 
     player.py SCRIPT [SEED]
@@ -9,12 +9,12 @@ import os
 import random
 import sys
 
-sys.path.append(os.path.join(os.path.dirname(os.path.realpath(__file__)), "..", "orders"))
+sys.path.append(os.path.join(os.path.dirname(os.path.realpath(__file__)), "..", "..", "tools"))
 
-from bodies import TestCase  # noqa: E402
-from model import Act, Run  # noqa: E402
-from reading import read_script  # noqa: E402
-from tree import Send  # noqa: E402
+from tpr_tools.model.bodies import TestCase
+from tpr_tools.model.reading import read_script
+from tpr_tools.model.run import Act, Run
+from tpr_tools.model.tree import Send
 
 
 class Traced(Run):

@@ -16,12 +16,13 @@ from collections.abc import Callable
 from compare import Judge
 from oracle import answer_of
 
-sys.path.append(os.path.join(os.path.dirname(os.path.realpath(__file__)), "..", "orders"))
+HERE = os.path.dirname(os.path.realpath(__file__))
+sys.path += [f"{HERE}/../orders", f"{HERE}/../../tools"]
 
-from bodies import TestCase  # noqa: E402
-from judge import is_allowed  # noqa: E402
-from judged import expected_beside  # noqa: E402
-from reading import read_script  # noqa: E402
+from judge import is_allowed
+from judged import expected_beside
+from tpr_tools.model.bodies import TestCase
+from tpr_tools.model.reading import read_script
 
 RUNS, SECONDS = 6, 20
 ONE_PROCESSOR = ["taskset", "-c", str(min(os.sched_getaffinity(0)))]

@@ -2,7 +2,7 @@
 
     tried.py TIMES
 
-Of each shape with 3 to 8 components so many runs of the model (tests/orders/model.py), the acts by chance: each of
+Of each shape with 3 to 8 components so many runs of the model (tools/tpr_tools/model/), the acts by chance: each of
 these reports must be allowed, and each that is altered a little exactly where the judge of tests/orders allows it;
 where that one finds no answer soon, nothing is compared. It prints a line `passed ALLOWED REFUSED NAME` for each
 script, or lines that begin with `FAILED: NAME`.
@@ -13,15 +13,12 @@ import sys
 import tempfile
 
 FOLDER = os.path.dirname(os.path.realpath(__file__))
-sys.path[:0] = [FOLDER, f"{FOLDER}/../../orders"]
+sys.path[:0] = [FOLDER, f"{FOLDER}/../../orders", f"{FOLDER}/../../../tools"]
 
-from bodies import TestCase  # noqa: E402
-from judge import is_allowed  # noqa: E402
-from judged import altered  # noqa: E402
-from judging import wrong_in  # noqa: E402
-from model import Act, Run  # noqa: E402
-from reading import read_script  # noqa: E402
-from shapes import (  # noqa: E402
+from judge import is_allowed
+from judged import altered
+from judging import wrong_in
+from shapes import (
     Shape,
     all_to_all,
     all_to_one,
@@ -35,6 +32,9 @@ from shapes import (  # noqa: E402
     system,
     tree,
 )
+from tpr_tools.model.bodies import TestCase
+from tpr_tools.model.reading import read_script
+from tpr_tools.model.run import Act, Run
 
 MOST_ALTERED, MOST_STATES = 30, 300
 FEW = (

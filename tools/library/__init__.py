@@ -1,1 +1,0 @@
-"""What chart, suite and compare have in common. Nothing here is trusted for a verdict."""

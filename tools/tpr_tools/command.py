@@ -1,0 +1,147 @@
+"""What the command lines of the tools have in common.
+
+The statuses are those of tpr and ./tpr, with one more: 5, where what was asked isn't so.
+"""
+from __future__ import annotations
+
+import argparse
+import gc
+import os
+import sys
+from typing import TYPE_CHECKING, Callable, NoReturn, Optional
+
+if TYPE_CHECKING:
+    from .report.report import NotAReport, Report
+
+DONE, NOT_BUILT, REFUSED, NOT_WRITTEN, WRONG_USAGE, NOT_SO = range(6)
+INTERRUPTED = 130
+
+_MEANINGS = {
+    DONE: "all went well",
+    NOT_BUILT: "the tool broke off",
+    REFUSED: "what was read isn't a report, or can't be read; standard error has the line",
+    NOT_WRITTEN: "the answer can't be written",
+    WRONG_USAGE: "the command line is wrong",
+}
+
+
+def statuses(*numbers: int, **others: str) -> str:
+    """The statuses as --help has them: those of all tools, and those that mean more in one."""
+    told = {number: _MEANINGS[number] for number in numbers}
+    told.update({int(name.removeprefix("status_")): text for name, text in others.items()})
+    return "status:\n" + "\n".join(f"  {number}  {text}" for number, text in sorted(told.items()))
+
+
+class Stop(Exception):
+    """The tool ends with this status, and says this on standard error."""
+
+    def __init__(self, status: int, text: str):
+        super().__init__(text)
+        self.status = status
+        self.text = text
+
+
+class Arguments(argparse.ArgumentParser):
+    """A command line, the description of which has the statuses too."""
+
+    def __init__(self, name: str, description: str, statuses: str):
+        super().__init__(
+            prog=name,
+            description=description,
+            epilog=statuses,
+            formatter_class=argparse.RawDescriptionHelpFormatter,
+            allow_abbrev=False,
+        )
+
+    def print_help(self, file: object = None) -> None:
+        """It is an answer as any other, so where it can't be written the tool ends so."""
+        write_out(self.format_help())
+
+    def error(self, message: str) -> NoReturn:
+        say(self.format_usage())
+        raise Stop(WRONG_USAGE, message)
+
+
+def read_bytes(file: Optional[str]) -> bytes:
+    """What the file holds, or standard input where there is none."""
+    try:
+        if file is None:
+            return sys.stdin.buffer.read()
+        with open(file, "rb") as opened:
+            return opened.read()
+    except (OSError, AttributeError, ValueError) as error:
+        why = getattr(error, "strerror", None) or "it is closed"
+        raise Stop(REFUSED, f"{file or 'standard input'} can't be read: {why}") from None
+
+
+def report_in(file: Optional[str]) -> Report:
+    """The report that a file holds. Its messages aren't matched yet."""
+    # Not each tool reads a report, and a third of the start of one that doesn't went into the reader.
+    from .report.reader import read_report
+    from .report.report import NotAReport
+
+    try:
+        return read_report(read_bytes(file))
+    except NotAReport as fault:
+        raise refusal_of(file, fault) from None
+
+
+def refusal_of(file: Optional[str], fault: NotAReport) -> Stop:
+    return Stop(REFUSED, f"{file or 'standard input'}, {fault}")
+
+
+def write_out(text: str) -> None:
+    """Writes the answer on standard output."""
+    try:
+        # The name of a file may have bytes that are no text: they are written as they are.
+        sys.stdout.buffer.write(text.encode("utf-8", "surrogateescape"))
+        sys.stdout.buffer.flush()
+    except (OSError, AttributeError):
+        raise Stop(NOT_WRITTEN, "the answer can't be written") from None
+
+
+def say(text: str) -> None:
+    """Says it on standard error, if there is one."""
+    try:
+        sys.stderr.buffer.write(text.encode("utf-8", "surrogateescape"))
+        sys.stderr.buffer.flush()
+    except (OSError, AttributeError, ValueError):
+        pass
+
+
+def write_file(file: str, text: str) -> None:
+    try:
+        with open(file, "w", encoding="utf-8", newline="\n") as opened:
+            opened.write(text)
+    except OSError as error:
+        raise Stop(NOT_WRITTEN, f"{file} can't be written: {error.strerror}") from None
+
+
+def run(name: str, tool: Callable[[], int], at_once: bool = False) -> NoReturn:
+    """Ends the process with the status of the tool; `at_once` where it leaves nothing to be done, and may hold so much
+    that to let go of it takes long."""
+    # What the tools make has no circles, so that looking for such costs a quarter of the time for nothing.
+    gc.disable()
+    try:
+        status = tool()
+    except Stop as stop:
+        say(f"{name}: {stop.text}\n")
+        status = stop.status
+    except MemoryError:
+        say(f"{name}: memory was refused\n")
+        status = NOT_BUILT
+    except KeyboardInterrupt:
+        status = INTERRUPTED
+    _forget_output()
+    if at_once:
+        os._exit(status)
+    sys.exit(status)
+
+
+def _forget_output() -> None:
+    """What could not be written is not tried again when the interpreter ends: it would end with a status of its own."""
+    for stream in ("stdout", "stderr"):
+        try:
+            getattr(sys, stream).flush()
+        except (OSError, AttributeError, ValueError):
+            setattr(sys, stream, None)

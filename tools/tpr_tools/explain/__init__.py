@@ -1,0 +1,1 @@
+"""Says of a script that `tpr check` refuses what is wrong, and what to write."""

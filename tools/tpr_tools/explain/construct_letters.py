@@ -1,0 +1,95 @@
+"""Which construct of the full language stands where no token begins: a sign that the profile hasn't."""
+from __future__ import annotations
+
+import re
+from typing import Optional
+
+from ..script.constructs import Construct
+from ..script.cursor import GrammarFault
+from ..script.tokens import Text
+from .construct_signs import Found, Signs
+
+_SIGNS = (
+    (re.compile(r"=>"), Construct.NAMED_ARGUMENT),
+    (re.compile(r"==|>=|=|>|!="), Construct.COMPARISON),
+    (re.compile(r"&|/(?!\*)|%"), Construct.EXPRESSION),
+    (re.compile(r"'[0-9A-Fa-f?*\s]*'[BHO]"), Construct.STRING_OF_BITS),
+    (re.compile(r"@[a-z]+"), Construct.MODIFIER),
+    (re.compile(r"__[A-Z]+__"), Construct.MACRO),
+    (re.compile(r"_"), Construct.NAME_BEGIN),
+)
+
+# The statements and definitions in which an expression stands, by their first word.
+_WITH_EXPRESSIONS = frozenset(
+    ["if", "else", "while", "do", "select", "const", "template", "log", "return", "modulepar"]
+)
+
+# The words behind which a bracket holds an expression.
+_BEFORE_BRACKETS = {
+    "if": Construct.IF,
+    "while": Construct.WHILE,
+    "select": Construct.SELECT,
+    "log": Construct.LOG,
+    "for": Construct.LOOP,
+    "match": Construct.MATCHING,
+}
+
+
+def construct_of_rest(text: Text, offset: int) -> Optional[Found]:
+    """What the statement is in which the sign stands, or else what the sign is."""
+    place = len(text.tokens)
+    if offset < len(text.letters) - len(text.rest):
+        return None
+    begin = _begin_of(text, place)
+    fault = GrammarFault(10, place, begin, "a statement", "")
+    if found := _of_statement(text, fault):
+        return found
+    for form, construct in _SIGNS:
+        if form.match(text.rest):
+            return Found(construct, place)
+    return None
+
+
+def _begin_of(text: Text, place: int) -> int:
+    """The first token of the statement that the place is in: behind a `;` or a brace."""
+    while place > 0 and text.spelling(place - 1) not in (";", "{", "}"):
+        place -= 1
+    return place
+
+
+def _of_statement(text: Text, fault: GrammarFault) -> Optional[Found]:
+    """A statement that the profile hasn't at all, or a loop or a guard of another form."""
+    signs = Signs(text, fault)
+    if signs.first() in _WITH_EXPRESSIONS:
+        return signs.make(_known(signs), fault.begin)
+    opened = _opened(text, fault.place)
+    before = text.spelling(opened - 1)
+    if before in _BEFORE_BRACKETS:
+        return signs.make(_BEFORE_BRACKETS[before], opened - 1, word=before)
+    if text.spelling(opened) == "[":
+        return signs.make(Construct.GUARD, opened)
+    if ":=" in (signs.first(1), signs.first(2)):
+        return signs.make(Construct.ASSIGNMENT, fault.begin)
+    return None
+
+
+def _known(signs: Signs) -> Construct:
+    found = signs.found()
+    return found.construct if found else Construct.EXPRESSION
+
+
+def _opened(text: Text, place: int) -> int:
+    """The place of the innermost bracket that is open, or -1."""
+    closed = 0
+    while place > 0:
+        place -= 1
+        word = text.spelling(place)
+        if word in (")", "]"):
+            closed += 1
+        elif word in ("(", "["):
+            if closed == 0:
+                return place
+            closed -= 1
+        elif word in ("{", "}"):
+            return -1
+    return -1

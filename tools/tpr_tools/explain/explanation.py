@@ -1,0 +1,134 @@
+"""What is said of one script: its refusal, the places of it, and what to write."""
+from __future__ import annotations
+
+from dataclasses import dataclass, field
+from enum import Enum
+from typing import Any, Optional
+
+from ..script.refusal_rules import Rule
+from ..script.tokens import Position
+
+
+# What a construct has for which there is nothing to write begins so.
+NOTHING = "nothing: "
+
+
+class Answer(Enum):
+    """What `tpr check` has answered."""
+
+    ACCEPTED = "accepted"
+    REFUSED = "refused"
+    FAULT = "fault"
+    BROKEN = "broken"
+
+
+@dataclass(frozen=True)
+class Shown:
+    """A place of the script: its line is shown, and what is meant is underlined.
+
+    `begin` is the column where the construct begins to which it belongs, if that is on the same line.
+    """
+
+    position: Position
+    text: str
+    label: str = ""
+    begin: Optional[int] = None
+
+
+@dataclass
+class Explanation:
+    """All that is said. `line` is that of `tpr check`; there is a column where the own reading agrees."""
+
+    file: str
+    answer: Answer
+    said: str
+    number: Optional[int] = None
+    name: str = ""
+    line: Optional[int] = None
+    column: Optional[int] = None
+    sentence: str = ""
+    places: list[Shown] = field(default_factory=list)
+    can_stand: list[str] = field(default_factory=list)
+    construct: str = ""
+    clause: str = ""
+    instead: str = ""
+    rules: list[Rule] = field(default_factory=list)
+
+    def first_line(self) -> str:
+        place = self.file
+        if self.line is not None:
+            place += f":{self.line}"
+        if self.column is not None:
+            place += f":{self.column}"
+        if self.answer is not Answer.REFUSED:
+            return f"{place}: {self.said}"
+        return f"{place}: refused {self.number} {self.name}: {self.sentence}"
+
+    def text(self) -> str:
+        lines = [self.first_line()]
+        width = max((len(str(shown.position.line)) for shown in self.places), default=1)
+        for shown in self.places:
+            lines += _shown_lines(shown, max(width, 4))
+        if self.can_stand:
+            lines.append(f"  can stand here: {', '.join(self.can_stand)}")
+        if self.instead.startswith(NOTHING):
+            lines.append(f"  nothing instead: {self.instead.removeprefix(NOTHING)}")
+        elif self.instead:
+            lines.append(f"  write instead: {self.instead}")
+        if self.construct:
+            lines.append(f"  more: docs/FROM_TTCN3.md, {self.clause}")
+        word = "rule" if len(self.rules) == 1 else "one of these rules"
+        lines += [f"  {word}: {rule.value}" for rule in self.rules]
+        return "\n".join(lines) + "\n"
+
+    def as_json(self) -> dict[str, Any]:
+        return {
+            "file": self.file,
+            "answer": self.answer.value,
+            "said": self.said,
+            "number": self.number,
+            "name": self.name or None,
+            "line": self.line,
+            "column": self.column,
+            "sentence": self.sentence or None,
+            "places": [_place(shown) for shown in self.places],
+            "can_stand": self.can_stand,
+            "construct": self.construct or None,
+            "clause": self.clause or None,
+            "instead": self.instead or None,
+            "rules": [rule.value for rule in self.rules],
+        }
+
+
+def _place(shown: Shown) -> dict[str, Any]:
+    position = shown.position
+    return {
+        "line": position.line,
+        "column": position.column,
+        "length": position.length,
+        "begin": shown.begin,
+        "text": shown.text,
+        "label": shown.label or None,
+    }
+
+
+_LONGEST_LINE = 160
+
+
+def _shown_lines(shown: Shown, width: int) -> list[str]:
+    """The line of the script, and below it what is meant. A long line is shown around its place."""
+    before = shown.text[: shown.position.column - 1]
+    text, cut = shown.text, 0
+    if len(text) > _LONGEST_LINE:
+        cut = max(0, len(before) - _LONGEST_LINE // 2)
+        behind = "…" if len(text) > cut + _LONGEST_LINE else ""
+        text = ("…" if cut else "") + text[cut : cut + _LONGEST_LINE] + behind
+    # A tab stays one, so that what is below stands where it should.
+    indent = "".join("\t" if letter == "\t" else " " for letter in before)
+    if shown.begin is not None:
+        indent = indent[: shown.begin - 1] + "~" * (len(indent) - shown.begin + 1)
+    indent = (" " if cut else "") + indent[cut:]
+    left = min(len(shown.text) - shown.position.column + 1, _LONGEST_LINE // 2)
+    marks = "^" * max(1, min(shown.position.length, left))
+    label = f" {shown.label}" if shown.label else ""
+    return [f"{shown.position.line:{width}} | {text}".rstrip(), f"{'':{width}} | {indent}{marks}{label}"]

@@ -1,0 +1,214 @@
+"""Makes of a script one in which each act is a step of which a gate hears, and which prints the same reports.
+
+A gate hears of the end of a statement by the next (docs/DECISIONS.md). So behind the last statement of each body
+stands a loop without a turn, which does nothing and prints nothing. And a send to all components, between the
+messages of which a gate holds nobody, is written as a send to each of them: the same messages, in the order of the
+connections. A component whose name a parameter hides is handed to the function as a parameter more.
+"""
+from __future__ import annotations
+
+from dataclasses import dataclass, field
+from itertools import count
+from typing import Iterator, Optional
+
+from ..model.tree import EVERYONE, Choice, Function, Loop, Send, Variable
+from .placed import Placed, PlacedCase, placed_tokens
+
+Edits = dict[int, tuple[int, list[str]]]  # by the place of a token: how many are taken out, and what stands there
+
+
+@dataclass
+class ForcedScript:
+    """The script that is run, by its tokens."""
+
+    tokens: list[Placed]
+
+    def case(self) -> PlacedCase:
+        return PlacedCase(self.tokens)
+
+    def text(self) -> str:
+        """The tokens, those of a line on a line."""
+        pieces, line = [], 1
+        for token in self.tokens:
+            pieces.append("\n" if token.line != line else " ")
+            pieces.append(token)
+            line = token.line
+        return "".join(pieces) + "\n"
+
+
+def forced_script(data: bytes, split: bool = True) -> ForcedScript:
+    """The script to run in the place of one that is accepted. Without `split` each send to all stays whole."""
+    writer = _Writer(placed_tokens(data))
+    if split:
+        writer.split_sends()
+    return writer.script()
+
+
+@dataclass(frozen=True)
+class _Body:
+    """A function, or the test case, and the place of its first token. Its name is the next."""
+
+    start: int
+    function: Function
+    is_test_case: bool
+
+
+@dataclass(frozen=True)
+class _Runner:
+    """A component that carries out a body, the components that the body's parameters mean, and the names that mean
+    something else there than a component of the test case. `handed` are components with the parameters by which they
+    are handed to it besides."""
+
+    component: int
+    arguments: dict[str, int]
+    hidden: set[str]
+    handed: dict[int, str] = field(default_factory=dict)
+
+
+class _Writer:
+    """The tokens of a script, and what is put in the place of some."""
+
+    def __init__(self, tokens: list[Placed]):
+        self.tokens = tokens
+        self.case = PlacedCase(self.tokens)
+        self.read = self.case.script
+        self.bodies = [self.body(it) for it in self.case.bodies_from()]
+        self.edits: Edits = {}
+        taken = set(self.tokens)
+        self.new_names = (name for number in count(1) if (name := f"forced{number}") not in taken)
+        self.turn = next(self.new_names)
+
+    def body(self, start: int) -> _Body:
+        is_test_case = self.tokens[start] == "testcase"
+        function = self.read.case if is_test_case else self.read.functions[self.tokens[start + 1]]
+        return _Body(start, function, is_test_case)
+
+    def script(self) -> ForcedScript:
+        """The script with a loop without a turn at the end of each body."""
+        for body in self.bodies:
+            self.edits.update(self.last_step(body))
+        return ForcedScript(self.written(0, len(self.tokens), self.edits))
+
+    def written(self, first: int, behind: int, edits: Edits) -> list[Placed]:
+        """The tokens from one place up to another, with the edits. What is new stands at the line before it."""
+        tokens: list[Placed] = []
+        place = first
+        while place < behind:
+            taken_out, new = edits.get(place, (0, []))
+            line = self.tokens[place].line
+            tokens += [it if isinstance(it, Placed) else Placed(it, line) for it in new]
+            tokens += self.tokens[place : place + 1] if taken_out == 0 else []
+            place += max(taken_out, 1)
+        return tokens
+
+    # The last step of a body
+
+    def last_step(self, body: _Body) -> Edits:
+        place = self.end_of(body)
+        if body.is_test_case:
+            # Nothing stands behind `all component.done`, which is no step.
+            place = next((at - 3 for at in range(place - 1, body.start, -1) if self.tokens[at] == "done"), place)
+        begin = [] if self.tokens[place - 1] in ("{", "}", ";") else [";"]
+        turn = self.turn
+        loop = f"for ( var integer {turn} := 0 ; {turn} < 0 ; {turn} := {turn} + 1 ) {{ }}"
+        return {place: (0, begin + loop.split())}
+
+    def end_of(self, body: _Body) -> int:
+        """The place of the bracket that closes the body."""
+        place = self.tokens.index("{", body.start)
+        depth = 1
+        while depth > 0:
+            place += 1
+            depth += {"{": 1, "}": -1}.get(self.tokens[place], 0)
+        return place
+
+    # Sends to all components
+
+    def split_sends(self) -> None:
+        """Writes them anew: those of the test case in their place, and those of a function in a copy of it for
+        each start, since each component has connections of its own."""
+        functions = {self.tokens[it.start + 1]: it for it in self.bodies if not it.is_test_case}
+        for body in self.bodies:
+            if body.is_test_case:
+                self.edits.update(self.split(body, _Runner(0, {}, set())))
+        for (component, function, given), place in zip(self.read.starts, self.case.started_at()):
+            self.split_start(functions[function], component, given, place)
+
+    def split_start(self, body: _Body, component: str, given: tuple[str, ...], started: int) -> None:
+        meant = [self.case.places["mtc" if it == "self" else it] for it in given]
+        arguments = dict(zip(body.function.parameters, meant))
+        runner = _Runner(self.case.places[component], arguments, hidden_in(body.function))
+        edits = self.split(body, runner)
+        if not edits:
+            return
+        name = next(self.new_names)
+        behind = self.end_of(body) + 1
+        copied = {**edits, **self.last_step(body), body.start + 1: (1, [name])}
+        for other, parameter in runner.handed.items():
+            named = str(self.case.names[other])
+            self.add_one(copied, body.start + 1, [str(dict(self.read.created)[named]), parameter])
+            self.add_one(self.edits, started, [named])
+        others = self.edits.get(behind, (0, []))[1]
+        self.edits[behind] = (0, [*others, *self.written(body.start, behind, copied)])
+        self.edits[started] = (1, [name])
+
+    def add_one(self, edits: Edits, name: int, words: list[str]) -> None:
+        """Puts one parameter, or argument, more into the brackets behind the name."""
+        place = self.tokens.index(")", name)
+        new = edits.get(place, (0, []))[1]
+        comma = [","] if new or self.tokens[place - 1] != "(" else []
+        edits[place] = (0, [*new, *comma, *words])
+
+    def split(self, body: _Body, runner: _Runner) -> Edits:
+        edits: Edits = {}
+        for send in statements_in(body.function.block):
+            if not isinstance(send, Send) or send.receiver != EVERYONE:
+                continue
+            ends = self.case.partners.get((runner.component, send.port), [])
+            if len(ends) > 1:
+                start, behind = self.case.span(send)
+                names = [self.name_of(component, runner) for component, _ in ends]
+                edits[start] = (behind - start, self.sends_to(start, behind - len(("all", "component")), names))
+        return edits
+
+    def sends_to(self, start: int, to: int, names: list[str]) -> list[str]:
+        """The same message to each of these. All stand at the line of the send."""
+        line = self.tokens[start].line
+        tokens: list[str] = []
+        for name in names:
+            tokens += [";"] if tokens else []
+            tokens += [*self.tokens[start:to], Placed(name, line)]
+        return tokens
+
+    def name_of(self, component: int, runner: _Runner) -> str:
+        """By which name the body can speak of the component."""
+        if component == runner.component:
+            return "self"
+        for name, meant in runner.arguments.items():
+            if meant == component:
+                return name
+        name = self.case.names[component]
+        if name not in runner.hidden:
+            return name
+        if component not in runner.handed:
+            runner.handed[component] = next(self.new_names)
+        return runner.handed[component]
+
+
+def hidden_in(function: Function) -> set[str]:
+    """The names that mean something else in the body than a component of the test case."""
+    statements = list(statements_in(function.block))
+    names = {it.name for it in statements if isinstance(it, Variable)}
+    return names.union(function.parameters, (it.variable for it in statements if isinstance(it, Loop)))
+
+
+def statements_in(block: tuple[object, ...]) -> Iterator[object]:
+    """All statements, those of blocks too."""
+    for statement in block:
+        yield statement
+        if isinstance(statement, Choice):
+            for _, inner in statement.branches:
+                yield from statements_in(inner)
+            yield from statements_in(statement.otherwise or ())
+        if isinstance(statement, Loop):
+            yield from statements_in(statement.block)

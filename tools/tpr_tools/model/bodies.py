@@ -1,0 +1,114 @@
+"""What the components of a test case have and do: statements in one list each, routes, names."""
+from dataclasses import dataclass
+
+from .tree import Choice, Loop, Script
+
+
+@dataclass(frozen=True)
+class Jump:
+    """The next statement stands there."""
+
+    place: int
+
+
+@dataclass(frozen=True)
+class Turn:
+    """The end of a turn of a loop, whose block begins at the place."""
+
+    loop: Loop
+    place: int
+
+
+@dataclass(frozen=True)
+class Tried:
+    """An `alt` whose blocks, that of `[else]` last, begin at these places."""
+
+    choice: Choice
+    places: tuple[int, ...]
+
+
+@dataclass(frozen=True)
+class Begun:
+    """A loop, and the place behind it."""
+
+    loop: Loop
+    behind: int
+
+
+def listed(block: tuple, code: list) -> list:
+    """The statements of a block behind those of `code`, in one list."""
+    for statement in block:
+        if isinstance(statement, Choice):
+            list_choice(statement, code)
+        elif isinstance(statement, Loop):
+            begun = len(code)
+            code.append(None)
+            listed(statement.block, code)
+            code.append(Turn(statement, begun + 1))
+            code[begun] = Begun(statement, len(code))
+        else:
+            code.append(statement)
+    return code
+
+
+def list_choice(choice: Choice, code: list) -> None:
+    tried, places, ends = len(code), [], []
+    code.append(None)
+    blocks = [block for _, block in choice.branches]
+    for block in blocks + ([] if choice.otherwise is None else [choice.otherwise]):
+        places.append(len(code))
+        listed(block, code)
+        ends.append(len(code))
+        code.append(None)
+    for end in ends:
+        code[end] = Jump(len(code))
+    code[tried] = Tried(choice, tuple(places))
+
+
+@dataclass(frozen=True)
+class Body:
+    """What a component has and does: it never changes."""
+
+    name: str
+    ports: tuple[str, ...]
+    code: list
+    components: dict[str, int]
+
+
+class TestCase:
+    """The components of a script, and the routes between their ports."""
+
+    def __init__(self, script: Script):
+        self.script = script
+        named = [("mtc", script.case.runs_on)] + script.created
+        if script.system is not None:
+            named.append(("system", script.system))
+        self.names = [name for name, _ in named]
+        self.places = {name: place for place, name in enumerate(self.names)}
+        self.partners: dict[tuple[int, str], list[tuple[int, str]]] = {}
+        for one, other in script.pairs:
+            self.join(self.end(one), self.end(other))
+        self.bodies = [self.body(name, type_name) for name, type_name in named]
+
+    def end(self, written_end: tuple[str, str]) -> tuple[int, str]:
+        name, port = written_end
+        return self.places["mtc" if name == "self" else name], port
+
+    def join(self, one: tuple[int, str], other: tuple[int, str]) -> None:
+        self.partners.setdefault(one, []).append(other)
+        self.partners.setdefault(other, []).append(one)
+
+    def body(self, name: str, type_name: str) -> Body:
+        """What the component does: the test case, the function that it is started with, or `sut`."""
+        arguments: tuple[str, ...] = ()
+        function = self.script.case
+        for started, function_name, given in self.script.starts:
+            if started == name:
+                function, arguments = self.script.functions[function_name], given
+        if name == "system":
+            function = self.script.functions.get("sut")
+        known = {**self.places, "self": self.places[name]}
+        for parameter, argument in zip(function.parameters if function else (), arguments):
+            known[parameter] = self.places["mtc" if argument == "self" else argument]
+        block = function.block if function else ()
+        return Body(name, self.script.component_types[type_name], listed(block, []), known)

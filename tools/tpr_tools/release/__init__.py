@@ -1,0 +1,1 @@
+"""Makes what is handed out: an archive, and a Debian package."""

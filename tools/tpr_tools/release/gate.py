@@ -1,0 +1,39 @@
+"""Which commit this is, and whether a gate passed on it."""
+from __future__ import annotations
+
+import hashlib
+import subprocess
+
+from ..command import NOT_BUILT, REFUSED, Stop
+
+
+def git(root: str, *words: str) -> str:
+    """What git prints of the repository."""
+    try:
+        ran = subprocess.run(["git", "-C", root, *words], stdin=subprocess.DEVNULL, capture_output=True, check=False)
+    except OSError as error:
+        raise Stop(NOT_BUILT, f"git can't be run: {error.strerror}") from None
+    if ran.returncode != 0:
+        said = ran.stderr.decode("utf-8", "replace").strip()
+        raise Stop(NOT_BUILT, f"git {words[0]} ended with status {ran.returncode}: {said}")
+    return ran.stdout.decode("utf-8", "surrogateescape")
+
+
+def passed_gate(root: str, program: bytes) -> str:
+    """What the gate said that passed on this very commit and tried this very program, as ./test has kept
+    it: lines of a word and what it names, an empty line, and the gate's last lines."""
+    try:
+        with open(f"{root}/out/gate", encoding="utf-8") as file:
+            said = file.read()
+    except OSError:
+        raise Stop(REFUSED, "no gate has passed here: ./test leaves out/gate where it passes on a commit") from None
+    named = dict(line.partition(" ")[::2] for line in said.partition("\n\n")[0].split("\n"))
+    commit = git(root, "rev-parse", "HEAD").strip()
+    if named.get("commit") != commit:
+        raise Stop(REFUSED, f"the gate passed on commit {named.get('commit')}, and this is {commit}")
+    changed = git(root, "status", "--porcelain").split("\n")[0]
+    if changed:
+        raise Stop(REFUSED, f"the work tree isn't what the gate passed on: {changed[3:]}")
+    if named.get("program") != hashlib.sha256(program).hexdigest():
+        raise Stop(REFUSED, "the program isn't the one that the gate tried")
+    return said

@@ -1,0 +1,90 @@
+"""The components of a script's test case: what each of them does, and where its messages go."""
+from __future__ import annotations
+
+from dataclasses import dataclass
+from itertools import accumulate
+from typing import Optional
+
+from .checks import Checked
+from .forms import Forms
+from .names import SUT
+from .setup import MTC, SYSTEM
+from .tokens import Text
+from .tree import Body, Function, Pair, Statement, TestCase
+
+# A port of a component, by the names of both.
+End = tuple[str, str]
+
+
+@dataclass(frozen=True)
+class Player:
+    """A component of the test case. The system without a `sut` has no body.
+
+    `references` says which component a word behind `to` or `from` means, where it is no variable.
+    """
+
+    name: str
+    ports: tuple[str, ...]
+    body: Optional[Body]
+    references: dict[str, str]
+
+    def statements(self) -> list[Statement]:
+        return self.body.statements if self.body else []
+
+    def variables(self) -> list[int]:
+        return [variable.name for variable in self.body.variables] if self.body else []
+
+
+class Case:
+    """A script that obeys all rules: its components in the order of a report, and their connections."""
+
+    def __init__(self, text: Text, checked: Checked):
+        self.text = text
+        self.names = checked.names
+        self.forms = Forms(checked.names)
+        self.partners: dict[End, list[End]] = {}
+        for pair in self.names.case.setups:
+            if isinstance(pair, Pair):
+                self._join(pair)
+        types = checked.setup.types
+        order = [name for name in types if name != SYSTEM] + [name for name in types if name == SYSTEM]
+        self.players = [self._player(checked, name, types[name]) for name in order]
+        # The line of each token: how many ends of lines stand before it.
+        offsets = [text.offset(place) for place in range(len(text.tokens))]
+        between = [text.letters.count("\n", *cut) for cut in zip([0, *offsets], offsets)]
+        self._lines = [count + 1 for count in accumulate(between)]
+
+    def word(self, place: int) -> str:
+        return self.names.word(place)
+
+    def line(self, place: int) -> int:
+        """The line at which a token stands."""
+        return self._lines[place]
+
+    def bodies(self) -> list[Body]:
+        """All that is written, the functions that nothing is started with too."""
+        return [it for it in self.names.module.definitions if isinstance(it, (Function, TestCase))]
+
+    def _join(self, pair: Pair) -> None:
+        ends = []
+        for end in (pair.first, pair.second):
+            component = self.word(end.component)
+            ends.append((MTC if component == "self" else component, self.word(end.port)))
+        for one, other in (ends, ends[::-1]):
+            self.partners.setdefault(one, []).append(other)
+
+    def _player(self, checked: Checked, name: str, type_name: str) -> Player:
+        ports = tuple(self.names.ports_of(type_name))
+        created = {it: it for it in checked.setup.created}
+        references = {**created, MTC: MTC, "self": name}
+        body: Optional[Body] = self.names.case
+        if name == SYSTEM:
+            body = self.names.functions.get(SUT)
+        elif name != MTC:
+            start = checked.setup.started[name]
+            function = self.names.functions[self.word(start.function)]
+            given = [MTC if self.word(it) == "self" else self.word(it) for it in start.arguments]
+            parameters = [self.word(parameter.name) for parameter in function.parameters]
+            references = {**references, **dict(zip(parameters, given))}
+            body = function
+        return Player(name, ports, body, references)

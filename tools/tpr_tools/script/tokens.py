@@ -1,0 +1,163 @@
+"""The tokens of a script, as docs/PROFILE.md has them ("Tokens"), and where each stands.
+
+A token is its spelling: what it is shows in its first character. The tokens are numbered from 0, and
+the number behind the last one is the place of the text's end.
+"""
+from __future__ import annotations
+
+import re
+from dataclasses import dataclass
+from itertools import accumulate
+from typing import Optional
+
+from ..words import RESERVED
+
+MOST_BYTES = 1_048_576
+LONGEST_NAME = 64
+GREATEST_NUMBER = 9_223_372_036_854_775_807
+
+_TOKEN = (
+    r"[A-Za-z][A-Za-z0-9_]*|0|[1-9][0-9]*"
+    r'|"[ !#-~]*(?:""[ !#-~]*)*"(?!")'
+    r"|\.\.|:=|->|[{}()\[\],;:.?*<+-]"
+)
+_WHOLE_TOKEN = re.compile(_TOKEN)
+# What stands between tokens, and a token, or the whole rest of the text where none begins.
+_GAP = r"(?:[\t-\r ]+|//[^\n]*|/\*.*?\*/)*"
+_PIECE = re.compile(f"{_GAP}({_TOKEN}|\\Z|.+)", re.S)
+_PIECE_WITH_GAP = re.compile(f"{_GAP}(?:{_TOKEN}|\\Z|.+)", re.S)
+
+
+@dataclass(frozen=True)
+class TokenFault:
+    """The first fault of the tokens: its number, where it is, and what it is."""
+
+    number: int
+    offset: int
+    length: int
+    sentence: str
+
+
+@dataclass(frozen=True)
+class Position:
+    """A line and a column, both from 1, and how many characters are meant."""
+
+    line: int
+    column: int
+    length: int
+
+
+class Text:
+    """The bytes of a script with their tokens, and the place of each."""
+
+    def __init__(self, data: bytes):
+        self.data = data
+        # A byte is a character here, so that the places in it are those in the bytes.
+        self.letters = data.decode("latin-1")
+        self.tokens: list[str] = _PIECE.findall(self.letters)
+        while self.tokens and not self.tokens[-1]:
+            self.tokens.pop()
+        self.rest = ""
+        if self.tokens and not _WHOLE_TOKEN.fullmatch(self.tokens[-1]):
+            self.rest = self.tokens.pop()
+        self.starts: Optional[list[int]] = None
+
+    def fault(self) -> Optional[TokenFault]:
+        """The first fault of the tokens in the text."""
+        for place, token in enumerate(self.tokens):
+            if len(token) > 18 and (fault := self._too_long(place, token)):
+                return fault
+        if not self.rest:
+            return None
+        return _fault_of_rest(self.rest, len(self.letters) - len(self.rest))
+
+    def _too_long(self, place: int, token: str) -> Optional[TokenFault]:
+        offset = self.offset(place)
+        if token[0].isdecimal() and (len(token) > 19 or int(token) > GREATEST_NUMBER + 1):
+            sentence = f"the number has more than 64 bits: {GREATEST_NUMBER} is the greatest"
+            return TokenFault(15, offset, len(token), sentence)
+        if token[0].isalpha() and len(token) > LONGEST_NAME:
+            sentence = f"the name has {len(token)} characters, and {LONGEST_NAME} are the most"
+            return TokenFault(15, offset, len(token), sentence)
+        return None
+
+    def spelling(self, place: int) -> str:
+        """The token, and nothing for the end of the text."""
+        return self.tokens[place] if 0 <= place < len(self.tokens) else ""
+
+    def offset(self, place: int) -> int:
+        """Where the token begins, in bytes from 0."""
+        if self.starts is None:
+            ends = accumulate(map(len, _PIECE_WITH_GAP.findall(self.letters)))
+            self.starts = [end - len(token) for end, token in zip(ends, self.tokens)]
+        return self.starts[place] if place < len(self.starts) else len(self.letters)
+
+    def line(self, place: int) -> int:
+        return self.letters.count("\n", 0, self.offset(place)) + 1
+
+    def position(self, place: int) -> Position:
+        return self.position_of(self.offset(place), len(self.spelling(place)) or 1)
+
+    def position_of(self, offset: int, length: int) -> Position:
+        """Columns count characters, so that what a comment holds is counted as an editor does."""
+        line = self.letters.count("\n", 0, offset) + 1
+        begin = self.letters.rfind("\n", 0, offset) + 1
+        return Position(line, len(_readable(self.data[begin:offset])) + 1, length)
+
+    def shown_line(self, number: int) -> str:
+        """The line as it can be shown: what can't be read in it is replaced."""
+        lines = self.data.split(b"\n", number)
+        return _shown(lines[number - 1]) if 0 < number <= len(lines) else ""
+
+    def shown_lines(self) -> list[str]:
+        """All lines, so that they can be shown."""
+        lines = self.data.split(b"\n")
+        return [_shown(line) for line in (lines if lines[-1] else lines[:-1])]
+
+
+def _shown(line: bytes) -> str:
+    return "".join(letter if letter == "\t" or letter.isprintable() else "\ufffd" for letter in _readable(line))
+
+
+def _readable(data: bytes) -> str:
+    return data.decode("utf-8", "replace").rstrip("\r")
+
+
+def is_word(token: str) -> bool:
+    """Whether it is a name or a reserved word."""
+    return token[:1].isalpha()
+
+
+def is_name(token: str) -> bool:
+    return token[:1].isalpha() and token not in RESERVED
+
+
+def is_number(token: str) -> bool:
+    return token[:1].isdecimal()
+
+
+def is_text(token: str) -> bool:
+    return token[:1] == '"'
+
+
+def _fault_of_rest(rest: str, offset: int) -> TokenFault:
+    """What is wrong where no token begins."""
+    if rest[0] == '"':
+        return TokenFault(10, offset, 1, _fault_of_text(rest))
+    if rest.startswith("/*"):
+        return TokenFault(10, offset, 2, "the comment isn't closed: behind `/*` there is no `*/`")
+    if offset == 0 and rest.startswith("\xef\xbb\xbf"):
+        return TokenFault(10, offset, 1, "the file begins with a byte order mark, which is no token")
+    if rest[0].isprintable() and rest[0] < "\x7f":
+        return TokenFault(10, offset, 1, f"`{rest[0]}` begins no token")
+    return TokenFault(10, offset, 1, f"the byte {ord(rest[0])} begins no token")
+
+
+def _fault_of_text(rest: str) -> str:
+    good = re.match(r'"[ !#-~]*(?:""[ !#-~]*)*', rest)
+    behind = rest[good.end() :] if good else ""
+    if not behind:
+        return "the text isn't closed: a `\"` is missing"
+    if behind[0] in "\r\n":
+        return "the text isn't closed on its line: a `\"` is missing"
+    return f"a text holds characters 32 to 126 alone, and here is the byte {ord(behind[0])}"

@@ -1,0 +1,1 @@
+"""Runs many scripts beside each other, and judges what comes of each."""

@@ -1,0 +1,118 @@
+"""The cases of a suite: each script with its runs, and the table of them."""
+from __future__ import annotations
+
+import os
+from dataclasses import dataclass, field, replace
+from typing import Callable, Optional
+
+from ..command import REFUSED, Stop
+from ..words import counted, shown
+from .judging import RESULTS, Reason
+from .wanted import ENDING
+from .workers import Run
+
+
+@dataclass
+class Case:
+    """A script, and the runs of it that are done, by their numbers. It is told of once all are."""
+
+    script: str
+    runs: list[Run] = field(default_factory=list)
+    explored: str = ""  # what tools/explore says first of it, if it is asked
+
+    def name(self) -> str:
+        return os.path.basename(self.script).removesuffix(ENDING)
+
+    def add(self, run: Run, drop: Callable[[tuple[str, ...]], None]) -> None:
+        """Of runs that printed the same text the first one is kept."""
+        self.runs.append(run)
+        same = sorted((it for it in self.runs if it.digest == run.digest and it.kept), key=lambda it: it.number)
+        for other in same[1:]:
+            drop(other.kept)
+            self.runs[self.runs.index(other)] = replace(other, kept=())
+
+    def is_wanted(self) -> bool:
+        return all(run.is_wanted for run in self.runs)
+
+    def worst(self) -> Run:
+        """The run that the case is told by: the worst of those that aren't wanted, else of all."""
+        unwanted = [run for run in self.runs if not run.is_wanted]
+        return max(unwanted or self.runs, key=lambda run: (RESULTS.index(run.result), -run.number))
+
+    def seconds(self) -> float:
+        return sum(run.seconds for run in self.runs)
+
+    def judging(self) -> float:
+        return sum(run.judging for run in self.runs)
+
+    def counts(self) -> list[str]:
+        """Of several runs, how many came to what, and how many reports differ."""
+        told = []
+        results = [run.result for run in self.runs]
+        if len(set(results)) > 1:
+            worst = self.worst().result
+            others = [f"{results.count(it)} {it}" for it in RESULTS if it in results and it != worst]
+            told.append(f"{worst} in {results.count(worst)} of {len(results)} runs, {', '.join(others)}")
+        texts = len({run.digest for run in self.runs})
+        return told + ([f"{texts} different reports"] if texts > 1 else [])
+
+    def reason(self, most: Optional[int] = None) -> str:
+        """The counts first, then the reasons, of each of which the end may be cut, and what is kept of it."""
+        worst = self.worst()
+        kept = [run for run in self.runs if run.kept and run.digest == worst.digest]
+        reasons = [*worst.reasons]
+        if kept and not self.is_wanted():
+            reasons.append(Reason(f"kept: {shown(kept[0].kept[0])}"))
+        return "; ".join([*self.counts(), *(reason.text(most) for reason in reasons)])
+
+
+def scripts_of(places: list[str]) -> list[str]:
+    """The scripts of files and of folders, those of a folder by their names, each once."""
+    scripts: dict[str, str] = {}
+    for place in places:
+        found = _scripts_in(place) if os.path.isdir(place) else [place]
+        if not os.path.exists(place):
+            raise Stop(REFUSED, f"there is no file or folder {place}")
+        if not found:
+            raise Stop(REFUSED, f"there is no script *{ENDING} in {place}")
+        for script in found:
+            scripts.setdefault(os.path.abspath(script), script)
+    return list(scripts.values())
+
+
+def _scripts_in(folder: str) -> list[str]:
+    scripts = []
+    for inner, folders, files in os.walk(folder):
+        folders.sort()
+        scripts += [os.path.join(inner, file) for file in sorted(files) if file.endswith(ENDING)]
+    return scripts
+
+
+class Table:
+    """A line for each case, with a star where its result isn't wanted."""
+
+    def __init__(self, scripts: list[str], most: Optional[int]):
+        self.width = max(len("script"), *(len(shown(script)) for script in scripts))
+        self.most = most  # letters of an entry, where it is for a terminal
+
+    def head(self) -> str:
+        return f"{'script':{self.width}}  {'result':9}  {'run time':>9}  reason\n"
+
+    def line(self, case: Case) -> str:
+        result = case.worst().result + ("" if case.is_wanted() else " *")
+        told = f"{shown(case.script):{self.width}}  {result:9}  {case.seconds():8.3f}s  "
+        return f"{told}{shown(case.reason(self.most))}".rstrip() + "\n"
+
+
+def summary_of(cases: list[Case], all_scripts: int) -> str:
+    """How many there are of each result, the time of the runs, and that of judging them."""
+    results = [case.worst().result for case in cases]
+    counts = [f"{results.count(result)} {result}" for result in RESULTS if result in results]
+    unwanted = sum(not case.is_wanted() for case in cases)
+    wanted = "all as wanted" if unwanted == 0 else f"{unwanted} not as wanted (*)"
+    runs, judging = sum(case.seconds() for case in cases), sum(case.judging() for case in cases)
+    of = counted(all_scripts, "script")
+    if len(cases) < all_scripts:
+        of = f"interrupted, {len(cases)} of {of}"
+    told = f"{of}: {', '.join(counts) or 'none done'}; {wanted}"
+    return f"the runs took {runs:.3f}s, judging them {judging:.3f}s\n{told}\n"

@@ -1,0 +1,99 @@
+"""The cases of a suite as JUnit XML, for a build server.
+
+A result that isn't wanted is a failure, where it is a verdict that the test case came to; it is an
+error, where the test case didn't come to one: the result error, a script that is refused, a fault.
+"""
+from __future__ import annotations
+
+import os
+import xml.etree.ElementTree as xml
+from datetime import datetime
+
+from ..command import NOT_WRITTEN, Stop, write_file
+from ..words import counted, readable
+from .cases import Case
+
+_FAILURES = ("none", "pass", "inconc", "fail")
+
+
+def look_whether_written(file: str) -> None:
+    """Refuses a file that can't be written, before anything is run."""
+    try:
+        with open(file, "ab"):
+            pass
+    except OSError as error:
+        raise Stop(NOT_WRITTEN, f"{file} can't be written: {error.strerror}") from None
+
+
+def write_junit(cases: list[Case], began: datetime, file: str) -> None:
+    root = xml.Element("testsuites", _counts(cases, "tpr"))
+    taken: set[str] = set()
+    for folder in dict.fromkeys(os.path.dirname(case.script) for case in cases):
+        inside = [case for case in cases if os.path.dirname(case.script) == folder]
+        root.append(_suite(folder, inside, began, _alone(_class_name(folder), taken)))
+    xml.indent(root)
+    text = xml.tostring(root, encoding="unicode")
+    write_file(file, f'<?xml version="1.0" encoding="UTF-8"?>\n{text}\n')
+
+
+def _alone(name: str, taken: set[str]) -> str:
+    """The name, with a number where there is one like it."""
+    alone, number = name, 1
+    while alone in taken:
+        number += 1
+        alone = f"{name}_{number}"
+    taken.add(alone)
+    return alone
+
+
+def _suite(folder: str, cases: list[Case], began: datetime, class_name: str) -> xml.Element:
+    suite = xml.Element("testsuite", _counts(cases, readable(folder or ".")))
+    suite.set("skipped", "0")
+    suite.set("timestamp", began.strftime("%Y-%m-%dT%H:%M:%S"))
+    suite.set("hostname", "localhost")
+    taken: set[str] = set()
+    for case in cases:
+        suite.append(_case(case, class_name, _alone(readable(case.name()), taken)))
+    return suite
+
+
+def _counts(cases: list[Case], name: str) -> dict[str, str]:
+    kinds = [_kind(case) for case in cases]
+    return {
+        "name": name,
+        "tests": str(len(cases)),
+        "failures": str(kinds.count("failure")),
+        "errors": str(kinds.count("error")),
+        "time": f"{sum(case.seconds() for case in cases):.3f}",
+    }
+
+
+def _kind(case: Case) -> str:
+    """failure, error, or nothing."""
+    if case.is_wanted():
+        return ""
+    return "failure" if case.worst().result in _FAILURES else "error"
+
+
+def _case(case: Case, class_name: str, name: str) -> xml.Element:
+    made = xml.Element("testcase", name=name, classname=class_name)
+    made.set("time", f"{case.seconds():.3f}")
+    kind, worst = _kind(case), case.worst()
+    if case.explored:
+        properties = xml.SubElement(made, "properties")
+        xml.SubElement(properties, "property", name="explored", value=readable(case.explored))
+    if kind:
+        reason = readable(case.reason() or "this result isn't wanted")
+        told = xml.SubElement(made, kind, message=f"{worst.result}: {reason}", type=worst.result)
+        run = f", run {worst.number} of {counted(len(case.runs), 'run')}" if len(case.runs) > 1 else ""
+        told.text = f"{readable(case.script)}{run}\nresult {worst.result}\n{reason}\n"
+    xml.SubElement(made, "system-out").text = readable(worst.printed)
+    if worst.said:
+        xml.SubElement(made, "system-err").text = readable(worst.said)
+    return made
+
+
+def _class_name(folder: str) -> str:
+    """The folder as a build server groups by it: its parts with dots between."""
+    parts = [part for part in readable(folder).split(os.sep) if part not in ("", ".", "..")]
+    return ".".join(part.replace(".", "_") for part in parts) or "scripts"

@@ -1,0 +1,69 @@
+"""What a suite keeps: a folder for each script, and in it for each different text the run that printed it
+first, by its number and its result."""
+from __future__ import annotations
+
+import os
+import re
+
+from ..chart.sequence import sequence_of
+from ..chart.svg import svg_of
+from ..command import NOT_WRITTEN, Stop
+from ..report.order import NoOrderFound
+from .judging import Judged
+from .runs import Printed
+
+_OWN = re.compile(r"run[0-9]+\.[a-z]+\.(report|svg|printed|said)")
+
+
+def folders_of(scripts: list[str], folder: str) -> list[str]:
+    """The folder of each script, by its name, below that of all."""
+    paths = [os.path.abspath(script) for script in scripts]
+    above = os.path.commonpath([os.path.dirname(path) for path in paths])
+    return [os.path.join(folder, os.path.relpath(path, above)) for path in paths]
+
+
+def prepare(folders: list[str]) -> None:
+    """Makes the folders, and takes away what an earlier suite has kept in them."""
+    for folder in folders:
+        try:
+            os.makedirs(folder, exist_ok=True)
+            for name in os.listdir(folder):
+                if _OWN.fullmatch(name):
+                    os.remove(os.path.join(folder, name))
+            _write(os.path.join(folder, "run0.is.said"), b"")
+            os.remove(os.path.join(folder, "run0.is.said"))
+        except OSError as error:
+            raise Stop(NOT_WRITTEN, f"{folder} can't be made or written to: {error.strerror}") from None
+
+
+def keep(run: Printed, judged: Judged, folder: str, number: int, title: str) -> tuple[str, ...]:
+    """Writes the run's report and its chart, or what was printed in its place, and what was said."""
+    base = os.path.join(folder, f"run{number}.{judged.result}")
+    files = {f"{base}.printed" if judged.report is None else f"{base}.report": run.printed}
+    if judged.report is not None:
+        try:
+            files[f"{base}.svg"] = svg_of(sequence_of(judged.report, title)).encode()
+        except NoOrderFound:
+            pass
+    if run.said:
+        files[f"{base}.said"] = run.said
+    for file, data in files.items():
+        _write(file, data)
+    return tuple(files)
+
+
+def drop(files: tuple[str, ...]) -> None:
+    """Takes away what was kept of a run that printed the same as an earlier one."""
+    for file in files:
+        try:
+            os.remove(file)
+        except OSError:
+            pass
+
+
+def _write(file: str, data: bytes) -> None:
+    try:
+        with open(file, "wb") as opened:
+            opened.write(data)
+    except OSError as error:
+        raise Stop(NOT_WRITTEN, f"{file} can't be written: {error.strerror}") from None

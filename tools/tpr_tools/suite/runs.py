@@ -1,0 +1,183 @@
+"""Runs one script in a process of its own, within a bound of time and of what it prints."""
+from __future__ import annotations
+
+import os
+import selectors
+import shutil
+import signal
+import subprocess
+import time
+from dataclasses import dataclass
+from enum import Enum
+from typing import Optional
+
+from ..command import NOT_BUILT, Stop
+
+_MEGABYTE = 1_000_000
+_PIECE = 1 << 16
+
+
+class Stopped(Enum):
+    """Why a process was stopped."""
+
+    LATE = "it wasn't done within the bound"
+    MUCH = "it printed too much"
+
+
+@dataclass(frozen=True)
+class Printed:
+    """What came of a process: its status, or why it was stopped, in words too."""
+
+    status: Optional[int]
+    stopped: Optional[Stopped]
+    told: str
+    printed: bytes
+    said: bytes
+    seconds: float
+
+
+def program_of(named: str) -> str:
+    """The path of a program: a word without a slash is looked for on PATH, and then in the current folder."""
+    found = None if os.sep in named else shutil.which(named)
+    return os.path.abspath(found or named)
+
+
+def built(program: str, root: str) -> str:
+    """The program, built before the first clock starts: a repository's ./tpr is given up for the program
+    that its ./build builds, since without one it would compile all sources for each script. What was
+    released has the program itself there, and no ./build."""
+    if os.path.exists(f"{root}/build") and _is_same(program, f"{root}/tpr"):
+        if subprocess.run([f"{root}/build"], stdin=subprocess.DEVNULL, check=False).returncode != 0:
+            raise Stop(NOT_BUILT, f"{root}/build has not built the program")
+        program = f"{root}/crates/tpr/out/tpr"
+    try:
+        nothing = subprocess.DEVNULL
+        ended = subprocess.run([program, "queue"], stdin=nothing, stdout=nothing, check=False)
+    except OSError as error:
+        raise Stop(NOT_BUILT, f"{program} can't be run: {error.strerror}") from None
+    if ended.returncode != 0:
+        raise Stop(NOT_BUILT, f"{program} queue, on no text, ended with status {ended.returncode}")
+    return program
+
+
+def _is_same(file: str, other: str) -> bool:
+    try:
+        return os.path.samefile(file, other)
+    except OSError:
+        return False
+
+
+class Runner:
+    """Runs the program, one script at a time."""
+
+    def __init__(self, program: str, bound: float, megabytes: int):
+        self.program = program
+        self.bound = bound
+        self.megabytes = megabytes
+        self.stopping = False
+        self.process: Optional[subprocess.Popen[bytes]] = None
+
+    def run(self, script: str) -> Printed:
+        began = time.monotonic()
+        process = self.start(script)
+        reading = _Reading(process, began + self.bound, self.megabytes * _MEGABYTE)
+        try:
+            stopped, status = reading.read(), None
+            if stopped is None:
+                stopped, status = self.end_of(process, began + self.bound)
+            told = self.told(stopped, process) if stopped else ""
+            return Printed(status, stopped, told, *reading.texts(), time.monotonic() - began)
+        finally:
+            _kill(process)
+            process.wait()
+            reading.close()
+            self.process = None
+
+    def end_of(self, process: subprocess.Popen[bytes], until: float) -> tuple[Optional[Stopped], Optional[int]]:
+        """The status of a process that has closed what it prints."""
+        try:
+            return None, process.wait(max(until - time.monotonic(), 0.01))
+        except subprocess.TimeoutExpired:
+            return Stopped.LATE, None
+
+    def told(self, stopped: Stopped, process: subprocess.Popen[bytes]) -> str:
+        """Why it was stopped."""
+        if stopped is Stopped.MUCH:
+            return f"printed more than {self.megabytes} MB"
+        status = process.poll()
+        if status is not None and status >= 0:
+            held = f"what it has started held its output open for {self.bound:g} seconds"
+            return f"ended with status {status}, and {held}"
+        return f"not done within {self.bound:g} seconds"
+
+    def start(self, script: str) -> subprocess.Popen[bytes]:
+        """Each in a group of its own, so that all that it has started can be stopped."""
+        try:
+            self.process = subprocess.Popen(
+                [self.program, "run", script],
+                stdin=subprocess.DEVNULL,
+                stdout=subprocess.PIPE,
+                stderr=subprocess.PIPE,
+                start_new_session=True,
+            )
+        except OSError as error:
+            raise Stop(NOT_BUILT, f"{self.program} can't be run: {error.strerror}") from None
+        if self.stopping:
+            self.stop()
+        return self.process
+
+    def stop(self) -> None:
+        """Stops the run, and lets none begin."""
+        self.stopping = True
+        if self.process is not None:
+            _kill(self.process)
+
+
+class _Reading:
+    """What a process prints and says, read as it comes."""
+
+    def __init__(self, process: subprocess.Popen[bytes], until: float, most: int):
+        self.process = process
+        self.until = until
+        self.most = most
+        self.pieces: dict[object, list[bytes]] = {process.stdout: [], process.stderr: []}
+        self.size = 0
+
+    def read(self) -> Optional[Stopped]:
+        """Up to the end of both; else why not."""
+        with selectors.DefaultSelector() as selector:
+            for pipe in self.pieces:
+                selector.register(pipe, selectors.EVENT_READ)
+            while selector.get_map():
+                left = self.until - time.monotonic()
+                if left <= 0 and self.process.poll() is None:
+                    return Stopped.LATE
+                ready = selector.select(max(left, 0))
+                if not ready and left <= 0:
+                    return Stopped.LATE
+                for key, _ in ready:
+                    if not self.take(key.fileobj):
+                        selector.unregister(key.fileobj)
+                if self.size > self.most:
+                    return Stopped.MUCH
+        return None
+
+    def take(self, pipe: object) -> bool:
+        piece = os.read(pipe.fileno(), _PIECE)  # type: ignore[attr-defined]
+        self.size += len(piece)
+        self.pieces[pipe].append(piece)
+        return bool(piece)
+
+    def texts(self) -> tuple[bytes, bytes]:
+        return b"".join(self.pieces[self.process.stdout]), b"".join(self.pieces[self.process.stderr])
+
+    def close(self) -> None:
+        for pipe in self.pieces:
+            pipe.close()  # type: ignore[attr-defined]
+
+
+def _kill(process: subprocess.Popen[bytes]) -> None:
+    try:
+        os.killpg(process.pid, signal.SIGKILL)
+    except (ProcessLookupError, PermissionError):
+        pass

@@ -1,0 +1,152 @@
+"""The processes in which a suite runs and judges its scripts: each does one run at a time.
+
+What comes back of a run is little: its report stays in the process, and is written or sent only where that
+was asked for.
+"""
+from __future__ import annotations
+
+import hashlib
+import multiprocessing
+import os
+import signal
+from dataclasses import dataclass
+from multiprocessing.connection import Connection, wait
+from typing import Iterator, Optional
+
+from ..command import NOT_BUILT, Stop
+from .judging import Reason, judge
+from .kept import keep
+from .runs import Runner
+from .wanted import Wanted
+
+_CUT_WANTED, _CUT_UNWANTED = 2_000, 1_000_000
+
+
+@dataclass(frozen=True)
+class Task:
+    """A run that is to be done: of which script, the how manieth of it, and what is wanted."""
+
+    script: int
+    path: str
+    number: int
+    wanted: Wanted
+    folder: Optional[str]  # where its report is kept
+    title: str
+    known: frozenset[str]  # the texts of its runs that are kept already
+
+
+@dataclass(frozen=True)
+class Run:
+    """What a run came to."""
+
+    script: int
+    number: int
+    result: str
+    reasons: tuple[Reason, ...]
+    is_wanted: bool
+    digest: str  # of what was printed
+    seconds: float
+    judging: float
+    printed: str
+    said: str
+    kept: tuple[str, ...]
+
+
+class Workers:
+    """So many processes. Each is asked for one run, and for the next once it has answered."""
+
+    def __init__(self, jobs: int, runner: Runner, with_texts: bool):
+        context = multiprocessing.get_context("fork")
+        self.idle: list[Connection] = []
+        self.busy: dict[Connection, Task] = {}
+        self.processes = []
+        for _ in range(jobs):
+            ours, theirs = context.Pipe()
+            others = [*self.idle, ours]
+            process = context.Process(target=_work, args=(theirs, runner, with_texts, others), daemon=True)
+            process.start()
+            theirs.close()
+            self.idle.append(ours)
+            self.processes.append(process)
+
+    def results(self, tasks: Iterator[Task]) -> Iterator[Run]:
+        """What comes of the tasks, as it comes. Each is asked for only when it can begin."""
+        task = next(tasks, None)
+        while task or self.busy:
+            while task and self.idle:
+                connection = self.idle.pop()
+                self.busy[connection] = task
+                connection.send(task)
+                task = next(tasks, None)
+            for connection in wait(list(self.busy)):
+                yield self.answer(connection)  # type: ignore[arg-type]
+
+    def answer(self, connection: Connection) -> Run:
+        task = self.busy.pop(connection)
+        try:
+            answer = connection.recv()
+        except EOFError:
+            raise Stop(NOT_BUILT, f"the process that ran {task.path} ended by itself") from None
+        if isinstance(answer, Stop):
+            raise answer
+        self.idle.append(connection)
+        return answer
+
+    def end(self) -> None:
+        """Ends the processes, and what they run."""
+        for process in self.processes:
+            process.terminate()
+        for process in self.processes:
+            process.join()
+
+
+def _work(connection: Connection, runner: Runner, with_texts: bool, others: list[Connection]) -> None:
+    """What each process does, until nobody asks it any more."""
+
+    def end(*_: object) -> None:
+        runner.stop()
+        os._exit(0)
+
+    signal.signal(signal.SIGTERM, end)
+    # Ctrl-C comes to all processes of a terminal: the first of them ends the others.
+    signal.signal(signal.SIGINT, lambda *_: None)
+    for other in others:
+        other.close()
+    while True:
+        try:
+            task = connection.recv()
+        except EOFError:
+            return
+        try:
+            answer = _do(task, runner, with_texts)
+        except Stop as stop:
+            answer = stop
+        try:
+            connection.send(answer)
+        except BrokenPipeError:
+            return
+
+
+def _do(task: Task, runner: Runner, with_texts: bool) -> Run:
+    run = runner.run(task.path)
+    judged = judge(run)
+    fault = task.wanted.fault(judged.result, run.printed)
+    digest = hashlib.sha256(run.printed).hexdigest()
+    kept: tuple[str, ...] = ()
+    if task.folder is not None and digest not in task.known:
+        kept = keep(run, judged, task.folder, task.number, task.title)
+    reasons = judged.reasons + ((Reason(fault),) if fault else ())
+    most = 0 if not with_texts else _CUT_WANTED if fault is None else _CUT_UNWANTED
+    texts = (_text(run.printed, most), _text(run.said, most))
+    told = (task.script, task.number, judged.result, reasons, fault is None, digest)
+    return Run(*told, run.seconds, judged.seconds, *texts, kept)
+
+
+def _text(data: bytes, most: int) -> str:
+    """As much of the text as is asked for, with a note where it is cut."""
+    text = data[: most * 2].decode("utf-8", "replace")
+    if len(text) <= most or most == 0:
+        return text if most else ""
+    return f"{text[:most]}\n[cut here: {len(data)} bytes in all]\n"
+
+

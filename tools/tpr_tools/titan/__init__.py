@@ -1,0 +1,1 @@
+"""Makes a trace of the logs of Eclipse Titan."""
