@@ -23,10 +23,12 @@ function compare whole checks from nothing, and take a difference below a fifth 
 The status is 0 where it is told, 1 where no check has left a module, 3 where the answer can't be
 written, and 4 for a wrong command line.
 """
+from __future__ import annotations
+
 import os
 import re
 import sys
-from collections import Counter
+from collections import defaultdict
 
 sys.dont_write_bytecode = True
 
@@ -48,16 +50,16 @@ PART = re.compile(rf"\.(?:{OF_ONE})(?=[.-]|$).*")
 LINK = re.compile(r"(?:.*\.)?TheLinks\.\w+?-(?P<path>.+)")
 
 
-def written(folder):
+def written(folder: str) -> list[tuple[float, str]]:
     """The modules of a check, each with the moment at which it was written, the oldest first."""
-    found = []
+    found: list[tuple[float, str]] = []
     for at, _, names in os.walk(folder):
         modules = [name for name in names if name.endswith(".oantt")]
         found += [(os.stat(f"{at}/{name}").st_mtime, name) for name in modules]
     return sorted(found)
 
 
-def owner_of(name):
+def owner_of(name: str) -> str:
     """What a module is of: a function, a type, a file of lemmas."""
     module = MODULE.fullmatch(name)
     inner = module["inner"] if module else name
@@ -65,9 +67,9 @@ def owner_of(name):
     return link["path"].replace("-", ".") if link else PART.sub("", inner)
 
 
-def costs_of(modules):
+def costs_of(modules: list[tuple[float, str]]) -> dict[str, float]:
     """The seconds of each owner."""
-    found = Counter()
+    found: dict[str, float] = defaultdict(float)
     before, earlier = modules[0]
     for at, name in modules[1:]:
         is_behind_steps = re.search(r"\.Lts\b", earlier)
@@ -76,16 +78,16 @@ def costs_of(modules):
     return found
 
 
-def table(found, most):
+def table(found: dict[str, float], most: int) -> str:
     """What all took, and so many of the dearest."""
     whole = sum(found.values())
     lines = [f"{whole:8.1f} s in all, {len(found)} parts"]
-    for owner, seconds in found.most_common(most):
+    for owner, seconds in sorted(found.items(), key=lambda it: it[1], reverse=True)[:most]:
         lines.append(f"{seconds:8.1f} s {100 * seconds / whole if whole else 0:5.1f} %  {owner}")
     return "".join(f"{line}\n" for line in lines)
 
 
-def main():
+def main() -> int:
     words = sys.argv[1:]
     if words in (["-h"], ["--help"]):
         command.write_out(__doc__)

@@ -32,7 +32,7 @@ import tempfile
 import time
 from concurrent.futures import ProcessPoolExecutor
 from functools import partial
-from typing import Callable, Optional
+from typing import Any, Callable, Optional
 from unittest.mock import patch
 
 sys.dont_write_bytecode = True
@@ -54,6 +54,7 @@ from tpr_tools.model.run import Act, Run
 from tpr_tools.words import VERDICTS
 
 Classes = set[tuple[str, ...]]
+Looking = Callable[[str, str], tuple[int, int, Optional[str]]]  # orders, runs, and what is wrong
 MOST_STATES = 4_000
 MOST_SECONDS = 1.0  # of the processor, so that beside other work no less is looked at
 
@@ -84,7 +85,8 @@ def classes_of_acts(case: TestCase) -> Optional[Classes]:
 
 def classes_in_model(script: ForcedScript, is_over: Callable[[], bool] = lambda: False) -> tuple[int, Classes]:
     """How many orders the reduction finds, and their classes by the model."""
-    case, apart = script.case(), frozenset()
+    case = script.case()
+    apart: frozenset[tuple[int, str]] = frozenset()
     while True:
         processes = processes_of(case, apart)
         orders = list(reduction.Reduction(Run(case), processes, touching.Steps(), None, is_over).new_ones())
@@ -150,7 +152,7 @@ def goes_by_looks(case: TestCase) -> bool:
     return any(touching.goes_by_looks(it) for body in case.bodies for it in body.code)
 
 
-def line_of(looking: Callable, program: str, path: str) -> str:
+def line_of(looking: Looking, program: str, path: str) -> str:
     try:
         number, runs, wrong = looking(program, path)
     except Exception as error:  # a script that can't be read is a failure, and not the end of the others
@@ -158,7 +160,7 @@ def line_of(looking: Callable, program: str, path: str) -> str:
     return f"passed {number} {runs} {path}" if wrong is None else f"FAILED: {path}: {wrong}"
 
 
-def each(looking: Callable, program: str, paths: list[str]) -> None:
+def each(looking: Looking, program: str, paths: list[str]) -> None:
     with ProcessPoolExecutor(len(os.sched_getaffinity(0))) as pool:
         for line in pool.map(partial(line_of, looking, program), paths):
             print(line, flush=True)
@@ -180,11 +182,10 @@ def planted(names: list[str]) -> None:
     wanted = {path: classes_of_steps(TestCase(read_script(path)))[1] for path in paths}
     for left_out in RULES:
         rules = [rule for name, rule in RULES.items() if name != left_out]
-        reduction.depends = lambda first, later, rules=rules: any(rule(first, later) for rule in rules)
-        telling = [path for path in paths if is_told(path, wanted[path])]
+        with patch.object(reduction, "depends", lambda first, later: any(rule(first, later) for rule in rules)):
+            telling = [path for path in paths if is_told(path, wanted[path])]
         told = f"passed {len(telling)} of {len(paths)} scripts tell that this is left out: {left_out}"
         print(told if telling else f"FAILED: no script tells that this is left out: {left_out}", flush=True)
-    reduction.depends = touching.depends
     wrong = [path for path in paths if is_told(path, wanted[path])]
     print(f"FAILED: with all rules too: {wrong}" if wrong else "passed with all rules none of them differs")
 
@@ -244,7 +245,7 @@ def by_chance(seed: str, number: int) -> None:
 
 # What is told of a script
 
-def wrongly_told(told: dict, expected: set[str]) -> Optional[str]:
+def wrongly_told(told: dict[str, Any], expected: set[str]) -> Optional[str]:
     """What of an answer isn't so, or None."""
     reports = [it["report"] for it in told["classes"]]
     if not set(reports) <= expected:

@@ -149,7 +149,8 @@ def words_are_so(words: list[str], wanted: Ended) -> Attempt:
 
 def cases_of_words() -> Iterator[tuple[str, Attempt]]:
     script, orders = f"{OWN}/data/script.ttcn", f"{OWN}/data/orders"
-    for words in ([], [script], [script, orders, orders]):
+    wrong: list[list[str]] = [[], [script], [script, orders, orders]]
+    for words in wrong:
         yield f"{len(words)} words", words_are_so(words, Ended(4, b"", USAGE))
     for path in (f"{SCRIPTS}/missing", SCRIPTS):
         name = os.path.relpath(path, ROOT)

@@ -28,9 +28,15 @@ def printed_by(program: str, script: str, orders: list[Ordered]) -> tuple[str, s
         file.writelines(" ".join(it.names) + "\n" for it in orders)
         file.flush()
         command = [program, script, file.name]
-        files = {"stdin": subprocess.DEVNULL, "stdout": subprocess.PIPE, "stderr": subprocess.STDOUT}
         try:
-            done = subprocess.run(command, **files, timeout=MOST_SECONDS, check=False)
+            done = subprocess.run(
+                command,
+                stdin=subprocess.DEVNULL,
+                stdout=subprocess.PIPE,
+                stderr=subprocess.STDOUT,
+                timeout=MOST_SECONDS,
+                check=False,
+            )
         except subprocess.TimeoutExpired as late:
             return f"no end after {MOST_SECONDS} seconds", (late.stdout or b"").decode("latin-1")
     return f"status {done.returncode}", done.stdout.decode("latin-1")

@@ -78,10 +78,10 @@ def some_order_of(run: Run, chance: random.Random) -> Ordered:
 def this_order_of(run: Run, names: tuple[str, ...]) -> Ordered:
     """The order that the names are."""
     for at, name in enumerate(names):
-        following = dict(followers(run))
-        if name not in following:
+        after = dict(followers(run))
+        if name not in after:
             raise Unordered(f"{name} can't be name {at + 1} of the order")
-        run = following[name]
+        run = after[name]
     if following := followers(run):
         raise Unordered(f"the order is too short for {' and '.join(name for name, _ in following)}")
     return ended(run, names)

@@ -19,7 +19,7 @@ import tempfile
 import termios
 import time
 from collections.abc import Callable, Iterable, Iterator
-from typing import NamedTuple, Optional
+from typing import IO, Any, NamedTuple, Optional, Union
 
 MOST_SECONDS = 20
 ENDING = (signal.SIGINT, signal.SIGTERM, signal.SIGHUP)
@@ -112,9 +112,9 @@ class Program:
     def file(self, mode: str) -> str:
         return f"{self.folder}/text_of_{mode}"
 
-    def run(self, *words: str, before: Optional[Callable[[], None]] = None, **files: object) -> Ended:
+    def run(self, *words: str, before: Optional[Callable[[], None]] = None, **files: Any) -> Ended:
         """Runs the program with these words, and `before` in its process before it begins."""
-        given = {"stdin": subprocess.DEVNULL, "stdout": subprocess.PIPE, "stderr": subprocess.PIPE, **files}
+        given: dict[str, Any] = {"stdin": subprocess.DEVNULL, "stdout": subprocess.PIPE, "stderr": subprocess.PIPE, **files}
         try:
             done = subprocess.run(
                 [self.path, *words], preexec_fn=before, timeout=MOST_SECONDS, check=False, **given
@@ -123,7 +123,7 @@ class Program:
             raise Wrong(f"no end after {MOST_SECONDS} seconds") from None
         return Ended(done.returncode, done.stdout or b"", done.stderr or b"")
 
-    def run_with(self, refusals: dict[str, int], *words: str, **files: object) -> tuple[Ended, set[str]]:
+    def run_with(self, refusals: dict[str, int], *words: str, **files: Any) -> tuple[Ended, set[str]]:
         """Runs it with the call of this number refused, of each kind. To which kinds it came."""
         if self.refused is None:
             raise LeftOut("there is no library that refuses calls")
@@ -179,6 +179,7 @@ def pipe_that_closes(program: Program, mode: str) -> None:
     """The reader goes after a line, once the pipe is full."""
     with started(program, mode, program.file(mode), stdin=subprocess.DEVNULL) as process:
         wait_until(lambda: waits_for_a_reader(process), "the pipe is full")
+        assert process.stdout is not None and process.stderr is not None
         printed = os.read(process.stdout.fileno(), 100)
         process.stdout.close()
         must(process.wait(MOST_SECONDS) == 3, f"status {process.returncode}")
@@ -197,8 +198,8 @@ def file_that_is_full(program: Program, mode: str) -> None:
     path = f"{program.folder}/full"
     with open(path, "wb") as file:
         program.run(mode, program.file(mode), before=limit, stdout=file).must_be(3, b"")
-    with open(path, "rb") as file:
-        program.must_be_cut(mode, file.read())
+    with open(path, "rb") as written:
+        program.must_be_cut(mode, written.read())
 
 
 def small_disk(program: Program, mode: str) -> None:
@@ -311,8 +312,8 @@ def each_call(kind: str) -> Callable[[Program, str], None]:
 # Signals
 
 
-def started(program: Program, *words: str, **files: object) -> subprocess.Popen:
-    given = {"stdin": subprocess.PIPE, "stdout": subprocess.PIPE, "stderr": subprocess.PIPE, **files}
+def started(program: Program, *words: str, **files: Any) -> subprocess.Popen[bytes]:
+    given: dict[str, Any] = {"stdin": subprocess.PIPE, "stdout": subprocess.PIPE, "stderr": subprocess.PIPE, **files}
     return subprocess.Popen([program.path, *words], **given)
 
 
@@ -323,12 +324,13 @@ def wait_until(holds: Callable[[], bool], what: str) -> None:
         time.sleep(0.01)
 
 
-def waiting_bytes(pipe: object) -> int:
+def waiting_bytes(pipe: Union[int, IO[bytes], None]) -> int:
     """How many bytes stand in a pipe."""
+    assert pipe is not None
     return int.from_bytes(fcntl.ioctl(pipe, termios.FIONREAD, b"\0" * 4), sys.byteorder)
 
 
-def waits_for_a_reader(process: subprocess.Popen) -> bool:
+def waits_for_a_reader(process: subprocess.Popen[bytes]) -> bool:
     """Whether the process has written much, and does nothing more."""
     before = waiting_bytes(process.stdout)
     time.sleep(0.1)
@@ -337,11 +339,11 @@ def waits_for_a_reader(process: subprocess.Popen) -> bool:
     return sleeps and waiting_bytes(process.stdout) == before >= 32768
 
 
-def threads_of(process: subprocess.Popen) -> int:
+def threads_of(process: subprocess.Popen[bytes]) -> int:
     return len(os.listdir(f"/proc/{process.pid}/task"))
 
 
-def must_be_ended_by(number: signal.Signals, process: subprocess.Popen) -> bytes:
+def must_be_ended_by(number: signal.Signals, process: subprocess.Popen[bytes]) -> bytes:
     """The signal ends the process, which says nothing. What it printed."""
     process.send_signal(number)
     printed, said = process.communicate(timeout=MOST_SECONDS)
@@ -354,6 +356,7 @@ def signal_while_reading(number: signal.Signals) -> Callable[[Program, str], Non
 
     def sent(program: Program, mode: str) -> None:
         with started(program, mode) as process:
+            assert process.stdin is not None
             os.write(process.stdin.fileno(), program.texts[mode][:100])
             wait_until(lambda: waiting_bytes(process.stdin) == 0, "the text was read")
             must(must_be_ended_by(number, process) == b"", "it printed something")

@@ -124,7 +124,7 @@ def small_history(chance: random.Random) -> list[Line]:
         elif word in (b"cleared", b"started"):
             waiting = []
         is_message = word not in OPERATIONS
-        lines.append(Line(place, word, b"p", *((b"s", number, b"m") if is_message else ())))
+        lines.append(Line(place, word, b"p", b"s", number, b"m") if is_message else Line(place, word, b"p"))
     return lines
 
 
@@ -135,7 +135,8 @@ def small_route(chance: random.Random) -> Route:
     for _ in range(chance.randrange(3)):
         lines = chance.choice(both)
         place = chance.randrange(len(lines) + 1)
-        lines[place : place + chance.randrange(2)] = chance.choice(([], [(chance.randrange(5), b"x")]))
+        choices: tuple[list[tuple[int, bytes]], ...] = [], [(chance.randrange(5), b"x")]
+        lines[place : place + chance.randrange(2)] = chance.choice(choices)
     ends = (b"sent", b"p", b"b"), (b"came", b"p", b"a")
     first, second = ([Line(n + 1, *end, *it) for n, it in enumerate(lines)] for end, lines in zip(ends, both))
     return Route(first, second)

@@ -7,6 +7,7 @@ what is wrong.
 """
 import os
 import sys
+from collections.abc import Sequence
 
 sys.path.append(os.path.join(os.path.dirname(os.path.realpath(__file__)), "..", "..", "tools"))
 
@@ -14,23 +15,27 @@ from tpr_tools.titan.log import NotALog, read_log
 from tpr_tools.titan.trace import section_of
 
 
-def wrong(text: str, length: int, whole: list) -> str | None:
+def wrong(text: str, length: int, whole: Sequence[object]) -> str | None:
     try:
         log = read_log(text[:length])
     except NotALog:
         return None
+    if log is None:
+        return "it is taken for the log of no component"
     log.check_end()
     section = section_of(log)
     if length < len(text) and not section.troubles:
         return "nothing is told"
-    return None if section.lines == whole[: len(section.lines)] else "its lines aren't those of the whole log"
+    return None if [*section.lines] == [*whole[: len(section.lines)]] else "its lines aren't those of the whole log"
 
 
 def main() -> int:
     for path in sys.argv[1:]:
         with open(path, encoding="utf-8", newline="") as file:
             text = file.read()
-        whole = section_of(read_log(text)).lines
+        log = read_log(text)
+        assert log is not None, f"{path} is the log of no component"
+        whole = section_of(log).lines
         for length in range(len(text) + 1):
             if (reason := wrong(text, length, whole)) is not None:
                 print(f"{path}, cut off behind {length} characters: {reason}")

@@ -40,8 +40,8 @@ def places_of(trace: Trace) -> Iterator[list[Place]]:
     found = [place for section in trace.sections.values() for place in places_of_ports(section)]
     undelivered = [place for route in routes_of(trace) if (place := place_of_route(route)) is not None]
     circles = [] if undelivered else [Place(line, "Circle") for line in firsts_of_circles(happens_before(trace))]
-    for circle in circles or [None]:
-        yield sorted([*found, *undelivered, *([circle] if circle else [])], key=Place.order)
+    for circle in [[it] for it in circles] or [[]]:
+        yield sorted([*found, *undelivered, *circle], key=Place.order)
 
 
 # Ports (ES 201 873-1, 22.2, 22.5)
@@ -211,7 +211,7 @@ def places_of_arrivals(route: Route) -> Iterator[Place]:
 def happens_before(trace: Trace) -> dict[int, list[int]]:
     """Of each line of a section, by its number: the next line of the section, and where it is a sending, what came
     of it."""
-    behind = {line.place: [] for section in trace.sections.values() for line in section.lines}
+    behind: dict[int, list[int]] = {line.place: [] for section in trace.sections.values() for line in section.lines}
     for section in trace.sections.values():
         for line, after in zip(section.lines, section.lines[1:]):
             behind[line.place].append(after.place)

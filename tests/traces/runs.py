@@ -73,7 +73,8 @@ def fault_of(trace: bytes, answer: Answer) -> str | None:
 
 def judged(program: str, script: str, judges: dict[str, Answer]) -> list[str]:
     """The line, or lines, for one script, by each of the judges."""
-    reports, faults = Reports(script), {}
+    reports = Reports(script)
+    faults: dict[str, str] = {}
     for turn in range(RUNS):
         before = ONE_PROCESSOR if turn % 3 == 2 else []
         trace, wrong = run([*before, program, "trace", script], reports)
@@ -90,7 +91,7 @@ def main() -> int:
     end = words.index("--")
     with tempfile.TemporaryDirectory() as room:
         command = Judge(words[end + 1 :], os.path.join(room, "trace"))
-        judges = {"oracle.py": answer_of, "the command": command.answer}
+        judges: dict[str, Answer] = {"oracle.py": answer_of, "the command": command.answer}
         for script in words[:end]:
             print("\n".join(judged(program, script, judges)), flush=True)
     return 0

@@ -69,7 +69,7 @@ def counted(number: int, what: str) -> str:
     return f"{number} {what}" if number == 1 else f"{number} {what}s"
 
 
-def and_(things: Iterable) -> str:
+def and_(things: Iterable[object]) -> str:
     """`a`, `a and b`, `a, b and c`."""
     *first, last = map(str, things)
     return f"{', '.join(first)} and {last}" if first else last

@@ -9,7 +9,7 @@ import json
 import os
 import re
 from html import escape
-from typing import Mapping, Optional
+from typing import Any, Mapping, Optional
 
 from .sequence import Arrow, Sequence, Step
 
@@ -43,7 +43,7 @@ class _Data:
         self.sequence = sequence
         self.script_lines = script_lines
         self.texts: dict[str, int] = {}
-        self.messages: dict[int, list[object]] = {}  # by the message's own number
+        self.messages: dict[int, list[Any]] = {}  # by the message's own number
         self.row_of_line: dict[int, int] = {}
 
     def all(self) -> dict[str, object]:
@@ -109,6 +109,6 @@ class _Data:
     def end(self, index: int, arrow: Arrow, row: int, line: int) -> None:
         told = self.messages[index]
         if arrow.word == "found":
-            told[10].append([row, line])  # type: ignore[union-attr]
+            told[10].append([row, line])
         else:
             told[8:10] = [row, line]

@@ -3,7 +3,7 @@ from __future__ import annotations
 
 import re
 from dataclasses import replace
-from typing import Optional, Union
+from typing import Any, Callable, Optional, Union
 
 from ..refusals import Refusal
 from ..script.checks import check_script
@@ -176,7 +176,11 @@ def _of_rule(explanation: Explanation, text: Text, fault: RuleFault) -> None:
         _add_construct(explanation, found, fault.sentence)
 
 
-_EXPLAINED = {TokenFault: _of_token, GrammarFault: _of_grammar, RuleFault: _of_rule}
+_EXPLAINED: dict[type, Callable[[Explanation, Text, Any], None]] = {
+    TokenFault: _of_token,
+    GrammarFault: _of_grammar,
+    RuleFault: _of_rule,
+}
 
 
 def rules_text(number: int) -> str:

@@ -102,20 +102,26 @@ class ForcedRuns:
         """The status, None where there was no end, and what was printed."""
         self.orders.write("".join(f"{order}\n" for order in orders))
         command = [self.program, script, self.orders.path]
-        pipes = {"stdin": subprocess.DEVNULL, "stdout": subprocess.PIPE, "stderr": subprocess.STDOUT}
         try:
             # In a session of its own, so that an interrupt in a terminal comes to the tool alone.
-            self.process = subprocess.Popen(command, start_new_session=True, pass_fds=self.handed, **pipes)
+            process = self.process = subprocess.Popen(
+                command,
+                stdin=subprocess.DEVNULL,
+                stdout=subprocess.PIPE,
+                stderr=subprocess.STDOUT,
+                start_new_session=True,
+                pass_fds=self.handed,
+            )
         except OSError as error:
             raise Stop(NOT_BUILT, f"{self.program} can't be run: {error.strerror}") from None
         late = False
         try:
-            printed, _ = self.process.communicate(timeout=MOST_SECONDS)
+            printed, _ = process.communicate(timeout=MOST_SECONDS)
         except subprocess.TimeoutExpired:
-            _kill(self.process)
-            printed, _ = self.process.communicate()
+            _kill(process)
+            printed, _ = process.communicate()
             late = True
-        status = None if late or self.process.returncode < 0 else self.process.returncode
+        status = None if late or process.returncode < 0 else process.returncode
         return status, printed.decode("latin-1")
 
 

@@ -81,6 +81,7 @@ class _Writer:
     def body(self, start: int) -> _Body:
         is_test_case = self.tokens[start] == "testcase"
         function = self.read.case if is_test_case else self.read.functions[self.tokens[start + 1]]
+        assert function is not None
         return _Body(start, function, is_test_case)
 
     def script(self) -> ForcedScript:
@@ -113,9 +114,13 @@ class _Writer:
         loop = f"for ( var integer {turn} := 0 ; {turn} < 0 ; {turn} := {turn} + 1 ) {{ }}"
         return {place: (0, begin + loop.split())}
 
+    def place_of(self, symbol: str, behind: int) -> int:
+        """The first place of the symbol from there on."""
+        return next(at for at in range(behind, len(self.tokens)) if self.tokens[at] == symbol)
+
     def end_of(self, body: _Body) -> int:
         """The place of the bracket that closes the body."""
-        place = self.tokens.index("{", body.start)
+        place = self.place_of("{", body.start)
         depth = 1
         while depth > 0:
             place += 1
@@ -127,7 +132,7 @@ class _Writer:
     def split_sends(self) -> None:
         """Writes them anew: those of the test case in their place, and those of a function in a copy of it for
         each start, since each component has connections of its own."""
-        functions = {self.tokens[it.start + 1]: it for it in self.bodies if not it.is_test_case}
+        functions: dict[str, _Body] = {self.tokens[it.start + 1]: it for it in self.bodies if not it.is_test_case}
         for body in self.bodies:
             if body.is_test_case:
                 self.edits.update(self.split(body, _Runner(0, {}, set())))
@@ -154,7 +159,7 @@ class _Writer:
 
     def add_one(self, edits: Edits, name: int, words: list[str]) -> None:
         """Puts one parameter, or argument, more into the brackets behind the name."""
-        place = self.tokens.index(")", name)
+        place = self.place_of(")", name)
         new = edits.get(place, (0, []))[1]
         comma = [","] if new or self.tokens[place - 1] != "(" else []
         edits[place] = (0, [*new, *comma, *words])

@@ -26,7 +26,7 @@ class Done:
     def names(self) -> dict[Name, Message]:
         return {name_of((self.who, port), it): it for port, it in self.touched}
 
-    def sign(self) -> tuple:
+    def sign(self) -> tuple[object, ...]:
         return self.line, self.lines, tuple(self.names())
 
 
@@ -178,21 +178,21 @@ def _first_unlike(one: Told, other: Told) -> Optional[tuple[int, int]]:
 def _unordered_lines(one: Told, other: Told, who: int, at: int) -> Optional[tuple[int, int]]:
     """The lines of two sends to one port, or of a send and a look or operation, that came in one order here and in
     the other there."""
-    steps = [told.of_each[who][at] if at < len(told.of_each[who]) else None for told in (one, other)]
-    messages = [{} if it is None else it.names() for it in steps]
+    mine, others = (told.of_each[who][at] if at < len(told.of_each[who]) else None for told in (one, other))
+    messages = [{} if it is None else it.names() for it in (mine, others)]
     only_one = [name for name in messages[0] if name not in messages[1]]
     only_other = [name for name in messages[1] if name not in messages[0]]
-    if None in steps:
+    if mine is None or others is None:
         return None
     if not only_one or not only_other:
-        told, names, step = (one, only_one, steps[0]) if only_one else (other, only_other, steps[1])
+        told, names, step = (one, only_one, mine) if only_one else (other, only_other, others)
         return (step.line, told.sent[names[0]]) if names else None
     first, second = only_one[0], only_other[0]
     if first[:2] == second[:2] and first[2] != second[2]:
         return one.sent[first], other.sent[second]
     if one.is_put_behind(second, who, at):
-        return steps[1].line, other.sent[second]
-    return (steps[0].line, one.sent[first]) if other.is_put_behind(first, who, at) else None
+        return others.line, other.sent[second]
+    return (mine.line, one.sent[first]) if other.is_put_behind(first, who, at) else None
 
 
 def _deed(told: Told, who: int, at: int) -> Deed:

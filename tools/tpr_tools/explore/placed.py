@@ -1,11 +1,14 @@
 """The places and lines of the script at which the statements of the model of runs stand."""
 from __future__ import annotations
 
-from typing import Optional
+from typing import Optional, TypeVar
 
 from ..model.bodies import Begun, TestCase, Tried
 from ..model.reading import TOKENS, Reader
 from ..model.tree import Guard
+
+
+Node = TypeVar("Node")
 
 
 class Placed(str):
@@ -36,7 +39,8 @@ class _PlacedReader(Reader):
     they are, and not by what they say."""
 
     def __init__(self, tokens: list[Placed]):
-        super().__init__(tokens)
+        super().__init__([*tokens])
+        self.own_lines = [it.line for it in tokens]
         self.lines: dict[int, int] = {}
         self.spans: dict[int, tuple[int, int]] = {}  # of each statement its first token, and the one behind it
         self.bodies: list[int] = []  # the word `function` or `testcase` of each
@@ -49,7 +53,7 @@ class _PlacedReader(Reader):
         super().definition()
 
     def statement(self) -> object:
-        line, place, starts = self.ahead().line, self.place, len(self.script.starts)
+        line, place, starts = self.own_lines[self.place], self.place, len(self.script.starts)
         node = self._noted(super().statement(), line)
         self.spans[id(node)] = place, self.place
         if len(self.script.starts) > starts:
@@ -57,10 +61,10 @@ class _PlacedReader(Reader):
         return node
 
     def guard(self) -> Guard:
-        line = self.ahead().line
+        line = self.own_lines[self.place]
         return self._noted(super().guard(), line)
 
-    def _noted(self, node: object, line: int) -> object:
+    def _noted(self, node: Node, line: int) -> Node:
         self.lines[id(node)] = line
         self.nodes.append(node)
         return node

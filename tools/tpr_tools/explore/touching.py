@@ -96,7 +96,7 @@ class Steps:
         self.followed: dict[int, Followed] = {}
         self.steps: dict[tuple[int, int], Optional[Step]] = {}
         self.firsts: dict[tuple[int, int], Known] = {}
-        self.states_of_components: dict[tuple, int] = {}
+        self.states_of_components: dict[tuple[object, ...], int] = {}
         self.states: dict[tuple[int, ...], int] = {}
 
     def step(self, run: Run, who: int) -> Optional[Step]:
@@ -155,6 +155,7 @@ class Steps:
         first = mine.first or mine
         if first.behind is None:
             self._note_step(run, who, first)
+        assert first.behind is not None
         if mine.behind is None:
             behind = _behind_like(mine.component, first.component, first.behind.component)
             mine.behind = self._noted(behind, first.behind)
@@ -238,7 +239,7 @@ def _put_at(component: Component, puts: list[Put]) -> Component:
     return other
 
 
-def _state_of(component: Component) -> tuple:
+def _state_of(component: Component) -> tuple[object, ...]:
     ports = tuple([(it.status, it.ahead, *it.queue) for it in component.ports.values()])
     kept = (*component.loops.items(), None, *component.variables.items(), None, *component.numbers.items())
     return component.place, component.sent, component.failed, component.verdict, kept, ports

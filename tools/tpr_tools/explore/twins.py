@@ -32,7 +32,7 @@ def left_of_twins(run: Run, processes: list[list[int]]) -> frozenset[Place]:
     )
 
 
-def _twins_sign(case: TestCase, who: int, apart: frozenset[Place]) -> Optional[tuple]:
+def _twins_sign(case: TestCase, who: int, apart: frozenset[Place]) -> Optional[tuple[object, ...]]:
     """What twins have in common, or None where the component has none."""
     send = _only_send(case, who)
     if send is None:
@@ -70,7 +70,7 @@ def _guards(case: TestCase, place: Place) -> list[Guard]:
     return [guard for it in tried for guard, _ in it.choice.branches if guard.port == place[1]]
 
 
-def _seen_by(run: Run, owner: int, guard: Guard, message: Message) -> tuple:
+def _seen_by(run: Run, owner: int, guard: Guard, message: Message) -> tuple[object, ...]:
     """What the operation can tell of the message."""
     names = run.case.bodies[owner].components
     sender = None if guard.sender is None else names[guard.sender] == message.sender

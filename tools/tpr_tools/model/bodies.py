@@ -1,7 +1,10 @@
 """What the components of a test case have and do: statements in one list each, routes, names."""
 from dataclasses import dataclass
+from typing import Any
 
-from .tree import Choice, Loop, Script
+from .tree import Block, Choice, Function, Loop, Script
+
+Code = list[Any]  # statements, and what an `alt` and a loop come to
 
 
 @dataclass(frozen=True)
@@ -35,7 +38,7 @@ class Begun:
     behind: int
 
 
-def listed(block: tuple, code: list) -> list:
+def listed(block: Block, code: Code) -> Code:
     """The statements of a block behind those of `code`, in one list."""
     for statement in block:
         if isinstance(statement, Choice):
@@ -51,8 +54,10 @@ def listed(block: tuple, code: list) -> list:
     return code
 
 
-def list_choice(choice: Choice, code: list) -> None:
-    tried, places, ends = len(code), [], []
+def list_choice(choice: Choice, code: Code) -> None:
+    tried = len(code)
+    places: list[int] = []
+    ends: list[int] = []
     code.append(None)
     blocks = [block for _, block in choice.branches]
     for block in blocks + ([] if choice.otherwise is None else [choice.otherwise]):
@@ -71,7 +76,7 @@ class Body:
 
     name: str
     ports: tuple[str, ...]
-    code: list
+    code: Code
     components: dict[str, int]
 
 
@@ -79,6 +84,7 @@ class TestCase:
     """The components of a script, and the routes between their ports."""
 
     def __init__(self, script: Script):
+        assert script.case is not None, "a script that is accepted has a test case"
         self.script = script
         named = [("mtc", script.case.runs_on)] + script.created
         if script.system is not None:
@@ -101,7 +107,7 @@ class TestCase:
     def body(self, name: str, type_name: str) -> Body:
         """What the component does: the test case, the function that it is started with, or `sut`."""
         arguments: tuple[str, ...] = ()
-        function = self.script.case
+        function: Function | None = self.script.case
         for started, function_name, given in self.script.starts:
             if started == name:
                 function, arguments = self.script.functions[function_name], given

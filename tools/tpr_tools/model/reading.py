@@ -4,12 +4,16 @@ It is for scripts that `tpr check` accepts: it looks for no fault, and what it c
 error of its own.
 """
 import re
+from collections.abc import Callable
+from typing import TypeVar
 
 from .tree import (
     EVERYONE,
+    Block,
     Choice,
     Control,
     Either,
+    Form,
     Function,
     Guard,
     Loop,
@@ -22,6 +26,8 @@ from .tree import (
     Variable,
     Wild,
 )
+
+Read = TypeVar("Read")
 
 TOKENS = re.compile(
     r"(?P<gap>[\t-\r ]+|//[^\n]*|/\*.*?\*/)"
@@ -82,7 +88,7 @@ class Reader:
         if not self.accept(*wanted):
             raise Unreadable(f"token {self.place} is {self.ahead()}, and not {' '.join(wanted)}")
 
-    def listed(self, read, end: str) -> tuple:
+    def listed(self, read: Callable[[], Read], end: str) -> tuple[Read, ...]:
         """What `read` reads, with commas between, up to the token `end`."""
         members = []
         while not self.accept(end):
@@ -145,7 +151,7 @@ class Reader:
 
     # Statements, and the setup of a test case among them
 
-    def block(self) -> tuple:
+    def block(self) -> Block:
         self.expect("{")
         statements = []
         while not self.accept("}"):
@@ -153,7 +159,7 @@ class Reader:
             self.accept(";")
         return tuple(it for it in statements if it is not None)
 
-    def statement(self):
+    def statement(self) -> object:
         """A statement, or None for what belongs to the setup."""
         if self.accept("var"):
             return self.variable()
@@ -188,7 +194,7 @@ class Reader:
         self.expect(":")
         return component, self.take()
 
-    def operation(self):
+    def operation(self) -> object:
         """What begins with the name of a port, or of a component that is started."""
         if self.ahead(2) == "start" and self.ahead(3) == "(":
             name = self.take()
@@ -275,7 +281,7 @@ class Reader:
             return None
         return self.integer()
 
-    def template(self):
+    def template(self) -> Form:
         """A value or a template: an integer, True, False, a str, a tuple of members, a dict by the
         names of fields, or one of the classes above."""
         first = self.ahead()
@@ -306,12 +312,12 @@ class Reader:
         self.expect(")")
         return Range(lower, upper)
 
-    def braces(self) -> tuple | dict:
+    def braces(self) -> Form:
         if self.ahead(1) != ":=":
             return self.listed(self.template, "}")
         return dict(self.listed(self.entry, "}"))
 
-    def entry(self) -> tuple[str, object]:
+    def entry(self) -> tuple[str, Form]:
         name = self.take()
         self.expect(":=")
         return name, self.template()

@@ -9,12 +9,15 @@ an `alt`, and so is an operation on all ports.
 from collections.abc import Iterable
 from dataclasses import dataclass, field
 from enum import Enum
+from typing import Any, TypeVar
 
 # A table alone: nothing else of the tools is used here.
 from ..refusals import Refusal
 from .bodies import Begun, Jump, TestCase, Tried, Turn
 from .tree import EVERYONE, Control, Guard, Send, Setverdict, Variable
 from .values import filled, matches, written
+
+It = TypeVar("It")
 
 VERDICTS = ("none", "pass", "inconc", "fail", "error")
 DONE_BY = {"start": "started", "stop": "stopped", "halt": "halted", "clear": "cleared"}
@@ -33,7 +36,7 @@ class Message:
     """A message in a queue: its type and value, who sent it, and its number on its route."""
 
     type: str
-    value: object
+    value: Any
     sender: int
     number: int
 
@@ -84,7 +87,7 @@ class Component:
     failed: Refusal | None = None
     steps: int = 0
     loops: dict[str, int] = field(default_factory=dict)
-    variables: dict[str, object] = field(default_factory=dict)
+    variables: dict[str, Any] = field(default_factory=dict)
     numbers: dict[tuple[int, str], int] = field(default_factory=dict)
     verdict: str = "none"
     lines: list[str] = field(default_factory=list)
@@ -97,7 +100,7 @@ class Component:
         return other
 
 
-def alike(it):
+def alike(it: It) -> It:
     """An object with the same fields: `copy.copy` in a third of the time, which is much of what a search takes."""
     other = object.__new__(type(it))
     other.__dict__.update(it.__dict__)
@@ -129,7 +132,7 @@ class Run:
         statement = self.statement(who)
         return {who, *(end[0] for end in self.routes(who, statement))} if isinstance(statement, Send) else {who}
 
-    def statement(self, who: int) -> object:
+    def statement(self, who: int) -> Any:
         """The component's next statement, or None where it has ended."""
         me, code = self.components[who], self.case.bodies[who].code
         return code[me.place] if me.failed is None and me.place < len(code) else None
@@ -191,11 +194,12 @@ class Run:
     def receiver(self, who: int, name: str) -> int | None:
         """The component behind `to`, or None where it is a variable without a value."""
         me = self.components[who]
-        return me.variables[name] if name in me.variables else self.case.bodies[who].components[name]
+        held: int | None = me.variables[name] if name in me.variables else self.case.bodies[who].components[name]
+        return held
 
     def routes(self, who: int, send: Send) -> list[tuple[int, str]]:
         ends = self.case.partners.get((who, send.port), [])
-        if send.receiver in (None, EVERYONE):
+        if send.receiver is None or send.receiver == EVERYONE:
             return ends
         receiver = self.receiver(who, send.receiver)
         return [end for end in ends if end[0] == receiver]
@@ -207,7 +211,8 @@ class Run:
             return Refusal.NOT_SENDING
         if send.type is None and me.variables[send.message] is None:
             return Refusal.UNSET_VARIABLE
-        if send.receiver not in (None, EVERYONE) and self.receiver(who, send.receiver) is None:
+        receiver = send.receiver
+        if receiver is not None and receiver != EVERYONE and self.receiver(who, receiver) is None:
             return Refusal.UNSET_VARIABLE
         routes = self.routes(who, send)
         if not routes:
@@ -235,10 +240,11 @@ class Run:
         me.place += 1
         return Act.DONE
 
-    def message(self, me: Component, send: Send) -> tuple[str, object]:
+    def message(self, me: Component, send: Send) -> tuple[str, Any]:
         """The type and the value that are sent."""
         if send.type is None:
-            return me.variables[send.message]
+            held: tuple[str, Any] = me.variables[send.message]
+            return held
         return send.type, filled(send.message, send.type, self.case.script, me.loops)
 
     # Receiving operations (20.2, 22.2.2, 22.2.3, 22.4)

@@ -1,7 +1,12 @@
 """A script as plain lists: its definitions, statements, values and templates."""
 from dataclasses import dataclass, field
+from typing import Any
 
 EVERYONE = "all component"
+
+# A value or a template: an int, a bool, a str, a tuple of members, a dict by the names of fields, or a class below.
+Form = Any
+Block = tuple[object, ...]  # of statements
 
 
 @dataclass(frozen=True)
@@ -22,7 +27,7 @@ class Wild:
 class Either:
     """`(a, b)`, where some member is matched, or `complement (a, b)`, where none is."""
 
-    members: tuple
+    members: tuple[Form, ...]
     some: bool
 
 
@@ -48,7 +53,7 @@ class Guard:
     how: str
     port: str
     type: str | None
-    template: object
+    template: Form
     sender: str | None
     value_into: str | None
     sender_into: str | None
@@ -67,7 +72,7 @@ class Send:
 
     port: str
     type: str | None
-    message: object
+    message: Form
     receiver: str | None
 
 
@@ -91,8 +96,8 @@ class Choice:
     """An `alt`: guards with their blocks, and the block of `[else]`, if there is one. A receiving
     operation that stands alone is one too, of one branch."""
 
-    branches: tuple
-    otherwise: tuple | None
+    branches: tuple[tuple[Guard, Block], ...]
+    otherwise: Block | None
 
 
 @dataclass(frozen=True)
@@ -102,28 +107,28 @@ class Loop:
     variable: str
     first: int
     bound: int
-    block: tuple
+    block: Block
 
 
 @dataclass(frozen=True)
 class Function:
     """A function, or the test case, by its parameters' names."""
 
-    parameters: tuple
+    parameters: tuple[str, ...]
     runs_on: str
-    block: tuple
+    block: Block
 
 
 @dataclass
 class Script:
     """What a script defines. Types that aren't in `records` or `lists` are the simple ones."""
 
-    records: dict = field(default_factory=dict)
-    lists: dict = field(default_factory=dict)
-    component_types: dict = field(default_factory=dict)
-    functions: dict = field(default_factory=dict)
+    records: dict[str, tuple[tuple[str, str], ...]] = field(default_factory=dict)
+    lists: dict[str, str] = field(default_factory=dict)
+    component_types: dict[str, tuple[str, ...]] = field(default_factory=dict)
+    functions: dict[str, Function] = field(default_factory=dict)
     case: Function | None = None
     system: str | None = None
-    created: list = field(default_factory=list)
-    pairs: list = field(default_factory=list)
-    starts: list = field(default_factory=list)
+    created: list[tuple[str, str]] = field(default_factory=list)
+    pairs: list[tuple[tuple[str, str], ...]] = field(default_factory=list)
+    starts: list[tuple[str, str, tuple[str, ...]]] = field(default_factory=list)

@@ -3,11 +3,12 @@ ES 201 873-1, Annex B). A value is an int, a bool, a str, or a tuple of the fiel
 order or of the elements of a record of. What it is, its type says.
 """
 import re
+from typing import Any
 
-from .tree import Either, Name, Pattern, Range, Script, Wild
+from .tree import Either, Form, Name, Pattern, Range, Script, Wild
 
 
-def fields_of(form: tuple | dict, type_name: str, script: Script) -> tuple:
+def fields_of(form: Form, type_name: str, script: Script) -> tuple[tuple[Form, str], ...]:
     """The members of a record or a record of with their types, in declared order."""
     if type_name in script.lists:
         return tuple((member, script.lists[type_name]) for member in form)
@@ -17,7 +18,7 @@ def fields_of(form: tuple | dict, type_name: str, script: Script) -> tuple:
     return tuple((member, type_of_field) for member, (type_of_field, _) in zip(form, fields))
 
 
-def filled(form: object, type_name: str, script: Script, loops: dict[str, int]) -> object:
+def filled(form: Form, type_name: str, script: Script, loops: dict[str, int]) -> Any:
     """The value that a text describes, with the loop variables' values in it."""
     if isinstance(form, Name):
         return loops[form.name]
@@ -26,11 +27,11 @@ def filled(form: object, type_name: str, script: Script, loops: dict[str, int]) 
     return form
 
 
-def matches(form: object, value: object, type_name: str, script: Script, loops: dict[str, int]) -> bool:
+def matches(form: Form, value: Any, type_name: str, script: Script, loops: dict[str, int]) -> bool:
     """Whether the value, of this type, matches the template."""
     match form:
         case Name():
-            return value == loops[form.name]
+            return bool(value == loops[form.name])
         case Wild():
             return True
         case Either():
@@ -45,10 +46,12 @@ def matches(form: object, value: object, type_name: str, script: Script, loops: 
         case tuple() | dict():
             members = fields_of(form, type_name, script)
             return all(matches(it, of_it, of, script, loops) for (it, of), of_it in zip(members, value))
-    return form == value
+    return bool(form == value)
 
 
-def matches_list(forms: tuple, values: tuple, type_name: str, script: Script, loops: dict[str, int]) -> bool:
+def matches_list(
+    forms: tuple[Form, ...], values: tuple[Any, ...], type_name: str, script: Script, loops: dict[str, int]
+) -> bool:
     """Whether the list can be cut into pieces, one for each member: any piece for `*`, else one element."""
     if not forms:
         return not values
@@ -61,7 +64,7 @@ def matches_list(forms: tuple, values: tuple, type_name: str, script: Script, lo
     )
 
 
-def written(value: object, type_name: str, script: Script) -> str:
+def written(value: Any, type_name: str, script: Script) -> str:
     """How a report prints the value."""
     if isinstance(value, bool):
         return "true" if value else "false"

@@ -134,7 +134,14 @@ class Search:
 
     def own_queue(self, component: int) -> _Queue:
         entry = self.histories[component][self.next[component]]
+        assert isinstance(entry, (Sent, Received, Operation))
         return self.queues[component, entry.port]
+
+    def message_at(self, component: int, place: int) -> Message:
+        """What the entry sends or gets."""
+        message = self.deliveries.at[component][place]
+        assert message is not None
+        return message
 
     # What a component's next entry waits for
 
@@ -151,9 +158,9 @@ class Search:
             if kind is Sent:
                 rank = self.rank_of_sending(component, place)
             elif kind is Received:
-                message = self.deliveries.at[component][place]
+                message = self.message_at(component, place)
                 rank = GOT if self.is_there(message, component) else -1
-            elif kind is Operation:
+            elif isinstance(entry, Operation):
                 rank = self.rank_of_operation(component, place, entry)
             else:
                 rank = BY_ITSELF
@@ -175,7 +182,7 @@ class Search:
         return False
 
     def rank_of_sending(self, component: int, place: int) -> int:
-        message = self.deliveries.at[component][place]
+        message = self.message_at(component, place)
         queue = self.queue_of[message.index]
         if message.era is not None:
             if queue.era < message.era:
@@ -222,8 +229,8 @@ class Search:
         self.last = component
         kind = type(entry)
         if kind is Sent:
-            self.send(self.deliveries.at[component][place])
-        elif kind is Operation and entry.empties():
+            self.send(self.message_at(component, place))
+        elif isinstance(entry, Operation) and entry.empties():
             queue = self.queues[component, entry.port]
             queue.era, queue.sent = queue.era + 1, 0
             self.wake(queue.for_era.pop(queue.era, []))
@@ -264,7 +271,7 @@ class Search:
             self.left += 1
             entry = self.histories[component][place]
             if isinstance(entry, Sent):
-                self.unsend(self.deliveries.at[component][place])
+                self.unsend(self.message_at(component, place))
             elif isinstance(entry, Operation) and entry.empties():
                 queue = self.queues[component, entry.port]
                 queue.era -= 1

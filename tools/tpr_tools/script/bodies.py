@@ -225,6 +225,7 @@ class BodyRules:
             self._message(told, port, statement.message, True)
         else:
             place = statement.variable
+            assert place is not None
             held = self._held(told, place, Rule.SENT_VARIABLE, is_sent=True)
             self._check_listed(told, place, port, held, True)
         if statement.to is not None and self.names.word(statement.to) != "all":
@@ -316,6 +317,7 @@ class BodyRules:
 
     def _value_to(self, told: int, receive: Receive, wanted: Optional[str]) -> None:
         place = receive.value_to
+        assert place is not None
         held = self._held(told, place, Rule.VALUE_TO)
         name, how = self.names.word(place), self.names.word(receive.how)
         operation = f"{how}({{}}:?) -> value {{}}"

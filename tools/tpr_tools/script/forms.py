@@ -6,14 +6,14 @@ of a record of. What it is, its type says. The script is known to obey all rules
 from __future__ import annotations
 
 import re
-from typing import Callable, Optional, Union
+from typing import Any, Callable, Optional, Union
 
 from .names import Names
 from .tree import ListType, Message, Value, ValueKind
 
-Plain = Union[int, bool, str, tuple]
+Plain = Union[int, bool, str, tuple[Any, ...]]
 Loops = dict[str, int]
-Test = Callable[[Plain, Loops], bool]
+Test = Callable[[Any, Loops], bool]  # whether a value matches
 
 _TEXT = re.compile(r'"((?:[ !#-~]|"")*)"')
 _WORD = re.compile(r"true|false|-?[0-9]+")
@@ -38,8 +38,8 @@ def _value_at(text: str, place: int) -> tuple[Plain, int]:
     return (word == "true" if word in ("true", "false") else int(word)), found.end()
 
 
-def _members_at(text: str, place: int) -> tuple[tuple, int]:
-    members = []
+def _members_at(text: str, place: int) -> tuple[tuple[Plain, ...], int]:
+    members: list[Plain] = []
     while text[place] != "}":
         place += 2 if text.startswith(", ", place) else 0
         if found := _FIELD.match(text, place):
@@ -49,7 +49,7 @@ def _members_at(text: str, place: int) -> tuple[tuple, int]:
     return tuple(members), place + 1
 
 
-def is_cut(tests: list, items: Union[str, tuple], loops: Loops) -> bool:
+def is_cut(tests: list[Any], items: Union[str, tuple[Plain, ...]], loops: Loops) -> bool:
     """Whether the items can be cut into pieces, one for each test: any piece for a `*`, else one item.
 
     Between two `*` the first place that fits is as good as any behind it, so no other is tried again.
@@ -142,7 +142,7 @@ class Forms:
         if kind is ValueKind.ANY:
             return lambda value, loops: True
         if kind is ValueKind.NAME:
-            return lambda value, loops: value == loops[word]
+            return lambda value, loops: bool(value == loops[word])
         if kind is ValueKind.RANGE:
             return self._range(form)
         if kind is ValueKind.PATTERN:
@@ -154,14 +154,14 @@ class Forms:
         if kind in (ValueKind.LIST, ValueKind.FIELDS):
             return self._members(form, type_name)
         wanted = self.filled(form, type_name, {})
-        return lambda value, loops: value == wanted
+        return lambda value, loops: bool(value == wanted)
 
     def _range(self, form: Value) -> Test:
         lower, upper = (None if it is None else self.names.number(it) for it in form.bounds)
         return lambda value, loops: (lower is None or lower <= value) and (upper is None or value <= upper)
 
     def _members(self, form: Value, type_name: str) -> Test:
-        tests: list = []
+        tests: list[object] = []
         for member, of in self.members_of(form, type_name):
             is_star = member.kind is ValueKind.ANY_OR_NONE
             tests.append(_ANY_NUMBER if is_star else self.test_of(member, of))

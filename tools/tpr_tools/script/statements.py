@@ -5,7 +5,7 @@ from typing import Optional
 
 from .cursor import A_NAME, A_STATEMENT, PORT_CONTROL, quoted
 from .tokens import is_name
-from .tree import Alt, Branch, Control, Declared, Loop, Otherwise, Receive, Send, SetVerdict, Statement
+from .tree import Alt, Branch, Control, Declared, Loop, Message, Otherwise, Receive, Send, SetVerdict, Statement
 from .values import ValueReader
 
 VERDICTS = ("none", "pass", "inconc", "fail", "error")
@@ -104,7 +104,7 @@ class StatementReader(ValueReader):
                 self.expect("component")
         return Send(port, port, message, variable, to)
 
-    def sent(self, left: int):
+    def sent(self, left: int) -> Message:
         """A message. A variable could stand here too, and was not there."""
         if self.place == self.watched:
             self.wanted.append("the name of a variable")

@@ -140,13 +140,15 @@ class _Reading:
         self.process = process
         self.until = until
         self.most = most
-        self.pieces: dict[object, list[bytes]] = {process.stdout: [], process.stderr: []}
+        assert process.stdout is not None and process.stderr is not None
+        self.pipes = process.stdout, process.stderr
+        self.pieces: dict[int, list[bytes]] = {pipe.fileno(): [] for pipe in self.pipes}
         self.size = 0
 
     def read(self) -> Optional[Stopped]:
         """Up to the end of both; else why not."""
         with selectors.DefaultSelector() as selector:
-            for pipe in self.pieces:
+            for pipe in self.pipes:
                 selector.register(pipe, selectors.EVENT_READ)
             while selector.get_map():
                 left = self.until - time.monotonic()
@@ -156,24 +158,25 @@ class _Reading:
                 if not ready and left <= 0:
                     return Stopped.LATE
                 for key, _ in ready:
-                    if not self.take(key.fileobj):
+                    if not self.take(key.fd):
                         selector.unregister(key.fileobj)
                 if self.size > self.most:
                     return Stopped.MUCH
         return None
 
-    def take(self, pipe: object) -> bool:
-        piece = os.read(pipe.fileno(), _PIECE)  # type: ignore[attr-defined]
+    def take(self, pipe: int) -> bool:
+        piece = os.read(pipe, _PIECE)
         self.size += len(piece)
         self.pieces[pipe].append(piece)
         return bool(piece)
 
     def texts(self) -> tuple[bytes, bytes]:
-        return b"".join(self.pieces[self.process.stdout]), b"".join(self.pieces[self.process.stderr])
+        printed, said = (b"".join(it) for it in self.pieces.values())
+        return printed, said
 
     def close(self) -> None:
-        for pipe in self.pieces:
-            pipe.close()  # type: ignore[attr-defined]
+        for pipe in self.pipes:
+            pipe.close()
 
 
 def _kill(process: subprocess.Popen[bytes]) -> None:

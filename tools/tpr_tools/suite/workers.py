@@ -11,7 +11,7 @@ import os
 import signal
 from dataclasses import dataclass
 from multiprocessing.connection import Connection, wait
-from typing import Iterator, Optional
+from typing import Iterator, Optional, Union
 
 from ..command import NOT_BUILT, Stop
 from .judging import Reason, judge
@@ -78,13 +78,14 @@ class Workers:
                 self.busy[connection] = task
                 connection.send(task)
                 task = next(tasks, None)
-            for connection in wait(list(self.busy)):
-                yield self.answer(connection)  # type: ignore[arg-type]
+            for ready in wait(list(self.busy)):
+                assert isinstance(ready, Connection)
+                yield self.answer(ready)
 
     def answer(self, connection: Connection) -> Run:
         task = self.busy.pop(connection)
         try:
-            answer = connection.recv()
+            answer: Union[Run, Stop] = connection.recv()
         except EOFError:
             raise Stop(NOT_BUILT, f"the process that ran {task.path} ended by itself") from None
         if isinstance(answer, Stop):
@@ -117,6 +118,7 @@ def _work(connection: Connection, runner: Runner, with_texts: bool, others: list
             task = connection.recv()
         except EOFError:
             return
+        answer: Union[Run, Stop]
         try:
             answer = _do(task, runner, with_texts)
         except Stop as stop:

@@ -22,8 +22,8 @@ class LineDone:
     each, and what they did."""
 
     tokens: set[int] = field(default_factory=set)
-    times: Counter = field(default_factory=Counter)
-    did: dict[str, Counter] = field(default_factory=dict)
+    times: Counter[int] = field(default_factory=Counter)
+    did: dict[str, Counter[str]] = field(default_factory=dict)
 
     def never(self) -> int:
         return sum(token not in self.times for token in self.tokens)
@@ -39,7 +39,7 @@ class LineDone:
         more = len(components) - _MOST_TOLD
         return "; ".join(components[:_MOST_TOLD]) + (f"; and {more} more" if more > 0 else "")
 
-    def _told_of(self, name: str, words: Counter) -> str:
+    def _told_of(self, name: str, words: Counter[str]) -> str:
         told = [word if count == 1 else f"{word} {count} times" for word, count in words.items()]
         return f"{name} {', '.join(told)}"
 

@@ -14,6 +14,9 @@ from .ways import Ways, first_of_verdict
 
 _MOST_COMPONENTS = 5
 
+Head = Callable[[Ways, int], str]
+Details = Callable[[Ways, int], list[str]]
+
 
 def reasons_of(ways: Ways) -> str:
     """Some sentences, a line for each; nothing where the result is `pass`."""
@@ -29,7 +32,7 @@ def reasons_of(ways: Ways) -> str:
     return f"The result is {result}: " + "".join(f"{line}\n" for line in told)
 
 
-def _told(ways: Ways, places: list[int], head: Callable, details: Callable) -> list[str]:
+def _told(ways: Ways, places: list[int], head: Head, details: Details) -> list[str]:
     """What the components did in one sentence, and more of the first of them."""
     heads = [head(ways, place) for place in places[:_MOST_COMPONENTS]]
     others = [ways.report.components[place].name for place in places[_MOST_COMPONENTS:]]
@@ -86,9 +89,9 @@ def _set_by(ways: Ways, number: int) -> list[str]:
         alt = ways.case.line(chosen.alt.start)
         why = f"chosen since no other branch of the `alt` of line {alt} was open when it was looked at"
         return [f"{head}it stands in the `[else]` of line {line}, {why}.", *_later(ways, walk, chosen)]
-    entry = walk.component.entries[chosen.entry]
-    assert isinstance(entry, Received)
-    return [f"{head}it stands in the branch of line {line}, chosen by {_message(ways, walk, entry)}."]
+    received = walk.component.entries[chosen.entry]
+    assert isinstance(received, Received)
+    return [f"{head}it stands in the branch of line {line}, chosen by {_message(ways, walk, received)}."]
 
 
 def _later(ways: Ways, walk: Walk, chosen: Chosen) -> list[str]:
@@ -168,6 +171,7 @@ def _no_route(ways: Ways, walk: Walk, stop: Stop, send: Send) -> str:
     others = _partners(ways, walk, send)
     if not others:
         return f"the port {name} of {walk.component.name} is neither connected nor mapped"
+    assert send.to is not None
     word = ways.case.word(send.to)
     receiver = stop.variables[word] if word in stop.variables else walk.player.references[word]
     held = f", which `{word}` means" if word != receiver else ""

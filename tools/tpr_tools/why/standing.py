@@ -187,7 +187,7 @@ class Standing:
 
     def leads(self, walker: Walker, send: Send, name: str) -> bool:
         """Whether the send may go to the port: a component that a variable holds isn't known."""
-        if walker.is_to_one(send) and self.case.word(send.to) in walker.variables:
+        if send.to is not None and walker.is_to_one(send) and self.case.word(send.to) in walker.variables:
             return False
         return (self.component.name, name) in walker.routes(send)
 

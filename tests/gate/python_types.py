@@ -1,0 +1,69 @@
+#!/usr/bin/env python3
+"""Whether the types of tools/ and tests/ fit, by `mypy --strict` (pyproject.toml).
+
+    tests/gate/python_types.py [FOLDER..]
+
+For each folder, or each of those named, a line `passed FOLDER`, or lines `FAILED: ..`. The modules of tests/ have short
+names, of which two folders may have the same: so each folder is looked at by itself, with those whose modules it uses.
+"""
+from __future__ import annotations
+
+import argparse
+import os
+import subprocess
+import sys
+from pathlib import Path
+
+ROOT = Path(__file__).resolve().parents[2]
+
+# Each folder, and those of tests/ whose modules it uses. All use tools/.
+FOLDERS = {
+    "tools": (),
+    "tests/checking": (),
+    "tests/documents": (),
+    "tests/exploring": ("orders",),
+    "tests/forced": (),
+    "tests/orders": (),
+    "tests/program": ("traces",),
+    "tests/runs": ("program", "orders", "traces"),
+    "tests/runs/many_components": ("orders",),
+    "tests/traces": ("orders",),
+}
+PACKAGES = ("tools/rewriting", "tools/tpr_tools")
+
+
+def is_python(file: Path) -> bool:
+    if file.suffix:
+        return file.suffix == ".py"
+    return file.is_file() and file.read_bytes().startswith(b"#!/usr/bin/env python3\n")
+
+
+def files_of(folder: str) -> list[str]:
+    """The modules and commands of a folder, and its packages."""
+    files = [str(it.relative_to(ROOT)) for it in sorted((ROOT / folder).iterdir()) if is_python(it)]
+    return [*files, *(it for it in PACKAGES if it.startswith(f"{folder}/"))]
+
+
+def wrong_in(folder: str) -> str:
+    """What mypy says of a folder; nothing where all fits."""
+    used = [str(ROOT / "tests" / it) for it in FOLDERS[folder]]
+    environment = {**os.environ, "MYPYPATH": os.pathsep.join(used)}
+    command = ["mypy", "--no-error-summary", *files_of(folder)]
+    ended = subprocess.run(command, cwd=ROOT, env=environment, capture_output=True, text=True, check=False)
+    said = ended.stdout + ended.stderr
+    return said or (f"mypy ended with status {ended.returncode}" if ended.returncode else "")
+
+
+def main() -> int:
+    words = argparse.ArgumentParser(description="Whether the types of tools/ and tests/ fit.")
+    words.add_argument("folders", nargs="*", metavar="FOLDER", help=f"of {', '.join(FOLDERS)}; all without one")
+    status = 0
+    for folder in words.parse_args().folders or FOLDERS:
+        said = wrong_in(folder)
+        print(f"FAILED: the types of {folder}\n{said}" if said else f"passed the types of {folder}", flush=True)
+        status = status or bool(said)
+    return int(status)
+
+
+if __name__ == "__main__":
+    sys.exit(main())
