@@ -1,6 +1,7 @@
 //! The works of `bench/running`, each the twin of the script of its name, for both plain programs.
 
-use crate::{Component, Message, Order, Test, Verdict, Waits};
+use crate::components::{Component, Test, Verdict, Waits};
+use crate::{Message, Order};
 
 /// The ports of a component, by their places.
 const P: usize = 0;
