@@ -116,7 +116,7 @@ def limit_of_statements() -> Iterator[Case]:
 
 
 def cut_scripts() -> Iterator[Case]:
-    for file in ("examples/system_under_test_answers.ttcn", "tests/checking/every_line.ttcn"):
+    for file in ("tests/golden/components/system_under_test_answers.ttcn", "tests/checking/every_line.ttcn"):
         text = (ROOT / file).read_bytes().rpartition(b"}")[0]
         if len(text) < 100:
             raise ValueError(f"{file} is too short to be cut")

@@ -69,10 +69,13 @@ tells_reports_of() { # SCRIPT ANSWER
 }
 
 explored_pair() { # FAULTY REPAIRED
-    run_explore "examples/$1.ttcn" --json
-    tool_must "what tools/explore says of $1" 1 tells_reports_of "examples/$1.ttcn" "pass or fail"
-    run_explore "examples/$2.ttcn" --json
-    tool_must "what tools/explore says of $2" 0 tells_reports_of "examples/$2.ttcn" "always pass"
+    local faulty repaired
+    faulty=$(place_of_example "$1.ttcn")
+    run_explore "$faulty" --json
+    tool_must "what tools/explore says of $1" 1 tells_reports_of "$faulty" "pass or fail"
+    repaired=$(place_of_example "$2.ttcn")
+    run_explore "$repaired" --json
+    tool_must "what tools/explore says of $2" 0 tells_reports_of "$repaired" "always pass"
 }
 
 all_explored_pairs() {
@@ -184,7 +187,7 @@ explored_bounds() {
     tool_must "four senders of different numbers" 0 prints_in_short "always pass" "18 runs, 1 class"
     run_explore "$room/explored_four.ttcn" --runs 5 --seed 7
     tool_must "five runs of 18" 4 prints_in_short "pass, not all orders tried" "5 runs, 1 class"
-    run_explore examples/trigger_in_an_alt_comes_before_else.ttcn
+    run_explore tests/golden/receiving/trigger_in_an_alt_comes_before_else.ttcn
     tool_must "an alt between the discards of which others may act" 0 begins_with "always inconc"
     run_explore tests/exploring/acts/message_comes_between_two_looks.ttcn
     tool_must "a verdict that hangs on what comes between two looks" 1 tells_parting_at_two_ports
@@ -290,8 +293,8 @@ explored_by_a_program() { # LINE SAID
 }
 
 explored_refusals() {
-    run_explore examples/script_cut_inside_an_alt.ttcn
-    tool_must "a script that is refused" 2 prints_file examples/script_cut_inside_an_alt.expected
+    run_explore tests/golden/refused_scripts/script_cut_inside_an_alt.ttcn
+    tool_must "a script that is refused" 2 prints_file tests/golden/refused_scripts/script_cut_inside_an_alt.expected
     run_explore "$room/nowhere.ttcn"
     tool_must "a script that isn't there" 2 says_alone "explore: $room/nowhere.ttcn can't be read"
     run_explore

@@ -91,6 +91,35 @@ set_up() { # WHAT HOLDS, COMMAND..
     return 1
 }
 
+# Examples
+
+# Where an example stands, below `root`: in examples/, where those are that one would show, or in a folder of tests/golden/.
+place_of_example() { # FILE
+    local file
+    for file in "$root/examples/$1" "$root"/tests/golden/*/"$1"; do
+        if [[ -e $file ]]; then
+            echo "${file#"$root"/}"
+            return
+        fi
+    done
+    echo "FAILED: there is no example $1" >&2
+    return 1
+}
+
+# Whether the answer to an example is that it is refused.
+is_refused() { # FILE
+    grep -qs '^refused ' -- "${1%.*}.expected"
+}
+
+# The scripts of the examples and of tests/orders/ that can be run, in `runnable`.
+find_runnable() {
+    local script
+    runnable=()
+    for script in examples/*.ttcn tests/golden/*/*.ttcn tests/orders/*/*.ttcn; do
+        if ! is_refused "$script"; then runnable+=("$script"); fi
+    done
+}
+
 # Tests in Python
 
 # Counts the lines `passed ..` and the scripts that failed, of which all that is said is told. What is left out is

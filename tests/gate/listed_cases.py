@@ -20,25 +20,28 @@ from collections import Counter
 from collections.abc import Iterator
 from enum import Enum
 from hashlib import sha256
+from itertools import chain
 from pathlib import Path
 from typing import NamedTuple
 
 sys.dont_write_bytecode = True
 ROOT = Path(__file__).resolve().parents[2]
-sys.path.append(str(ROOT / "tests" / "checking"))
+sys.path += [str(ROOT / "tests" / it) for it in ("checking", "program")]
 
 import changes
+import example_files
 import grammar
 
 LIST = ROOT / "tests" / "gate" / "cases.list"
-ENDINGS = (".queue", ".ttcn")
+ENDINGS = ("queue", "ttcn")
+MOST_ENTRIES = 40  # of a folder of tests/golden/
 
 
 class Kind(Enum):
     """What a listed file is."""
 
-    QUEUE = "queue"  # a queue file of examples/
-    RIGHT = "right"  # a script of examples/ that is run
+    QUEUE = "queue"  # an example that is a queue file
+    RIGHT = "right"  # one that is a script, and is run
     REFUSED = "refused"  # one that is refused
     SMALL = "small"  # a script of tests/orders/, which is run in every order of its steps
     CHANGES = "changes"  # a table of changed scripts
@@ -61,16 +64,13 @@ def listed(kind: Kind, file: Path, number: int) -> Listed:
 
 
 def example(file: Path) -> Listed:
-    """The texts that may be printed of an example are NAME.expected, or NAME.expected.1, .2 and so on."""
-    is_refused = file.with_suffix(".status").exists()
-    kind = Kind.QUEUE if file.suffix == ".queue" else Kind.REFUSED if is_refused else Kind.RIGHT
-    texts = [file.with_suffix(".expected"), *file.parent.glob(f"{file.stem}.expected.[0-9]*")]
-    return listed(kind, file, sum(it.exists() for it in texts))
+    kind = Kind.QUEUE if file.suffix == ".queue" else Kind.REFUSED if example_files.is_refused(file) else Kind.RIGHT
+    return listed(kind, file, len(example_files.answers(file)))
 
 
 def all_listed() -> list[Listed]:
     """What is there, in the order of the list."""
-    found = [example(it) for it in (ROOT / "examples").iterdir() if it.suffix in ENDINGS]
+    found = [example(it) for ending in ENDINGS for it in example_files.texts(ending)]
     found += [listed(Kind.SMALL, it, 1) for it in ROOT.glob("tests/orders/*/*.ttcn")]
     for file in changes.FOLDER.glob("*.changes"):
         found.append(listed(Kind.CHANGES, file, len([*changes.changes_of(file.name.removesuffix(".changes"))])))
@@ -79,19 +79,29 @@ def all_listed() -> list[Listed]:
 
 
 def strays() -> Iterator[str]:
-    """A file of examples/ that is neither an example nor belongs to one would never be looked at."""
-    for file in sorted((ROOT / "examples").glob("[!.]*")):
+    """A file that is neither an example nor belongs to one would never be looked at."""
+    for file in sorted(chain.from_iterable(it.glob("[!.]*") for it in example_files.FOLDERS)):
         name, ending, number = file.name.partition(".expected.")
         base = name if ending and number.isdecimal() else file.stem
-        is_answer = file.suffix in (".expected", ".checked", ".status") or base == name
-        belongs = is_answer and any((file.parent / f"{base}{it}").exists() for it in ENDINGS)
-        if file.name != "README.md" and file.suffix not in ENDINGS and not belongs:
+        belongs = (file.suffix == ".expected" or base == name) and any(
+            (file.parent / f"{base}.{it}").exists() for it in ENDINGS
+        )
+        if file.name != "README.md" and file.suffix[1:] not in ENDINGS and not belongs:
             yield f"{file.relative_to(ROOT)} belongs to no example"
 
 
+def full_folders() -> Iterator[str]:
+    """In a folder of many entries nobody finds anything."""
+    for folder in example_files.FOLDERS[1:]:
+        if (number := len([*folder.iterdir()])) > MOST_ENTRIES:
+            yield f"{folder.relative_to(ROOT)} has {number} entries, and {MOST_ENTRIES} at most"
+
+
 def twins(there: list[Listed]) -> Iterator[str]:
-    """An example of the same text as another shows nothing."""
+    """An example of the same text as another shows nothing, and one of the same name isn't found by it."""
     known: dict[str, str] = {}
+    names = Counter(Path(it.file).name for it in there if it.kind in (Kind.QUEUE, Kind.RIGHT, Kind.REFUSED))
+    yield from (f"{number} examples have the name {name}" for name, number in names.items() if number > 1)
     for it in there:
         other = known.setdefault(sha256((ROOT / it.file).read_bytes()).hexdigest(), it.file)
         if other != it.file:
@@ -147,7 +157,7 @@ def main() -> int:
     elif asked == "counts":
         print(*(f"{name}={number}" for name, number in counts().items()), sep="\n")
     else:
-        wrong = [*strays(), *twins(there), *differences(there), *unnamed_parts()]
+        wrong = [*strays(), *full_folders(), *twins(there), *differences(there), *unnamed_parts()]
         print(*(f"FAILED: {it}" for it in wrong) if wrong else ["passed all that is there is listed"], sep="\n")
     return 1 if wrong else 0
 

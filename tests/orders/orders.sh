@@ -41,11 +41,8 @@ every_order() {
 # The judge of tests/runs/soak: it allows what an example may print and all that a small script may report, and
 # refuses what is a little different. The reports of an open example are all that its script may have.
 judge_of_each() {
-    local script scripts=()
-    for script in examples/*.ttcn tests/orders/*/*.ttcn; do
-        if [[ ! -e ${script%.ttcn}.status ]]; then scripts+=("$script"); fi
-    done
-    told "$room/judged" tests/orders/judged.py "${scripts[@]}"
+    find_runnable
+    told "$room/judged" tests/orders/judged.py "${runnable[@]}"
     echo "the judge: $(sum_of 2 "$room/judged") reports allowed, $(sum_of 3 "$room/judged") refused"
 }
 

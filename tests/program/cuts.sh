@@ -18,8 +18,7 @@ answers_to_cuts() { # PROGRAM FILE
 cuts_of_each() {
     local name
     for name in "${cut_examples[@]}"; do
-        set_up "there is examples/$name.queue" [ -s "examples/$name.queue" ] || continue
-        observe answers_to_cuts "$tpr" "examples/$name.queue"
+        observe answers_to_cuts "$tpr" "$(place_of_example "$name.queue")"
         judge "cuts of $name" 0 '' "tests/program/$name.cuts"
         count $?
     done

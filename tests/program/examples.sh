@@ -1,4 +1,5 @@
-# The examples: what the program prints of each file of examples/, given by its name, and then as standard input.
+# The examples, of examples/ and tests/golden/: what the program prints of each, given by its name, and then as standard
+# input.
 
 # The modes that the ending of an example stands for. A further kind of example is a further line.
 declare -A modes_of=(
@@ -6,19 +7,16 @@ declare -A modes_of=(
     [ttcn]='check run'
 )
 
-# And what the file of a mode's answer is called.
-declare -A ending_of=(
-    [queue]=expected
-    [check]=checked
-    [run]=expected
-)
-
 example() { # FILE MODE
     local file=$1 mode=$2
     local base=${file%.*} wanted=0
-    local allowed=("$base.${ending_of[$mode]}"*)
-    if [[ -f $base.status ]]; then read -r wanted <"$base.status"; fi
-    if [[ $mode == check ]] && ! grep -qx accepted "$base.checked"; then wanted=2; fi
+    local allowed=("$base.expected"*)
+    if is_refused "$file"; then
+        wanted=2
+    elif [[ $mode == check ]]; then
+        echo accepted >"$room/accepted"
+        allowed=("$room/accepted")
+    fi
     # A run that never ends has the status 124, and the gate goes on.
     observe timeout 60 "$tpr" "$mode" "$file" </dev/null
     judge "$file in mode $mode" "$wanted" '' "${allowed[@]}" || return
@@ -28,7 +26,7 @@ example() { # FILE MODE
 
 examples_of() { # ENDING MODE
     local file
-    for file in examples/*."$1"; do
+    for file in examples/*."$1" tests/golden/*/*."$1"; do
         example "$file" "$2"
         count $?
     done

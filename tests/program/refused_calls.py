@@ -21,6 +21,7 @@ from typing import NamedTuple
 
 sys.dont_write_bytecode = True
 
+import example_files
 from refusing import NO_MEMORY, NO_READ, PROGRAM, ROOT, Case, Ran, Refusing, Wrong, try_each
 
 sys.path.append(str(ROOT / "tests" / "traces"))
@@ -55,12 +56,13 @@ class Asked(NamedTuple):
         return ran.is_so(self.status, self.answer)
 
 
-def example(mode: str, file: str, ending: str) -> Asked:
+def example(mode: str, file: str) -> Asked:
     """An example in a mode, and what it prints there."""
-    path = ROOT / "examples" / file
-    status = path.with_suffix(".status")
-    wanted = int(status.read_text(encoding="ascii")) if status.exists() else 0
-    return Asked(mode, path, wanted, path.with_suffix(ending).read_bytes())
+    text = example_files.example(file)
+    if mode == "check" and not example_files.is_refused(text):
+        return Asked(mode, text, 0, b"accepted\n")
+    (answer,) = example_files.answers(text)
+    return Asked(mode, text, 2 if example_files.is_refused(text) else 0, answer.read_bytes())
 
 
 def traces(folder: Path) -> Iterator[Asked]:
@@ -108,8 +110,8 @@ def each_write(refusing: Refusing, asked: Asked) -> None:
 
 
 def of_the_program(refusing: Refusing, folder: Path) -> Iterator[Case]:
-    asked = [example("queue", f"{it}.queue", ".expected") for it in QUEUES]
-    asked += [example("check", f"{it}.ttcn", ".checked") for it in SCRIPTS]
+    asked = [example("queue", f"{it}.queue") for it in QUEUES]
+    asked += [example("check", f"{it}.ttcn") for it in SCRIPTS]
     for it in asked:
         yield f"each allocation of {it.mode} {it.file.name}", functools.partial(each_allocation, refusing, it)
     for it in traces(folder):

@@ -181,9 +181,13 @@ def several_modules(program: str) -> None:
     judged("a parameter that isn't there", five.status == 2 and "PX_OTHER" in five.said, five.said)
 
 
+def examples() -> list[str]:
+    return glob.glob(f"{ROOT}/examples/*.ttcn") + glob.glob(f"{ROOT}/tests/golden/*/*.ttcn")
+
+
 def same(program: str) -> None:
     """A script of the profile that has one report keeps it."""
-    for script in sorted(glob.glob(f"{ROOT}/examples/*.ttcn")):
+    for script in sorted(examples()):
         name, wanted = os.path.basename(script), f"{script.removesuffix('.ttcn')}.expected"
         if not os.path.exists(wanted) or run(program, "check", script).status != 0:
             continue
@@ -268,9 +272,7 @@ def large(program: str) -> None:
 
 def listed(program: str) -> None:
     """`explain --all` names nothing in a script of the profile, and in another what `explain` names among the rest."""
-    accepted = [
-        file for file in sorted(glob.glob(f"{ROOT}/examples/*.ttcn")) if run(program, "check", file).status == 0
-    ]
+    accepted = [file for file in sorted(examples()) if run(program, "check", file).status == 0]
     ended = run(EXPLAIN, "--all", *accepted)
     judged("nothing in a script of the profile", (ended.status, ended.printed) == (0, ""), ended.printed[:300])
     scripts = sorted(glob.glob(f"{ROOT}/tests/tools/explained/*.ttcn"))

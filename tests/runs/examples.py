@@ -8,22 +8,22 @@ from pathlib import Path
 ROOT = Path(__file__).resolve().parents[2]
 sys.path.append(str(ROOT / "tests" / "program"))
 
+import example_files
 from refusing import Ran
 
 
 def names() -> list[str]:
     """Those that are right."""
-    scripts = sorted((ROOT / "examples").glob("*.ttcn"))
-    return [it.stem for it in scripts if not it.with_suffix(".status").exists()]
+    return [it.stem for it in example_files.texts("ttcn") if not example_files.is_refused(it)]
 
 
 def script(name: str) -> str:
-    return str(ROOT / "examples" / f"{name}.ttcn")
+    return str(example_files.example(f"{name}.ttcn"))
 
 
 @cache
 def reports(name: str) -> frozenset[bytes]:
-    return frozenset(it.read_bytes() for it in (ROOT / "examples").glob(f"{name}.expected*"))
+    return frozenset(it.read_bytes() for it in example_files.answers(example_files.example(f"{name}.ttcn")))
 
 
 def is_report(ran: Ran, allowed: frozenset[bytes], mode: str = "run") -> bool:

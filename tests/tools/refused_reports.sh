@@ -11,7 +11,7 @@ declare -A report_named=(
 small_reports=(
     examples/login_is_answered.expected examples/halt_holds_back_what_comes_later.expected
     examples/message_is_looked_at_first.expected examples/reset_of_all_ports.expected
-    examples/one_fails_and_the_others_go_on.expected examples/everyone_is_told_to_stop.expected.1
+    tests/golden/components/one_fails_and_the_others_go_on.expected examples/everyone_is_told_to_stop.expected.1
 )
 
 # A report that is cut behind any of its lines is refused at the next.
@@ -79,7 +79,7 @@ refused_reports() {
             tool_must "$report with the change $change" 2 says_alone "chart: $room/changed, line $line: "
         fi
     done
-    for file in "$root"/examples/*refused.expected; do
+    for file in "$root"/tests/golden/*/*refused.expected; do
         observe "$root/tools/chart" "$file"
         tool_must "the chart of $file" 2 says_alone "chart: $file, line 1: "
     done

@@ -42,7 +42,7 @@ suites_of_scripts() {
     for name in login_is_answered system_under_test_answers nobody_is_connected \
         halt_holds_back_what_comes_later two_senders_to_one_that_ended \
         trigger_in_an_alt_comes_before_else script_cut_inside_an_alt; do
-        cp -- "$root/examples/$name.ttcn" "$here"
+        cp -- "$root/$(place_of_example "$name.ttcn")" "$here"
     done
     mv -- "$here/two_senders_to_one_that_ended.ttcn" "$here/inner/none.ttcn"
     touch -- "$here/notes.txt"
@@ -73,7 +73,7 @@ $(kept trigger_in_an_alt_comes_before_else inconc)" \
     name=kept/inner/none.ttcn/run1.none
     tool_must "what is kept of a folder in it" 5 test -s "$name.report" -a -s "$name.svg"
     tool_must "what is kept of a refusal" 5 cmp -s -- kept/script_cut_inside_an_alt.ttcn/run1.refused.printed \
-        "$root/examples/script_cut_inside_an_alt.expected"
+        "$root/tests/golden/refused_scripts/script_cut_inside_an_alt.expected"
     tool_must "nothing else is kept" 5 test "$(find kept -type f | wc -l)" -eq 13
     suites_that_want
     cd -- "$root" || exit 1
@@ -127,7 +127,7 @@ suites_of_another_program() {
     printf '%s\n' 'if [[ -e once ]]; then cat %q; else touch once; cat %q; fi' >form
     # shellcheck disable=SC2059
     printf "$(cat form)\n" "$root/examples/login_is_answered.expected" \
-        "$root/examples/system_under_test_answers.expected" >fails_once.ttcn
+        "$root/tests/golden/components/system_under_test_answers.expected" >fails_once.ttcn
     failed_once='fail in 1 of 4 runs, 3 pass; 2 different reports; mtc set fail, report line 5, behind: set pass'
     run_suite "$room/another" fails_once.ttcn --times 4 --jobs 1
     tool_must "a script that fails once" 5 prints_table "fails_once.ttcn  fail * T  $failed_once" \
@@ -182,7 +182,7 @@ suites_that_cannot_be() {
     tool_must "a table onto a full device" 3 says_alone "suite: the answer can't be written"
     suites_that_are_asked_wrongly "$file"
     TPR=$tpr observe python3 "$root/tests/tools/tool_rules.py" terminal "$root/tools/suite" "$file" \
-        "$root/examples/script_cut_inside_an_alt.ttcn"
+        "$root/tests/golden/refused_scripts/script_cut_inside_an_alt.ttcn"
     tool_must "a line of progress on a terminal" 0 grep -q '1 of 2 done, 0 not as wanted; last ' "$room/printed"
     cd -- "$root" || exit 1
 }
@@ -203,7 +203,7 @@ suites_of_what_is_wanted() {
     mkdir -- "$room/scripts_wanted" || exit 1
     cd -- "$room/scripts_wanted" || exit 1
     for name in login_is_answered script_cut_inside_an_alt system_under_test_answers; do
-        cp -- "$base/$name.ttcn" .
+        cp -- "$root/$(place_of_example "$name.ttcn")" .
     done
     printf 'cat %q\n' "$base/everyone_is_told_to_stop.expected.2" >told.ttcn
     run_suite "$tpr" login_is_answered.ttcn script_cut_inside_an_alt.ttcn system_under_test_answers.ttcn

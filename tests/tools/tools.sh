@@ -5,11 +5,11 @@ rules_hold() { # RULE..
     says_nothing && python3 "$root/tests/tools/tool_rules.py" "$@"
 }
 
-# The reports of examples/: what mode run prints of a script that it runs.
+# The reports of the examples: what mode run prints of a script that it runs.
 find_reports() {
     local file script
     reports=()
-    for script in "$root"/examples/*.ttcn; do
+    for script in "$root"/examples/*.ttcn "$root"/tests/golden/*/*.ttcn; do
         for file in "${script%.ttcn}".expected*; do
             if [[ $(head -n 1 -- "$file") == "component mtc" ]]; then reports+=("$file"); fi
         done
@@ -40,7 +40,7 @@ charts_of_docs() {
 
 rules_on_reports() {
     observe python3 "$root/tests/tools/tool_rules.py" orders "${reports[@]}"
-    tool_must "the orders of the reports of examples/" 0 prints ''
+    tool_must "the orders of the reports of the examples" 0 prints ''
     observe python3 "$root/tests/tools/tool_rules.py" cuts "${small_reports[@]/#/"$root/"}"
     tool_must "reports that are cut behind any of their bytes" 0 prints ''
     observe python3 "$root/tests/tools/tool_rules.py" random 150
@@ -249,7 +249,7 @@ tells_two_results() {
 
 comparisons_of_examples() {
     local script base
-    for script in "$root"/examples/*.expected.2; do
+    for script in "$root"/examples/*.expected.2 "$root"/tests/golden/*/*.expected.2; do
         base=${script%.2}
         observe "$root/tools/compare" "$base.1" "$script"
         if cmp -s <(tail -n 1 -- "$base.1") <(tail -n 1 -- "$script"); then

@@ -15,8 +15,8 @@ why_rules() { # NAME RULE..
 lines_of_reports() {
     local own=(tests/tools/whys/*.expected)
     find_reports
-    set_up "there are 129 reports in examples/" [ "${#reports[@]}" -ge 129 ]
-    why_rules "the lines of all reports of examples/ are those of the model" examples "${reports[@]}"
+    set_up "there are 129 reports of examples" [ "${#reports[@]}" -ge 129 ]
+    why_rules "the lines of all reports of examples are those of the model" examples "${reports[@]}"
     why_rules "so are those of tests/tools/whys/" examples "${own[@]}"
     why_rules "the lines that were worked out by hand" table tests/tools/whys/lines "${reports[@]}" "${own[@]}"
     why_rules "the lines of 300 scripts by chance are those of the model" random 300
@@ -180,7 +180,7 @@ misfits() {
         'chef: `end done` doesn'"'"'t fit the script: a message or `[else]` is next (lines 14-15)'
     misfit "a wait where nothing waits" "$kitchen" '15s/.*/end waiting/;s/result pass/result error/' 15 \
         'chef: `end waiting` doesn'"'"'t fit the script: the body ends here'
-    misfit "another number of a failed send" examples/nobody_is_connected.expected 's/41/42/' 3 \
+    misfit "another number of a failed send" tests/golden/sending/nobody_is_connected.expected 's/41/42/' 3 \
         'mtc: `failed 42` doesn'"'"'t fit the script: `failed 41` is next (line 8)'
     misfit "a message is taken that is found" tests/tools/whys/found_and_discarded.expected 's/^found/took/' 7 \
         'a: `took p mtc 0 integer:1` doesn'"'"'t fit the script: a message that is `found` is next (line 8)'
@@ -196,8 +196,8 @@ why_of_bad_input() {
     local script=examples/closed_counter_serves_no_order.ttcn
     why "$room/missing"
     tool_must "why: a missing script" 2 says_alone "why: $room/missing can't be read"
-    why examples/script_cut_inside_an_alt.ttcn
-    tool_must "why: a script that is refused" 2 says_alone "why: examples/script_cut_inside_an_alt.ttcn, line "
+    why tests/golden/refused_scripts/script_cut_inside_an_alt.ttcn
+    tool_must "why: a script that is refused" 2 says_alone "why: tests/golden/refused_scripts/script_cut_inside_an_alt.ttcn, line "
     why "$script" "$room/missing"
     tool_must "why: a missing report" 2 says_alone "why: $room/missing can't be read"
     why "$script" "$script"
@@ -216,7 +216,7 @@ why_of_bad_input() {
     tool_must "why: a summary of nothing" 2 says_alone "why: there is no file or folder $room/missing"
     observe "$root/tools/why" --tpr "$room/missing" --summary "$script" examples/login_is_answered.ttcn
     tool_must "why: a summary without a program" 1 says_alone "why: $room/missing can't be run"
-    why --summary examples/script_cut_inside_an_alt.ttcn examples/login_is_answered.ttcn
+    why --summary tests/golden/refused_scripts/script_cut_inside_an_alt.ttcn examples/login_is_answered.ttcn
     tool_must "why: a summary of a script that is refused" 2 grep -q '^2 scripts: ' "$room/printed"
     observe "$root/tools/why" --help
     tool_must "what why --help says" 0 grep -q "^  1  the report isn't one of this script" "$room/printed"

@@ -13,21 +13,12 @@ told_by() { # LEAST WORD..
     at_least "$1" told "$room/traces_told" "${@:2}"
 }
 
-# The scripts of examples/ and tests/orders/ that can be run.
-find_runnable() {
-    local script
-    runnable=()
-    for script in examples/*.ttcn tests/orders/*/*.ttcn; do
-        if [[ ! -e ${script%.ttcn}.status ]]; then runnable+=("$script"); fi
-    done
-}
-
 # The traces that were played from examples are their reports, with the arrivals in them.
 played_traces_are_reports() {
     local trace base file
     for trace in tests/traces/lawful/*.trace; do
-        base=examples/$(basename -- "$trace" .trace)
-        if [[ ! -e $base.ttcn ]]; then continue; fi
+        base=$(place_of_example "$(basename -- "$trace" .trace).ttcn" 2>"$room/no_example") || continue
+        base=${base%.ttcn}
         for file in "$base".expected*; do
             if cmp -s -- "$file" <(grep -v '^came ' "$trace"); then count 0 && continue 2; fi
         done
@@ -52,7 +43,7 @@ make_traces() { # FOLDER
     mkdir -p -- "$1"
     for base in closed_counter_serves_no_order heartbeats_are_skipped login_is_answered replies_go_to_their_senders \
         two_senders_to_one_that_ended; do
-        "$tpr" trace "examples/$base.ttcn" >"$1/$base.trace" </dev/null || return
+        "$tpr" trace "$(place_of_example "$base.ttcn")" >"$1/$base.trace" </dev/null || return
     done
 }
 

@@ -78,8 +78,6 @@ _OVERRIDES = """\
 tpr: extra-license-file [usr/share/doc/tpr/LICENSE]
 # It is the program that the gate tried, byte by byte.
 tpr: unstripped-binary-or-object [usr/lib/tpr/tpr]
-# It is an example of just that.
-tpr: national-encoding [usr/share/doc/tpr/examples/byte_that_is_no_text_is_refused.queue]
 """
 
 
