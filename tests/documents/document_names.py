@@ -13,6 +13,7 @@ For each document a line `passed ..`, or lines `FAILED: ..`, by these rules:
 - the records of docs/DECISIONS.md are numbered one after the other, and have 120 words at most;
 - README.md has 1,300 words at most, and all documents have 45,000.
 """
+import argparse
 import glob
 import os
 import re
@@ -214,7 +215,10 @@ def faults_of(documents: dict[str, str]) -> Iterator[tuple[str, str]]:
 
 
 def main() -> int:
-    os.chdir(sys.argv[1] if len(sys.argv) > 1 else os.path.dirname(os.path.dirname(os.path.dirname(os.path.abspath(__file__)))))
+    words = argparse.ArgumentParser(description="Whether the documents name what is there.")
+    root = os.path.dirname(os.path.dirname(os.path.dirname(os.path.abspath(__file__))))
+    words.add_argument("root", metavar="ROOT", nargs="?", default=root, help="the repository")
+    os.chdir(words.parse_args().root)
     documents = find_documents()
     faults = list(faults_of(documents))
     for path, what in faults:

@@ -24,6 +24,7 @@ It prints lines that begin with `FAILED: ` where something doesn't hold.
 """
 from __future__ import annotations
 
+import argparse
 import json
 import os
 import random
@@ -273,18 +274,36 @@ def told_rightly(path: str, answer: str) -> int:
     return 0 if wrong is None else 1
 
 
+def arguments() -> argparse.Namespace:
+    words = argparse.ArgumentParser(description="Tests tools/explore: the classes that it finds are those of all orders.")
+    kinds = words.add_subparsers(dest="what", required=True)
+    for name in ("each", "acts"):
+        kind = kinds.add_parser(name)
+        kind.add_argument("program", metavar="PROGRAM")
+        kind.add_argument("scripts", metavar="SCRIPT", nargs="+")
+    kinds.add_parser("planted").add_argument("names", metavar="NAME", nargs="+")
+    kinds.add_parser("looks").add_argument("scripts", metavar="SCRIPT", nargs="+")
+    kind = kinds.add_parser("random")
+    kind.add_argument("seed", metavar="SEED")
+    kind.add_argument("number", metavar="NUMBER", type=int)
+    kind = kinds.add_parser("told")
+    kind.add_argument("script", metavar="SCRIPT")
+    kind.add_argument("answer", metavar="ANSWER")
+    return words.parse_args()
+
+
 def main() -> int:
-    what, *words = sys.argv[1:]
-    if what == "told":
-        return told_rightly(*words)
-    if what in ("each", "acts"):
-        each(wrong_in if what == "each" else wrong_acts_in, words[0], words[1:])
-    elif what == "planted":
-        planted(words)
-    elif what == "looks":
-        looks_as_one_step(words)
+    asked = arguments()
+    if asked.what == "told":
+        return told_rightly(asked.script, asked.answer)
+    if asked.what in ("each", "acts"):
+        each(wrong_in if asked.what == "each" else wrong_acts_in, asked.program, asked.scripts)
+    elif asked.what == "planted":
+        planted(asked.names)
+    elif asked.what == "looks":
+        looks_as_one_step(asked.scripts)
     else:
-        by_chance(words[0], int(words[1]))
+        by_chance(asked.seed, asked.number)
     return 0
 
 

@@ -9,6 +9,7 @@ line `passed NAME` for each case, and lines that begin with `FAILED: NAME` for o
 """
 from __future__ import annotations
 
+import argparse
 import os
 import subprocess
 import sys
@@ -140,7 +141,10 @@ CASES = (
 
 
 def main() -> None:
-    given = Given(*sys.argv[1:])
+    words = argparse.ArgumentParser(description="What tpr_ordered answers where a call fails.")
+    for name in Given._fields:
+        words.add_argument(name, metavar=name.upper())
+    given = Given(**vars(words.parse_args()))
     for name, attempt in CASES:
         try:
             attempt(given)

@@ -10,6 +10,7 @@ that is wrong.
 """
 from __future__ import annotations
 
+import argparse
 import glob
 import os
 import subprocess
@@ -186,7 +187,10 @@ def cases_of_endings() -> Iterator[tuple[str, Attempt]]:
 
 
 def main() -> None:
-    programs = Programs(*sys.argv[1:])
+    words = argparse.ArgumentParser(description="Whether tpr_ordered keeps the orders that it is given.")
+    for name in Programs._fields:
+        words.add_argument(name, metavar=name.upper())
+    programs = Programs(**vars(words.parse_args()))
     for cases in (cases_of_orders, cases_of_texts, cases_of_words, cases_of_endings):
         for name, attempt in cases():
             try:

@@ -17,6 +17,7 @@ again.
 """
 from __future__ import annotations
 
+import argparse
 import os
 import random
 import shutil
@@ -128,21 +129,27 @@ def some(faults: list[Fault], count: int, seed: str, times: str) -> list[Fault]:
 
 
 def main() -> int:
-    program, ordered, *words = sys.argv[1:]
+    words = argparse.ArgumentParser(description="Plants faults in parts of ./test, and looks whether they are told.")
+    words.add_argument("program", metavar="PROGRAM")
+    words.add_argument("ordered", metavar="ORDERED")
+    words.add_argument("names", metavar="NAME", nargs="*", help="of the parts; all without one")
+    words.add_argument("--some", nargs=3, metavar=("COUNT", "SEED", "TIMES"), help="so many by chance")
+    asked = words.parse_args()
     faults = listed_faults()
-    if not os.access(program, os.X_OK):
-        print(f"faults: there is no program {program}", file=sys.stderr)
+    if not os.access(asked.program, os.X_OK):
+        print(f"faults: there is no program {asked.program}", file=sys.stderr)
         return 4
-    if words[:1] == ["--some"]:
-        faults = some(faults, int(words[1]), words[2], words[3])
-        print(f"planted faults: seed {words[2]}: {', '.join(it.part for it in faults)}", flush=True)
-    elif words:
-        faults = [it for it in faults if it.part in words]
+    if asked.some:
+        count, seed, times = asked.some
+        faults = some(faults, int(count), seed, times)
+        print(f"planted faults: seed {seed}: {', '.join(it.part for it in faults)}", flush=True)
+    elif asked.names:
+        faults = [it for it in faults if it.part in asked.names]
     failed = 0
     for fault in faults:
-        if (why := why_left_out(fault, ordered)) is not None:
+        if (why := why_left_out(fault, asked.ordered)) is not None:
             print(f"left out the fault of {fault.part}: {why}", flush=True)
-        elif (wrong := untold(fault, program, ordered)) is not None:
+        elif (wrong := untold(fault, asked.program, asked.ordered)) is not None:
             failed += 1
             print(f"FAILED: the fault that is planted for {fault.part} isn't told: {wrong}", flush=True)
         else:

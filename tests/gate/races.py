@@ -21,6 +21,7 @@ Of each fault a line is printed, `told NAME; TEST: WHAT IT SAID`, or one that be
 """
 from __future__ import annotations
 
+import argparse
 import os
 import re
 import shutil
@@ -213,10 +214,14 @@ def asked(names: list[str]) -> list[Fault]:
     return [known[name] for name in [NO_FAULT, *names]] if names else FAULTS
 
 
-def main(words: list[str]) -> int:
-    if words == ["--fit"]:
+def main() -> int:
+    words = argparse.ArgumentParser(description="Whether the forced races tell each fault that is planted.")
+    words.add_argument("names", metavar="NAME", nargs="*", help="of the faults; all without one")
+    words.add_argument("--fit", action="store_true", help="look only whether each can still be planted")
+    told_to = words.parse_args()
+    if told_to.fit:
         return 0 if all_fit() else 1
-    faults = asked(words)
+    faults = asked(told_to.names)
     with tempfile.TemporaryDirectory(prefix="races-") as folder:
         copy = copy_with(folder, faults)
         how = {"stdin": subprocess.DEVNULL, "capture_output": True, "text": True, "errors": "replace"}
@@ -236,4 +241,4 @@ def main(words: list[str]) -> int:
 
 
 if __name__ == "__main__":
-    sys.exit(main(sys.argv[1:]))
+    sys.exit(main())

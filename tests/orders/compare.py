@@ -6,6 +6,7 @@ For each script all orders go to the program, `PROGRAM SCRIPT ORDERS`, and its a
 model, to the byte. It prints a line `passed ORDERS WAITING SCRIPT` for each script, WAITING of whose ORDERS end
 with a behaviour that waits; or lines that begin with `FAILED: SCRIPT`.
 """
+import argparse
 import os
 import subprocess
 import sys
@@ -69,9 +70,12 @@ def compared(program: str, script: str) -> str:
 
 
 def main() -> None:
-    program, *scripts = sys.argv[1:]
+    words = argparse.ArgumentParser(description="Compares the reports of all orders with those of the model.")
+    words.add_argument("program", metavar="PROGRAM", help="tpr_ordered, or another that keeps orders")
+    words.add_argument("scripts", metavar="SCRIPT", nargs="+")
+    asked = words.parse_args()
     with ProcessPoolExecutor(len(os.sched_getaffinity(0))) as pool:
-        for line in pool.map(compared, [program] * len(scripts), scripts):
+        for line in pool.map(compared, [asked.program] * len(asked.scripts), asked.scripts):
             print(line, flush=True)
 
 

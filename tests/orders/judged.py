@@ -7,6 +7,7 @@ NAME.expected.1 and so on, beside NAME.ttcn, they must be these reports. Each of
 each that is altered a little must be refused, if it isn't one of them. It prints a line
 `passed ALLOWED REFUSED SCRIPT` for each script, or lines that begin with `FAILED: SCRIPT`.
 """
+import argparse
 import glob
 import os
 import random
@@ -90,8 +91,11 @@ def judged(script: str) -> str:
 
 
 def main() -> None:
+    words = argparse.ArgumentParser(description="Tests the judge of reports.")
+    words.add_argument("scripts", metavar="SCRIPT", nargs="+")
+    asked = words.parse_args()
     with ProcessPoolExecutor(len(os.sched_getaffinity(0))) as pool:
-        for line in pool.map(judged, sys.argv[1:]):
+        for line in pool.map(judged, asked.scripts):
             print(line, flush=True)
 
 

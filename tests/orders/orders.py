@@ -9,6 +9,7 @@ only by the component's next one. So a component's last step stands in no order:
 a loop without a turn, or a send that fails, which touch nothing of another component. Nor does a step stand
 there that waits for good.
 """
+import argparse
 import os
 import random
 import sys
@@ -110,7 +111,11 @@ def finish(run: Run, who: int) -> bool:
 
 
 def main() -> None:
-    run, names = Run(TestCase(read_script(sys.argv[1]))), tuple(sys.argv[2:])
+    words = argparse.ArgumentParser(description="Every order of the steps of a script, with its report.")
+    words.add_argument("script", metavar="SCRIPT")
+    words.add_argument("names", metavar="NAME", nargs="*", help="of the one order that is asked for")
+    asked = words.parse_args()
+    run, names = Run(TestCase(read_script(asked.script))), tuple(asked.names)
     for ordered in [this_order_of(run, names)] if names else orders_of(run):
         print(ordered.answer(), end="")
 

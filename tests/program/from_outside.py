@@ -9,6 +9,7 @@ can't be tried here, and lines that begin with `FAILED: NAME` for one that is wr
 """
 from __future__ import annotations
 
+import argparse
 import fcntl
 import os
 import resource
@@ -446,7 +447,12 @@ def take_signals() -> None:
 def try_each(tried: Iterable[Case]) -> None:
     """Tries each case on the program of the command line, and prints what came of it."""
     take_signals()
-    program = Program(sys.argv[1], sys.argv[2], sys.argv[3] if len(sys.argv) > 3 else None)
+    words = argparse.ArgumentParser(description="What the program answers where something outside it fails.")
+    words.add_argument("program", metavar="PROGRAM")
+    words.add_argument("folder", metavar="FOLDER", help="where texts are written")
+    words.add_argument("refused", metavar="REFUSED", nargs="?", help="the library of refused.c")
+    asked = words.parse_args()
+    program = Program(asked.program, asked.folder, asked.refused)
     for name, mode, attempt in tried:
         try:
             attempt(program, mode)

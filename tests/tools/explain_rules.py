@@ -9,6 +9,7 @@
 
 Each prints what is wrong and ends with status 1, or prints nothing and ends with status 0.
 """
+import argparse
 import json
 import os
 import re
@@ -151,8 +152,18 @@ CHECKS = {
     "numbers": check_numbers,
 }
 
-if __name__ == "__main__":
+
+def main() -> None:
+    words = argparse.ArgumentParser(description="The rules on what tools/explain says.")
+    words.add_argument("rule", choices=CHECKS)
+    words.add_argument("words", metavar="WORD", nargs=argparse.REMAINDER, help="what the rule is asked of")
+    asked = words.parse_args()
     try:
-        CHECKS[sys.argv[1]](*sys.argv[2:])
+        CHECKS[asked.rule](*asked.words)
     except (Wrong, ValueError, KeyError, IndexError) as wrong:
-        sys.exit(f"{' '.join(sys.argv[1:])[:200]}: {type(wrong).__name__} {str(wrong)[:600]}")
+        told = " ".join([asked.rule, *asked.words])[:200]
+        sys.exit(f"{told}: {type(wrong).__name__} {str(wrong)[:600]}")
+
+
+if __name__ == "__main__":
+    main()

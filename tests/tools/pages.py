@@ -5,6 +5,7 @@
 
 The folder is for the pages. Where there is no browser the status is 3.
 """
+import argparse
 import os
 import subprocess
 import sys
@@ -203,10 +204,13 @@ class Pages:
         self.is_quiet("many", file)
 
 
-def main(folder):
+def main() -> int:
+    words = argparse.ArgumentParser(description="Charts as pages, in a real browser.")
+    words.add_argument("folder", metavar="FOLDER", help="where the pages are written")
+    asked = words.parse_args()
     if program() is None:
         return 3
-    pages = Pages(os.path.abspath(folder))
+    pages = Pages(os.path.abspath(asked.folder))
     try:
         for case in (pages.elements, pages.hiding, pages.choosing, pages.script_lines, pages.searching, pages.many):
             case()
@@ -216,4 +220,4 @@ def main(folder):
 
 
 if __name__ == "__main__":
-    sys.exit(main(sys.argv[1]))
+    sys.exit(main())

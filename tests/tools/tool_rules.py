@@ -16,6 +16,7 @@
 
 Each prints what is wrong and ends with status 1, or prints nothing and ends with status 0.
 """
+import argparse
 import functools
 import os
 import pty
@@ -371,8 +372,17 @@ CHECKS = {
     "interrupted": interrupt,
 }
 
-if __name__ == "__main__":
+
+def main() -> None:
+    words = argparse.ArgumentParser(description="The rules on what the tools print.")
+    words.add_argument("rule", choices=CHECKS)
+    words.add_argument("words", metavar="WORD", nargs=argparse.REMAINDER, help="what the rule is asked of")
+    asked = words.parse_args()
     try:
-        CHECKS[sys.argv[1]](*sys.argv[2:])
+        CHECKS[asked.rule](*asked.words)
     except (Wrong, NotAReport, xml.ParseError) as wrong:
-        sys.exit(f"{' '.join(sys.argv[1:])[:200]}: {wrong}")
+        sys.exit(f"{' '.join([asked.rule, *asked.words])[:200]}: {wrong}")
+
+
+if __name__ == "__main__":
+    main()

@@ -15,6 +15,7 @@
 
 Each prints what is wrong and ends with status 1, or prints nothing and ends with status 0.
 """
+import argparse
 import os
 import random
 import re
@@ -425,8 +426,12 @@ RULES = {
 
 
 def main() -> int:
+    words = argparse.ArgumentParser(description="The rules on what tools/why says.")
+    words.add_argument("rule", choices=RULES)
+    words.add_argument("words", metavar="WORD", nargs=argparse.REMAINDER, help="what the rule is asked of")
+    asked = words.parse_args()
     try:
-        RULES[sys.argv[1]](*sys.argv[2:])
+        RULES[asked.rule](*asked.words)
     except Wrong as wrong:
         print(wrong)
         return 1

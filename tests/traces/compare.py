@@ -1,17 +1,18 @@
 """Compares a program that judges traces with the judge in oracle.py, to the line.
 
-    compare.py planted TRACE.. -- COMMAND..    each trace, and each fault that planting.py plants in it
-    compare.py several TRACE.. -- COMMAND..    each trace, in which two to four of these are planted, by chance
-    compare.py cuts TRACE.. -- COMMAND..       each trace, cut off behind each of its bytes
-    compare.py bytes TRACE.. -- COMMAND..      each trace, with each of its bytes replaced by some others
-    compare.py played SCRIPT.. -- COMMAND..    traces of each script, played in an order made by chance
-    compare.py chance SEED.. -- COMMAND..      small traces made by chance, lawful and with a fault; and small ports and
-                                               routes, in which mostly something is wrong
+    compare.py planted TRACE.. --judge COMMAND..    each trace, and each fault that planting.py plants in it
+    compare.py several TRACE.. --judge COMMAND..    each trace, in which two to four of these are planted, by chance
+    compare.py cuts TRACE.. --judge COMMAND..       each trace, cut off behind each of its bytes
+    compare.py bytes TRACE.. --judge COMMAND..      each trace, with each of its bytes replaced by some others
+    compare.py played SCRIPT.. --judge COMMAND..    traces of each script, played in an order made by chance
+    compare.py chance SEED.. --judge COMMAND..      small traces made by chance, lawful and with a fault; and small
+                                                    ports and routes, in which mostly something is wrong
 
 COMMAND with a file behind it must print what the judge prints, and end with its status; where a trace has several
 circles, the first line of any of them may be told. A line `passed N WHAT` is printed for each trace, script or seed,
 or lines that begin with `FAILED: WHAT`. As many are gone through at once as there are processors.
 """
+import argparse
 import os
 import random
 import subprocess
@@ -125,10 +126,13 @@ TEXTS = {
 
 
 def main() -> int:
-    end = sys.argv.index("--")
-    kind, *texts = sys.argv[1:end]
+    words = argparse.ArgumentParser(description="Compares a program that judges traces with the judge in oracle.py.")
+    words.add_argument("kind", choices=TEXTS)
+    words.add_argument("texts", metavar="TRACE|SCRIPT|SEED", nargs="+")
+    words.add_argument("--judge", metavar="COMMAND", nargs=argparse.REMAINDER, required=True, help="what is compared")
+    asked = words.parse_args()
     with ProcessPoolExecutor(len(os.sched_getaffinity(0))) as pool:
-        waiting = [pool.submit(compared, kind, text, sys.argv[end + 1 :]) for text in texts]
+        waiting = [pool.submit(compared, asked.kind, text, asked.judge) for text in asked.texts]
         for done in waiting:
             print(done.result(), flush=True)
     return 0

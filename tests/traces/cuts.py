@@ -5,6 +5,7 @@
 Each must be refused; or be told to be cut off or to end early, and its lines begin those of the whole log. It prints
 what is wrong.
 """
+import argparse
 import os
 import sys
 from collections.abc import Sequence
@@ -30,7 +31,9 @@ def wrong(text: str, length: int, whole: Sequence[object]) -> str | None:
 
 
 def main() -> int:
-    for path in sys.argv[1:]:
+    words = argparse.ArgumentParser(description="Cuts logs of Titan's off behind each of their bytes.")
+    words.add_argument("logs", metavar="LOG", nargs="+")
+    for path in words.parse_args().logs:
         with open(path, encoding="utf-8", newline="") as file:
             text = file.read()
         log = read_log(text)

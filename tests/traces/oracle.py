@@ -5,6 +5,7 @@
 It prints `lawful`, and `one run` or `delayed line L`; or a line `unlawful RULE line L` for each place; or a
 refusal. The status is that of `tpr judge`.
 """
+import argparse
 import sys
 
 from form import OfAnotherForm, TooLong, read_trace
@@ -37,9 +38,12 @@ def answer_of(text: bytes) -> tuple[str, int]:
 
 
 def main() -> int:
+    words = argparse.ArgumentParser(description="Judges a trace.")
+    words.add_argument("file", metavar="FILE", nargs="?", help="standard input without it")
+    asked = words.parse_args()
     try:
-        if len(sys.argv) > 1:
-            with open(sys.argv[1], "rb") as file:
+        if asked.file is not None:
+            with open(asked.file, "rb") as file:
                 text = file.read()
         else:
             text = sys.stdin.buffer.read()

@@ -5,6 +5,7 @@ the report, with a line `came` wherever a message came into a queue.
 
 In the model a message is in its queue at once when it is sent, so each of these traces is one run.
 """
+import argparse
 import os
 import random
 import sys
@@ -46,5 +47,13 @@ def play(script: str, seed: int) -> str:
             waiting = set()
 
 
+def main() -> None:
+    words = argparse.ArgumentParser(description="Plays a script on the model of runs, and prints the trace.")
+    words.add_argument("script", metavar="SCRIPT")
+    words.add_argument("seed", metavar="SEED", nargs="?", type=int, default=1)
+    asked = words.parse_args()
+    sys.stdout.write(play(asked.script, asked.seed))
+
+
 if __name__ == "__main__":
-    sys.stdout.write(play(sys.argv[1], int(sys.argv[2]) if len(sys.argv) > 2 else 1))
+    main()

@@ -1,7 +1,7 @@
 """Tests the judge of traces in oracle.py, and what it stands on.
 
-    rules.py planted|forms|titan TABLE [-- COMMAND..]
-    rules.py document FILE [-- COMMAND..]
+    rules.py planted|forms|titan TABLE [--judge COMMAND..]
+    rules.py document FILE [--judge COMMAND..]
                                   each row of the table, each example of the document, has the answer that was worked
                                   out by hand: by the judge in oracle.py, or by the command with a file behind it
     rules.py lines FILE           each text has the form of a trace, or its first line of another form is the one that
@@ -14,6 +14,7 @@
 
 Each prints lines `passed ..`, or lines that begin with `FAILED: `.
 """
+import argparse
 import os
 import random
 import re
@@ -205,28 +206,30 @@ def routes(number: int) -> str:
     return of_two_kinds(lawful, number, f"{lawful} lawful routes")
 
 
-def judge_of(words: list[str], room: str) -> Callable[[bytes], tuple[str, int]]:
-    """The judge of which the command stands behind `--`, else that of oracle.py."""
-    if "--" not in words:
-        return answer_of
-    return Judge(words[words.index("--") + 1 :], os.path.join(room, "trace")).answer
+def judge_of(command: list[str], room: str) -> Callable[[bytes], tuple[str, int]]:
+    """The judge of which this is the command, else that of oracle.py."""
+    return Judge(command, os.path.join(room, "trace")).answer if command else answer_of
 
 
 def main() -> int:
-    what, *words = sys.argv[1:]
-    if what in TEXTS:
+    words = argparse.ArgumentParser(description="Tests the judge of traces in oracle.py, and what it stands on.")
+    words.add_argument("what", choices=(*TEXTS, "lines", "played", "tried"))
+    words.add_argument("words", metavar="TABLE|FILE|SCRIPT|NUMBER", nargs="+")
+    words.add_argument("--judge", metavar="COMMAND", nargs=argparse.REMAINDER, default=[], help="asked in its place")
+    asked = words.parse_args()
+    if asked.what in TEXTS:
         with tempfile.TemporaryDirectory() as room:
-            for line in answered(what, words[0], judge_of(words, room)):
+            for line in answered(asked.what, asked.words[0], judge_of(asked.judge, room)):
                 print(line, flush=True)
-    elif what == "lines":
-        for line in lines(words[0]):
+    elif asked.what == "lines":
+        for line in lines(asked.words[0]):
             print(line, flush=True)
-    elif what == "played":
-        for script in words:
+    elif asked.what == "played":
+        for script in asked.words:
             print(played(script), flush=True)
     else:
         for test in (tried, graphs, ports, routes):
-            print(test(int(words[0])), flush=True)
+            print(test(int(asked.words[0])), flush=True)
     return 0
 
 

@@ -1,12 +1,13 @@
 """Judges the traces of free runs.
 
-    runs.py PROGRAM SCRIPT.. -- COMMAND..
+    runs.py PROGRAM SCRIPT.. --judge COMMAND..
 
 `PROGRAM trace SCRIPT` is called several times, a part of them on one processor. Each trace without its lines `came`
 must be a report that the script may have, and the trace lawful and one run: by the judge in oracle.py, and by the
 command with a file behind it. For each script and judge a line `passed N SCRIPT by JUDGE` is printed, or lines that
 begin with `FAILED: SCRIPT by JUDGE`.
 """
+import argparse
 import os
 import subprocess
 import sys
@@ -87,13 +88,16 @@ def judged(program: str, script: str, judges: dict[str, Answer]) -> list[str]:
 
 
 def main() -> int:
-    program, *words = sys.argv[1:]
-    end = words.index("--")
+    words = argparse.ArgumentParser(description="Judges the traces of free runs.")
+    words.add_argument("program", metavar="PROGRAM")
+    words.add_argument("scripts", metavar="SCRIPT", nargs="+")
+    words.add_argument("--judge", metavar="COMMAND", nargs=argparse.REMAINDER, required=True)
+    asked = words.parse_args()
     with tempfile.TemporaryDirectory() as room:
-        command = Judge(words[end + 1 :], os.path.join(room, "trace"))
+        command = Judge(asked.judge, os.path.join(room, "trace"))
         judges: dict[str, Answer] = {"oracle.py": answer_of, "the command": command.answer}
-        for script in words[:end]:
-            print("\n".join(judged(program, script, judges)), flush=True)
+        for script in asked.scripts:
+            print("\n".join(judged(asked.program, script, judges)), flush=True)
     return 0
 
 

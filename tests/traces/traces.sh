@@ -53,16 +53,16 @@ judged_traces() {
     local traces=(tests/traces/lawful/*.trace tests/titan/{kitchen,clearing,pairs,mapped,made}/trace)
     local small=(tests/traces/lawful/{one_port,ask_and_answer}.trace)
     set_up "the program prints traces" make_traces "$room/traced" && traces+=("$room"/traced/*.trace)
-    told_by 19 tests/traces/compare.py planted "${traces[@]}" -- "${judge_of_traces[@]}"
-    told_by 189 tests/traces/rules.py planted tests/traces/planted.table -- "${judge_of_traces[@]}"
-    told_by 79 tests/traces/rules.py forms tests/traces/forms.table -- "${judge_of_traces[@]}"
-    told_by 11 tests/traces/rules.py titan tests/titan/answers.table -- "${judge_of_traces[@]}"
-    told_by 15 tests/traces/rules.py document docs/TRACES.md -- "${judge_of_traces[@]}"
-    told_by 19 tests/traces/compare.py several "${traces[@]}" -- "${judge_of_traces[@]}"
-    told_by 2 tests/traces/compare.py cuts "${small[@]}" -- "${judge_of_traces[@]}"
-    told_by 2 tests/traces/compare.py bytes "${small[@]}" -- "${judge_of_traces[@]}"
-    told_by "${#runnable[@]}" tests/traces/compare.py played "${runnable[@]}" -- "${judge_of_traces[@]}"
-    told_by 20 tests/traces/compare.py chance {1..20} -- "${judge_of_traces[@]}"
+    told_by 19 tests/traces/compare.py planted "${traces[@]}" --judge "${judge_of_traces[@]}"
+    told_by 189 tests/traces/rules.py planted tests/traces/planted.table --judge "${judge_of_traces[@]}"
+    told_by 79 tests/traces/rules.py forms tests/traces/forms.table --judge "${judge_of_traces[@]}"
+    told_by 11 tests/traces/rules.py titan tests/titan/answers.table --judge "${judge_of_traces[@]}"
+    told_by 15 tests/traces/rules.py document docs/TRACES.md --judge "${judge_of_traces[@]}"
+    told_by 19 tests/traces/compare.py several "${traces[@]}" --judge "${judge_of_traces[@]}"
+    told_by 2 tests/traces/compare.py cuts "${small[@]}" --judge "${judge_of_traces[@]}"
+    told_by 2 tests/traces/compare.py bytes "${small[@]}" --judge "${judge_of_traces[@]}"
+    told_by "${#runnable[@]}" tests/traces/compare.py played "${runnable[@]}" --judge "${judge_of_traces[@]}"
+    told_by 20 tests/traces/compare.py chance {1..20} --judge "${judge_of_traces[@]}"
     if [[ ! ${JUDGE-} ]]; then at_least 12 large_traces; fi
 }
 
@@ -257,5 +257,5 @@ traces_of_runs() {
     local runnable judge_of_traces
     find_runnable
     find_judge
-    told_by $((2 * ${#runnable[@]})) tests/traces/runs.py "$tpr" "${runnable[@]}" -- "${judge_of_traces[@]}"
+    told_by $((2 * ${#runnable[@]})) tests/traces/runs.py "$tpr" "${runnable[@]}" --judge "${judge_of_traces[@]}"
 }

@@ -13,6 +13,7 @@ or lines that begin with `FAILED: NAME WAY`. The last line says how many runs th
 Runs of different scripts go on side by side: those that need one or two processors each on processors of its own, two
 that need all, and beside a load as many as there are processors.
 """
+import argparse
 import os
 import subprocess
 import sys
@@ -144,9 +145,13 @@ def run_all(program: str, runs: int, shapes: list[Shape]) -> int:
 
 
 def main() -> None:
-    program, runs, names = sys.argv[1], int(sys.argv[2]), sys.argv[3:]
-    shapes = [shape for shape in all_shapes() if not names or shape.name in names]
-    print(f"many components: {run_all(program, runs, shapes)} runs of {len(shapes)} scripts")
+    words = argparse.ArgumentParser(description="Runs scripts with many components, and judges each report.")
+    words.add_argument("program", metavar="PROGRAM")
+    words.add_argument("runs", metavar="RUNS", type=int, help="of each script")
+    words.add_argument("names", metavar="NAME", nargs="*", help="of the scripts; all without one")
+    asked = words.parse_args()
+    shapes = [shape for shape in all_shapes() if not asked.names or shape.name in asked.names]
+    print(f"many components: {run_all(asked.program, asked.runs, shapes)} runs of {len(shapes)} scripts")
 
 
 if __name__ == "__main__":

@@ -7,6 +7,7 @@ these reports must be allowed, and each that is altered a little exactly where t
 where that one finds no answer soon, nothing is compared. It prints a line `passed ALLOWED REFUSED NAME` for each
 script, or lines that begin with `FAILED: NAME`.
 """
+import argparse
 import os
 import random
 import sys
@@ -95,8 +96,11 @@ def tried(shape: Shape, times: int) -> str:
 
 
 def main() -> None:
+    words = argparse.ArgumentParser(description="Tests the judge of runs with many components beside the model.")
+    words.add_argument("times", metavar="TIMES", type=int, help="runs of the model of each shape")
+    asked = words.parse_args()
     for shape in FEW:
-        print(tried(shape, int(sys.argv[1])), flush=True)
+        print(tried(shape, asked.times), flush=True)
 
 
 if __name__ == "__main__":
