@@ -126,7 +126,7 @@ def write(path, lines):
 def main(words):
     if len(words) < 2:
         sys.exit("usage: tests/gate/gate_times.py FILE COMMAND..")
-    parts = {}
+    parts: dict[tuple[str, str], Seen] = {}
     with subprocess.Popen(words[1:]) as ran:
         while ran.poll() is None:
             look(ran.pid, parts)

@@ -38,7 +38,9 @@ def wanted():
 def counted(lines):
     """What the prover counted of each crate that was proved in this run, and of its tests; and the crates that rt
     has kept. What it said of a crate stands behind a line `== CRATE`, and of its tests `== CRATE: its tests`."""
-    found, kept, crate, of_tests = {}, set(), "", ""
+    found: dict[str, dict[str, str]] = {}
+    kept: set[str] = set()
+    crate, of_tests = "", ""
     for line in lines:
         if line.startswith("== "):
             crate, _, of_tests = line.removeprefix("== ").partition(": ")

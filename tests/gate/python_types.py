@@ -23,12 +23,16 @@ FOLDERS = {
     "tests/documents": (),
     "tests/exploring": ("orders",),
     "tests/forced": (),
+    "tests/gate": ("checking", "program"),
     "tests/orders": (),
     "tests/program": ("traces",),
     "tests/runs": ("program", "orders", "traces"),
     "tests/runs/many_components": ("orders",),
+    "tests/tools": ("orders",),
     "tests/traces": ("orders",),
 }
+# The functions of these say nothing of their types yet: what stands in them is looked at all the same.
+UNTYPED = ("tests/gate", "tests/tools")
 PACKAGES = ("tools/rewriting", "tools/tpr_tools")
 
 
@@ -48,7 +52,8 @@ def wrong_in(folder: str) -> str:
     """What mypy says of a folder; nothing where all fits."""
     used = [str(ROOT / "tests" / it) for it in FOLDERS[folder]]
     environment = {**os.environ, "MYPYPATH": os.pathsep.join(used)}
-    command = ["mypy", "--no-error-summary", *files_of(folder)]
+    lenient = ["--allow-untyped-defs", "--allow-untyped-calls"] if folder in UNTYPED else []
+    command = ["mypy", "--no-error-summary", *lenient, *files_of(folder)]
     ended = subprocess.run(command, cwd=ROOT, env=environment, capture_output=True, text=True, check=False)
     said = ended.stdout + ended.stderr
     return said or (f"mypy ended with status {ended.returncode}" if ended.returncode else "")

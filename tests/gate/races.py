@@ -224,8 +224,15 @@ def main() -> int:
     faults = asked(told_to.names)
     with tempfile.TemporaryDirectory(prefix="races-") as folder:
         copy = copy_with(folder, faults)
-        how = {"stdin": subprocess.DEVNULL, "capture_output": True, "text": True, "errors": "replace"}
-        ran = subprocess.run(["rt", "try", "--test"], cwd=copy, check=False, **how)
+        ran = subprocess.run(
+            ["rt", "try", "--test"],
+            cwd=copy,
+            check=False,
+            stdin=subprocess.DEVNULL,
+            capture_output=True,
+            text=True,
+            errors="replace",
+        )
     tried = failed_tests(ran.stdout)
     if set(tried) != {it.name for it in faults}:
         print(f"FAILED: the copy can't be tried, status {ran.returncode}:\n{(ran.stdout + ran.stderr)[-4000:]}")

@@ -64,8 +64,9 @@ def check(folder, paths, words=("rt", "check", "--jobs", "1")):
     """What a check says of these functions, or of the whole crate where there are none, and what the
     prover answers."""
     words = [*words, *[word for path in paths for word in ("--only", path)]]
-    how = {"stdin": subprocess.DEVNULL, "capture_output": True, "text": True, "errors": "replace"}
-    ran = subprocess.run(words, cwd=folder, **how)
+    ran = subprocess.run(
+        words, cwd=folder, stdin=subprocess.DEVNULL, capture_output=True, text=True, errors="replace"
+    )
     lines = (ran.stdout + ran.stderr).split("\n")
     counts = [re.match(r"only=(\d+) proved=(\d+)", line) for line in lines]
     is_short = any(it and int(it[2]) < int(it[1]) for it in counts)
@@ -76,7 +77,7 @@ def check(folder, paths, words=("rt", "check", "--jobs", "1")):
 
 def batches(edits):
     """Puts the edits together, as many at once as go with one another."""
-    made = []
+    made: list[list[object]] = []
     for edit in edits:
         fits = [it for it in made if len(it) < AT_ONCE and edit.goes_with(it)]
         if fits:
@@ -118,6 +119,7 @@ def refused_in(folder, edit, told, proved):
     known = [place for place in edit.places if place.key]
     mine = [place for place in known if any(place.is_told_by(line) for line in told)]
     first = TOLD.match(told[0])
+    assert first is not None, told[0]
     if not mine and first["proof"]:
         return first["proof"].replace("/", "::")
     if not mine:
@@ -238,7 +240,7 @@ def asked(words):
         words = wanting()
     elif not words:
         words = [*crates()]
-    found = {}
+    found: dict[str, list[str]] = {}
     for word in words:
         crate, _, name = word.partition("/")
         if crate not in crates():
@@ -257,7 +259,7 @@ def main(words):
     if wrong:
         sys.exit(f"wrong_bodies: tests/wrong_bodies/record: {wrong[0]}")
     try:
-        found = sum(try_each(jobs, try_in_a_room, asked(words)), [])
+        found: list[str] = sum(try_each(jobs, try_in_a_room, asked(words)), [])
     except KeyboardInterrupt:
         print("wrong_bodies: interrupted", file=sys.stderr)
         return 130

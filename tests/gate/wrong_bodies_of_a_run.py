@@ -120,7 +120,8 @@ def try_crate(crate, functions):
 def by_crates(listed):
     """The functions of the edits, by crates and names. Those crates come first that stand on most,
     since a check takes longest where it has most to read."""
-    found, uses = {}, crates()
+    found: dict[str, dict[str, str]] = {}
+    uses = crates()
     for name, function in listed.items():
         found.setdefault(name.partition("/")[0], {})[name.partition("/")[2]] = function
     return dict(sorted(found.items(), key=lambda it: -len(below(it[0], uses))))

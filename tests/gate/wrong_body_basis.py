@@ -229,8 +229,7 @@ def lines_of(root):
 def toolchain():
     """The toolchain's line, or nothing where there is none."""
     try:
-        how = {"stdin": subprocess.DEVNULL, "capture_output": True, "text": True}
-        ran = subprocess.run(["rt", "version"], **how)
+        ran = subprocess.run(["rt", "version"], stdin=subprocess.DEVNULL, capture_output=True, text=True)
     except OSError:
         return ""
     return ran.stdout.strip() if ran.returncode == 0 else ""

@@ -24,7 +24,7 @@ class Edit:
         self.text = read(path)
         self.pairs = pairs_of(self.text)
         self.places = []
-        self.texts = {}
+        self.texts: dict[str, str] = {}
         for file, old, new in self.pairs:
             text = self.texts.get(file) or source(folder, file)
             self.places.append(place_of(file, text, old))
@@ -79,6 +79,7 @@ class Place:
 
     def is_told_by(self, line):
         told = TOLD.match(line)
+        assert told is not None, line
         if told["proof"]:
             return self.has_proof(told["proof"].split("/"))
         return told["file"] == self.file and self.first <= int(told["line"]) <= self.last
@@ -143,13 +144,15 @@ def place_at(file, lines, at):
     if not heads:
         return Place(file, at + 1, at + 1)
     head = heads[-1]
-    indent = re.match(r"\s*", lines[head])[0]
+    indent = lines[head][: len(lines[head]) - len(lines[head].lstrip())]
     last = next(n for n in range(head, len(lines)) if lines[n] == indent + "}")
     if last < at:
         return Place(file, at + 1, at + 1)
     first = next(n for n in range(head, -1, -1) if n == 0 or not lines[n - 1].strip())
     cycle = re.search(r"#\[cycle\((\w+)\)\]", "\n".join(lines[first:head]))
-    name = re.search(r"fn (\w+)", lines[head])[1]
+    named = re.search(r"fn (\w+)", lines[head])
+    assert named is not None
+    name = named[1]
     owners = owners_of(lines[:head]) if indent else (None, None)
     return Place(file, first + 1, last + 1, owners, name, cycle and cycle[1])
 
@@ -169,7 +172,7 @@ def owners_of(lines):
 
 def crates():
     """The crates, each with those that it names."""
-    found = {}
+    found: dict[str, list[str]] = {}
     for line in read(f"{ROOT}/crates.txt").split("\n"):
         head, colon, below = line.partition("#")[0].partition(":")
         if colon:
@@ -184,7 +187,7 @@ def shelves(crate):
 
 def files_of(crate):
     """The edits of a crate by their names, each with the files that have it."""
-    found = {}
+    found: dict[str, list[str]] = {}
     for shelf in shelves(crate):
         for name in sorted(os.listdir(shelf)) if os.path.isdir(shelf) else []:
             found.setdefault(name.removesuffix(".edit"), []).append(f"{shelf}/{name}")

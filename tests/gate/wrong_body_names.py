@@ -73,7 +73,7 @@ def owner_of(kind, head):
 
 def variants(body):
     """The variants of an enum, by what stands in its brackets."""
-    for opening, closing_one in ("()", "{}", "[]"):
+    for opening, closing_one in (("(", ")"), ("{", "}"), ("[", "]")):
         body = without_brackets(body, opening, closing_one)
     return [words[0] for words in map(words_of, body.split(",")) if words]
 
@@ -127,7 +127,7 @@ class Names:
         if crate not in self.seen:
             crates = [crate, *below(crate, self.uses)]
             all_of_them = [(it, source) for it in crates for source in self.sources(it).values()]
-            owners = {name: set() for _, source in all_of_them for name in source.types}
+            owners: dict[str, set[str]] = {name: set() for _, source in all_of_them for name in source.types}
             for it, source in all_of_them:
                 room = it if source.room in ("lib", "main") else source.room
                 owners.setdefault(room, set()).update(source.items)

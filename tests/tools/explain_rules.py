@@ -14,6 +14,7 @@ import json
 import os
 import re
 import sys
+from collections.abc import Callable
 
 ROOT = os.path.dirname(os.path.dirname(os.path.dirname(os.path.realpath(__file__))))
 sys.dont_write_bytecode = True
@@ -120,6 +121,7 @@ def check_words():
         title = title.replace("the operation {word}", "`match`, `valueof`")
         here = told.get((construct.clause, title))
         must(here, f"docs/FROM_TTCN3.md has no row for {title}, {construct.clause}")
+        assert here is not None
         is_missing = construct.instead.startswith("nothing: ")
         must(here.startswith("no, because " if is_missing else "write instead: "), f"{title}: {here}")
         words = construct.instead.removeprefix("nothing: ").partition("{")[0]
@@ -144,7 +146,7 @@ def check_numbers():
     must(order in read(f"{ROOT}/docs/PROFILE.md"), f"docs/PROFILE.md doesn't say: {order}")
 
 
-CHECKS = {
+CHECKS: dict[str, Callable[..., None]] = {
     "answers": check_answers,
     "columns": check_columns,
     "table": check_table,

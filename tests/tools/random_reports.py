@@ -43,7 +43,7 @@ class Run:
         if self.random.random() < 0.4:
             self.names.append("system")
         self.ports = {(name, port): Port() for name in self.names for port in ("p", "q", "r")}
-        self.histories = {name: [] for name in self.names}
+        self.histories: dict[str, list[str]] = {name: [] for name in self.names}
         self.ends = {}
         self.counts = {}
         self.operations = self.random.choice([0, 0, 1, 3])

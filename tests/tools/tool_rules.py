@@ -27,6 +27,7 @@ import subprocess
 import sys
 import time
 import xml.etree.ElementTree as xml
+from collections.abc import Callable
 
 ROOT = os.path.dirname(os.path.dirname(os.path.dirname(os.path.realpath(__file__))))
 sys.dont_write_bytecode = True
@@ -78,7 +79,8 @@ def check_drawing(report, svg):
     for part in ("title", "desc"):
         element = root.find(f"{SVG}{part}")
         must(element is not None and element.text and element.get("id"), f"it has no {part}")
-        must(element.get("id") in root.get("aria-labelledby").split(), f"its {part} isn't named")
+        assert element is not None
+        must(element.get("id") in root.get("aria-labelledby", "").split(), f"its {part} isn't named")
     lines = report.splitlines()
     for word in ENDS:
         arrows = [path for path in root.iter(f"{SVG}path") if path.get("class") == word]
@@ -215,7 +217,8 @@ def check_parts(number):
         chance = random.Random(seed)
         names = report.names()
         only = tuple(chance.sample(names, chance.randint(1, len(names))))
-        rows = tuple(sorted(chance.choices(range(1, len(whole.steps) + 1), k=2))) if whole.steps else None
+        first, last = sorted(chance.choices(range(1, len(whole.steps) + 1), k=2)) if whole.steps else (0, 0)
+        rows = (first, last) if whole.steps else None
         for asked in (Asked(only=only), Asked(rows=rows), Asked(only, rows, fold=True), Asked(fold=True)):
             try:
                 check_part(part_of(whole, asked), whole, asked)
@@ -268,7 +271,7 @@ def check_linear():
 # The usual schema, as build servers read it. Of each element: the attributes that it must have, those
 # that it may have, and the elements that may stand in it.
 COUNTS = {"tests", "failures", "errors", "skipped"}
-ELEMENTS = {
+ELEMENTS: dict[str, tuple[set[str], set[str], set[str]]] = {
     "testsuites": ({"tests", "failures", "errors"}, {"name", "time", "disabled"}, {"testsuite"}),
     "testsuite": (
         {"name", "tests", "failures", "errors", "time", "timestamp", "hostname"},
@@ -354,11 +357,12 @@ def interrupt(file, *command):
         while not os.path.exists(file) and time.monotonic() < until:
             time.sleep(0.05)
         process.send_signal(signal.SIGINT)
+        assert process.stdout is not None
         printed = process.stdout.read().decode()
     print(printed, f"status {process.returncode}", sep="")
 
 
-CHECKS = {
+CHECKS: dict[str, Callable[..., None]] = {
     "chart": check_charts,
     "orders": check_orders,
     "played": check_played,

@@ -21,6 +21,7 @@ import random
 import re
 import subprocess
 import sys
+from collections.abc import Callable
 
 ROOT = os.path.dirname(os.path.dirname(os.path.dirname(os.path.realpath(__file__))))
 sys.dont_write_bytecode = True
@@ -64,6 +65,7 @@ def lined_tokens(text):
     tokens, place, line = [], 0, 1
     while place < len(text):
         found = TOKENS.match(text, place)
+        assert found is not None, text[place:]
         if found.lastgroup != "gap":
             tokens.append(worded(found.group(), line))
         line += found.group().count("\n")
@@ -117,6 +119,7 @@ class LinedRun(Run):
 
     def copy(self):
         other = super().copy()
+        assert isinstance(other, LinedRun)
         other.discarded = self.discarded.copy()
         return other
 
@@ -167,7 +170,10 @@ def run_by_chance(run, chance):
 
 def run_with_report(run, report):
     """A run that has this report, as judge.py looks for one."""
-    wanted, seen, open_runs = wanted_by(run.case, report), set(), [run]
+    wanted = wanted_by(run.case, report)
+    assert wanted is not None, report
+    seen: set[object] = set()
+    open_runs = [run]
     while open_runs and len(seen) <= MOST_STATES:
         run = open_runs.pop()
         hurry(run, wanted)
@@ -229,6 +235,7 @@ def rows_of_tool(script, report):
     for told, line in zip(listed, lines):
         must(told.endswith(f"  {line}"), f"{told!r} isn't of {line!r}")
         found = re.fullmatch(r" *([0-9]*) *(->|<-|) *(.*?) *", told[: len(told) - len(line)])
+        assert found is not None, told
         rows.append((line, int(found[1]) if found[1] else None, found[2], found[3]))
     return rows
 
@@ -367,7 +374,9 @@ def discarded_rule(number):
 
 def discarded_in_runs(case, lines):
     """For each report the lines by which each message is discarded in some run that has it."""
-    seen, open_runs, found = set(), [LinedRun(case, lines)], {}
+    seen: set[object] = set()
+    found: dict[str, dict[object, set[object]]] = {}
+    open_runs = [LinedRun(case, lines)]
     while open_runs:
         run = open_runs.pop()
         if (key := repr((run.components, sorted(run.discarded.items())))) in seen:
@@ -416,7 +425,7 @@ def causes_rule(program, *scripts):
         must(told == wanted, f"{script}:\n{told}and by hand:\n{wanted}")
 
 
-RULES = {
+RULES: dict[str, Callable[..., None]] = {
     "causes": causes_rule,
     "discarded": discarded_rule,
     "examples": examples_rule,
