@@ -33,7 +33,7 @@ FOLDERS = {
 }
 # The functions of these say nothing of their types yet: what stands in them is looked at all the same.
 UNTYPED = ("tests/gate", "tests/tools")
-PACKAGES = ("tools/rewriting", "tools/tpr_tools")
+PACKAGES = ("tools/tpr_tools",)
 
 
 def is_python(file: Path) -> bool:

@@ -69,8 +69,8 @@ def run(*words: str, data: bytes = b"") -> Ended:
 
 def carried(program: str, name: str, text: str) -> Ended:
     """What tools/rewrite would end with, asked in this process: a process for each script takes long."""
-    from rewriting.rewriting import rewrite
-    from rewriting.tokens import Source
+    from tpr_tools.rewrite.rewriting import rewrite
+    from tpr_tools.rewrite.tokens import Source
 
     found = rewrite([Source(name, text.encode())])
     if found.refused:
@@ -209,8 +209,8 @@ def broken(program: str) -> None:
     chance = random.Random(53)
     with open(f"{FOLDER}/natural/login_with_templates.ttcn", "rb") as opened:
         whole = opened.read()
-    from rewriting.rewriting import rewrite
-    from rewriting.tokens import Source
+    from tpr_tools.rewrite.rewriting import rewrite
+    from tpr_tools.rewrite.tokens import Source
 
     def answer(data: bytes) -> bool:
         found = rewrite([Source("x", data)])
@@ -312,7 +312,7 @@ def fault_is_told(program: str, file: str, old: str, new: str, entry: str) -> st
     """Empty where it is told, else why not."""
     with tempfile.TemporaryDirectory() as folder:
         shutil.copytree(f"{ROOT}/tools", f"{folder}/tools")
-        place = f"{folder}/tools/rewriting/{file}"
+        place = f"{folder}/tools/tpr_tools/rewrite/{file}"
         with open(place, encoding="utf-8") as opened:
             text = opened.read()
         old, new = old.replace("\\n", "\n"), new.replace("\\n", "\n")

@@ -56,7 +56,7 @@ in_the_package() {
     in_the_tree | sed -E '/^d/d
         s!^f docs/tpr\.1$!f usr/share/man/man1/tpr.1.gz!;t
         s!^x !x usr/lib/tpr/!;t
-        s!^f (tools/(tpr_tools|rewriting)/)!f usr/lib/tpr/\1!;t
+        s!^f (tools/tpr_tools/)!f usr/lib/tpr/\1!;t
         s!^f !f usr/share/doc/tpr/!'
     printf 'f usr/share/doc/tpr/%s\n' changelog.gz copyright
     printf 'f usr/share/lintian/overrides/tpr\n'

@@ -4,7 +4,7 @@ from __future__ import annotations
 from dataclasses import dataclass
 from typing import Union
 
-from tpr_tools.script.constructs import Construct
+from ..script.constructs import Construct
 
 from . import tree
 from .reading_modules import ModuleReader

@@ -6,7 +6,7 @@ from bisect import bisect_right
 from dataclasses import dataclass
 from enum import Enum
 
-from tpr_tools.words import RESERVED, RESERVED_ELSEWHERE
+from ..words import RESERVED, RESERVED_ELSEWHERE
 
 KEYWORDS = RESERVED | RESERVED_ELSEWHERE | {"realtime", "timestamp", "now", "setencode", "unicast"}
 

@@ -3,7 +3,7 @@ from __future__ import annotations
 
 from typing import NoReturn
 
-from tpr_tools.script.constructs import Construct
+from ..script.constructs import Construct
 
 from .tokens import Kind, Refused, Source, Token, refused_at
 from .tree import Expression

@@ -3,7 +3,7 @@ from __future__ import annotations
 
 from typing import Iterable, Optional
 
-from tpr_tools.words import RESERVED, RESERVED_ELSEWHERE
+from ..words import RESERVED, RESERVED_ELSEWHERE
 
 from .types import Type
 from .values import Bounds, Elements, Excluded, Fields, Form, Options, TextPattern, Wild

@@ -3,7 +3,7 @@ from __future__ import annotations
 
 from typing import Callable, Optional
 
-from tpr_tools.script.constructs import Construct
+from ..script.constructs import Construct
 
 from . import tree
 from .reading_expressions import ExpressionReader
