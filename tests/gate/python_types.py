@@ -28,7 +28,7 @@ FOLDERS = {
     "tests/program": ("traces",),
     "tests/runs": ("program", "orders", "traces"),
     "tests/runs/many_components": ("orders",),
-    "tests/tools": ("orders",),
+    "tests/tools": ("orders", "gate"),
     "tests/traces": ("orders",),
 }
 # The functions of these say nothing of their types yet: what stands in them is looked at all the same.
