@@ -12,6 +12,7 @@ last seen of each: so up to half a second of each process is missing, and the ru
 tests, which are short, are left out. It is written anew at each look, whole: so a gate that is cut
 off leaves what was seen.
 """
+import argparse
 import os
 import subprocess
 import sys
@@ -123,18 +124,21 @@ def write(path, lines):
     os.replace(f"{path}.new", path)
 
 
-def main(words):
-    if len(words) < 2:
-        sys.exit("usage: tests/gate/gate_times.py FILE COMMAND..")
+def main():
+    words = argparse.ArgumentParser(description="Runs the first half of the gate, and measures what each crate takes.")
+    words.add_argument("file", metavar="FILE", help="where the table is written")
+    words.add_argument("command", metavar="COMMAND", help="what is run")
+    words.add_argument("words", metavar="WORD", nargs=argparse.REMAINDER, help="of the command")
+    asked = words.parse_args()
     parts: dict[tuple[str, str], Seen] = {}
-    with subprocess.Popen(words[1:]) as ran:
+    with subprocess.Popen([asked.command, *asked.words]) as ran:
         while ran.poll() is None:
             look(ran.pid, parts)
-            write(words[0], table(parts))
+            write(asked.file, table(parts))
             time.sleep(EACH)
-    write(words[0], table(parts))
+    write(asked.file, table(parts))
     return ran.returncode if ran.returncode >= 0 else 128 - ran.returncode
 
 
 if __name__ == "__main__":
-    sys.exit(main(sys.argv[1:]))
+    sys.exit(main())

@@ -10,6 +10,7 @@ and left out where nothing does.
 
 It prints a line `passed CRATE`, `left out CRATE: WHY` or `FAILED: CRATE: WHY` for each crate of crates.txt.
 """
+import argparse
 import os
 import re
 import sys
@@ -86,11 +87,12 @@ def told(crate, counts, found, is_kept):
     return f"passed {crate}"
 
 
-def main(words):
-    if len(words) != 1:
-        sys.exit("usage: tests/gate/may_wait.py FILE")
+def main():
+    words = argparse.ArgumentParser(description="Compares the counts of crates.txt with the prover's.")
+    words.add_argument("file", metavar="FILE", help="what rt ci said")
+    asked = words.parse_args()
     # The program's tests may print bytes that are no text.
-    with open(words[0], encoding="utf-8", errors="replace") as file:
+    with open(asked.file, encoding="utf-8", errors="replace") as file:
         found, kept = counted(file.read().split("\n"))
     before, known, lines = read_known(), {}, []
     for crate, counts in wanted().items():
@@ -103,4 +105,4 @@ def main(words):
 
 
 if __name__ == "__main__":
-    sys.exit(main(sys.argv[1:]))
+    sys.exit(main())

@@ -2,6 +2,7 @@
 and why. A case's name is the first line of its text."""
 from __future__ import annotations
 
+import argparse
 import sys
 import unittest
 from types import TracebackType
@@ -35,9 +36,11 @@ def name_of(test: unittest.TestCase) -> str:
 
 def main() -> None:
     """Runs the cases of the module that is called, or those of the command line by their names."""
-    names = sys.argv[1:] or None
-    loader = unittest.defaultTestLoader
     module = sys.modules["__main__"]
+    words = argparse.ArgumentParser(description=(module.__doc__ or "").partition("\n")[0])
+    words.add_argument("names", metavar="CLASS.test_NAME", nargs="*", help="of the cases; all without one")
+    names = words.parse_args().names
+    loader = unittest.defaultTestLoader
     suite = loader.loadTestsFromNames(names, module) if names else loader.loadTestsFromModule(module)
     found = _Told()
     suite.run(found)

@@ -24,6 +24,7 @@ keeps its line.
 The last line is `wrong bodies: N refused, M not told, K not refused`, with `, L not tried` behind it
 where there are such.
 """
+import argparse
 import os
 import re
 import shutil
@@ -43,7 +44,6 @@ from wrong_body_edits import (
 from wrong_body_record import Basis, read_record, update, wanting
 
 AT_ONCE = 16
-USAGE = "usage: ./test wrong_bodies [--jobs N] [stale | CRATE | CRATE/NAME ..]"
 
 # What a line of TOLD says of a proof whose body has another shape.
 SHAPE = re.compile(r"has no field |has no `[^`]*` that can be named")
@@ -249,17 +249,22 @@ def asked(words):
     return {crate: [] if "" in names else names for crate, names in found.items()}
 
 
-def main(words):
-    jobs = 1
-    if words[:1] == ["--jobs"]:
-        if len(words) < 2 or not re.fullmatch(r"[1-9]\d?", words[1]):
-            sys.exit(USAGE)
-        jobs, words = int(words[1]), words[2:]
+def number_of_jobs(text):
+    if not re.fullmatch(r"[1-9]\d?", text):
+        raise argparse.ArgumentTypeError(f"{text!r} is no number from 1 to 99")
+    return int(text)
+
+
+def main():
+    words = argparse.ArgumentParser("wrong_bodies", description="Tries wrong bodies: the prover must refuse each of them.")
+    words.add_argument("--jobs", metavar="N", type=number_of_jobs, default=1, help="so many crates at once")
+    words.add_argument("names", metavar="stale | CRATE | CRATE/NAME", nargs="*", help="all without one")
+    told = words.parse_args()
     _, wrong = read_record()
     if wrong:
         sys.exit(f"wrong_bodies: tests/wrong_bodies/record: {wrong[0]}")
     try:
-        found: list[str] = sum(try_each(jobs, try_in_a_room, asked(words)), [])
+        found: list[str] = sum(try_each(told.jobs, try_in_a_room, asked(told.names)), [])
     except KeyboardInterrupt:
         print("wrong_bodies: interrupted", file=sys.stderr)
         return 130
@@ -270,4 +275,4 @@ def main(words):
 
 
 if __name__ == "__main__":
-    sys.exit(main(sys.argv[1:]))
+    sys.exit(main())

@@ -18,9 +18,9 @@ bodies of each run: N refused, M failed`, and the status is 1 where one failed.
 `rt ci` gives back the libraries that were there before it, which may be of older sources. With
 `stale_libraries` those are taken away, so that afterwards each is of the sources that are there.
 """
+import argparse
 import functools
 import os
-import re
 import shutil
 import subprocess
 import sys
@@ -29,12 +29,10 @@ import tempfile
 sys.dont_write_bytecode = True
 
 from wrong_bodies import (
-    REFUSED, UNTOLD, UNTRIED, batches, check, edits_of, is_over, printing, try_each, try_them,
+    REFUSED, UNTOLD, UNTRIED, batches, check, edits_of, is_over, number_of_jobs, printing, try_each, try_them,
 )
 from wrong_body_basis import PARTS, below
 from wrong_body_edits import ROOT, crates, of_each_run
-
-USAGE = "usage: tests/gate/wrong_bodies_of_a_run.py [--jobs N] | stale_libraries"
 
 
 def library(crate):
@@ -137,14 +135,16 @@ def try_and_say(crate, functions):
     return sum(why is not None for why in found.values())
 
 
-def main(words):
-    if words == ["stale_libraries"]:
+def main():
+    words = argparse.ArgumentParser(description="Tries the wrong bodies that each run of the gate tries.")
+    words.add_argument("--jobs", metavar="N", type=number_of_jobs, default=1, help="so many crates at once")
+    words.add_argument("what", nargs="?", choices=("stale_libraries",), help="takes away libraries of older sources")
+    asked = words.parse_args()
+    if asked.what:
         return remove_stale_libraries()
-    if words and not (len(words) == 2 and words[0] == "--jobs" and re.fullmatch(r"[1-9]\d?", words[1])):
-        sys.exit(USAGE)
     listed = of_each_run()[0]
     try:
-        failed = sum(try_each(int(words[1]) if words else 1, try_and_say, by_crates(listed)))
+        failed = sum(try_each(asked.jobs, try_and_say, by_crates(listed)))
     except KeyboardInterrupt:
         return 130
     print(f"wrong bodies of each run: {len(listed) - failed} refused, {failed} failed")
@@ -152,4 +152,4 @@ def main(words):
 
 
 if __name__ == "__main__":
-    sys.exit(main(sys.argv[1:]))
+    sys.exit(main())

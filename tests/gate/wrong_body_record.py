@@ -15,6 +15,7 @@ names what isn't there (tests/gate/wrong_body_names.py) or can't be found by `./
 crate has edits and each run tries none of them, and where a line of the record has another form, stands
 twice or out of its order, or names no edit. A stale or missing line is no fault.
 """
+import argparse
 import fcntl
 import os
 import re
@@ -162,15 +163,16 @@ def faults():
     return of_record + faults_of_the_list() + more + gone_names(found), found
 
 
-def main(words):
-    if words not in ([], ["--tried"]):
-        sys.exit("usage: tests/gate/wrong_body_record.py [--tried]")
+def main():
+    words = argparse.ArgumentParser(description="Looks at the record of the wrong bodies that were tried.")
+    words.add_argument("--tried", action="store_true", help="this run has tried those that each run tries")
+    asked = words.parse_args()
     wrong, found = faults()
     for it in wrong:
         print(f"FAILED: {it}")
     of_each = [*found.values()]
     current, stale, missing = (of_each.count(it) for it in ("current", "stale", "missing"))
-    tried = "tried in this run" if words else "for a whole run of the gate"
+    tried = "tried in this run" if asked.tried else "for a whole run of the gate"
     recorded = f"{current} current, {stale} stale, {missing} never"
     print(f"wrong bodies: {len(all_edits())}, {len(tried_by_each_run())} {tried}; recorded: {recorded}")
     if not toolchain():
@@ -182,4 +184,4 @@ def main(words):
 
 
 if __name__ == "__main__":
-    sys.exit(main(sys.argv[1:]))
+    sys.exit(main())

@@ -377,7 +377,7 @@ wrong bodies of each run: 0 refused, 1 failed"$'\n' "$low"
 FAILED: low/gets_less is not refused in its function\nwrong bodies of each run: 1 refused, 1 failed\n' \
         'low/gets_more room::hidden' 'low/gets_less room::Room::get'
     in_tree wrong_bodies_of_a_run.py --jobs
-    must "other words" 1 '' $'usage: tests/gate/wrong_bodies_of_a_run.py [--jobs N] | stale_libraries\n'
+    tool_must "other words" 2 grep -q '^usage: wrong_bodies_of_a_run.py ' "$room/said"
 }
 
 record_of_wrong_bodies() {

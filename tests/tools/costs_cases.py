@@ -179,8 +179,9 @@ class Times(Case):
 
     def test_no_command(self) -> None:
         """no command"""
-        usage = "usage: tests/gate/gate_times.py FILE COMMAND..\n"
-        self.must([sys.executable, "-B", TIMES, "times"], 1, "", usage)
+        ended = subprocess.run([sys.executable, "-B", TIMES, "times"], capture_output=True, text=True, check=False)
+        self.assertEqual((ended.returncode, ended.stdout), (2, ""))
+        self.assertTrue(ended.stderr.startswith("usage: gate_times.py "), ended.stderr)
 
 
 if __name__ == "__main__":
