@@ -1,12 +1,7 @@
 """The examples that are run, and the reports that each may have."""
 from __future__ import annotations
 
-import sys
 from functools import cache
-from pathlib import Path
-
-ROOT = Path(__file__).resolve().parents[2]
-sys.path.append(str(ROOT / "tests" / "program"))
 
 import example_files
 from refusing import Ran

@@ -23,6 +23,7 @@ from functools import partial
 from pathlib import Path
 
 sys.dont_write_bytecode = True
+sys.path.append(str(Path(__file__).resolve().parents[1] / "program"))
 
 from examples import is_report, names, reports, script
 from refusing import NO_MEMORY, NO_THREAD, Wrong, run

@@ -16,6 +16,7 @@ from collections.abc import Iterator
 from pathlib import Path
 
 sys.dont_write_bytecode = True
+sys.path.append(str(Path(__file__).resolve().parents[1] / "program"))
 
 from examples import is_report, reports, script
 from refusing import NO_MEMORY, NO_READ, NO_THREAD, PROGRAM, Case, Ran, Refusing, try_each
