@@ -26,17 +26,22 @@ COUNTS = ("may_wait", "tests_may")
 NONE = {"may_wait": "0", "tests_may": "-"}
 
 
-def wanted():
+def counts_in(words: list[str]) -> dict[str, str]:
+    """What stands behind the `=` of each word."""
+    return {name: count for name, _, count in (word.partition("=") for word in words)}
+
+
+def wanted() -> dict[str, dict[str, str]]:
     """The counts of crates.txt, by the crates."""
     found = {}
     for line in read(f"{ROOT}/crates.txt").splitlines():
         name, *words = re.split("[:#]", line)[0].split() or [""]
         if name:
-            found[name] = {**NONE, **dict(word.partition("=")[::2] for word in words)}
+            found[name] = {**NONE, **counts_in(words)}
     return found
 
 
-def counted(lines):
+def counted(lines: list[str]) -> tuple[dict[str, dict[str, str]], set[str]]:
     """What the prover counted of each crate that was proved in this run, and of its tests; and the crates that rt
     has kept. What it said of a crate stands behind a line `== CRATE`, and of its tests `== CRATE: its tests`."""
     found: dict[str, dict[str, str]] = {}
@@ -46,7 +51,7 @@ def counted(lines):
         if line.startswith("== "):
             crate, _, of_tests = line.removeprefix("== ").partition(": ")
         elif line.startswith("logic=proved ") and crate:
-            said = dict(word.partition("=")[::2] for word in line.split())
+            said = counts_in(line.split())
             # That a test may end its process needs no word in crates.txt.
             may = [it for it in said.get("main", "").split("+") if it not in ("", "Abort")]
             count = {"tests_may": "+".join(may) or "-"} if of_tests else {"may_wait": said.get("may-wait", "0")}
@@ -56,25 +61,26 @@ def counted(lines):
     return found, kept
 
 
-def sum_of_sources(crate):
+def sum_of_sources(crate: str) -> str:
     folder = f"{ROOT}/crates/{crate}"
-    return sum_of([(file, text_of(f"{folder}/{file}")) for file in files_of(folder)])
+    found: str = sum_of([(file, text_of(f"{folder}/{file}")) for file in files_of(folder)])
+    return found
 
 
-def read_known():
+def read_known() -> dict[tuple[str, str], dict[str, str]]:
     """What earlier gates have read: the counts by the crates and the sums of their sources."""
     lines = [line.split() for line in read(KNOWN).splitlines()] if os.path.exists(KNOWN) else []
-    return {(crate, sources): dict(word.partition("=")[::2] for word in words) for crate, sources, *words in lines}
+    return {(crate, sources): counts_in(words) for crate, sources, *words in lines}
 
 
-def write_known(known):
+def write_known(known: dict[tuple[str, str], dict[str, str]]) -> None:
     os.makedirs(os.path.dirname(KNOWN), exist_ok=True)
     texts = [f"{' '.join(it)} {' '.join('='.join(count) for count in known[it].items())}\n" for it in sorted(known)]
     write(f"{KNOWN}.new", "".join(texts))
     os.replace(f"{KNOWN}.new", KNOWN)
 
 
-def told(crate, counts, found, is_kept):
+def told(crate: str, counts: dict[str, str], found: dict[str, str], is_kept: bool) -> str:
     """The line for a crate with these counts in crates.txt, of which this is found."""
     if "may_wait" not in found:
         why = "an earlier run proved it, and no gate has read its counts" if is_kept else ""
@@ -87,14 +93,15 @@ def told(crate, counts, found, is_kept):
     return f"passed {crate}"
 
 
-def main():
+def main() -> int:
     words = argparse.ArgumentParser(description="Compares the counts of crates.txt with the prover's.")
     words.add_argument("file", metavar="FILE", help="what rt ci said")
     asked = words.parse_args()
     # The program's tests may print bytes that are no text.
     with open(asked.file, encoding="utf-8", errors="replace") as file:
         found, kept = counted(file.read().split("\n"))
-    before, known, lines = read_known(), {}, []
+    before, lines = read_known(), []
+    known: dict[tuple[str, str], dict[str, str]] = {}
     for crate, counts in wanted().items():
         place = crate, sum_of_sources(crate)
         known[place] = {**before.get(place, {}), **found.get(crate, {})}

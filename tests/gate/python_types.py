@@ -31,9 +31,6 @@ FOLDERS = {
     "tests/tools": ("orders", "gate"),
     "tests/traces": ("orders",),
 }
-# The functions of these say nothing of their types yet: what stands in them is looked at all the same.
-UNTYPED = ("tests/gate", "tests/tools")
-LENIENT = ("--allow-untyped-defs", "--allow-untyped-calls")
 PACKAGES = ("tools/tpr_tools",)
 
 
@@ -53,9 +50,7 @@ def wrong_in(folder: str) -> str:
     """What mypy says of a folder; nothing where all fits."""
     used = [str(ROOT / "tests" / it) for it in FOLDERS[folder]]
     environment = {**os.environ, "MYPYPATH": os.pathsep.join(used)}
-    # What mypy keeps of a module holds for the same words alone.
-    lenient = [*LENIENT, "--cache-dir", "out/mypy/lenient"] if folder in UNTYPED else []
-    command = ["mypy", "--no-error-summary", *lenient, *files_of(folder)]
+    command = ["mypy", "--no-error-summary", *files_of(folder)]
     ended = subprocess.run(command, cwd=ROOT, env=environment, capture_output=True, text=True, check=False)
     said = ended.stdout + ended.stderr
     return said or (f"mypy ended with status {ended.returncode}" if ended.returncode else "")

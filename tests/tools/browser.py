@@ -2,6 +2,8 @@
 
 Keys and clicks are those that a user's would be. What the console says is kept.
 """
+from __future__ import annotations
+
 import json
 import os
 import select
@@ -9,47 +11,50 @@ import shutil
 import subprocess
 import tempfile
 import time
+from typing import Any, Optional
 
 NAMES = ("chromium", "chromium-browser", "google-chrome")
 SECONDS = 120  # for any one answer, on a machine that has other work
 
 
-def program():
+def program() -> Optional[str]:
     """The browser's path, or nothing."""
-    return next((path for path in map(shutil.which, NAMES) if path), None)
+    return next((path for path in (shutil.which(name) for name in NAMES) if path), None)
 
 
 class Browser:
     """One page in a window of its own."""
 
-    def __init__(self, width=1280, height=800):
+    def __init__(self, width: int = 1280, height: int = 800) -> None:
         self.folder = tempfile.TemporaryDirectory(ignore_cleanup_errors=True)
         self.number = 0
-        self.console, self.requests = [], []
+        self.console: list[str] = []
+        self.requests: list[str] = []
         theirs_in, self.to = os.pipe()
         self.back, theirs_out = os.pipe()
         words = ["--headless=new", "--no-sandbox", "--disable-gpu", "--no-first-run", "--remote-debugging-pipe"]
         words += [f"--user-data-dir={self.folder.name}", f"--window-size={width},{height}", "about:blank"]
         quiet = subprocess.DEVNULL
 
-        def take_pipes():
+        def take_pipes() -> None:
             # The browser reads from 3 and writes to 4.
             kept_in, kept_out = os.dup(theirs_in), os.dup(theirs_out)
             os.dup2(kept_in, 3)
             os.dup2(kept_out, 4)
 
         self.process = subprocess.Popen(
-            [program(), *words], stdin=quiet, stdout=quiet, stderr=quiet, close_fds=False, preexec_fn=take_pipes
+            [program() or NAMES[0], *words], stdin=quiet, stdout=quiet, stderr=quiet, close_fds=False, preexec_fn=take_pipes
         )
         os.close(theirs_in)
         os.close(theirs_out)
-        self.rest, self.session = b"", None
+        self.rest = b""
+        self.session: Optional[str] = None
         target = self.ask("Target.createTarget", url="about:blank")["targetId"]
         self.session = self.ask("Target.attachToTarget", targetId=target, flatten=True)["sessionId"]
         for domain in ("Page", "Runtime", "Log", "Network"):
             self.ask(f"{domain}.enable")
 
-    def ask(self, method, **words):
+    def ask(self, method: str, **words: Any) -> Any:
         """Sends a command, and answers what comes back."""
         self.number += 1
         command = {"id": self.number, "method": method, "params": words}
@@ -64,7 +69,7 @@ class Browser:
                 return answer["result"]
             self.note(answer)
 
-    def next(self):
+    def next(self) -> dict[str, Any]:
         until = time.monotonic() + SECONDS
         while b"\0" not in self.rest:
             ready, _, _ = select.select([self.back], [], [], max(until - time.monotonic(), 0))
@@ -73,64 +78,65 @@ class Browser:
                 raise RuntimeError("the browser says nothing more")
             self.rest += more
         answer, _, self.rest = self.rest.partition(b"\0")
-        return json.loads(answer)
+        told: dict[str, Any] = json.loads(answer)
+        return told
 
-    def note(self, event):
+    def note(self, event: dict[str, Any]) -> None:
         method, told = event.get("method"), event.get("params", {})
         if method in ("Runtime.consoleAPICalled", "Runtime.exceptionThrown", "Log.entryAdded"):
             self.console.append(json.dumps(told)[:500])
         elif method == "Network.requestWillBeSent":
             self.requests.append(told["request"]["url"][:200])
 
-    def open(self, file):
+    def open(self, file: str) -> None:
         self.ask("Page.navigate", url=f"file://{os.path.abspath(file)}")
         self.wait("document.readyState === 'complete' && document.querySelector('#view path') !== null")
 
-    def value(self, code):
+    def value(self, code: str) -> Any:
         """What the code comes to, in the page."""
         result = self.ask("Runtime.evaluate", expression=code, returnByValue=True, awaitPromise=True)
         if "exceptionDetails" in result:
             raise RuntimeError(f"{code}: {result['exceptionDetails']}")
         return result["result"].get("value")
 
-    def wait(self, code):
+    def wait(self, code: str) -> None:
         until = time.monotonic() + SECONDS
         while not self.value(code):
             if time.monotonic() > until:
                 raise RuntimeError(f"it never came: {code}")
             time.sleep(0.02)
 
-    def drawn(self):
+    def drawn(self) -> None:
         """Once what was asked for is drawn."""
         self.value("new Promise((done) => requestAnimationFrame(() => requestAnimationFrame(done)))")
 
-    def click(self, x, y):
+    def click(self, x: float, y: float) -> None:
         for kind in ("mousePressed", "mouseReleased"):
             self.ask("Input.dispatchMouseEvent", type=kind, x=x, y=y, button="left", clickCount=1)
         self.drawn()
 
-    def click_on(self, selector):
+    def click_on(self, selector: str) -> None:
         box = self.value(f"(({{x, y, width, height}}) => [x + width / 2, y + height / 2])"
                          f"(document.querySelector({json.dumps(selector)}).getBoundingClientRect())")
         self.click(*box)
 
-    def key(self, key):
+    def key(self, key: str) -> None:
         text = {"text": key} if len(key) == 1 else {"text": "\r"} if key == "Enter" else {}
         self.ask("Input.dispatchKeyEvent", type="keyDown", key=key, **text)
         self.ask("Input.dispatchKeyEvent", type="keyUp", key=key)
         self.drawn()
 
-    def write(self, text):
+    def write(self, text: str) -> None:
         self.ask("Input.insertText", text=text)
         self.drawn()
 
-    def picture(self, file):
+    def picture(self, file: str) -> None:
         import base64
 
         with open(file, "wb") as opened:
             opened.write(base64.b64decode(self.ask("Page.captureScreenshot")["data"]))
 
-    def end(self):
+    def end(self) -> None:
         try:
             self.session = None
             self.ask("Browser.close")

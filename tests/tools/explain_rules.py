@@ -15,6 +15,7 @@ import os
 import re
 import sys
 from collections.abc import Callable
+from typing import Any
 
 ROOT = os.path.dirname(os.path.dirname(os.path.dirname(os.path.realpath(__file__))))
 sys.dont_write_bytecode = True
@@ -30,24 +31,24 @@ class Wrong(Exception):
     """A rule is broken."""
 
 
-def must(holds, text):
+def must(holds: object, text: str) -> None:
     if not holds:
         raise Wrong(text)
 
 
-def read(file):
+def read(file: str) -> str:
     with open(file, encoding="utf-8") as opened:
         return opened.read()
 
 
-def told_in(file):
+def told_in(file: str) -> dict[str, dict[str, Any]]:
     """What is told of each script, by its name without folder and ending."""
     told = json.loads(read(file))
     must(told, "nothing is told")
     return {os.path.basename(one["file"]).removesuffix(".ttcn"): one for one in told}
 
 
-def check_answers(file, folder):
+def check_answers(file: str, folder: str) -> None:
     told = told_in(file)
     names = [name.removesuffix(".answer") for name in sorted(os.listdir(folder)) if name.endswith(".answer")]
     must(len(names) == len(told), f"{len(told)} scripts are told of, and there are {len(names)}")
@@ -62,7 +63,7 @@ def check_answers(file, folder):
         check_places(os.path.join(folder, f"{name}.ttcn"), one)
 
 
-def check_places(file, one):
+def check_places(file: str, one: dict[str, Any]) -> None:
     """The column is one of its line, and each line is shown as it is."""
     with open(file, "rb") as opened:
         lines = opened.read().decode("utf-8", "replace").split("\n")
@@ -77,14 +78,14 @@ def check_places(file, one):
         must(len(line) == len(place["text"]), f"{file}: line {place['line']} isn't shown as it is")
 
 
-def check_columns(file):
+def check_columns(file: str) -> None:
     told = [one for one in told_in(file).values() if one["answer"] == "refused" and one["line"]]
     have = sum(one["column"] is not None for one in told)
     must(len(told) >= 600, f"{len(told)} scripts alone are refused")
     must(have * 10 >= len(told) * 9, f"{have} of {len(told)} have a column")
 
 
-def check_table(file, table, least):
+def check_table(file: str, table: str, least: str) -> None:
     """`NAME|NUMBER|LINE|WHAT STANDS AT THE COLUMN|CONSTRUCT|CLAUSE`, or `NUMBER|LINE|..|SENTENCE`."""
     told = told_in(file)
     rows = [line.split("|") for line in read(table).splitlines() if not line.startswith("#")]
@@ -105,7 +106,7 @@ def check_table(file, table, least):
             must(one["sentence"] == row[3], f"{row}: {one['sentence']}")
 
 
-def check_words():
+def check_words() -> None:
     """Each rule stands in a document, each construct has its row with the same words."""
     refusals, profile = read(f"{ROOT}/docs/REFUSALS.md"), read(f"{ROOT}/docs/PROFILE.md")
     beyond = [it.rule for it in BEYOND_SCRIPTS.values()]
@@ -128,7 +129,7 @@ def check_words():
         must(words in here, f"docs/FROM_TTCN3.md doesn't say of {title}: {words}")
 
 
-def check_numbers():
+def check_numbers() -> None:
     """The numbers and names are those of the document's table, and of the one by which the program prints; each that is
     ever printed has rules, in one place; the faults of a send stand in their order."""
     table = [(str(it.value), it.word) for it in Refusal]

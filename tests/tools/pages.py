@@ -26,7 +26,7 @@ TEXTS = ALL.format("#view text") + ".map((it) => it.textContent)"
 SIGNS = '</script><img src=x onerror=alert(1)> & ""'
 
 
-def report_of_signs():
+def report_of_signs() -> str:
     message = f'charstring:"{SIGNS}"'
     return (
         f"component mtc\nsent a.p 0 {message}\nset fail\nend done\nverdict fail\ncomponent a\n"
@@ -34,7 +34,7 @@ def report_of_signs():
     )
 
 
-def report_of_many(components, rounds):
+def report_of_many(components: int, rounds: int) -> str:
     """All send to mtc, which takes the messages in turn, and the last waits for good."""
     names = [f"c{number}" for number in range(1, components)]
     lines = ["component mtc"]
@@ -50,12 +50,12 @@ def report_of_many(components, rounds):
 class Pages:
     """The cases, each on a page that was opened for it."""
 
-    def __init__(self, folder):
+    def __init__(self, folder: str) -> None:
         self.folder = folder
         self.browser = Browser()
         self.wrong = 0
 
-    def page(self, name, report):
+    def page(self, name: str, report: str) -> str:
         """The file of a page of a report, which is a file or a text."""
         file = os.path.join(self.folder, f"{name}.html")
         if "\n" not in report:
@@ -67,21 +67,21 @@ class Pages:
             opened.write(made.stdout)
         return file
 
-    def open(self, name, report):
+    def open(self, name: str, report: str) -> str:
         file = self.page(name, report)
         self.browser.console.clear()
         self.browser.requests.clear()
         self.browser.open(file)
         return file
 
-    def case(self, name, seen, wanted):
+    def case(self, name: str, seen: object, wanted: object) -> None:
         if seen == wanted:
             print(f"well {name}")
         else:
             self.wrong += 1
             print(f"wrong {name}: {seen!r}, and {wanted!r} is wanted")
 
-    def is_quiet(self, name, file):
+    def is_quiet(self, name: str, file: str) -> None:
         """Nothing on the console, and nothing asked for but the page itself."""
         self.browser.drawn()
         self.case(f"{name}: the console is empty", self.browser.console, [])
@@ -89,7 +89,7 @@ class Pages:
 
     # The cases
 
-    def elements(self):
+    def elements(self) -> None:
         ask = self.browser.value
         file = self.open("elements", "closed_counter_serves_no_order.expected")
         self.case("the title", ask("document.title + get('title').textContent"), "elements <&>elements <&>")
@@ -105,7 +105,7 @@ class Pages:
         self.case("only what there is can be jumped to", ask(off), "set fail,failed,end waiting,dropped")
         self.is_quiet("elements", file)
 
-    def hiding(self):
+    def hiding(self) -> None:
         ask, browser = self.browser.value, self.browser
         file = self.open("hiding", "everyone_is_told_to_stop.expected.1")
         rows = ask("state.rows.length")
@@ -127,7 +127,7 @@ class Pages:
         self.case("and unfolding wide", ask("state.width"), wide)
         self.is_quiet("hiding", file)
 
-    def choosing(self):
+    def choosing(self) -> None:
         ask, browser = self.browser.value, self.browser
         file = self.open("choosing", "orders_of_two_senders_and_a_halt.expected.3")
         place = ask("told.rows.findIndex((row) => row[0] === 0 && row[2] === '')")
@@ -146,7 +146,7 @@ class Pages:
         self.case("Escape closes", ask("panel.hidden"), True)
         self.is_quiet("choosing", file)
 
-    def script_lines(self):
+    def script_lines(self) -> None:
         """Whoever knows the lines of the script has them shown beside those of the report."""
         with open(os.path.join(ROOT, "examples", "login_is_answered.expected"), "rb") as opened:
             sequence = sequence_of(read_report(opened.read()), "script")
@@ -158,7 +158,7 @@ class Pages:
         self.case("a line of the script", "report line 2, script line 19" in
                   self.browser.value("panel.innerText"), True)
 
-    def searching(self):
+    def searching(self) -> None:
         ask, browser = self.browser.value, self.browser
         file = self.open("searching", report_of_signs())
         self.case("signs are no elements", ask("document.querySelectorAll('img, #view img').length"), 0)
@@ -178,7 +178,7 @@ class Pages:
             self.case(f"{key} goes to {wanted}", ask("get('told').textContent.replace(/^row \\d+: /, '')"), wanted)
         self.is_quiet("searching", file)
 
-    def many(self):
+    def many(self) -> None:
         ask, browser = self.browser.value, self.browser
         file = self.open("many", report_of_many(62, 410))
         self.case("many rows", ask("told.rows.length"), 61 * 410)

@@ -27,7 +27,8 @@ import subprocess
 import sys
 import time
 import xml.etree.ElementTree as xml
-from collections.abc import Callable
+from collections.abc import Callable, Iterable
+from typing import Any, Optional
 
 ROOT = os.path.dirname(os.path.dirname(os.path.dirname(os.path.realpath(__file__))))
 sys.dont_write_bytecode = True
@@ -38,7 +39,7 @@ from played import Played, Small, Unplayable, changed, has_order
 from random_reports import Run
 from tpr_tools.chart.letters import letters_of
 from tpr_tools.chart.part import Asked, part_of
-from tpr_tools.chart.sequence import sequence_of
+from tpr_tools.chart.sequence import Sequence, sequence_of
 from tpr_tools.chart.svg import svg_of
 from tpr_tools.report.deliveries import deliveries_of
 from tpr_tools.report.differences import EQUAL, compare
@@ -54,17 +55,17 @@ class Wrong(Exception):
     """A rule is broken."""
 
 
-def must(holds, text):
+def must(holds: object, text: str) -> None:
     if not holds:
         raise Wrong(text)
 
 
-def read(file):
+def read(file: str) -> str:
     with open(file, encoding="utf-8") as opened:
         return opened.read()
 
 
-def check_charts(*files):
+def check_charts(*files: str) -> None:
     for report, svg in zip(files[::2], files[1::2]):
         try:
             check_drawing(read(report), read(svg))
@@ -72,7 +73,7 @@ def check_charts(*files):
             raise Wrong(f"{svg}: {wrong}") from None
 
 
-def check_drawing(report, svg):
+def check_drawing(report: str, svg: str) -> None:
     """A chart of a report: both are texts."""
     root = xml.fromstring(svg.encode())
     must(root.tag == f"{SVG}svg" and root.get("role") == "img", "it is no picture")
@@ -90,59 +91,66 @@ def check_drawing(report, svg):
     check_texts(root, lines)
 
 
-def check_inside(root):
+def number_of(element: xml.Element, name: str) -> float:
+    """What this attribute says."""
+    found = element.get(name)
+    must(found is not None, f"{element.tag} has no {name}")
+    return float(found or "")
+
+
+def check_inside(root: xml.Element) -> None:
     """No text leaves the picture."""
-    width, height = float(root.get("width")), float(root.get("height"))
+    width, height = number_of(root, "width"), number_of(root, "height")
     for text in root.iter(f"{SVG}text"):
-        must(0 < float(text.get("y")) < height, f"{text.text!r} stands outside")
+        must(0 < number_of(text, "y") < height, f"{text.text!r} stands outside")
         check_width(text, width)
 
 
-def check_texts(root, lines):
+def check_texts(root: xml.Element, lines: list[str]) -> None:
     """The texts are there, none leaves the picture, and each row that shows something tells it."""
     check_inside(root)
     texts = list(root.iter(f"{SVG}text"))
-    shown = [text.text for text in texts]
+    shown = [text.text or "" for text in texts]
     for line in lines:
         if re.match("component|set|result|end|verdict", line):
             word = line.removeprefix("component ")
             must(any(is_shown(word, text) for text in shown), f"{line!r} isn't shown")
-    told = "\n".join(title.text for title in root.iter(f"{SVG}title"))
+    told = "\n".join(title.text or "" for title in root.iter(f"{SVG}title"))
     for line in lines:
         must(line.startswith(("component ", "result ")) or line in told, f"{line!r} isn't told")
     groups = [group for group in root.iter(f"{SVG}g") if group.get("aria-hidden") != "true"]
     must(all(group.get("aria-label") for group in groups), "a group has no label")
 
 
-def is_shown(word, text):
+def is_shown(word: str, text: str) -> bool:
     """Whole, or with its end or middle left out. Behind a number its name may stand."""
     before, cut, behind = text.partition("…")
-    return text.startswith(word) or (cut and word.startswith(before) and word.endswith(behind))
+    return text.startswith(word) or (cut != "" and word.startswith(before) and word.endswith(behind))
 
 
-def check_width(text, width):
+def check_width(text: xml.Element, width: float) -> None:
     letter = 11.2 if text.get("class") == "head" else 7.25
     if "small" in (text.get("class") or "") or "strip" in (text.get("class") or ""):
         letter = 6.65
-    x, long = float(text.get("x")), len(text.text) * letter
+    x, long = number_of(text, "x"), len(text.text or "") * letter
     left = x - long if "end" in (text.get("class") or "").split() else x
     left = x - long / 2 if "middle" in (text.get("class") or "").split() else left
     must(left >= -2 and left + long <= width + 2, f"{text.text!r} is clipped")
 
 
-def check_orders(*files):
+def check_orders(*files: str) -> None:
     for file in files:
         check_order(read(file).encode(), file)
 
 
-def check_order(data, file):
+def check_order(data: bytes, file: str) -> None:
     """The rows are an order of all entries that the ports allow, and each message is discarded where it is
     told to be."""
     deliveries = deliveries_of(read_report(data))
     rows = rows_of(deliveries)
-    places = [tuple(place) for row in rows for place in (row.first, row.second) if place]
-    discarded = {
-        tuple(place): [(message.route.sender, str(message.number)) for message in messages]
+    places = [(place.component, place.entry) for row in rows for place in (row.first, row.second) if place]
+    discarded: dict[tuple[int, int], list[tuple[Any, ...]]] = {
+        (place.component, place.entry): [(message.route.sender, str(message.number)) for message in messages]
         for place, messages in deliveries.discarded.items()
     }
     try:
@@ -151,12 +159,12 @@ def check_order(data, file):
         raise Wrong(f"{file}: {wrong}") from None
 
 
-def check_played(number):
+def check_played(number: str) -> None:
     for seed in range(int(number)):
         check_order(Run(seed).report().encode(), f"seed {seed}")
 
 
-def check_tried(number):
+def check_tried(number: str) -> None:
     """Each report of a small run, and three that differ from it in a line or two."""
     counts = {True: 0, False: 0, None: 0}
     for seed in range(int(number)):
@@ -173,7 +181,7 @@ def check_tried(number):
     must(counts[True] > least and counts[False] > least and counts[None] < least, f"too few were tried: {counts}")
 
 
-def check_cuts(*files):
+def check_cuts(*files: str) -> None:
     for file in files:
         data = read(file).encode()
         for size in range(len(data)):
@@ -182,7 +190,7 @@ def check_cuts(*files):
         must(refused_at(data) is None, f"{file} is refused")
 
 
-def refused_at(data):
+def refused_at(data: bytes) -> Optional[int]:
     """The line at which the bytes are refused, or None."""
     try:
         rows_of(deliveries_of(read_report(data)))
@@ -191,7 +199,7 @@ def refused_at(data):
     return None
 
 
-def check_random(number):
+def check_random(number: str) -> None:
     refused = 0
     for seed in range(int(number)):
         text = Run(seed).report()
@@ -209,7 +217,7 @@ def check_random(number):
     must(refused > 2 * int(number), f"only {refused} reports without a line were tried")
 
 
-def check_parts(number):
+def check_parts(number: str) -> None:
     """A part of a chart is drawn within its picture, and tells each entry of its components and rows."""
     for seed in range(int(number)):
         report = read_report(Run(seed).report().encode())
@@ -226,7 +234,7 @@ def check_parts(number):
                 raise Wrong(f"seed {seed}, {asked}: {wrong}") from None
 
 
-def check_part(part, whole, asked):
+def check_part(part: Sequence, whole: Sequence, asked: Asked) -> None:
     svg = xml.fromstring(svg_of(part).encode())
     check_inside(svg)
     drawn = letters_of(part)
@@ -240,7 +248,7 @@ def check_part(part, whole, asked):
             must(not mine or mine[1] not in part.names or line in told, f"{line!r} isn't told")
 
 
-def check_missing_lines(text, seed):
+def check_missing_lines(text: str, seed: int) -> int:
     """Where no port is emptied, a report without one of its messages' lines is refused."""
     lines = text.splitlines(keepends=True)
     tried = 0
@@ -255,7 +263,7 @@ def check_missing_lines(text, seed):
 LEAST = 0.05  # a second's part, below which times say nothing
 
 
-def check_linear():
+def check_linear() -> None:
     """Processor time of reading, matching and ordering: four times the lines take no more than eight times as
     long, and 62 components no more than four times as long as two."""
     times = {}
@@ -292,7 +300,7 @@ SECONDS = re.compile(r"[0-9]+\.[0-9]{3}")
 DATE = re.compile(r"[0-9]{4}-[01][0-9]-[0-3][0-9]T[0-2][0-9]:[0-5][0-9]:[0-5][0-9]")
 
 
-def check_junit(file, tests, failures, errors):
+def check_junit(file: str, tests: str, failures: str, errors: str) -> None:
     root = xml.parse(file).getroot()
     must(root.tag == "testsuites", "it is no list of suites")
     for element in root.iter():
@@ -305,7 +313,7 @@ def check_junit(file, tests, failures, errors):
     must(len(set(names)) == len(names), f"two cases are alike: {names}")
 
 
-def check_element(element):
+def check_element(element: xml.Element) -> None:
     must(element.tag in ELEMENTS, f"no {element.tag} stands in such a file")
     needed, allowed, inner = ELEMENTS[element.tag]
     must(needed <= set(element.keys()) <= needed | allowed, f"{element.tag} has {sorted(element.keys())}")
@@ -324,15 +332,15 @@ def check_element(element):
         must(tags.count("system-out") == 1, "a case has its report, once")
 
 
-def check_counts(element, cases):
+def check_counts(element: xml.Element, cases: Iterable[xml.Element]) -> None:
     """The counts of a suite, or of all, are those of its cases."""
     tags = [[child.tag for child in case] for case in cases]
     counts = [len(tags), sum("failure" in tag for tag in tags), sum("error" in tag for tag in tags)]
-    told = [int(element.get(name)) for name in ("tests", "failures", "errors")]
+    told = [number_of(element, name) for name in ("tests", "failures", "errors")]
     must(counts == told, f"{element.tag} tells {told}, and has {counts}")
 
 
-def on_a_terminal(*command):
+def on_a_terminal(*command: str) -> None:
     """Its standard output and error are a terminal. What is said there is printed."""
     ours, theirs = pty.openpty()
     with subprocess.Popen(command, stdin=subprocess.DEVNULL, stdout=theirs, stderr=theirs) as process:
@@ -349,7 +357,7 @@ def on_a_terminal(*command):
     print(said.decode(), f"status {process.returncode}", sep="\n")
 
 
-def interrupt(file, *command):
+def interrupt(file: str, *command: str) -> None:
     """As Ctrl-C does it, once the file is there. Ours is ignored, since a part of the gate runs so."""
     default = functools.partial(signal.signal, signal.SIGINT, signal.SIG_DFL)
     with subprocess.Popen(command, stdout=subprocess.PIPE, preexec_fn=default) as process:
