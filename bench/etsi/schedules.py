@@ -1,4 +1,4 @@
-"""The verdicts that a script can come to, over all orders of its acts, by the model of runs in tools/tpr_tools/model/."""
+"""The verdicts that a script can come to, over all orders of its acts, by the model in tools/tpr_tools/model/."""
 from __future__ import annotations
 
 from tpr_tools.model.bodies import TestCase

@@ -91,7 +91,7 @@ def refusal_scripts(program: Program) -> Iterator[Case]:
 
 
 def construct_scripts(program: Program) -> Iterator[Case]:
-    """A script below `### LETTER NAME`, with what `check` prints, and of an accepted one the last line of its report."""
+    """A script below `### LETTER NAME`, with what `check` prints, and where that is `accepted` the last line of the report."""
     for it in blocks("docs/FROM_TTCN3.md", r"### [A-Z] "):
         answer, title = it.answer.split("`")[1], f"docs/FROM_TTCN3.md, {it.heading}"
         yield title, program.answers(it.text, answer)

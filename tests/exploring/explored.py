@@ -8,8 +8,8 @@
     explored.py told SCRIPT ANSWER
 
 `each` runs what the reduction finds on PROGRAM, which forces orders, and compares the classes with those of every
-order of steps in the model of runs (tools/tpr_tools/model/). A line `passed ORDERS RUNS SCRIPT` for each script says how many
-orders there are, and how many were run. Then, with the sends to all components written as sends to each, with
+order of steps in the model of runs (tools/tpr_tools/model/). A line `passed ORDERS RUNS SCRIPT` for each script says
+how many orders there are, and how many were run. Then, with the sends to all components written as sends to each, with
 those of every order of acts, which are smaller than steps. Where a script has an `alt` of which each look is a step
 of its own, they are compared with those of acts at once. `acts` does the same with those of acts alone, on scripts
 of which no order of steps can be made.
@@ -275,7 +275,7 @@ def told_rightly(path: str, answer: str) -> int:
 
 
 def arguments() -> argparse.Namespace:
-    words = argparse.ArgumentParser(description="Tests tools/explore: the classes that it finds are those of all orders.")
+    words = argparse.ArgumentParser(description="Whether tools/explore finds the classes of all orders.")
     kinds = words.add_subparsers(dest="what", required=True)
     for name in ("each", "acts"):
         kind = kinds.add_parser(name)

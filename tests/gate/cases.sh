@@ -93,7 +93,7 @@ set_up() { # WHAT HOLDS, COMMAND..
 
 # Examples
 
-# Where an example stands, below `root`: in examples/, where those are that one would show, or in a folder of tests/golden/.
+# Where an example stands, below `root`: in examples/, or in a folder of tests/golden/.
 place_of_example() { # FILE
     local file
     for file in "$root/examples/$1" "$root"/tests/golden/*/"$1"; do

@@ -1,5 +1,5 @@
-"""Runs the test cases of a module, and prints a line for each, as ./test counts them: `passed NAME`, or `FAILED: NAME: `
-and why. A case's name is the first line of its text."""
+"""Runs the test cases of a module, and prints a line for each, as ./test counts them: `passed NAME`, or
+`FAILED: NAME: ` and why. A case's name is the first line of its text."""
 from __future__ import annotations
 
 import argparse

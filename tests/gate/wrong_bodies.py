@@ -256,7 +256,7 @@ def number_of_jobs(text):
 
 
 def main():
-    words = argparse.ArgumentParser("wrong_bodies", description="Tries wrong bodies: the prover must refuse each of them.")
+    words = argparse.ArgumentParser("wrong_bodies", description="Tries wrong bodies, each of which must be refused.")
     words.add_argument("--jobs", metavar="N", type=number_of_jobs, default=1, help="so many crates at once")
     words.add_argument("names", metavar="stale | CRATE | CRATE/NAME", nargs="*", help="all without one")
     told = words.parse_args()

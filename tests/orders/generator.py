@@ -89,7 +89,8 @@ class Maker:
         return [*lines, IDLE if who == "system" else "setverdict(none);"]
 
     def statement(self, place: Place) -> list[str]:
-        kinds: dict[Callable[[Place], list[str]], int] = {self.send: 40, self.choice: 35, self.loop: 8 if place.loops < 2 else 0}
+        kinds: dict[Callable[[Place], list[str]], int] = {self.send: 40, self.choice: 35}
+        kinds[self.loop] = 8 if place.loops < 2 else 0
         if place.who != "system":
             kinds |= {self.control: 15, self.verdict: 4}
         if place.who in self.patient:

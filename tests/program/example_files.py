@@ -23,7 +23,8 @@ def example(file: str) -> Path:
 
 def answers(text: Path) -> list[Path]:
     """What may be printed of it: NAME.expected, or NAME.expected.1, .2 and so on."""
-    return [it for it in (text.with_suffix(".expected"), *text.parent.glob(f"{text.stem}.expected.[0-9]*")) if it.exists()]
+    one, several = text.with_suffix(".expected"), text.parent.glob(f"{text.stem}.expected.[0-9]*")
+    return [it for it in (one, *several) if it.exists()]
 
 
 def is_refused(text: Path) -> bool:

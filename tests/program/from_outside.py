@@ -115,7 +115,8 @@ class Program:
 
     def run(self, *words: str, before: Optional[Callable[[], None]] = None, **files: Any) -> Ended:
         """Runs the program with these words, and `before` in its process before it begins."""
-        given: dict[str, Any] = {"stdin": subprocess.DEVNULL, "stdout": subprocess.PIPE, "stderr": subprocess.PIPE, **files}
+        pipes = {"stdin": subprocess.DEVNULL, "stdout": subprocess.PIPE, "stderr": subprocess.PIPE}
+        given: dict[str, Any] = {**pipes, **files}
         try:
             done = subprocess.run(
                 [self.path, *words], preexec_fn=before, timeout=MOST_SECONDS, check=False, **given
