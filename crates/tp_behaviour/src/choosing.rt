@@ -11,7 +11,7 @@ use crate::post::Post;
 use crate::scene::Scene;
 use crate::station::Station;
 use std::sync::Wait;
-use tp_floor::bell::Woken;
+use tp_floor::notifier::Woken;
 use tp_inbox::entry::Entry;
 use tp_inbox::owner::Owner;
 use tp_queue::event::Env;

@@ -1,4 +1,4 @@
-//! The bell of an inbox: how many pushes were announced, and whether the owner rests.
+//! The notifier of an inbox: how many pushes were announced, and whether the owner rests.
 //!
 //! An owner rests where nothing of its `alt` can be chosen yet (ES 201 873-1, 20.2). What sleeps
 //! and is woken stands with the inbox; here is who is to be woken, and why.
@@ -6,8 +6,8 @@ ghost use Rattle.std.specs.Prelude.{◌≡◌, ◌<◌, ◌≤◌, ◌↔◌, �
 ghost use Rattle.std.specs.Prelude.{is_some, IfSome, IsSomeAnd, if◌then◌else◌};
 ghost use Rattle.crossbeam_utils.specs.Seq.{cell_view};
 
-use crate::floor::{Floor, Place};
-use crate::seam::Seam;
+use crate::floor::{Floor, FloorPlace};
+use crate::hook::RaceHook;
 use std::alloc::Global;
 use std::marker::Model;
 use std::sync::{Arc, Wait};
@@ -23,18 +23,18 @@ pub enum Woken {
     Last,
 }
 
-/// The bell of an inbox, which is kept under the inbox's lock, seen by contracts as how many pushes
-/// were announced, whether the inbox was closed, and for how many its owner rests. It has nothing
-/// of the messages.
+/// The notifier of an inbox, which is kept under the inbox's lock, seen by contracts as how many
+/// pushes were announced, whether the inbox was closed, and for how many its owner rests. It has
+/// nothing of the messages.
 ///
 /// Whoever announces a push or closes the inbox ends the rest of an owner for whom that is
 /// something, and is told to wake it: so nobody rests for whom there is something. Who rests has a
 /// place on the floor that counts, and who doesn't has one that doesn't count.
 ///
-/// A call that changes the floor's counts stands at the seam that it is given, between its load of
-/// them and its exchange. None takes memory.
+/// A call that changes the floor's counts calls the hook that it is given, between its load of them
+/// and its exchange. None takes memory.
 #[derive(Drop)]
-pub struct Bell {
+pub struct Notifier {
     /// How many pushes were announced.
     announced: u64,
     /// Whether the inbox was closed.
@@ -42,40 +42,40 @@ pub struct Bell {
     /// Where the owner rests: how many it has taken out. It is woken once more were announced.
     awaits: Option<u64>,
     /// The owner's place on the floor.
-    place: Place,
+    place: FloorPlace,
 }
 
-impl Model for Bell {
-    ghost use Rattle.tp_floor.specs.Ringing.{Ringing};
+impl Model for Notifier {
+    ghost use Rattle.tp_floor.specs.NotifierState.{NotifierState};
 
-    ghost Value = { Ringing };
+    ghost Value = { NotifierState };
 
-    ghost use Rattle.tp_floor.specs.Bells.{ringing_of, IsBell};
+    ghost use Rattle.tp_floor.specs.Notifiers.{notifier_state, IsNotifier};
 
-    ghost view = { ringing_of };
+    ghost view = { notifier_state };
 
-    ghost invariant = { IsBell };
+    ghost invariant = { IsNotifier };
 }
 
-impl Bell {
-    /// The bell of an open inbox, to which nothing was announced. Its owner is awake, and has a
+impl Notifier {
+    /// The notifier of an open inbox, to which nothing was announced. Its owner is awake, and has a
     /// place on this floor.
-    pub fn new(floor: Arc<Floor, Global>) -> Bell
+    pub fn new(floor: Arc<Floor, Global>) -> Notifier
         ensures announced { result.announced ≡ 0 }
         ensures closed { result.closed ≡ false }
         ensures awaits { result.awaits ≡ None }
     {
-        Bell {
+        Notifier {
             announced: 0,
             closed: false,
             awaits: None,
-            place: Place::on(floor),
+            place: FloorPlace::on(floor),
         }
     }
 
     /// One more push was announced. True where the owner rested and has not taken so many out: then
     /// it rests no more, and is to be woken.
-    pub fn announce<R: Wait, S: Seam>(&mut self, rt: &R, seam: &mut S) -> bool
+    pub fn announce<R: Wait, S: RaceHook>(&mut self, rt: &R, hook: &mut S) -> bool
         ensures announced { self.new.announced ≡ (self.old.announced + 1) % 2 ^ 64 }
         ensures closed { self.new.closed ≡ self.old.closed }
         ensures wakes { result ≡ true
@@ -89,7 +89,7 @@ impl Bell {
             None => false,
         };
         if wakes {
-            self.place.rise(rt, seam);
+            self.place.rise(rt, hook);
             self.awaits = None;
         }
         self.announced = announced;
@@ -98,7 +98,7 @@ impl Bell {
 
     /// The inbox is closed from now on. True where the owner rested: then it rests no more, and is
     /// to be woken.
-    pub fn close<R: Wait, S: Seam>(&mut self, rt: &R, seam: &mut S) -> bool
+    pub fn close<R: Wait, S: RaceHook>(&mut self, rt: &R, hook: &mut S) -> bool
         ensures announced { self.new.announced ≡ self.old.announced }
         ensures closed { self.new.closed ≡ true }
         ensures wakes { result ≡ is_some self.old.awaits }
@@ -106,7 +106,7 @@ impl Bell {
     {
         let wakes = self.awaits.is_some();
         if wakes {
-            self.place.rise(rt, seam);
+            self.place.rise(rt, hook);
         }
         self.awaits = None;
         self.closed = true;
@@ -132,14 +132,14 @@ impl Bell {
     /// The owner, which has taken so many out, rests from now on, unless no other living behaviour
     /// is awake: then it is told so. Where it rests already, it is not counted a second time. There
     /// is nothing for it: no more were announced than it has taken out, and the inbox is open.
-    pub fn rest<R: Wait, S: Seam>(&mut self, rt: &R, seam: &mut S, taken: u64) -> Option<Woken>
+    pub fn rest<R: Wait, S: RaceHook>(&mut self, rt: &R, hook: &mut S, taken: u64) -> Option<Woken>
         requires { (self.old.announced ≤ taken) × (self.old.closed ≡ false) }
         ensures announced { self.new.announced ≡ self.old.announced }
         ensures closed { self.new.closed ≡ self.old.closed }
         ensures told { result ≡ (if is_some self.new.awaits then None else Some Woken.Last) }
         ensures awaits { IfSome self.new.awaits (λ most. most ≡ taken) }
     {
-        if self.awaits.is_none() && !self.place.rest(rt, seam) {
+        if self.awaits.is_none() && !self.place.rest(rt, hook) {
             return Some(Woken::Last);
         }
         self.awaits = Some(taken);

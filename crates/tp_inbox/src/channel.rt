@@ -8,13 +8,13 @@ use crate::stamped::Stamped;
 use std::alloc::Global;
 use std::sync::{Arc, Condvar, Mutex, MutexGuard, Wait};
 use tp_config::port_type::{CompId, RouteId};
-use tp_floor::bell::{Bell, Woken};
 use tp_floor::floor::Floor;
-use tp_floor::seam::OpenSeam;
+use tp_floor::hook::NoHook;
+use tp_floor::notifier::{Notifier, Woken};
 use tp_queue::event::Env;
 use tp_value::message::Message;
 
-/// What an owner and its senders share: the queue, the routes into the component, and the bell.
+/// What an owner and its senders share: the queue, the routes into the component, and the notifier.
 ///
 /// A push comes before it is announced, and only what is announced wakes. An owner may so take out
 /// what isn't announced yet: it counts what it took, and waits for more than that, so that the
@@ -22,81 +22,83 @@ use tp_value::message::Message;
 /// looks and comes to rest under the one lock under which a push is announced: either it finds the
 /// announcement, or the announcement finds it at rest. Whoever ends a rest takes it from the floor
 /// under that same lock, and only then wakes: so a behaviour that is on its way back counts as
-/// awake. No bell is taken while the floor is changed.
-pub(crate) struct Hub {
+/// awake. No notifier is taken while the floor is changed.
+pub(crate) struct Channel {
     /// The queue. It has a rule, and no lock.
-    pub(crate) line: InboxQueue,
+    pub(crate) queue: InboxQueue,
     /// Whose inbox it is.
     pub(crate) comp: CompId,
     /// How many ports that component has.
     pub(crate) ports: usize,
     /// The routes into the component. An envelope names its route by the place in this list.
     pub(crate) routes: Vec<RouteId>,
-    bell: Mutex<Bell>,
-    rung: Condvar,
+    notifier: Mutex<Notifier>,
+    waking: Condvar,
     ghost routed: { AreRoutes comp ports routes.items },
 }
 
-impl Hub {
+impl Channel {
     /// An open inbox over this queue, to which nothing was announced.
     pub(crate) fn over(
-        line: InboxQueue,
+        queue: InboxQueue,
         comp: CompId,
         ports: usize,
         routes: Vec<RouteId>,
         floor: Arc<Floor, Global>,
-    ) -> Hub
+    ) -> Channel
         requires { AreRoutes comp ports routes.items }
-        ensures line { result.line ≡ line }
+        ensures queue { result.queue ≡ queue }
         ensures comp { result.comp ≡ comp }
         ensures ports { result.ports ≡ ports }
         ensures routes { result.routes ≡ routes }
     {
-        Hub {
-            line,
+        Channel {
+            queue,
             comp,
             ports,
             routes,
-            bell: Mutex::new(Bell::new(floor)),
-            rung: Condvar::new(),
+            notifier: Mutex::new(Notifier::new(floor)),
+            waking: Condvar::new(),
         }
     }
 
     /// Announces a push, and wakes the owner where it rests and has not taken this one out yet.
     pub(crate) fn announce<R: Wait>(&self, rt: &R) {
-        let mut bell = self.bell.lock(rt);
-        let wakes = bell.announce(rt, &mut OpenSeam);
-        self.wake(bell, wakes);
+        let mut notifier = self.notifier.lock(rt);
+        let wakes = notifier.announce(rt, &mut NoHook);
+        self.wake(notifier, wakes);
     }
 
     /// Closes the inbox, and wakes the owner where it rests.
     pub(crate) fn close<R: Wait>(&self, rt: &R) {
-        let mut bell = self.bell.lock(rt);
-        let wakes = bell.close(rt, &mut OpenSeam);
-        self.wake(bell, wakes);
+        let mut notifier = self.notifier.lock(rt);
+        let wakes = notifier.close(rt, &mut NoHook);
+        self.wake(notifier, wakes);
     }
 
-    /// Gives the bell back, and wakes the owner where it is to be woken. It wakes all that wait at
-    /// this inbox: a wait only borrows the owner, so nothing here rules out that there are two.
-    fn wake(&self, bell: MutexGuard<Bell>, wakes: bool) {
-        drop(bell);
+    /// Gives the notifier back, and wakes the owner where it is to be woken. It wakes all that wait
+    /// at this inbox: a wait only borrows the owner, so nothing here rules out that there are two.
+    fn wake(&self, notifier: MutexGuard<Notifier>, wakes: bool) {
+        drop(notifier);
         if wakes {
-            self.rung.notify_all();
+            self.waking.notify_all();
         }
     }
 
     /// Waits until more than `taken` pushes were announced or the inbox is closed, unless no other
     /// living behaviour is awake.
     pub(crate) fn wait_past<R: Wait>(&self, rt: &R, taken: u64) -> Woken {
-        let mut bell = self.bell.lock(rt);
-        if let Some(found) = bell.look(taken) {
+        let mut notifier = self.notifier.lock(rt);
+        if let Some(found) = notifier.look(taken) {
             return found;
         }
-        if let Some(last) = bell.rest(rt, &mut OpenSeam, taken) {
+        if let Some(last) = notifier.rest(rt, &mut NoHook, taken) {
             return last;
         }
-        let bell = self.rung.wait_while(rt, bell, |bell| bell.rests());
-        bell.woken(taken)
+        let notifier = self
+            .waking
+            .wait_while(rt, notifier, |notifier| notifier.rests());
+        notifier.woken(taken)
     }
 
     /// The port to which an envelope goes, what arrives there, and its stamp.
@@ -117,16 +119,16 @@ impl Hub {
     }
 }
 
-impl Drop for Hub {
+impl Drop for Channel {
     fn drop(self) {
-        let Hub {
-            line,
+        let Channel {
+            queue,
             comp: _,
             ports: _,
             routes: _,
-            bell: _,
-            rung: _,
+            notifier: _,
+            waking: _,
         } = self;
-        line.destroy();
+        queue.destroy();
     }
 }
