@@ -3,7 +3,7 @@
 /// How far the histories of the components are gone through, on the way to one order: three numbers
 /// for each component.
 #[derive(Drop)]
-pub(crate) struct Course {
+pub(crate) struct OrderProgress {
     /// The place of the entry that is next.
     pub(crate) places: Vec<usize>,
     /// How many messages had come before that place.

@@ -1,4 +1,4 @@
--- What the parts of a station have to do with one another, and with the behaviour that works there.
+-- What the parts of a worker have to do with one another, and with the behaviour that it carries out.
 use Rattle.std.specs.Prelude.{◌≡◌, ◌≢◌, ℕ, Option, Some, None, List, All, Contains, length, map, slice_get, ⊤}
 use Rattle.std.specs.List.{AllZip}
 use Rattle.tp_value.specs.declared.message.Message.{Message}
@@ -14,31 +14,31 @@ use Rattle.tp_inbox.specs.History.{arrivals, sent_to}
 use Rattle.tp_inbox.specs.Ledgers.{Inbox, IsDeskOf, Sending, end_of}
 use Rattle.tp_behaviour.specs.declared.held.Held.{Held}
 use Rattle.tp_behaviour.specs.declared.held.Held.TheVariants as held
-use Rattle.tp_behaviour.specs.declared.post.Post.{Post}
-use Rattle.tp_behaviour.specs.declared.station.Station.{Station}
-use Rattle.tp_behaviour.specs.declared.station.State.{State}
+use Rattle.tp_behaviour.specs.declared.task.Task.{Task}
+use Rattle.tp_behaviour.specs.declared.worker.Worker.{Worker}
+use Rattle.tp_behaviour.specs.declared.worker.Frame.{Frame}
 use Rattle.tp_behaviour.specs.Fresh.{Fresh}
 use Rattle.tp_behaviour.specs.Held.{Actor, Values}
 use Rattle.tp_behaviour.specs.Outboxes.{IsAimed, routes_of}
 use Rattle.tp_behaviour.specs.Paths.{own_port}
 
 -- who the behaviour is
-abbrev pub role_of : Post → Actor
+abbrev pub role_of : Task → Actor
 role_of p = record { config = p.config.now; comp = p.comp; references = map (λ c. c.0) p.behaviour.references.now }
 
 -- what it keeps in mind
-abbrev pub values_of : State → Values
+abbrev pub values_of : Frame → Values
 values_of s = record { turns = s.turns.items; variables = s.variables.items }
 
 -- the inbox is the component's, and these are the routes of its senders
-pub record IsPosted (r : Actor) (inbox : Inbox) (out : List RouteId) : Type 0 where
+pub record AreEndsOf (r : Actor) (inbox : Inbox) (out : List RouteId) : Type 0 where
   pub comp : inbox.comp ≡ r.comp
   pub ports : inbox.ports ≡ length (ports_at r.config.types r.config.components r.comp)
   -- the routes into the inbox lead to the component
   pub here : All (λ (x : RouteId). x.to.comp ≡ r.comp) inbox.routes
   -- it has a sender on each of its routes: on those into its own inbox, and on those from its ports
   pub loops : All (λ (x : RouteId). x.source ≡ r.comp → Contains out x) inbox.routes
-  pub ways : (port : ℕ) (x : RouteId) → Contains (routes_from r.config (own_port r port)) x → Contains out x
+  pub from_ports : (port : ℕ) (x : RouteId) → Contains (routes_from r.config (own_port r port)) x → Contains out x
 
 -- what the entry sent went out on one of these routes
 abbrev pub IsSentBy : List RouteId → Entry → Type 0
@@ -59,9 +59,9 @@ IsNoted k s = sent_to s.inbox.comp k ≡ s.ledger
 abbrev pub IsSenderOf : CompId → Sending → Type 0
 IsSenderOf c s = (s.source ≡ c) × IsAimed s
 
--- the parts of a station say the same of what has happened, and each operation on ports so far was a fresh one
-pub record IsManned (r : Actor) (s : Station) : Type 0 where
-  pub posted : IsPosted r s.owner.inbox (routes_of s.outbox)
+-- the parts of a worker say the same of what has happened, and each operation on ports so far was a fresh one
+pub record IsConsistent (r : Actor) (s : Worker) : Type 0 where
+  pub ends : AreEndsOf r s.owner.inbox (routes_of s.outbox)
   pub desk : IsDeskOf s.owner.inbox s.desk
   pub arrived : arrivals s.desk.log ≡ s.owner.drained
   pub noted : All (IsNoted s.desk.log) s.outbox
@@ -70,7 +70,7 @@ pub record IsManned (r : Actor) (s : Station) : Type 0 where
   pub fresh : Fresh r.comp s.desk.log
 
 -- its inbox is the same, and its senders put into the same inboxes, for the same component and on the same routes
-pub record IsSame (before after : Station) : Type 0 where
+pub record IsSame (before after : Worker) : Type 0 where
   pub inbox : after.owner.inbox ≡ before.owner.inbox
   pub ends : map end_of after.outbox ≡ map end_of before.outbox
 

@@ -3,15 +3,15 @@ use Rattle.std.specs.Prelude.{◌≡◌, ℕ, ◌<◌, ◌≤◌, ◌+◌, ◌^�
 use Rattle.tp_inbox.specs.declared.entry.Entry.{Entry}
 use Rattle.tp_inbox.specs.declared.entry.Entry.TheVariants as entry
 use Rattle.tp_behaviour.specs.Fresh.{LooksAtPorts}
-use Rattle.tp_exec.specs.declared.kind.Kind.{Kind}
-use Rattle.tp_exec.specs.declared.kind.Kind.TheVariants as kind
-use Rattle.tp_exec.specs.declared.kind.Due.{Due}
-use Rattle.tp_exec.specs.declared.course.Course.{Course}
+use Rattle.tp_exec.specs.declared.kind.EntryKind.{EntryKind}
+use Rattle.tp_exec.specs.declared.kind.EntryKind.TheVariants as kind
+use Rattle.tp_exec.specs.declared.kind.AwaitedArrival.{AwaitedArrival}
+use Rattle.tp_exec.specs.declared.progress.OrderProgress.{OrderProgress}
 use Rattle.tp_exec.specs.Order.{Spot}
 use Rattle.tp_exec.specs.OneOrder.{IsAt, IsFrontOf, IsOwn, came_before, entry_at, log_in, senders_to, sources}
 
 -- what an entry is for the order
-abbrev pub kind_of : Entry → Kind
+abbrev pub kind_of : Entry → EntryKind
 kind_of (entry.Arrive port env stamp) = kind.Came env.sender
 kind_of (entry.Sent r number m) = kind.Sent r.to.comp.0
 kind_of (entry.Verdict v) = kind.Quiet
@@ -26,8 +26,8 @@ kind_of (entry.Halted port) = kind.Looked
 kind_of entry.Else = kind.Looked
 
 -- the senders of these arrivals
-abbrev pub due_sources : List Due → List ℕ
-due_sources dues = map (λ x. x.source) dues
+abbrev pub awaited_sources : List AwaitedArrival → List ℕ
+awaited_sources all_awaited = map (λ x. x.source) all_awaited
 
 -- the spot may follow these in an order
 pub record MayFollow (logs : List (List Entry)) (before : List Spot) (a : Spot) : Type 0 where
@@ -50,27 +50,27 @@ pub record IsGone (logs : List (List Entry)) (at came out : ℕ → ℕ) (order 
   pub within : (c : ℕ) → at c ≤ length (log_in logs c)
 
 -- the counts still fit once a thing of this kind is done
-abbrev pub HasRoom : List ℕ → List ℕ → ℕ → Kind → Type 0
-HasRoom came sent c (kind.Came source) = slice_index came c + 1 < 2 ^ 64
-HasRoom came sent c (kind.Sent d) = (d < length sent) × (slice_index sent d + 1 < 2 ^ 64)
-HasRoom came sent c _ = Unit {0}
+abbrev pub HasSpace : List ℕ → List ℕ → ℕ → EntryKind → Type 0
+HasSpace came sent c (kind.Came source) = slice_index came c + 1 < 2 ^ 64
+HasSpace came sent c (kind.Sent d) = (d < length sent) × (slice_index sent d + 1 < 2 ^ 64)
+HasSpace came sent c _ = Unit {0}
 
 -- how many messages that came are gone by once it is done, and how many were sent to each
-abbrev pub came_then : ℕ → Kind → List ℕ → List ℕ
+abbrev pub came_then : ℕ → EntryKind → List ℕ → List ℕ
 came_then c (kind.Came source) came = slice_set came c (slice_index came c + 1)
 came_then c _ came = came
 
-abbrev pub sent_then : Kind → List ℕ → List ℕ
+abbrev pub sent_then : EntryKind → List ℕ → List ℕ
 sent_then (kind.Sent d) sent = slice_set sent d (slice_index sent d + 1)
 sent_then _ sent = sent
 
 -- the component to which something is sent, or else that which does it
-abbrev pub affected : ℕ → Kind → ℕ
+abbrev pub affected : ℕ → EntryKind → ℕ
 affected c (kind.Sent d) = d
 affected c _ = c
 
 -- it has its numbers for so many components
-pub record HasSize (course : Course) (size : ℕ) : Type 0 where
-  pub places : length course.places.items ≡ size
-  pub came : length course.came.items ≡ size
-  pub sent : length course.sent.items ≡ size
+pub record HasSize (progress : OrderProgress) (size : ℕ) : Type 0 where
+  pub places : length progress.places.items ≡ size
+  pub came : length progress.came.items ≡ size
+  pub sent : length progress.sent.items ≡ size

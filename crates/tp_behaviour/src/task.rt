@@ -1,4 +1,4 @@
-//! Where a behaviour is carried out.
+//! A behaviour that is to be carried out.
 use std::alloc::Global;
 use tp_config::config::Config;
 use tp_config::port_type::CompId;
@@ -6,9 +6,9 @@ use tp_inbox::owner::Closer;
 use tp_play::test_case::Behaviour;
 use tp_value::types::Types;
 
-/// Where a behaviour is carried out, and what it is: all that stays as it is while it runs.
+/// A behaviour that is to be carried out: all that stays as it is while it runs.
 #[derive(Clone, Copy)]
-pub struct Post<'t> {
+pub struct Task<'t> {
     /// Where memory is taken from.
     pub alloc: Global,
     /// The configuration.

@@ -1,4 +1,4 @@
--- What stays true of a station as its history grows.
+-- What stays true of a worker as its history grows.
 use Rattle.std.proofs.Common.{◌≡◌, ◌⊎◌, inl, inr, zero, suc, Bool, true, false, List, [], ◌∷◌, ◌++◌, Contains, length, refl, sym, ap, ◌∙◌, subst, rules, arith, ◌<◌, true≢false}
 use Rattle.std.specs.Prelude.{All}
 use Rattle.std.proofs.lemmas.List.Elements.{All-nil, All-cons, All-head, All-tail, All-contains, All-append}
@@ -12,12 +12,12 @@ use Rattle.tp_inbox.specs.Ledgers.{Draining, Inbox, IsDeskOf, Sending}
 use Rattle.tp_inbox.specs.Routed.{IsArrivalOn}
 use Rattle.tp_inbox.proofs.Putting.{route_itself, route_same}
 use Rattle.tp_inbox.proofs.Ways.{sent_by_routes}
-use Rattle.tp_behaviour.specs.declared.station.Station.{Station}
+use Rattle.tp_behaviour.specs.declared.worker.Worker.{Worker}
 use Rattle.tp_behaviour.specs.Fresh.{HasOwn, LooksAtPorts}
 use Rattle.tp_behaviour.specs.Held.{Actor}
 use Rattle.tp_behaviour.specs.Moments.{Moment, moments}
 use Rattle.tp_behaviour.specs.Outboxes.{IsHome, IsLevel, IsLevelOn, LeadsBack, routes_of}
-use Rattle.tp_behaviour.specs.Stations.{IsManned, IsNoted, IsPosted, IsSame, IsSenderOf, IsSentBy}
+use Rattle.tp_behaviour.specs.Workers.{IsConsistent, IsNoted, AreEndsOf, IsSame, IsSenderOf, IsSentBy}
 use Rattle.tp_behaviour.proofs.Entries.{arrivals_to_none, arrived_in, arrives, none_came, none_sent, sent_to_more, unsent}
 use Rattle.tp_behaviour.proofs.Moments.{moments-arrivals}
 use Rattle.tp_behaviour.proofs.Outboxes.{contained, standing}
@@ -32,14 +32,14 @@ all_behind : {X : Type 0} (P : X → Type 0) (xs ys : List X) → All P (xs ++ y
 all_behind P [] ys h = h
 all_behind P (x ∷ xs) ys h = all_behind P xs ys (All-tail P x (xs ++ ys) h)
 
--- the station, once these have arrived
-pub drained : (r : Actor) (s : Station) (o : Draining) (d : Journal) (more : List Entry) → IsManned r s → o.inbox ≡ s.owner.inbox → d ≡ adding_all s.desk more
+-- the worker, once these have arrived
+pub drained : (r : Actor) (s : Worker) (o : Draining) (d : Journal) (more : List Entry) → IsConsistent r s → o.inbox ≡ s.owner.inbox → d ≡ adding_all s.desk more
     → o.drained ≡ s.owner.drained ++ more → arrivals d.log ≡ o.drained → All (IsArrivalOn o.inbox.routes) o.drained
-    → (moments d.log ≡ moments s.desk.log) × IsManned r (record { owner = o; desk = d; outbox = s.outbox })
+    → (moments d.log ≡ moments s.desk.log) × IsConsistent r (record { owner = o; desk = d; outbox = s.outbox })
 drained r s o d more m same grown longer arrived routed = (
   trace,
   record {
-    posted = subst (λ (i : Inbox). IsPosted r i out) (sym same) m.posted;
+    ends = subst (λ (i : Inbox). AreEndsOf r i out) (sym same) m.ends;
     desk = subst (λ (i : Inbox). IsDeskOf i d) (sym same) (subst (IsDeskOf s.owner.inbox) (sym grown) m.desk);
     arrived = arrived;
     noted = all_as (IsNoted s.desk.log) (IsNoted d.log) s.outbox (λ x h. as_sent x.inbox.comp ∙ h) m.noted;
@@ -82,11 +82,11 @@ on_route q (r ∷ rs) = by (same_route q r) refl (on_route q rs) where
   by false e (inr not) = inr (further not e)
 
 -- a sender that leads back leads to the component's own inbox
-pub at_home : (r : Actor) (s : Station) → IsManned r s → All (IsHome s.owner.inbox) s.outbox
-at_home r s m = all_as (IsSenderOf r.comp) (IsHome s.owner.inbox) s.outbox (λ x h back. back ∙ h.0 ∙ sym m.posted.comp) m.theirs
+pub at_home : (r : Actor) (s : Worker) → IsConsistent r s → All (IsHome s.owner.inbox) s.outbox
+at_home r s m = all_as (IsSenderOf r.comp) (IsHome s.owner.inbox) s.outbox (λ x h back. back ∙ h.0 ∙ sym m.ends.comp) m.theirs
 
 -- all that the component has sent to itself is there, where each of its senders that lead back is level
-pub has_own : (r : Actor) (s : Station) → IsManned r s → All (IsArrivalOn s.owner.inbox.routes) s.owner.drained
+pub has_own : (r : Actor) (s : Worker) → IsConsistent r s → All (IsArrivalOn s.owner.inbox.routes) s.owner.drained
     → ((x : Sending) → Contains s.outbox x → LeadsBack x → IsLevel s.owner.drained x) → HasOwn r.comp s.desk.log
 has_own r s m routed level q from to = by (on_route q out) where
   out : List RouteId
@@ -110,14 +110,14 @@ has_own r s m routed level q from to = by (on_route q out) where
       let no : (p : RouteId) → Contains s.owner.inbox.routes p → p ≡ q → ⊥ =
       λ p c e. not
       (subst (Contains out) e
-      (All-contains (λ (x : RouteId). x.source ≡ r.comp → Contains out x) s.owner.inbox.routes p m.posted.loops c
+      (All-contains (λ (x : RouteId). x.source ≡ r.comp → Contains out x) s.owner.inbox.routes p m.ends.loops c
       (ap (λ (x : RouteId). x.source) e ∙ from))) in
-      let nothing : arrived_on q s.owner.drained ≡ [] = none_came r.comp q s.owner.inbox.routes s.owner.drained to m.posted.here no routed in
+      let nothing : arrived_on q s.owner.drained ≡ [] = none_came r.comp q s.owner.inbox.routes s.owner.drained to m.ends.here no routed in
       ap length (came ∙ nothing) ∙ ap length (sym (none_sent q out s.desk.log not m.sent))
 
 -- what stays the same twice stays the same
-pub same_then : (a b c : Station) → IsSame a b → IsSame b c → IsSame a c
+pub same_then : (a b c : Worker) → IsSame a b → IsSame b c → IsSame a c
 same_then a b c p q = record { inbox = q.inbox ∙ p.inbox; ends = q.ends ∙ p.ends }
 
-pub same_itself : (a : Station) → IsSame a a
+pub same_itself : (a : Worker) → IsSame a a
 same_itself a = record { inbox = refl; ends = refl }

@@ -14,13 +14,13 @@ use Rattle.tp_inbox.specs.declared.entry.Entry.TheVariants as entry
 use Rattle.tp_inbox.specs.History.{is_arrival}
 use Rattle.tp_behaviour.specs.Fresh.{LooksAtPorts}
 use Rattle.tp_report.specs.declared.report.CompReport.{CompReport}
-use Rattle.tp_exec.specs.declared.kind.Due.{Due}
-use Rattle.tp_exec.specs.declared.kind.Kind.{Kind}
-use Rattle.tp_exec.specs.declared.kind.Kind.TheVariants as kind
+use Rattle.tp_exec.specs.declared.kind.AwaitedArrival.{AwaitedArrival}
+use Rattle.tp_exec.specs.declared.kind.EntryKind.{EntryKind}
+use Rattle.tp_exec.specs.declared.kind.EntryKind.TheVariants as kind
 use Rattle.tp_exec.specs.OneOrder.{HasOneOrder, entry_at, log_in, logs_of, sender_to, senders_to, sends_to, source_of, sources}
-use Rattle.tp_exec.specs.Courses.{due_sources, kind_of, came_then, sent_then}
+use Rattle.tp_exec.specs.OrderProgress.{awaited_sources, kind_of, came_then, sent_then}
 use Rattle.tp_exec.specs.Order.{Spot}
-use Rattle.tp_exec.specs.Greedy.{CanDo, IsCourseBy, IsGreedy, many, sends}
+use Rattle.tp_exec.specs.Greedy.{CanDo, IsProgressBy, IsGreedy, many, sends}
 use Rattle.tp_exec.proofs.EntryKinds.{of_came, of_looked, of_quiet, of_sent}
 use Rattle.tp_exec.proofs.Stuck.{unit, many_here, many_sent, many_there, no_send, sum_one}
 use Rattle.tp_exec.proofs.OneOrder.{came_on, gone_all, gone_came, gone_none, gone_own, spot}
@@ -134,12 +134,12 @@ module _ (logs : List (List Entry)) where
   }
 
   -- the next thing is done
-  pub done : (places known sent : List ℕ) (c : ℕ) (e : Entry) (k : Kind) → kind_of e ≡ k
+  pub done : (places known sent : List ℕ) (c : ℕ) (e : Entry) (k : EntryKind) → kind_of e ≡ k
       → entry_at logs (spot c (slice_index places c)) ≡ Some e → c < length places → c < length known
       → length sent ≡ length logs
       → CanDo logs (slice_index places) (slice_index known) (slice_index sent) c k
-      → IsCourseBy logs places known sent
-      → IsCourseBy logs (set places c (slice_index places c + 1)) (came_then c k known) (sent_then k sent)
+      → IsProgressBy logs places known sent
+      → IsProgressBy logs (set places c (slice_index places c + 1)) (came_then c k known) (sent_then k sent)
   done places known sent c e (kind.Came s) is stands low low_known size can was =
       let h = of_came e s is in
       let at = slice_index places in
@@ -175,16 +175,16 @@ module _ (logs : List (List Entry)) where
       )
   done places known sent c e (kind.Sent d) is stands low low_known size can was =
       let h = of_sent e d is in
-      let due : slice_get (sources (log_in logs d)) (slice_index sent d) ≡ Some c = can.0 in
+      let awaited : slice_get (sources (log_in logs d)) (slice_index sent d) ≡ Some c = can.0 in
       let within : d < length sent = elim (cases_lt d (length logs)) [
         | inl less ↦ omega (arith, less, size)
-        | inr past ↦ absurd (none_in logs d (slice_index sent d) c past due)
+        | inr past ↦ absurd (none_in logs d (slice_index sent d) c past awaited)
       ] in
       let at = slice_index places in
       let out = slice_index sent in
       let then = slice_index (set places c (slice_index places c + 1)) in
       let more = slice_index (set sent d (slice_index sent d + 1)) in
-      let fit : slice_index sent d < length (sources (log_in logs d)) = slice_get_within (sources (log_in logs d)) (slice_index sent d) c due in (
+      let fit : slice_index sent d < length (sources (log_in logs d)) = slice_get_within (sources (log_in logs d)) (slice_index sent d) c awaited in (
         was.0 ++ spot c (slice_index places c) ∷ [],
         gone_own logs at (slice_index known) out then
             more was.0 c e was.1 stands h.0 (λ look. absurd (h.2 look)) (here places c low) (others places c)
@@ -195,7 +195,7 @@ module _ (logs : List (List Entry)) where
                   ≡ take (slice_index sent y) (sources (log_in logs y)) ++ cons_option (sender_to logs y (spot c (slice_index places c))) [] in
                   subst P (sym same)
                   (ap (λ n. take n (sources (log_in logs d))) (here sent d within)
-                  ∙ some_more c (slice_index places c) e d (slice_index sent d) stands (h.1 d ∙ eq-eqb d d refl) due)
+                  ∙ some_more c (slice_index places c) e d (slice_index sent d) stands (h.1 d ∙ eq-eqb d d refl) awaited)
               | inr other ↦
                   ap (λ n. take n (sources (log_in logs x))) (others sent d x other)
                   ∙ none_more c (slice_index places c) e x (slice_index sent x) stands (h.1 x ∙ ne_eqb x d other)
@@ -227,32 +227,32 @@ pub log_is : (components : List CompReport) (c : ℕ) (x : CompReport) (log : Li
 log_is components c x log low is = get_or-map (λ (y : CompReport). y.desk.log) components c x [] low ∙ sym is
 
 -- what is known of the messages that came to it
-pub sources_of_due : (all : List (Vec Due Global)) (logs : List (List Entry)) (c : ℕ) (v : Vec Due Global)
-    → map (λ x. due_sources x.items) all ≡ map sources logs → c < length all → v ≡ get_or all c v
-    → due_sources v.items ≡ sources (log_in logs c)
-sources_of_due all logs c v are low is =
-    let one : get_or (map (λ (x : Vec Due Global). due_sources x.items) all) c [] ≡ due_sources v.items =
-    get_or-map (λ (x : Vec Due Global). due_sources x.items) all c v [] low ∙ ap (λ (x : Vec Due Global). due_sources x.items) (sym is) in
+pub sources_of_awaited : (all : List (Vec AwaitedArrival Global)) (logs : List (List Entry)) (c : ℕ) (v : Vec AwaitedArrival Global)
+    → map (λ x. awaited_sources x.items) all ≡ map sources logs → c < length all → v ≡ get_or all c v
+    → awaited_sources v.items ≡ sources (log_in logs c)
+sources_of_awaited all logs c v are low is =
+    let one : get_or (map (λ (x : Vec AwaitedArrival Global). awaited_sources x.items) all) c [] ≡ awaited_sources v.items =
+    get_or-map (λ (x : Vec AwaitedArrival Global). awaited_sources x.items) all c v [] low ∙ ap (λ (x : Vec AwaitedArrival Global). awaited_sources x.items) (sym is) in
     sym one ∙ ap (λ (l : List (List ℕ)). get_or l c []) are ∙ sources_in logs c
 
-pub dues_are : (all : List (Vec Due Global)) (logs : List (List Entry)) (c : ℕ) (v : Vec Due Global)
-    → map (λ x. due_sources x.items) all ≡ map sources logs → c < length all → v ≡ get_or all c v
+pub all_awaited_are : (all : List (Vec AwaitedArrival Global)) (logs : List (List Entry)) (c : ℕ) (v : Vec AwaitedArrival Global)
+    → map (λ x. awaited_sources x.items) all ≡ map sources logs → c < length all → v ≡ get_or all c v
     → length v.items ≡ length (sources (log_in logs c))
-dues_are all logs c v are low is =
-    sym (length-map v.items (λ (d : Due). d.source)) ∙ ap length (sources_of_due all logs c v are low is)
+all_awaited_are all logs c v are low is =
+    sym (length-map v.items (λ (d : AwaitedArrival). d.source)) ∙ ap length (sources_of_awaited all logs c v are low is)
 
-pub dues_size : (all : List (Vec Due Global)) (components : List CompReport)
-    → map (λ x. due_sources x.items) all ≡ map sources (logs_of components) → length all ≡ length components
-dues_size all components are =
-    sym (length-map all (λ (x : Vec Due Global). due_sources x.items)) ∙ ap length are ∙ length-map (logs_of components) sources
+pub all_awaited_size : (all : List (Vec AwaitedArrival Global)) (components : List CompReport)
+    → map (λ x. awaited_sources x.items) all ≡ map sources (logs_of components) → length all ≡ length components
+all_awaited_size all components are =
+    sym (length-map all (λ (x : Vec AwaitedArrival Global). awaited_sources x.items)) ∙ ap length are ∙ length-map (logs_of components) sources
     ∙ length-map components (λ (x : CompReport). x.desk.log)
 
 -- one more entry of a history is looked at
-pub due_more : (k : List Entry) (n : ℕ) (e : Entry) (s after : ℕ) (dues : List Due) → slice_get k n ≡ Some e → kind_of e ≡ kind.Came s
-    → due_sources dues ≡ sources (take n k) → due_sources (dues ++ record { source = s; after = after } ∷ []) ≡ sources (take (n + 1) k)
-due_more k n e s after dues at is was =
+pub awaited_more : (k : List Entry) (n : ℕ) (e : Entry) (s after : ℕ) (all_awaited : List AwaitedArrival) → slice_get k n ≡ Some e → kind_of e ≡ kind.Came s
+    → awaited_sources all_awaited ≡ sources (take n k) → awaited_sources (all_awaited ++ record { source = s; after = after } ∷ []) ≡ sources (take (n + 1) k)
+awaited_more k n e s after all_awaited at is was =
     let h = of_came e s is in
-    map-append (λ (d : Due). d.source) dues (record { source = s; after = after } ∷ []) ∙ ap (λ l. l ++ s ∷ []) was
+    map-append (λ (d : AwaitedArrival). d.source) all_awaited (record { source = s; after = after } ∷ []) ∙ ap (λ l. l ++ s ∷ []) was
     ∙ sym (came_on k n e at ∙ ap (λ (o : Option ℕ). sources (take n k) ++ cons_option o []) h.1)
 
 none_came : (k : List Entry) (n : ℕ) (e : Entry) → slice_get k n ≡ Some e → source_of e ≡ None → sources (take n k) ≡ sources (take (n + 1) k)
@@ -260,7 +260,7 @@ none_came k n e at none =
     sym (came_on k n e at ∙ ap (λ (o : Option ℕ). sources (take n k) ++ cons_option o []) none ∙ append-nil (sources (take n k)))
 
 -- whose message it is that comes by an entry of this kind
-abbrev came_by : Kind → Option ℕ
+abbrev came_by : EntryKind → Option ℕ
 came_by (kind.Came s) = Some s
 came_by _ = None
 
@@ -268,12 +268,12 @@ source_by : (e : Entry) → source_of e ≡ came_by (kind_of e)
 source_by (entry.Arrive p v t) = refl
 source_by _ = refl
 
-pub due_still : (k : List Entry) (n : ℕ) (e : Entry) (w : Kind) (dues : List Due) → slice_get k n ≡ Some e → kind_of e ≡ w
-    → ((s : ℕ) → w ≡ kind.Came s → ⊥) → due_sources dues ≡ sources (take n k) → due_sources dues ≡ sources (take (n + 1) k)
-due_still k n e (kind.Came s) dues at is other was = absurd (other s refl)
-due_still k n e kind.Looked dues at is other was = was ∙ none_came k n e at (source_by e ∙ ap came_by is)
-due_still k n e kind.Quiet dues at is other was = was ∙ none_came k n e at (source_by e ∙ ap came_by is)
-due_still k n e (kind.Sent d) dues at is other was = was ∙ none_came k n e at (source_by e ∙ ap came_by is)
+pub awaited_still : (k : List Entry) (n : ℕ) (e : Entry) (w : EntryKind) (all_awaited : List AwaitedArrival) → slice_get k n ≡ Some e → kind_of e ≡ w
+    → ((s : ℕ) → w ≡ kind.Came s → ⊥) → awaited_sources all_awaited ≡ sources (take n k) → awaited_sources all_awaited ≡ sources (take (n + 1) k)
+awaited_still k n e (kind.Came s) all_awaited at is other was = absurd (other s refl)
+awaited_still k n e kind.Looked all_awaited at is other was = was ∙ none_came k n e at (source_by e ∙ ap came_by is)
+awaited_still k n e kind.Quiet all_awaited at is other was = was ∙ none_came k n e at (source_by e ∙ ap came_by is)
+awaited_still k n e (kind.Sent d) all_awaited at is other was = was ∙ none_came k n e at (source_by e ∙ ap came_by is)
 
 -- the places together are no more than all entries
 sum_within : (xs : List CompReport) (places : List ℕ) → length places ≡ length xs
@@ -289,7 +289,7 @@ sum_within (x ∷ xs) (p ∷ ps) size within =
     let other = sum_by-cons (λ (n : ℕ). n) (length x.desk.log) (map (λ (y : CompReport). length y.desk.log) xs) in
     omega (arith, first, rest, one, other)
 
-pub places_within : (xs : List CompReport) (places known sent : List ℕ) → length places ≡ length xs → IsCourseBy (logs_of xs) places known sent
+pub places_within : (xs : List CompReport) (places known sent : List ℕ) → length places ≡ length xs → IsProgressBy (logs_of xs) places known sent
     → sum places ≤ sum (map (λ x. length x.desk.log) xs)
 places_within xs places known sent size was = sum_within xs places size was.1.within
 
@@ -310,7 +310,7 @@ zeros n x = elim (cases_lt x n) [
   | inr past ↦ let e : length (replicate n 0) ≡ n = length-replicate {A = ℕ} n 0 in get_or_past (replicate n 0) x 0 (omega (arith, e, past))
 ]
 
-pub begun : (logs : List (List Entry)) (n m k : ℕ) → IsCourseBy logs (replicate n 0) (replicate m 0) (replicate k 0)
+pub begun : (logs : List (List Entry)) (n m k : ℕ) → IsProgressBy logs (replicate n 0) (replicate m 0) (replicate k 0)
 begun logs n m k = (
   [],
   gone_none logs (slice_index (replicate n 0)) (slice_index (replicate m 0)) (slice_index (replicate k 0)) (zeros n) (zeros m) (zeros k),
@@ -322,7 +322,7 @@ begun logs n m k = (
 )
 
 -- at last all is, and then all that came was sent
-pub ended : (xs : List CompReport) (places came sent : List ℕ) → IsCourseBy (logs_of xs) places came sent → length places ≡ length xs
+pub ended : (xs : List CompReport) (places came sent : List ℕ) → IsProgressBy (logs_of xs) places came sent → length places ≡ length xs
     → ((c : ℕ) → c < length xs → slice_index places c ≡ length (log_in (logs_of xs) c)) → HasOneOrder (logs_of xs)
 ended xs places came sent was size end =
     let logs = logs_of xs in

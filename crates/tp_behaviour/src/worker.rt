@@ -1,12 +1,13 @@
-//! What a behaviour works with.
+//! What carries out a behaviour.
 use crate::held::Held;
 use crate::outbox::Outbox;
 use tp_inbox::desk::Desk;
 use tp_inbox::owner::Owner;
 
-/// What a behaviour works with: its inbox, its ports and its history, and its senders.
+/// What carries out a component's behaviour: its inbox, its ports and its history, and its
+/// senders.
 #[derive(Drop)]
-pub struct Station {
+pub struct Worker {
     /// The owner of its inbox.
     pub owner: Owner,
     /// Its ports and its history.
@@ -15,9 +16,9 @@ pub struct Station {
     pub outbox: Outbox,
 }
 
-/// What a behaviour keeps in mind.
+/// What a behaviour keeps in mind, beside its history.
 #[derive(Drop)]
-pub struct State {
+pub struct Frame {
     /// What the loop variables around the statement hold, the outermost first.
     pub turns: Vec<i64>,
     /// What the body's variables hold, where they are set.
