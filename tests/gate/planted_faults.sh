@@ -1,5 +1,5 @@
 # Some of the faults that ./test faults plants: parts by chance must fail on theirs (faults.py); and whether the faults
-# that races.py plants in the floor and the bell still fit there.
+# that races.py plants in the floor and the notifier still fit there.
 
 planted_at_once=3
 

@@ -1,20 +1,20 @@
 #!/usr/bin/env python3
-"""Whether the forced races of crates/tp_floor (src/races.rt) tell each fault that is planted in the floor and the bell.
+"""Whether the forced races of crates/tp_floor (src/races.rt) tell each fault that is planted in floor and notifier.
 
     tests/gate/races.py [NAME..]
     tests/gate/races.py --fit
 
-All faults, or those named, are planted at once in one copy of the crate: each has the rooms `floor`, `bell` and `races`
-for itself, in a module of its own name. One more, `none`, has no fault. The tests of the copy are compiled and run,
-unproved (`rt try --test`): those of each fault must fail, and those of `none` must not. All of them took six
-minutes on a busy machine, so the gate doesn't do it: whoever changes one of the three rooms does. With `--fit` nothing
-is tried: a line `passed NAME` says that the fault can still be planted. That much the gate does.
+All faults, or those named, are planted at once in one copy of the crate: each has the modules `floor`, `notifier` and
+`races` for itself, in a module of its own name. One more, `none`, has no fault. The tests of the copy are compiled and
+run, unproved (`rt try --test`): those of each fault must fail, and those of `none` must not. All of them took six
+minutes on a busy machine, so the gate doesn't do it: whoever changes one of the three modules does. With `--fit`
+nothing is tried: a line `passed NAME` says that the fault can still be planted. That much the gate does.
 
 In each loop of the floor the load of the counts is made once for all turns, or left out, or no second one is made; the
 exchange is made for the counts that are there, or without a look at what is there, or left out; and a lost turn is
-given up, at once or after ten. So with what the bell keeps and looks at. Clauses exclude what the bell does wrong, and
-a rest or a rise that isn't counted. Of who leaves, of who is told to be the last, and of how often a call tries again,
-no clause says anything.
+given up, at once or after ten. So with what the notifier keeps and looks at. Clauses exclude what the notifier does
+wrong, and a rest or a rise that isn't counted. Of who leaves, of who is told to be the last, and of how often a call
+tries again, no clause says anything.
 
 Of each fault a line is printed, `told NAME; TEST: WHAT IT SAID`, or one that begins with FAILED. The last line is
 `races: N faults, M failed`.
@@ -32,7 +32,7 @@ from typing import NamedTuple
 
 ROOT = os.path.dirname(os.path.dirname(os.path.dirname(os.path.realpath(__file__))))
 CRATE = "tp_floor"
-ROOMS = ("floor", "bell", "races")
+MODULES = ("floor", "notifier", "races")
 SOURCE = f"{ROOT}/crates/{CRATE}/src"
 NO_FAULT = "none"
 
@@ -42,13 +42,13 @@ class Unfit(Exception):
 
 
 class Fault(NamedTuple):
-    """A fault: its name, the room and the function that have it, and what of the function's text is replaced by what.
+    """A fault: its name, the module and the function that have it, and what of the function's text is replaced by what.
 
     In what is replaced, any white space stands for any other.
     """
 
     name: str
-    room: str
+    module: str
     function: str
     edits: dict[str, str]
 
@@ -94,31 +94,31 @@ FAULTS = [
         " for _ in rt.forever() {",
         "return all_rest;": "let _ = all_rest; return told;",
     }),
-    *faults_of_loop("Place::rest", "self.floor self.pass", "rested", {"": "true", "_as_last": "false"}),
-    Fault("rest_is_told_by_the_first_load", "floor", "Place::rest", {
+    *faults_of_loop("FloorPlace::rest", "self.floor self.pass", "rested", {"": "true", "_as_last": "false"}),
+    Fault("rest_is_told_by_the_first_load", "floor", "FloorPlace::rest", {
         "for _ in rt.forever() {": "if !self.floor.look(rt, &mut self.pass).rest() { return false; }"
         " for _ in rt.forever() {",
         "if !rested.rest() { return false; }": "rested.resting += 1;",
     }),
-    *faults_of_loop("Place::rise", "self.floor self.pass", "risen", {"": ""}),
+    *faults_of_loop("FloorPlace::rise", "self.floor self.pass", "risen", {"": ""}),
     Fault("resting_is_not_loaded", "floor", "Floor::resting", {"self.look(rt, &mut self.counts.pass()).resting": "0"}),
-    Fault("announce_looks_at_no_rest", "bell", "Bell::announce", {"match self.awaits {": "match None::<u64> {"}),
-    Fault("announce_looks_at_the_old_number", "bell", "Bell::announce", {"announced > taken": "self.announced > taken"}),
-    Fault("announce_leaves_the_place_at_rest", "bell", "Bell::announce", {"self.place.rise(rt, seam);": ""}),
-    Fault("announce_leaves_the_owner_at_rest", "bell", "Bell::announce", {"self.awaits = None;": ""}),
-    Fault("announce_is_not_counted", "bell", "Bell::announce", {"self.announced = announced;": ""}),
-    Fault("close_looks_at_no_rest", "bell", "Bell::close", {"self.awaits.is_some()": "false"}),
-    Fault("close_leaves_the_place_at_rest", "bell", "Bell::close", {"self.place.rise(rt, seam);": ""}),
-    Fault("close_leaves_the_owner_at_rest", "bell", "Bell::close", {"self.awaits = None;": ""}),
-    Fault("close_leaves_it_open", "bell", "Bell::close", {"self.closed = true;": ""}),
-    Fault("look_finds_no_push", "bell", "Bell::look", {"if self.announced > taken {": "if 0 > taken {"}),
-    Fault("look_finds_no_closing", "bell", "Bell::look", {"if self.closed {": "if false {"}),
-    Fault("rest_looks_at_no_rest", "bell", "Bell::rest", {"self.awaits.is_none() &&": ""}),
-    Fault("rest_leaves_the_place_awake", "bell", "Bell::rest", {"!self.place.rest(rt, seam)": "false"}),
-    Fault("rest_leaves_the_owner_awake", "bell", "Bell::rest", {"self.awaits = Some(taken);": ""}),
-    Fault("rest_awaits_one_more", "bell", "Bell::rest", {"self.awaits = Some(taken);": "self.awaits = Some(taken + 1);"}),
-    Fault("rests_looks_at_no_rest", "bell", "Bell::rests", {"self.awaits.is_some()": "false"}),
-    Fault("woken_finds_no_push", "bell", "Bell::woken", {"if self.announced > taken {": "if 0 > taken {"}),
+    Fault("announce_looks_at_no_rest", "notifier", "Notifier::announce", {"match self.awaits {": "match None::<u64> {"}),
+    Fault("announce_looks_at_the_old_number", "notifier", "Notifier::announce", {"announced > taken": "self.announced > taken"}),
+    Fault("announce_leaves_the_place_at_rest", "notifier", "Notifier::announce", {"self.place.rise(rt, hook);": ""}),
+    Fault("announce_leaves_the_owner_at_rest", "notifier", "Notifier::announce", {"self.awaits = None;": ""}),
+    Fault("announce_is_not_counted", "notifier", "Notifier::announce", {"self.announced = announced;": ""}),
+    Fault("close_looks_at_no_rest", "notifier", "Notifier::close", {"self.awaits.is_some()": "false"}),
+    Fault("close_leaves_the_place_at_rest", "notifier", "Notifier::close", {"self.place.rise(rt, hook);": ""}),
+    Fault("close_leaves_the_owner_at_rest", "notifier", "Notifier::close", {"self.awaits = None;": ""}),
+    Fault("close_leaves_it_open", "notifier", "Notifier::close", {"self.closed = true;": ""}),
+    Fault("look_finds_no_push", "notifier", "Notifier::look", {"if self.announced > taken {": "if 0 > taken {"}),
+    Fault("look_finds_no_closing", "notifier", "Notifier::look", {"if self.closed {": "if false {"}),
+    Fault("rest_looks_at_no_rest", "notifier", "Notifier::rest", {"self.awaits.is_none() &&": ""}),
+    Fault("rest_leaves_the_place_awake", "notifier", "Notifier::rest", {"!self.place.rest(rt, hook)": "false"}),
+    Fault("rest_leaves_the_owner_awake", "notifier", "Notifier::rest", {"self.awaits = Some(taken);": ""}),
+    Fault("rest_awaits_one_more", "notifier", "Notifier::rest", {"self.awaits = Some(taken);": "self.awaits = Some(taken + 1);"}),
+    Fault("rests_looks_at_no_rest", "notifier", "Notifier::rests", {"self.awaits.is_some()": "false"}),
+    Fault("woken_finds_no_push", "notifier", "Notifier::woken", {"if self.announced > taken {": "if 0 > taken {"}),
 ]
 
 
@@ -134,12 +134,12 @@ def write(path: str, text: str) -> None:
 
 
 def with_fault(text: str, fault: Fault) -> str:
-    """The text of a room with the fault in it."""
+    """The text of a module with the fault in it."""
     type_name, method = fault.function.split("::")
     at = text.find(f"\nimpl {type_name} {{")
     function = re.compile(rf"    (pub(\(crate\))? )?fn {method}[<(].*?\n    }}\n", re.S).search(text, at)
     if at < 0 or not function:
-        raise Unfit(f"there is no function {fault.function} in {fault.room}")
+        raise Unfit(f"there is no function {fault.function} in {fault.module}")
     body = function[0]
     for old, new in fault.edits.items():
         pattern = r"\s*".join(re.escape(word) for word in re.findall(r"\w+|[^\w\s]", old))
@@ -150,15 +150,15 @@ def with_fault(text: str, fault: Fault) -> str:
 
 
 def plant(folder: str, fault: Fault) -> None:
-    """Puts rooms with the fault into the copy."""
+    """Puts modules with the fault into the copy."""
     of_fault = f"{folder}/src/{fault.name}"
-    files = [f"{room}.rt" for room in ROOMS] + [f"races/{name}" for name in os.listdir(f"{SOURCE}/races")]
+    files = [f"{module}.rt" for module in MODULES] + [f"races/{name}" for name in os.listdir(f"{SOURCE}/races")]
     for file in files:
         text = read(f"{SOURCE}/{file}")
-        if file == f"{fault.room}.rt":
+        if file == f"{fault.module}.rt":
             text = with_fault(text, fault)
-        write(f"{of_fault}/{file}", re.sub(rf"\bcrate::({'|'.join(ROOMS)})::", rf"crate::{fault.name}::\1::", text))
-    write(f"{of_fault}.rt", f"//! {fault.name}\n" + "".join(f"mod {room};\n" for room in ROOMS))
+        write(f"{of_fault}/{file}", re.sub(rf"\bcrate::({'|'.join(MODULES)})::", rf"crate::{fault.name}::\1::", text))
+    write(f"{of_fault}.rt", f"//! {fault.name}\n" + "".join(f"mod {module};\n" for module in MODULES))
 
 
 def copy_with(folder: str, faults: list[Fault]) -> str:
@@ -172,9 +172,9 @@ def copy_with(folder: str, faults: list[Fault]) -> str:
     copy = f"{folder}/crates/{CRATE}"
     shutil.copytree(f"{ROOT}/crates/{CRATE}/specs", f"{copy}/specs")
     shutil.copytree(f"{ROOT}/crates/{CRATE}/proofs", f"{copy}/proofs")
-    write(f"{copy}/src/seam.rt", read(f"{SOURCE}/seam.rt"))
+    write(f"{copy}/src/hook.rt", read(f"{SOURCE}/hook.rt"))
     modules = "".join(f"#[cfg(test)]\nmod {it.name};\n" for it in faults)
-    write(f"{copy}/src/lib.rt", f"//! Faults.\n#![tactic(auto)]\n\n{modules}pub mod seam;\n")
+    write(f"{copy}/src/lib.rt", f"//! Faults.\n#![tactic(auto)]\n\n{modules}pub mod hook;\n")
     for fault in faults:
         plant(copy, fault)
     return copy
@@ -197,7 +197,7 @@ def all_fit() -> bool:
     wrong = 0
     for fault in FAULTS:
         try:
-            with_fault(read(f"{SOURCE}/{fault.room}.rt"), fault)
+            with_fault(read(f"{SOURCE}/{fault.module}.rt"), fault)
             print(f"passed {fault.name}")
         except Unfit as why:
             wrong += 1

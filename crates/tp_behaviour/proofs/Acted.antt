@@ -21,7 +21,7 @@ use Rattle.tp_behaviour.specs.Held.{Actor}
 use Rattle.tp_behaviour.specs.Moments.{Moment, moments}
 use Rattle.tp_behaviour.specs.Paths.{AreOperated, IsStep, operated}
 use Rattle.tp_behaviour.specs.Seen.{Grew}
-use Rattle.tp_behaviour.specs.Stations.{IsPlain}
+use Rattle.tp_behaviour.specs.Workers.{IsPlain}
 use Rattle.tp_behaviour.proofs.Entries.{no_arrival}
 use Rattle.tp_behaviour.proofs.Noted.{quiet, sent_on_same}
 

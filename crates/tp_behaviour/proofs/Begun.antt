@@ -13,7 +13,7 @@ use Rattle.tp_behaviour.specs.Held.{Actor, unset}
 use Rattle.tp_behaviour.specs.Moments.{moments}
 use Rattle.tp_behaviour.specs.Outcomes.{Ends, HasEnded}
 use Rattle.tp_behaviour.specs.Seen.{Grew}
-use Rattle.tp_behaviour.specs.Stations.{AreHeld, IsHeldAs}
+use Rattle.tp_behaviour.specs.Workers.{AreHeld, IsHeldAs}
 
 -- a variable that isn't set may be of any type
 none_held : (types : List VariableType) → AllZip IsHeldAs types (map (λ _. None) types)

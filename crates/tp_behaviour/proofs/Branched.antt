@@ -14,9 +14,9 @@ use Rattle.tp_behaviour.specs.declared.deciding.Decision.TheVariants as decision
 use Rattle.tp_behaviour.specs.declared.held.Held.{Held}
 use Rattle.tp_behaviour.specs.declared.outcome.Outcome.{Outcome}
 use Rattle.tp_behaviour.specs.declared.outcome.Outcome.TheVariants as outcome
-use Rattle.tp_behaviour.specs.declared.post.Post.{Post}
-use Rattle.tp_behaviour.specs.declared.station.Station.{Station}
-use Rattle.tp_behaviour.specs.declared.station.State.{State}
+use Rattle.tp_behaviour.specs.declared.task.Task.{Task}
+use Rattle.tp_behaviour.specs.declared.worker.Worker.{Worker}
+use Rattle.tp_behaviour.specs.declared.worker.Frame.{Frame}
 use Rattle.tp_behaviour.specs.Ends.{Stops, StopsWithin}
 use Rattle.tp_behaviour.specs.Held.{Actor, redirected}
 use Rattle.tp_behaviour.specs.Moments.{Moment}
@@ -24,7 +24,7 @@ use Rattle.tp_behaviour.specs.Outcomes.{Ends, EndsStep, EndsTurns, Executed, Ste
 use Rattle.tp_behaviour.specs.Parts.{Decided, Enters, EntersElse, ExecutedAt, Turned}
 use Rattle.tp_behaviour.specs.Paths.{IsPath, IsStep, guards_of}
 use Rattle.tp_behaviour.specs.Seen.{Grew}
-use Rattle.tp_behaviour.specs.Stations.{role_of}
+use Rattle.tp_behaviour.specs.Workers.{role_of}
 use Rattle.tp_behaviour.proofs.Stepped.{grew_on}
 
 -- the moments of the choice, and then those of the block
@@ -77,8 +77,8 @@ module _ (r : Actor) (turns : List ℤ) (vs us ws : List (Option Held)) (xs : Li
   of_else (outcome.Waiting waiting) ts more h block = stops_in_else (λ gs. gs ≡ waiting.items) ending.Waiting ts more h block
 
 -- an `alt` of which a branch was chosen
-pub step_branch : (p : Post) (x : Statement) (xs ys : List Branch) (otherwise : Option (List Statement)) (has_else : Bool) (i : ℕ) (o : Outcome)
-    (here : Station) (before : State) (mid : Station) (now : State) (there : Station) (after : State) → x ≡ b.Alt xs otherwise → ys ≡ xs
+pub step_branch : (p : Task) (x : Statement) (xs ys : List Branch) (otherwise : Option (List Statement)) (has_else : Bool) (i : ℕ) (o : Outcome)
+    (here : Worker) (before : Frame) (mid : Worker) (now : Frame) (there : Worker) (after : Frame) → x ≡ b.Alt xs otherwise → ys ≡ xs
     → now.turns.items ≡ before.turns.items
     → Decided p ys has_else (decision.Branch i) here before mid now → ExecutedAt p ys i o mid now there after → Stepped p x o here before there after
 step_branch p x xs ys otherwise has_else i o here before mid now there after is are same decided done =
@@ -95,9 +95,9 @@ step_branch p x xs ys otherwise has_else i o here before mid now there after is 
     (λ ts more h e. of_branch r turns vs us ws ys otherwise o i done.0 ts more h done.1 e) decided block)
 
 -- an `alt` of which `[else]` was chosen
-pub step_else : (p : Post) (x : Statement) (xs ys : List Branch) (otherwise : Option (List Statement)) (items list : List Statement) (has_else : Bool)
+pub step_else : (p : Task) (x : Statement) (xs ys : List Branch) (otherwise : Option (List Statement)) (items list : List Statement) (has_else : Bool)
     (o : Outcome)
-    (here : Station) (before : State) (mid : Station) (now : State) (there : Station) (after : State) → x ≡ b.Alt xs otherwise → otherwise ≡ Some items
+    (here : Worker) (before : Frame) (mid : Worker) (now : Frame) (there : Worker) (after : Frame) → x ≡ b.Alt xs otherwise → otherwise ≡ Some items
     → ys ≡ xs → list ≡ items
     → now.turns.items ≡ before.turns.items
     → Decided p ys has_else decision.Else here before mid now → Executed p list o mid now there after → Stepped p x o here before there after
@@ -123,8 +123,8 @@ no_else None is = refl
 no_else (Some block) is = absurd (cc)
 
 -- an `alt` that waits
-pub step_waits : (p : Post) (x : Statement) (xs ys : List Branch) (otherwise : Option (List Statement)) (has_else : Bool) (waiting : Vec Guard Global)
-    (here : Station) (before : State) (there : Station) (after : State) → x ≡ b.Alt xs otherwise → ys ≡ xs → has_else ≡ is_some otherwise
+pub step_waits : (p : Task) (x : Statement) (xs ys : List Branch) (otherwise : Option (List Statement)) (has_else : Bool) (waiting : Vec Guard Global)
+    (here : Worker) (before : Frame) (there : Worker) (after : Frame) → x ≡ b.Alt xs otherwise → ys ≡ xs → has_else ≡ is_some otherwise
     → Decided p ys has_else (decision.Waits waiting) here before there after → Stepped p x (outcome.Waiting waiting) here before there after
 step_waits p x xs ys otherwise has_else waiting here before there after is are there_is decided =
     let r = role_of p in
@@ -151,8 +151,8 @@ module _ (r : Actor) (turns : List ℤ) (vs ws : List (Option Held)) (first boun
   of_turns (outcome.Error fault) ts h = of_turn (λ _. ⊥) (ending.Error fault) ts h
   of_turns (outcome.Waiting waiting) ts h = of_turn (λ gs. gs ≡ waiting.items) ending.Waiting ts h
 
-pub step_for : (p : Post) (x : Statement) (first bound low high : ℤ) (items list : List Statement) (o : Outcome) (here : Station) (before : State)
-    (there : Station) (after : State)
+pub step_for : (p : Task) (x : Statement) (first bound low high : ℤ) (items list : List Statement) (o : Outcome) (here : Worker) (before : Frame)
+    (there : Worker) (after : Frame)
     → x ≡ b.For first bound items → low ≡ first → high ≡ bound → list ≡ items → Turned p low list (turns_between low high) o here before there after
     → Stepped p x o here before there after
 step_for p x first bound low high items list o here before there after is low_is high_is are h =

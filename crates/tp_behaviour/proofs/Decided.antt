@@ -12,14 +12,14 @@ use Rattle.tp_inbox.specs.declared.entry.Entry.{Entry}
 use Rattle.tp_behaviour.specs.declared.choice.Guard.{Guard}
 use Rattle.tp_behaviour.specs.declared.choosing.Choice.TheVariants as choice
 use Rattle.tp_behaviour.specs.declared.held.Held.{Held}
-use Rattle.tp_behaviour.specs.declared.post.Post.{Post}
-use Rattle.tp_behaviour.specs.declared.station.Station.{Station}
+use Rattle.tp_behaviour.specs.declared.task.Task.{Task}
+use Rattle.tp_behaviour.specs.declared.worker.Worker.{Worker}
 use Rattle.tp_behaviour.specs.Held.{Actor, Values, guard_of}
 use Rattle.tp_behaviour.specs.Outcomes.{stage_at}
 use Rattle.tp_behaviour.specs.Parts.{Enters, IsEntered}
 use Rattle.tp_behaviour.specs.Paths.{guards_of}
 use Rattle.tp_behaviour.specs.Seen.{Chose, Grew}
-use Rattle.tp_behaviour.specs.Stations.{IsManned, role_of}
+use Rattle.tp_behaviour.specs.Workers.{IsConsistent, role_of}
 use Rattle.tp_behaviour.proofs.Chosen.{chosen_below}
 use Rattle.tp_behaviour.proofs.Stayed.{ports_there}
 
@@ -29,10 +29,10 @@ below_each s n r vs (x ∷ xs) can =
     All-cons (λ (g : Guard). g.port < s.ports) (guard_of r vs x.receiving) (guards_of r vs xs) (enters_receive s n x can.0).port (below_each s n r vs xs can.1)
 
 -- what an `alt` looks at is within the desk's ports
-pub guards_within : (p : Post) (s : Station) (n : ℕ) (vs : Values) (xs : List Branch) (gs : List Guard) → IsManned (role_of p) s → CanEnterAll (stage_at p) n xs
+pub guards_within : (p : Task) (s : Worker) (n : ℕ) (vs : Values) (xs : List Branch) (gs : List Guard) → IsConsistent (role_of p) s → CanEnterAll (stage_at p) n xs
     → gs ≡ guards_of (role_of p) vs xs → All (λ (g : Guard). g.port < s.desk.ports) gs
-guards_within p s n vs xs gs manned can is =
-    subst (λ (m : ℕ). All (λ (g : Guard). g.port < m) gs) (sym (ports_there p s manned))
+guards_within p s n vs xs gs consistent can is =
+    subst (λ (m : ℕ). All (λ (g : Guard). g.port < m) gs) (sym (ports_there p s consistent))
     (subst (All (λ (g : Guard). g.port < (stage_at p).ports)) (sym is) (below_each (stage_at p) n (role_of p) vs xs can))
 
 -- the branch that is chosen is there

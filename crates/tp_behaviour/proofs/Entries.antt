@@ -11,7 +11,7 @@ use Rattle.tp_inbox.specs.declared.entry.Entry.{Entry}
 use Rattle.tp_inbox.specs.declared.entry.Entry.TheVariants as entry
 use Rattle.tp_inbox.specs.History.{is_arrival, arrivals, arrival_on, arrived_on, same_route, sending_on, sent_on, sending_to, sent_to}
 use Rattle.tp_inbox.specs.Routed.{IsArrivalOn}
-use Rattle.tp_behaviour.specs.Stations.{IsSentBy}
+use Rattle.tp_behaviour.specs.Workers.{IsSentBy}
 use Rattle.tp_inbox.proofs.Putting.{route_same}
 
 -- what is no arrival came on no route

@@ -9,24 +9,24 @@ use Rattle.tp_behaviour.specs.declared.choice.Guard.{Guard}
 use Rattle.tp_behaviour.specs.declared.held.Held.{Held}
 use Rattle.tp_behaviour.specs.declared.outcome.Outcome.{Outcome}
 use Rattle.tp_behaviour.specs.declared.outcome.Outcome.TheVariants as outcome
-use Rattle.tp_behaviour.specs.declared.post.Post.{Post}
-use Rattle.tp_behaviour.specs.declared.station.Station.{Station}
-use Rattle.tp_behaviour.specs.declared.station.State.{State}
+use Rattle.tp_behaviour.specs.declared.task.Task.{Task}
+use Rattle.tp_behaviour.specs.declared.worker.Worker.{Worker}
+use Rattle.tp_behaviour.specs.declared.worker.Frame.{Frame}
 use Rattle.tp_behaviour.specs.Ends.{Stops, StopsWithin}
 use Rattle.tp_behaviour.specs.Held.{Actor}
 use Rattle.tp_behaviour.specs.Moments.{Moment, moments}
 use Rattle.tp_behaviour.specs.Outcomes.{Ends, EndsStep, Executed, Stepped}
 use Rattle.tp_behaviour.specs.Paths.{IsPath, IsStep}
 use Rattle.tp_behaviour.specs.Seen.{Grew}
-use Rattle.tp_behaviour.specs.Stations.{role_of}
+use Rattle.tp_behaviour.specs.Workers.{role_of}
 use Rattle.tp_behaviour.proofs.Stepped.{grew_on}
 
 -- the first i statements of a block were carried out
-abbrev pub Passed : Post → List Statement → ℕ → Station → State → Station → State → Type 0
+abbrev pub Passed : Task → List Statement → ℕ → Worker → Frame → Worker → Frame → Type 0
 Passed p block i here before there after =
     Grew (λ ts. IsPath (role_of p) before.turns.items before.variables.items (take i block) ts after.variables.items) here.desk.log there.desk.log
 
-pub passed_start : (p : Post) (block : List Statement) (here : Station) (before : State) → Passed p block 0 here before here before
+pub passed_start : (p : Task) (block : List Statement) (here : Worker) (before : Frame) → Passed p block 0 here before here before
 passed_start p block here before = ([], sym (append-nil (moments here.desk.log)), IsPath.no_statement before.turns.items before.variables.items)
 
 -- what a statement came to, where the loop variables hold what they held at first
@@ -35,8 +35,8 @@ as_before : (r : Actor) (o : Outcome) (turns us : List ℤ) (vs ws : List (Optio
 as_before r o turns us vs ws x k n same h = subst (λ (l : List ℤ). Grew (λ ts. EndsStep r o l vs x ts ws) k n) same h
 
 -- one statement more
-pub passed_more : (p : Post) (block : List Statement) (i : ℕ) (x : Statement) (here : Station) (before : State) (mid : Station) (now : State) (there : Station)
-    (after : State)
+pub passed_more : (p : Task) (block : List Statement) (i : ℕ) (x : Statement) (here : Worker) (before : Frame) (mid : Worker) (now : Frame) (there : Worker)
+    (after : Frame)
     → now.turns.items ≡ before.turns.items → i < length block → x ≡ get_or block i x → Passed p block i here before mid now
     → Stepped p x outcome.Done mid now there after → Passed p block (i + 1) here before there after
 passed_more p block i x here before mid now there after same below is passed step =
@@ -53,7 +53,7 @@ passed_more p block i x here before mid now there after same below is passed ste
     passed (as_before r outcome.Done turns now.turns.items ws us x mid.desk.log there.desk.log same step)
 
 -- all of them
-pub passed_all : (p : Post) (block : List Statement) (i : ℕ) (here : Station) (before : State) (there : Station) (after : State)
+pub passed_all : (p : Task) (block : List Statement) (i : ℕ) (here : Worker) (before : Frame) (there : Worker) (after : Frame)
     → length block ≤ i → Passed p block i here before there after → Executed p block outcome.Done here before there after
 passed_all p block i here before there after all passed =
     subst (λ (xs : List Statement). Grew (λ ts. IsPath (role_of p) before.turns.items before.variables.items xs ts after.variables.items) here.desk.log
@@ -77,8 +77,8 @@ module _ (r : Actor) (turns : List ℤ) (vs ws us : List (Option Held)) (block :
   ends_at (outcome.Waiting guards) other ts more path one = stops_at (λ gs. gs ≡ guards.items) ending.Waiting ts more path one
 
 -- the next one ends otherwise: the block does
-pub passed_stop : (p : Post) (block : List Statement) (i : ℕ) (x : Statement) (o : Outcome) (here : Station) (before : State) (mid : Station) (now : State)
-    (there : Station) (after : State)
+pub passed_stop : (p : Task) (block : List Statement) (i : ℕ) (x : Statement) (o : Outcome) (here : Worker) (before : Frame) (mid : Worker) (now : Frame)
+    (there : Worker) (after : Frame)
     → (o ≡ outcome.Done → ⊥) → now.turns.items ≡ before.turns.items → i < length block → x ≡ get_or block i x → Passed p block i here before mid now
     → Stepped p x o mid now there after → Executed p block o here before there after
 passed_stop p block i x o here before mid now there after other same below is passed step =

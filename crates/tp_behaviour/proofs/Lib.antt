@@ -6,7 +6,7 @@ mod Looks
 pub mod Outboxes
 pub mod Filed
 mod Entries
-mod Manned
+mod Consistent
 mod Noted
 mod Chosen
 mod Acted

@@ -3,8 +3,8 @@ use Rattle.std.proofs.Common.{◌≡◌, ℕ, zero, suc, ◌+◌, refl, List, []
 use Rattle.std.proofs.lemmas.List.Elements.{All-nil, All-cons, All-head, All-tail}
 use Rattle.tp_inbox.specs.Desks.{Journal}
 use Rattle.tp_behaviour.specs.declared.choice.Guard.{Guard}
-use Rattle.tp_behaviour.specs.declared.choice.Sight.{Sight}
-use Rattle.tp_behaviour.specs.declared.choice.Sight.TheVariants as sight
+use Rattle.tp_behaviour.specs.declared.choice.LookResult.{LookResult}
+use Rattle.tp_behaviour.specs.declared.choice.LookResult.TheVariants as look
 use Rattle.tp_behaviour.specs.Choices.{NoneOpen, IsChoice, IsDrop, chosen}
 use Rattle.tp_inbox.specs.declared.entry.Entry.TheVariants as entry
 use Rattle.tp_behaviour.specs.Looks.{Tried, Looked, moment}
@@ -19,14 +19,14 @@ pub one_more : {X : Type 0} (P : X → Type 0) (n : ℕ) (xs : List X) (x : X) �
 one_more P n xs x is h p = rw (add-one) (one_longer P n xs x is h p)
 
 -- what trying one branch comes to, of which none before is open, trying all comes to
-pub looked : (gs : List Guard) (d : Journal) (i : ℕ) (g : Guard) (s : Sight) (after : Journal) → slice_get gs i ≡ Some g
-    → NoneOpen d.log (take i gs) → Tried g i d s after → (s ≡ sight.Nothing → ⊥) → Looked gs d s after
-looked gs d i g (sight.Taken j e) after is none t not = (
+pub looked : (gs : List Guard) (d : Journal) (i : ℕ) (g : Guard) (s : LookResult) (after : Journal) → slice_get gs i ≡ Some g
+    → NoneOpen d.log (take i gs) → Tried g i d s after → (s ≡ look.Nothing → ⊥) → Looked gs d s after
+looked gs d i g (look.Taken j e) after is none t not = (
   chosen g.kind g.port e i,
   subst (λ (n : ℕ). (has_else : _) → IsChoice gs has_else (moment d (chosen g.kind g.port e i)) (Some (n, e))) (sym t.0)
       (λ has_else. IsChoice.branch d.log i g e is t.1 none),
   t.2,
 )
-looked gs d i g sight.Discarded after is none t not =
+looked gs d i g look.Discarded after is none t not =
     (entry.Dropped g.port t.0 i, IsDrop.dropped d.log i g t.0 is t.1 t.2 t.3 none, t.4)
-looked gs d i g sight.Nothing after is none t not = absurd (not refl)
+looked gs d i g look.Nothing after is none t not = absurd (not refl)

@@ -1,4 +1,4 @@
--- What stays true of a station as its behaviour acts.
+-- What stays true of a worker as its behaviour acts.
 use Rattle.std.proofs.Common.{◌≡◌, ℕ, Bool, false, cond, Some, None, List, [], ◌∷◌, ◌++◌, refl, sym, ap, ◌∙◌, subst}
 use Rattle.std.specs.Prelude.{All, filter}
 use Rattle.std.specs.List.{cons_option}
@@ -17,9 +17,9 @@ use Rattle.tp_inbox.specs.Desks.{Journal, adding}
 use Rattle.tp_inbox.specs.Ledgers.{IsDeskOf}
 use Rattle.tp_inbox.proofs.Ways.{sent_by_routes}
 use Rattle.tp_behaviour.specs.declared.choice.Guard.{Guard}
-use Rattle.tp_behaviour.specs.declared.choice.Sight.{Sight}
-use Rattle.tp_behaviour.specs.declared.choice.Sight.TheVariants as sight
-use Rattle.tp_behaviour.specs.declared.station.Station.{Station}
+use Rattle.tp_behaviour.specs.declared.choice.LookResult.{LookResult}
+use Rattle.tp_behaviour.specs.declared.choice.LookResult.TheVariants as look
+use Rattle.tp_behaviour.specs.declared.worker.Worker.{Worker}
 use Rattle.tp_behaviour.specs.Choices.{IsChoice, IsDrop, NoneOpen, chosen}
 use Rattle.tp_behaviour.specs.Fresh.{Fresh, HasOwn, LooksAtPorts}
 use Rattle.tp_behaviour.specs.Held.{Actor}
@@ -27,9 +27,9 @@ use Rattle.tp_behaviour.specs.Looks.{Looked, moment}
 use Rattle.tp_behaviour.specs.Moments.{Moment, moments}
 use Rattle.tp_behaviour.specs.Outboxes.{routes_of}
 use Rattle.tp_behaviour.specs.Seen.{Saw}
-use Rattle.tp_behaviour.specs.Stations.{IsManned, IsNoted, IsPlain, IsSentBy}
+use Rattle.tp_behaviour.specs.Workers.{IsConsistent, IsNoted, IsPlain, IsSentBy}
 use Rattle.tp_behaviour.proofs.Entries.{sent_to_more}
-use Rattle.tp_behaviour.proofs.Manned.{all_as}
+use Rattle.tp_behaviour.proofs.Consistent.{all_as}
 use Rattle.tp_behaviour.proofs.Moments.{moments-own}
 
 -- neither does it arrive, nor is it sent
@@ -92,13 +92,13 @@ fresh_more r k e is fresh own =
     subst (All (λ (t : Moment). LooksAtPorts t.entry → HasOwn r.comp t.before)) (sym (moments-own k e is))
     (All-push (λ (t : Moment). LooksAtPorts t.entry → HasOwn r.comp t.before) (moments k) (record { before = k; entry = e }) fresh own)
 
--- the station, once this was done
-pub noted : (r : Actor) (s : Station) (d : Journal) (e : Entry) → IsManned r s → d ≡ adding s.desk e → IsPlain e → (LooksAtPorts e → HasOwn r.comp s.desk.log)
-    → (moments d.log ≡ moments s.desk.log ++ moment s.desk e ∷ []) × IsManned r (record { owner = s.owner; desk = d; outbox = s.outbox })
+-- the worker, once this was done
+pub noted : (r : Actor) (s : Worker) (d : Journal) (e : Entry) → IsConsistent r s → d ≡ adding s.desk e → IsPlain e → (LooksAtPorts e → HasOwn r.comp s.desk.log)
+    → (moments d.log ≡ moments s.desk.log ++ moment s.desk e ∷ []) × IsConsistent r (record { owner = s.owner; desk = d; outbox = s.outbox })
 noted r s d e m grown plain own = (
   ap moments log ∙ moments-own s.desk.log e q.here,
   record {
-    posted = m.posted;
+    ends = m.ends;
     desk = subst (IsDeskOf s.owner.inbox) (sym grown) m.desk;
     arrived = ap arrivals log ∙ arrivals_same s.desk.log e q.here ∙ m.arrived;
     noted = all_as (IsNoted s.desk.log) (IsNoted d.log) s.outbox
@@ -128,29 +128,29 @@ plain_choice gs has_else _ i e (IsChoice.branch k _ g _ at finds none) = plain_c
 plain_drop : (gs : List Guard) (t : Moment) → IsDrop gs t → IsPlain t.entry
 plain_drop gs _ (IsDrop.dropped k i g e at kd top not none) = tt
 
--- the station, once its branches were looked at
-pub looked_at : (r : Actor) (s : Station) (gs : List Guard) (x : Sight) (d : Journal) → IsManned r s → HasOwn r.comp s.desk.log → Looked gs s.desk x d
-    → Saw r.comp gs x s.desk.log d.log × IsManned r (record { owner = s.owner; desk = d; outbox = s.outbox })
-looked_at r s gs (sight.Taken i e) d m own (t, choice, grown) =
+-- the worker, once its branches were looked at
+pub looked_at : (r : Actor) (s : Worker) (gs : List Guard) (x : LookResult) (d : Journal) → IsConsistent r s → HasOwn r.comp s.desk.log → Looked gs s.desk x d
+    → Saw r.comp gs x s.desk.log d.log × IsConsistent r (record { owner = s.owner; desk = d; outbox = s.outbox })
+looked_at r s gs (look.Taken i e) d m own (t, choice, grown) =
     let h = noted r s d t m grown (plain_choice gs false (moment s.desk t) i e (choice false)) (λ _. own) in
     ((moment s.desk t ∷ [], h.0, (moment s.desk t, refl, choice)), h.1)
-looked_at r s gs sight.Discarded d m own (t, drop, grown) =
+looked_at r s gs look.Discarded d m own (t, drop, grown) =
     let h = noted r s d t m grown (plain_drop gs (moment s.desk t) drop) (λ _. own) in
     ((moment s.desk t ∷ [], h.0, (moment s.desk t, refl, drop)), h.1)
-looked_at r s gs sight.Nothing d m own (none, same) =
+looked_at r s gs look.Nothing d m own (none, same) =
     let log : d.log ≡ s.desk.log = ap (λ (j : Journal). j.log) same in (
       (ap moments log, subst (λ k. NoneOpen k gs) (sym log) none, subst (HasOwn r.comp) (sym log) own),
-      subst (λ j. IsManned r (record { owner = s.owner; desk = j; outbox = s.outbox })) (sym same) m,
+      subst (λ j. IsConsistent r (record { owner = s.owner; desk = j; outbox = s.outbox })) (sym same) m,
     )
 
 -- the same, from an earlier history with the same trace
-pub saw_from : (r : Actor) (gs : List Guard) (x : Sight) (k l n : List Entry) → moments l ≡ moments k → Saw r.comp gs x l n → Saw r.comp gs x k n
-saw_from r gs (sight.Taken i e) k l n same (ts, grown, h) = (ts, grown ∙ ap (λ xs. xs ++ ts) same, h)
-saw_from r gs sight.Discarded k l n same (ts, grown, h) = (ts, grown ∙ ap (λ xs. xs ++ ts) same, h)
-saw_from r gs sight.Nothing k l n same (grown, none, own) = (grown ∙ same, none, own)
+pub saw_from : (r : Actor) (gs : List Guard) (x : LookResult) (k l n : List Entry) → moments l ≡ moments k → Saw r.comp gs x l n → Saw r.comp gs x k n
+saw_from r gs (look.Taken i e) k l n same (ts, grown, h) = (ts, grown ∙ ap (λ xs. xs ++ ts) same, h)
+saw_from r gs look.Discarded k l n same (ts, grown, h) = (ts, grown ∙ ap (λ xs. xs ++ ts) same, h)
+saw_from r gs look.Nothing k l n same (grown, none, own) = (grown ∙ same, none, own)
 
 -- the ports stay the same
-pub looked_ports : (s : Journal) (gs : List Guard) (x : Sight) (d : Journal) → Looked gs s x d → d.ports ≡ s.ports
-looked_ports s gs (sight.Taken i e) d (t, choice, grown) = ap (λ (j : Journal). j.ports) grown
-looked_ports s gs sight.Discarded d (t, drop, grown) = ap (λ (j : Journal). j.ports) grown
-looked_ports s gs sight.Nothing d (none, same) = ap (λ (j : Journal). j.ports) same
+pub looked_ports : (s : Journal) (gs : List Guard) (x : LookResult) (d : Journal) → Looked gs s x d → d.ports ≡ s.ports
+looked_ports s gs (look.Taken i e) d (t, choice, grown) = ap (λ (j : Journal). j.ports) grown
+looked_ports s gs look.Discarded d (t, drop, grown) = ap (λ (j : Journal). j.ports) grown
+looked_ports s gs look.Nothing d (none, same) = ap (λ (j : Journal). j.ports) same

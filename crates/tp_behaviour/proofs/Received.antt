@@ -24,7 +24,7 @@ use Rattle.tp_behaviour.specs.Held.{Actor, guard_of, redirected, set_to}
 use Rattle.tp_behaviour.specs.Moments.{Moment}
 use Rattle.tp_behaviour.specs.Paths.{IsStep}
 use Rattle.tp_behaviour.specs.Seen.{Chose, Grew}
-use Rattle.tp_behaviour.specs.Stations.{AreHeld, IsHeldAs}
+use Rattle.tp_behaviour.specs.Workers.{AreHeld, IsHeldAs}
 use Rattle.tp_behaviour.proofs.Chosen.{chosen_below}
 
 -- of one operation it is the first

@@ -23,7 +23,7 @@ use Rattle.tp_inbox.specs.History.{history_of, next_of, sent_on}
 use Rattle.tp_inbox.specs.Desks.{Journal}
 use Rattle.tp_inbox.specs.Ledgers.{Inbox, Sending as Sender, end_of}
 use Rattle.tp_inbox.proofs.Ports.{history-same}
-use Rattle.tp_behaviour.specs.declared.station.Station.{Station}
+use Rattle.tp_behaviour.specs.declared.worker.Worker.{Worker}
 use Rattle.tp_behaviour.specs.Ends.{IsFailure}
 use Rattle.tp_behaviour.specs.Held.{IsNamed, IsSentAs, NamesUnset, Actor, SendsUnset, Values}
 use Rattle.tp_behaviour.specs.Looks.{moment}
@@ -32,7 +32,7 @@ use Rattle.tp_behaviour.specs.Outboxes.{routes_of}
 use Rattle.tp_behaviour.specs.Paths.{IsSentOn, IsStarted, IsStep, own_port}
 use Rattle.tp_behaviour.specs.Seen.{Grew}
 use Rattle.tp_behaviour.specs.Sends.{Sends}
-use Rattle.tp_behaviour.specs.Stations.{IsSame}
+use Rattle.tp_behaviour.specs.Workers.{IsSame}
 
 -- what is sent is set
 is_set : (vs : Values) (s : Sent) (m : Message) → IsSentAs vs s m → SendsUnset vs s → ⊥
@@ -99,7 +99,7 @@ routes_of_ends : (ss : List Sender) → flat_map (λ (e : SenderEnd). e.2) (map 
 routes_of_ends [] = refl
 routes_of_ends (s ∷ ss) = ap (λ l. s.routes ++ l) (routes_of_ends ss)
 
-pub routes_stay : (a b : Station) → IsSame a b → routes_of b.outbox ≡ routes_of a.outbox
+pub routes_stay : (a b : Worker) → IsSame a b → routes_of b.outbox ≡ routes_of a.outbox
 routes_stay a b same = sym (routes_of_ends b.outbox) ∙ ap (flat_map (λ (e : SenderEnd). e.2)) same.ends ∙ routes_of_ends a.outbox
 
 -- a message went out on each of these routes, and the port is still started

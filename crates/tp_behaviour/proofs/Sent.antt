@@ -1,4 +1,4 @@
--- What stays true of a station as its behaviour sends.
+-- What stays true of a worker as its behaviour sends.
 use Rattle.std.proofs.Common.{◌≡◌, ◌∙◌, ℕ, Bool, true, false, cond, eqb, Some, None, Option, List, [], ◌∷◌, ◌++◌, map, Contains, length, refl, sym, ap, subst}
 use Rattle.std.specs.Prelude.{All}
 use Rattle.std.specs.List.{cons_option}
@@ -15,13 +15,13 @@ use Rattle.tp_inbox.specs.History.{arrivals, posted_on, sent_on, sent_to}
 use Rattle.tp_inbox.specs.Desks.{Journal, adding}
 use Rattle.tp_inbox.specs.Ledgers.{IsDeskOf, Sending, end_of, posting}
 use Rattle.tp_inbox.proofs.Ways.{sent_by_routes}
-use Rattle.tp_behaviour.specs.declared.station.Station.{Station}
+use Rattle.tp_behaviour.specs.declared.worker.Worker.{Worker}
 use Rattle.tp_behaviour.specs.Fresh.{Fresh}
 use Rattle.tp_behaviour.specs.Held.{Actor}
 use Rattle.tp_behaviour.specs.Looks.{moment}
 use Rattle.tp_behaviour.specs.Moments.{moments}
 use Rattle.tp_behaviour.specs.Outboxes.{HasPut, put_on, routes_of}
-use Rattle.tp_behaviour.specs.Stations.{IsManned, IsNoted, IsPosted, IsSenderOf, IsSentBy}
+use Rattle.tp_behaviour.specs.Workers.{IsConsistent, IsNoted, AreEndsOf, IsSenderOf, IsSentBy}
 use Rattle.tp_behaviour.proofs.Entries.{sent_to_more}
 use Rattle.tp_behaviour.proofs.Moments.{moments-own}
 use Rattle.tp_behaviour.proofs.Noted.{arrivals_same, fresh_more}
@@ -92,25 +92,25 @@ noted_all k q n m (s ∷ ss) number all =
     All-cons (IsNoted (k ++ entry.Sent q n m ∷ [])) (put_on q m s) (map (put_on q m) ss) (noted_one k q n m s number (All-head (IsNoted k) s ss all))
     (noted_all k q n m ss number (All-tail (IsNoted k) s ss all))
 
--- the station, once a message was put on a route and this was noted
-pub has_sent : (r : Actor) (s : Station) (d : Journal) (out : List Sending) (q : RouteId) (n : ℕ) (m : Stamped) → IsManned r s → Contains (routes_of s.outbox) q
+-- the worker, once a message was put on a route and this was noted
+pub has_sent : (r : Actor) (s : Worker) (d : Journal) (out : List Sending) (q : RouteId) (n : ℕ) (m : Stamped) → IsConsistent r s → Contains (routes_of s.outbox) q
     → HasPut q m n s.outbox out
     → d ≡ adding s.desk (entry.Sent q n m)
     → (n ≡ length (sent_on q s.desk.log)) × (moments d.log ≡ moments s.desk.log ++ moment s.desk (entry.Sent q n m) ∷ [])
-    × IsManned r (record { owner = s.owner; desk = d; outbox = out })
-has_sent r s d out q n m manned known (one, after) grown = (
+    × IsConsistent r (record { owner = s.owner; desk = d; outbox = out })
+has_sent r s d out q n m consistent known (one, after) grown = (
   number,
   ap moments log ∙ moments-own s.desk.log (entry.Sent q n m) refl,
   record {
-    posted = subst (IsPosted r s.owner.inbox) (sym routes) manned.posted;
-    desk = subst (IsDeskOf s.owner.inbox) (sym grown) manned.desk;
-    arrived = ap arrivals log ∙ arrivals_same s.desk.log (entry.Sent q n m) refl ∙ manned.arrived;
+    ends = subst (AreEndsOf r s.owner.inbox) (sym routes) consistent.ends;
+    desk = subst (IsDeskOf s.owner.inbox) (sym grown) consistent.desk;
+    arrived = ap arrivals log ∙ arrivals_same s.desk.log (entry.Sent q n m) refl ∙ consistent.arrived;
     noted = subst (All (IsNoted d.log)) (sym after)
-        (subst (λ k. All (IsNoted k) (map (put_on q m) s.outbox)) (sym log) (noted_all s.desk.log q n m s.outbox number manned.noted));
-    theirs = subst (All (IsSenderOf r.comp)) (sym after) (theirs_all r.comp q m s.outbox manned.theirs);
+        (subst (λ k. All (IsNoted k) (map (put_on q m) s.outbox)) (sym log) (noted_all s.desk.log q n m s.outbox number consistent.noted));
+    theirs = subst (All (IsSenderOf r.comp)) (sym after) (theirs_all r.comp q m s.outbox consistent.theirs);
     sent = subst (λ l. All (IsSentBy l) d.log) (sym routes)
-        (subst (All (IsSentBy (routes_of s.outbox))) (sym log) (All-push (IsSentBy (routes_of s.outbox)) s.desk.log (entry.Sent q n m) manned.sent known));
-    fresh = subst (Fresh r.comp) (sym log) (fresh_more r s.desk.log (entry.Sent q n m) refl manned.fresh (λ h. absurd h));
+        (subst (All (IsSentBy (routes_of s.outbox))) (sym log) (All-push (IsSentBy (routes_of s.outbox)) s.desk.log (entry.Sent q n m) consistent.sent known));
+    fresh = subst (Fresh r.comp) (sym log) (fresh_more r s.desk.log (entry.Sent q n m) refl consistent.fresh (λ h. absurd h));
   },
 )
   where
@@ -121,4 +121,4 @@ has_sent r s d out q n m manned known (one, after) grown = (
     routes = ap routes_of after ∙ same_routes q m s.outbox
 
     number : n ≡ length (sent_on q s.desk.log)
-    number = one.3 ∙ sym (as_many s.desk.log one.0 q one.2 (All-contains (IsNoted s.desk.log) s.outbox one.0 manned.noted one.1))
+    number = one.3 ∙ sym (as_many s.desk.log one.0 q one.2 (All-contains (IsNoted s.desk.log) s.outbox one.0 consistent.noted one.1))

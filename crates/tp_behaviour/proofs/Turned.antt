@@ -9,16 +9,16 @@ use Rattle.tp_play.specs.Sizes.{turns_between}
 use Rattle.tp_behaviour.specs.declared.held.Held.{Held}
 use Rattle.tp_behaviour.specs.declared.outcome.Outcome.{Outcome}
 use Rattle.tp_behaviour.specs.declared.outcome.Outcome.TheVariants as outcome
-use Rattle.tp_behaviour.specs.declared.post.Post.{Post}
-use Rattle.tp_behaviour.specs.declared.station.Station.{Station}
-use Rattle.tp_behaviour.specs.declared.station.State.{State}
+use Rattle.tp_behaviour.specs.declared.task.Task.{Task}
+use Rattle.tp_behaviour.specs.declared.worker.Worker.{Worker}
+use Rattle.tp_behaviour.specs.declared.worker.Frame.{Frame}
 use Rattle.tp_behaviour.specs.Held.{Actor}
 use Rattle.tp_behaviour.specs.Moments.{Moment, moments}
 use Rattle.tp_behaviour.specs.Outcomes.{Ends, EndsTurns}
 use Rattle.tp_behaviour.specs.Parts.{ExecutedIn, Turned}
 use Rattle.tp_behaviour.specs.Paths.{AreTurns, IsPath}
 use Rattle.tp_behaviour.specs.Seen.{Grew}
-use Rattle.tp_behaviour.specs.Stations.{role_of}
+use Rattle.tp_behaviour.specs.Workers.{role_of}
 use Rattle.tp_behaviour.proofs.Stepped.{grew_on}
 
 -- how many turns there are
@@ -38,7 +38,7 @@ pub none_there : {X : Type 0} (xs : List X) → true ≡ (length xs == 0) → xs
 none_there [] is = refl
 none_there (x ∷ xs) is = absurd (grind (arith, nat_tests))
 
-pub turned_empty : (p : Post) (first : ℤ) (block : List Statement) (n : ℕ) (here : Station) (before : State) → block ≡ []
+pub turned_empty : (p : Task) (first : ℤ) (block : List Statement) (n : ℕ) (here : Worker) (before : Frame) → block ≡ []
     → Turned p first block n outcome.Done here before here before
 turned_empty p first block n here before none = (
   [],
@@ -48,14 +48,14 @@ turned_empty p first block n here before none = (
 )
 
 -- the turns up to this value of the loop variable were made
-pub record TurnsMade (p : Post) (first value bound : ℤ) (block : List Statement) (here : Station) (before : State) (there : Station)
-    (after : State) : Type 0 where
+pub record TurnsMade (p : Task) (first value bound : ℤ) (block : List Statement) (here : Worker) (before : Frame) (there : Worker)
+    (after : Frame) : Type 0 where
   pub count : ℕ
   pub at : value ≡ first +ℤ pos count
   pub within : count ≤ turns_between first bound
   pub grew : Grew (λ ts. AreTurns (role_of p) before.turns.items before.variables.items first block count ts after.variables.items) here.desk.log there.desk.log
 
-pub made_start : (p : Post) (first bound : ℤ) (block : List Statement) (here : Station) (before : State)
+pub made_start : (p : Task) (first bound : ℤ) (block : List Statement) (here : Worker) (before : Frame)
     → TurnsMade p first first bound block here before here before
 made_start p first bound block here before = record {
   count = 0;
@@ -71,8 +71,8 @@ fewer first value bound n at below =
     omega (arith, ints)
 
 -- what a turn came to, as the definitions write it
-as_counted : (p : Post) (o : Outcome) (turns us : List ℤ) (first value : ℤ) (n : ℕ) (block : List Statement) (mid : Station) (now : State) (there : Station)
-    (after : State)
+as_counted : (p : Task) (o : Outcome) (turns us : List ℤ) (first value : ℤ) (n : ℕ) (block : List Statement) (mid : Worker) (now : Frame) (there : Worker)
+    (after : Frame)
     → us ≡ turns → value ≡ first +ℤ pos n → ExecutedIn p (us ++ value ∷ []) block o mid now there after
     → ExecutedIn p (turns ++ (first +ℤ pos n) ∷ []) block o mid now there after
 as_counted p o turns us first value n block mid now there after same at h =
@@ -80,8 +80,8 @@ as_counted p o turns us first value n block mid now there after same at h =
     (subst (λ (v : ℤ). ExecutedIn p (us ++ v ∷ []) block o mid now there after) at h)
 
 -- one turn more
-pub made_more : (p : Post) (first value bound next : ℤ) (block : List Statement) (here : Station) (before : State) (mid : Station) (now : State)
-    (there : Station) (after : State)
+pub made_more : (p : Task) (first value bound next : ℤ) (block : List Statement) (here : Worker) (before : Frame) (mid : Worker) (now : Frame)
+    (there : Worker) (after : Frame)
     → now.turns.items ≡ before.turns.items → value <ℤ bound → next ≡ value +ℤ pos 1 → TurnsMade p first value bound block here before mid now
     → ExecutedIn p (now.turns.items ++ value ∷ []) block outcome.Done mid now there after → TurnsMade p first next bound block here before there after
 made_more p first value bound next block here before mid now there after same below is made turn =
@@ -103,7 +103,7 @@ made_more p first value bound next block here before mid now there after same be
     }
 
 -- all of them
-pub made_all : (p : Post) (first value bound : ℤ) (block : List Statement) (here : Station) (before : State) (there : Station) (after : State)
+pub made_all : (p : Task) (first value bound : ℤ) (block : List Statement) (here : Worker) (before : Frame) (there : Worker) (after : Frame)
     → bound ≤ℤ value → TurnsMade p first value bound block here before there after
     → Turned p first block (turns_between first bound) outcome.Done here before there after
 made_all p first value bound block here before there after above made =
@@ -122,8 +122,8 @@ module _ (r : Actor) (turns : List ℤ) (vs ws us : List (Option Held)) (first :
   ends_in (outcome.Waiting guards) other ts more so one = (n, ws, ts, more, refl, less, so, one)
 
 -- the next one ends otherwise: the `for` does
-pub made_stop : (p : Post) (first value bound : ℤ) (block : List Statement) (o : Outcome) (here : Station) (before : State) (mid : Station) (now : State)
-    (there : Station) (after : State)
+pub made_stop : (p : Task) (first value bound : ℤ) (block : List Statement) (o : Outcome) (here : Worker) (before : Frame) (mid : Worker) (now : Frame)
+    (there : Worker) (after : Frame)
     → (o ≡ outcome.Done → ⊥) → now.turns.items ≡ before.turns.items → value <ℤ bound → TurnsMade p first value bound block here before mid now
     → ExecutedIn p (now.turns.items ++ value ∷ []) block o mid now there after → Turned p first block (turns_between first bound) o here before there after
 made_stop p first value bound block o here before mid now there after other same below made turn =
@@ -138,7 +138,7 @@ made_stop p first value bound block o here before mid now there after other same
     made.grew (as_counted p o turns now.turns.items first value n block mid now there after same made.at turn)
 
 -- the same numbers, as a clause writes them
-pub turned_as : (p : Post) (o : Outcome) (block : List Statement) (low first high bound : ℤ) (here : Station) (before : State) (there : Station) (after : State)
+pub turned_as : (p : Task) (o : Outcome) (block : List Statement) (low first high bound : ℤ) (here : Worker) (before : Frame) (there : Worker) (after : Frame)
     → low ≡ first → high ≡ bound → Turned p low block (turns_between low high) o here before there after
     → Turned p first block (turns_between first bound) o here before there after
 turned_as p o block low first high bound here before there after low_is high_is h =

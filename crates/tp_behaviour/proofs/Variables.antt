@@ -17,7 +17,7 @@ use Rattle.tp_behaviour.specs.declared.held.Held.{Held}
 use Rattle.tp_behaviour.specs.declared.held.Held.TheVariants as held
 use Rattle.tp_behaviour.specs.Held.{IsSentAs, Values}
 use Rattle.tp_behaviour.specs.Sends.{CanFill, CanName}
-use Rattle.tp_behaviour.specs.Stations.{AreHeld, HoldsNoMessage, HoldsMessages, IsHeldAs}
+use Rattle.tp_behaviour.specs.Workers.{AreHeld, HoldsNoMessage, HoldsMessages, IsHeldAs}
 
 -- what was read at a place stands there
 pub read_at : {X : Type 0} (xs : List X) (k : ℕ) (x y : X) → slice_get xs k ≡ Some x → y ≡ get_or xs k y → slice_get xs k ≡ Some y

@@ -8,7 +8,7 @@ pub mod Fixed
 pub mod Lasting
 pub mod Fresh
 pub mod Outboxes
-pub mod Stations
+pub mod Workers
 pub mod Seen
 pub mod Sends
 pub mod Ends

@@ -10,20 +10,20 @@ use Rattle.tp_inbox.specs.declared.entry.Entry.{Entry}
 use Rattle.tp_inbox.specs.declared.entry.Entry.TheVariants as entry
 use Rattle.tp_inbox.specs.Desks.{Journal, adding, at_port}
 use Rattle.tp_behaviour.specs.declared.choice.Guard.{Guard}
-use Rattle.tp_behaviour.specs.declared.choice.Sight.{Sight}
-use Rattle.tp_behaviour.specs.declared.choice.Sight.TheVariants as sight
+use Rattle.tp_behaviour.specs.declared.choice.LookResult.{LookResult}
+use Rattle.tp_behaviour.specs.declared.choice.LookResult.TheVariants as look
 use Rattle.tp_behaviour.specs.Moments.{Moment}
 use Rattle.tp_behaviour.specs.Choices.{IsOpen, NoneOpen, IsChoice, IsDrop, chosen}
 
 -- what trying the branch at place i came to, and the desk after it
-abbrev pub Tried : Guard → ℕ → Journal → Sight → Journal → Type 0
-Tried g i d (sight.Taken j e) after = (j ≡ i) × Finds (Admits g.wanted) g.sender (at_port d g.port) e
+abbrev pub Tried : Guard → ℕ → Journal → LookResult → Journal → Type 0
+Tried g i d (look.Taken j e) after = (j ≡ i) × Finds (Admits g.wanted) g.sender (at_port d g.port) e
     × (after ≡ adding d (chosen g.kind g.port e i))
-Tried g i d sight.Discarded after =
+Tried g i d look.Discarded after =
     (e : Env Message) × (g.kind ≡ receive_kind.Trigger) × (top (at_port d g.port) ≡ Some e)
     × ¬ Satisfies (Admits g.wanted) g.sender e
     × (after ≡ adding d (entry.Dropped g.port e i))
-Tried g i d sight.Nothing after = (¬ IsOpen d.log g) × (after ≡ d)
+Tried g i d look.Nothing after = (¬ IsOpen d.log g) × (after ≡ d)
 
 -- the moment of an entry that is added to this desk
 abbrev pub moment : Journal → Entry → Moment
@@ -31,8 +31,8 @@ moment d t = record { before = d.log; entry = t }
 
 -- what trying all branches came to, and the desk after it: the choice of a branch, a message that a `trigger`
 -- discarded, or nothing, where no branch is open
-abbrev pub Looked : List Guard → Journal → Sight → Journal → Type 0
-Looked gs d (sight.Taken i e) after =
+abbrev pub Looked : List Guard → Journal → LookResult → Journal → Type 0
+Looked gs d (look.Taken i e) after =
     (t : Entry) × ((has_else : Bool) → IsChoice gs has_else (moment d t) (Some (i, e))) × (after ≡ adding d t)
-Looked gs d sight.Discarded after = (t : Entry) × IsDrop gs (moment d t) × (after ≡ adding d t)
-Looked gs d sight.Nothing after = NoneOpen d.log gs × (after ≡ d)
+Looked gs d look.Discarded after = (t : Entry) × IsDrop gs (moment d t) × (after ≡ adding d t)
+Looked gs d look.Nothing after = NoneOpen d.log gs × (after ≡ d)

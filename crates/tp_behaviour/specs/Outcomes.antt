@@ -10,15 +10,15 @@ use Rattle.tp_behaviour.specs.declared.choice.Guard.{Guard}
 use Rattle.tp_behaviour.specs.declared.held.Held.{Held}
 use Rattle.tp_behaviour.specs.declared.outcome.Outcome.{Outcome}
 use Rattle.tp_behaviour.specs.declared.outcome.Outcome.TheVariants as outcome
-use Rattle.tp_behaviour.specs.declared.post.Post.{Post}
-use Rattle.tp_behaviour.specs.declared.station.Station.{Station}
-use Rattle.tp_behaviour.specs.declared.station.State.{State}
+use Rattle.tp_behaviour.specs.declared.task.Task.{Task}
+use Rattle.tp_behaviour.specs.declared.worker.Worker.{Worker}
+use Rattle.tp_behaviour.specs.declared.worker.Frame.{Frame}
 use Rattle.tp_behaviour.specs.Ends.{Stops, StopsWithin}
 use Rattle.tp_behaviour.specs.Held.{Actor, unset}
 use Rattle.tp_behaviour.specs.Moments.{Moment, moments}
 use Rattle.tp_behaviour.specs.Paths.{AreTurns, IsPath, IsStep}
 use Rattle.tp_behaviour.specs.Seen.{Grew}
-use Rattle.tp_behaviour.specs.Stations.{AreHeld, role_of}
+use Rattle.tp_behaviour.specs.Workers.{AreHeld, role_of}
 
 -- statements that end so: they are carried out, and the variables then hold these values; or they stop at a send that
 -- fails by this fault, or at a wait of which these are the branches
@@ -66,33 +66,33 @@ WaitsWithin n (outcome.Waiting guards) = All (λ (g : Guard). g.port < n) guards
 WaitsWithin n _ = Unit {0}
 
 -- where the body of a behaviour is played
-abbrev pub stage_at : Post → Stage
+abbrev pub stage_at : Task → Stage
 stage_at p =
     stage_of p.types.now (length (ports_at p.config.now.types p.config.now.components p.comp))
     (length p.behaviour.references.now) p.behaviour.body.now
 
 -- the behaviour can carry its body out: each place of which it speaks is there
-abbrev pub CanBehave : Post → Type 0
+abbrev pub CanBehave : Task → Type 0
 CanBehave p =
     IsPlayable p.types.now (length (ports_at p.config.now.types p.config.now.components p.comp))
     (length p.behaviour.references.now) p.behaviour.body.now
 
 -- the body's variables hold what they are declared for
-abbrev pub HoldsAsDeclared : Post → State → Type 0
+abbrev pub HoldsAsDeclared : Task → Frame → Type 0
 HoldsAsDeclared p s = AreHeld p.behaviour.body.now.variables s.variables.items
 
 -- how many loop variables are around
-abbrev pub depth_of : State → ℕ
+abbrev pub depth_of : Frame → ℕ
 depth_of s = length s.turns.items
 
 -- a block that was carried out, from here to there, and ended so
-abbrev pub Executed : Post → List Statement → Outcome → Station → State → Station → State → Type 0
+abbrev pub Executed : Task → List Statement → Outcome → Worker → Frame → Worker → Frame → Type 0
 Executed p block o here before there after =
     Grew (λ ts. Ends (role_of p) o before.turns.items before.variables.items block ts after.variables.items)
     here.desk.log there.desk.log
 
 -- a statement
-abbrev pub Stepped : Post → Statement → Outcome → Station → State → Station → State → Type 0
+abbrev pub Stepped : Task → Statement → Outcome → Worker → Frame → Worker → Frame → Type 0
 Stepped p x o here before there after =
     Grew (λ ts. EndsStep (role_of p) o before.turns.items before.variables.items x ts after.variables.items)
     here.desk.log there.desk.log

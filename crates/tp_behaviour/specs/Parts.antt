@@ -9,19 +9,19 @@ use Rattle.tp_behaviour.specs.declared.deciding.Decision.{Decision}
 use Rattle.tp_behaviour.specs.declared.deciding.Decision.TheVariants as decision
 use Rattle.tp_behaviour.specs.declared.held.Held.{Held}
 use Rattle.tp_behaviour.specs.declared.outcome.Outcome.{Outcome}
-use Rattle.tp_behaviour.specs.declared.post.Post.{Post}
-use Rattle.tp_behaviour.specs.declared.station.Station.{Station}
-use Rattle.tp_behaviour.specs.declared.station.State.{State}
+use Rattle.tp_behaviour.specs.declared.task.Task.{Task}
+use Rattle.tp_behaviour.specs.declared.worker.Worker.{Worker}
+use Rattle.tp_behaviour.specs.declared.worker.Frame.{Frame}
 use Rattle.tp_behaviour.specs.Choices.{IsChoice, IsDrop}
 use Rattle.tp_behaviour.specs.Held.{redirected}
 use Rattle.tp_behaviour.specs.Moments.{Moment}
 use Rattle.tp_behaviour.specs.Outcomes.{Ends, EndsTurns, Executed}
 use Rattle.tp_behaviour.specs.Paths.{guards_of}
 use Rattle.tp_behaviour.specs.Seen.{Ending, Grew}
-use Rattle.tp_behaviour.specs.Stations.{role_of, values_of}
+use Rattle.tp_behaviour.specs.Workers.{role_of, values_of}
 
 -- the branches of an `alt`, by what loop variables and references stand for
-abbrev pub guards_at : Post → State → List Branch → List Guard
+abbrev pub guards_at : Task → Frame → List Branch → List Guard
 guards_at p s branches = guards_of (role_of p) (values_of s) branches
 
 -- what was taken or found by the branch at this place stands in the variables that it names
@@ -52,7 +52,7 @@ pub record Rests (guards : List Guard) (has_else : Bool) (waiting : List Guard) 
   pub same : waiting ≡ guards
 
 -- what an `alt` came to, up to the block that it goes on with
-abbrev pub Decided : Post → List Branch → Bool → Decision → Station → State → Station → State → Type 0
+abbrev pub Decided : Task → List Branch → Bool → Decision → Worker → Frame → Worker → Frame → Type 0
 Decided p branches has_else (decision.Branch place) here before there after =
     Grew (Enters branches (guards_at p before branches) place before.variables.items after.variables.items)
     here.desk.log there.desk.log
@@ -63,18 +63,18 @@ Decided p branches has_else (decision.Waits waiting) here before there after =
     Grew (Rests (guards_at p before branches) has_else waiting.items) here.desk.log there.desk.log
 
 -- the block of the branch at this place was carried out, and ended so
-abbrev pub ExecutedAt : Post → List Branch → ℕ → Outcome → Station → State → Station → State → Type 0
+abbrev pub ExecutedAt : Task → List Branch → ℕ → Outcome → Worker → Frame → Worker → Frame → Type 0
 ExecutedAt p branches place o here before there after =
     (x : Branch) × (slice_get branches place ≡ Some x) × Executed p x.block o here before there after
 
 -- a block was carried out where the loop variables around it hold these values, and ended so
-abbrev pub ExecutedIn : Post → List ℤ → List Statement → Outcome → Station → State → Station → State → Type 0
+abbrev pub ExecutedIn : Task → List ℤ → List Statement → Outcome → Worker → Frame → Worker → Frame → Type 0
 ExecutedIn p turns block o here before there after =
     Grew (λ ts. Ends (role_of p) o turns before.variables.items block ts after.variables.items) here.desk.log
     there.desk.log
 
 -- so many turns of a block, the loop variable holding this value at first, and they ended so
-abbrev pub Turned : Post → ℤ → List Statement → ℕ → Outcome → Station → State → Station → State → Type 0
+abbrev pub Turned : Task → ℤ → List Statement → ℕ → Outcome → Worker → Frame → Worker → Frame → Type 0
 Turned p first block count o here before there after =
     Grew (λ ts. EndsTurns (role_of p) o before.turns.items before.variables.items first block count ts
     after.variables.items) here.desk.log there.desk.log

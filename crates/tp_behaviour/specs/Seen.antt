@@ -5,8 +5,8 @@ use Rattle.tp_play.specs.declared.body.Statement.{Statement}
 use Rattle.tp_inbox.specs.declared.entry.Entry.{Entry}
 use Rattle.tp_inbox.specs.Desks.{Journal}
 use Rattle.tp_behaviour.specs.declared.choice.Guard.{Guard}
-use Rattle.tp_behaviour.specs.declared.choice.Sight.{Sight}
-use Rattle.tp_behaviour.specs.declared.choice.Sight.TheVariants as sight
+use Rattle.tp_behaviour.specs.declared.choice.LookResult.{LookResult}
+use Rattle.tp_behaviour.specs.declared.choice.LookResult.TheVariants as look
 use Rattle.tp_behaviour.specs.declared.choosing.Choice.{Choice}
 use Rattle.tp_behaviour.specs.declared.choosing.Choice.TheVariants as choice
 use Rattle.tp_behaviour.specs.declared.held.Held.{Held}
@@ -35,11 +35,11 @@ Carries r x before after = (turns : List ℤ) (vs : List (Option Held))
     → Grew (λ ts. IsStep r turns vs x ts vs) before.log after.log
 
 -- what a look at the branches came to
-abbrev pub Saw : CompId → List Guard → Sight → List Entry → List Entry → Type 0
-Saw c gs (sight.Taken i e) before after =
+abbrev pub Saw : CompId → List Guard → LookResult → List Entry → List Entry → Type 0
+Saw c gs (look.Taken i e) before after =
     Grew (One (λ t. (has_else : Bool) → IsChoice gs has_else t (Some (i, e)))) before after
-Saw c gs sight.Discarded before after = Grew (One (IsDrop gs)) before after
-Saw c gs sight.Nothing before after = (moments after ≡ moments before) × NoneOpen after gs × HasOwn c after
+Saw c gs look.Discarded before after = Grew (One (IsDrop gs)) before after
+Saw c gs look.Nothing before after = (moments after ≡ moments before) × NoneOpen after gs × HasOwn c after
 
 -- any number of messages that a `trigger` discards, and then a moment of which this holds
 abbrev pub Ending : List Guard → (Moment → Type 0) → List Moment → Type 0

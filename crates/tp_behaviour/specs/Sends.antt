@@ -15,13 +15,13 @@ use Rattle.tp_inbox.specs.declared.send_fault.SendFault.{SendFault}
 use Rattle.tp_inbox.specs.History.{next_of, sent_on}
 use Rattle.tp_behaviour.specs.Ends.{IsFailure}
 use Rattle.tp_behaviour.specs.declared.held.Held.{Held}
-use Rattle.tp_behaviour.specs.declared.post.Post.{Post}
-use Rattle.tp_behaviour.specs.declared.station.Station.{Station}
-use Rattle.tp_behaviour.specs.declared.station.State.{State}
+use Rattle.tp_behaviour.specs.declared.task.Task.{Task}
+use Rattle.tp_behaviour.specs.declared.worker.Worker.{Worker}
+use Rattle.tp_behaviour.specs.declared.worker.Frame.{Frame}
 use Rattle.tp_behaviour.specs.Held.{Actor, Values}
 use Rattle.tp_behaviour.specs.Paths.{IsStep}
 use Rattle.tp_behaviour.specs.Seen.{Grew, One}
-use Rattle.tp_behaviour.specs.Stations.{HoldsNoMessage, HoldsMessages, role_of, values_of}
+use Rattle.tp_behaviour.specs.Workers.{HoldsNoMessage, HoldsMessages, role_of, values_of}
 
 -- what is sent speaks of so many loop variables at most, or of a variable for messages
 abbrev pub CanFill : List (Option Held) → ℕ → Sent → Type 0
@@ -42,8 +42,8 @@ Sends r vs x None before after =
 Sends r vs x (Some fault) before after =
     Grew (One (λ t. IsFailure r vs x t.before fault × (t.entry ≡ entry.Failed fault))) before after
 
--- the same at a station, by what the behaviour keeps in mind
-abbrev pub SendsAt : Post → State → SendOperation → Station → Station → Option SendFault → Type 0
+-- the same of a worker, by what the behaviour keeps in mind
+abbrev pub SendsAt : Task → Frame → SendOperation → Worker → Worker → Option SendFault → Type 0
 SendsAt p s x here there fault = Sends (role_of p) (values_of s) x fault here.desk.log there.desk.log
 
 -- the entry of a message that goes out on this route now: it has the next number there, and the next stamp

@@ -5,13 +5,13 @@ ghost use Rattle.tp_inbox.specs.Desks.{adding};
 ghost use Rattle.tp_behaviour.specs.Fresh.{HasOwn};
 ghost use Rattle.tp_behaviour.specs.Paths.{operated};
 ghost use Rattle.tp_behaviour.specs.Seen.{AddsEntry, Carries};
-ghost use Rattle.tp_behaviour.specs.Stations.{IsManned, IsSame, role_of};
+ghost use Rattle.tp_behaviour.specs.Workers.{IsConsistent, IsSame, role_of};
 
+use crate::execution::Execution;
 use crate::gate::Gate;
 use crate::looking::{look_in, note};
-use crate::post::Post;
-use crate::scene::Scene;
-use crate::station::Station;
+use crate::task::Task;
+use crate::worker::Worker;
 use std::sync::Wait;
 use tp_inbox::desk::Desk;
 use tp_inbox::entry::Entry;
@@ -23,18 +23,18 @@ use tp_value::verdict::Verdict;
 ///
 /// 50 `Memory` only where an allocation was refused.
 pub(crate) fn set_verdict(
-    post: &Post<'_>,
-    station: &mut Station,
+    task: &Task<'_>,
+    worker: &mut Worker,
     verdict: Verdict,
 ) -> Result<(), Memory>
-    requires { IsManned (role_of post.now) station.old }
-    ensures manned { OnOk result (IsManned (role_of post.now) station.new) }
-    ensures same { OnOk result (IsSame station.old station.new) }
+    requires { IsConsistent (role_of task.now) worker.old }
+    ensures consistent { OnOk result (IsConsistent (role_of task.now) worker.new) }
+    ensures same { OnOk result (IsSame worker.old worker.new) }
     ensures stepped { OnOk result
-        (Carries (role_of post.now) (statement.SetVerdict verdict)
-        station.old.desk station.new.desk) }
+        (Carries (role_of task.now) (statement.SetVerdict verdict)
+        worker.old.desk worker.new.desk) }
 {
-    note(post, &mut *station, Entry::Verdict(verdict))?;
+    note(task, &mut *worker, Entry::Verdict(verdict))?;
     Ok(())
 }
 
@@ -61,24 +61,24 @@ fn operate(desk: &mut Desk, port: u32, operation: PortOperation) -> Result<(), M
 /// Carries out an operation on a port, once all that the component has sent to itself is there.
 fn operate_at<G: Gate>(
     gate: &G,
-    post: &Post<'_>,
-    station: &mut Station,
+    task: &Task<'_>,
+    worker: &mut Worker,
     port: u32,
     operation: PortOperation,
 ) -> Result<(), Memory>
-    requires manned { IsManned (role_of post.now) station.old }
-    requires within { port < station.old.desk.ports }
-    requires own { HasOwn post.now.comp station.old.desk.log }
-    ensures manned { OnOk result (IsManned (role_of post.now) station.new) }
-    ensures same { OnOk result (IsSame station.old station.new) }
-    ensures own { OnOk result (HasOwn post.now.comp station.new.desk.log) }
+    requires consistent { IsConsistent (role_of task.now) worker.old }
+    requires within { port < worker.old.desk.ports }
+    requires own { HasOwn task.now.comp worker.old.desk.log }
+    ensures consistent { OnOk result (IsConsistent (role_of task.now) worker.new) }
+    ensures same { OnOk result (IsSame worker.old worker.new) }
+    ensures own { OnOk result (HasOwn task.now.comp worker.new.desk.log) }
     ensures added { OnOk result
-        (station.new.desk ≡ adding station.old.desk (operated operation port)) }
+        (worker.new.desk ≡ adding worker.old.desk (operated operation port)) }
     ensures trace { OnOk result (
-        AddsEntry station.old.desk (operated operation port) station.new.desk) }
+        AddsEntry worker.old.desk (operated operation port) worker.new.desk) }
 {
-    gate.inside(post.comp, port);
-    operate(&mut station.desk, port, operation)?;
+    gate.inside(task.comp, port);
+    operate(&mut worker.desk, port, operation)?;
     Ok(())
 }
 
@@ -86,21 +86,27 @@ fn operate_at<G: Gate>(
 ///
 /// 50 `Memory` only where an allocation was refused.
 pub(crate) fn control<R: Wait, G: Gate>(
-    scene: &Scene<'_, R, G>,
-    station: &mut Station,
+    execution: &Execution<'_, R, G>,
+    worker: &mut Worker,
     port: u32,
     operation: PortOperation,
 ) -> Result<(), Memory>
-    requires manned { IsManned (role_of scene.now.post.now) station.old }
-    requires within { port < station.old.desk.ports }
-    ensures manned { OnOk result (IsManned (role_of scene.now.post.now) station.new) }
-    ensures same { OnOk result (IsSame station.old station.new) }
+    requires consistent { IsConsistent (role_of execution.now.task.now) worker.old }
+    requires within { port < worker.old.desk.ports }
+    ensures consistent { OnOk result (IsConsistent (role_of execution.now.task.now) worker.new) }
+    ensures same { OnOk result (IsSame worker.old worker.new) }
     ensures stepped { OnOk result
-        (Carries (role_of scene.now.post.now) (statement.Control port operation)
-        station.old.desk station.new.desk) }
+        (Carries (role_of execution.now.task.now) (statement.Control port operation)
+        worker.old.desk worker.new.desk) }
 {
-    look_in(scene.rt, scene.post, &mut *station)?;
-    operate_at(scene.gate, scene.post, &mut *station, port, operation)?;
+    look_in(execution.rt, execution.task, &mut *worker)?;
+    operate_at(
+        execution.gate,
+        execution.task,
+        &mut *worker,
+        port,
+        operation,
+    )?;
     Ok(())
 }
 
@@ -109,25 +115,25 @@ pub(crate) fn control<R: Wait, G: Gate>(
 ///
 /// 50 `Memory` only where an allocation was refused.
 pub(crate) fn all_ports<R: Wait, G: Gate>(
-    scene: &Scene<'_, R, G>,
-    station: &mut Station,
+    execution: &Execution<'_, R, G>,
+    worker: &mut Worker,
     operation: PortOperation,
 ) -> Result<(), Memory>
-    requires { IsManned (role_of scene.now.post.now) station.old }
-    ensures manned { OnOk result (IsManned (role_of scene.now.post.now) station.new) }
-    ensures same { OnOk result (IsSame station.old station.new) }
+    requires { IsConsistent (role_of execution.now.task.now) worker.old }
+    ensures consistent { OnOk result (IsConsistent (role_of execution.now.task.now) worker.new) }
+    ensures same { OnOk result (IsSame worker.old worker.new) }
     ensures stepped { OnOk result
-        (Carries (role_of scene.now.post.now) (statement.AllPorts operation)
-        station.old.desk station.new.desk) }
+        (Carries (role_of execution.now.task.now) (statement.AllPorts operation)
+        worker.old.desk worker.new.desk) }
 {
-    look_in(scene.rt, scene.post, &mut *station)?;
+    look_in(execution.rt, execution.task, &mut *worker)?;
     // A component of a configuration has at most 64 ports.
-    let _lawful = scene.post.config.len();
-    for port in 0..station.desk.port_count() {
+    let _lawful = execution.task.config.len();
+    for port in 0..worker.desk.port_count() {
         operate_at(
-            scene.gate,
-            scene.post,
-            &mut *station,
+            execution.gate,
+            execution.task,
+            &mut *worker,
             port as u32,
             operation,
         )?;

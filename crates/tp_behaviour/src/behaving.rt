@@ -3,15 +3,15 @@ ghost use Rattle.std.specs.Prelude.{◌≡◌, [], IfOk, OnOk};
 ghost use Rattle.tp_behaviour.specs.Held.{unset};
 ghost use Rattle.tp_behaviour.specs.Moments.{moments};
 ghost use Rattle.tp_behaviour.specs.Outcomes.{CanBehave, HasEnded, WaitsWithin};
-ghost use Rattle.tp_behaviour.specs.Stations.{IsManned, IsSame, role_of};
+ghost use Rattle.tp_behaviour.specs.Workers.{IsConsistent, IsSame, role_of};
 
+use crate::execution::Execution;
 use crate::gate::Gate;
 use crate::lasting::{Block, lasting_block};
 use crate::outcome::Outcome;
-use crate::post::Post;
-use crate::scene::Scene;
 use crate::statements::execute;
-use crate::station::{State, Station};
+use crate::task::Task;
+use crate::worker::{Frame, Worker};
 use std::sync::Wait;
 use tp_refusal::memory::Memory;
 
@@ -19,52 +19,52 @@ use tp_refusal::memory::Memory;
 /// and none is set (ES 201 873-1, 11.1).
 ///
 /// 50 `Memory` only where an allocation was refused.
-fn begin<G: Gate>(gate: &G, post: &Post<'_>) -> Result<State, Memory>
-    ensures turns { IfOk result (λ state. state.turns.items ≡ []) }
-    ensures variables { IfOk result (λ state.
-        state.variables.items ≡ unset post.now.behaviour.body.now) }
+fn begin<G: Gate>(gate: &G, task: &Task<'_>) -> Result<Frame, Memory>
+    ensures turns { IfOk result (λ frame. frame.turns.items ≡ []) }
+    ensures variables { IfOk result (λ frame.
+        frame.variables.items ≡ unset task.now.behaviour.body.now) }
 {
-    let mut variables = Vec::new(post.alloc);
+    let mut variables = Vec::new(task.alloc);
     let mut steps: u64 = 0;
-    for _variable in post.behaviour.body.variables.as_slice() {
-        gate.before(post.comp, steps);
+    for _variable in task.behaviour.body.variables.as_slice() {
+        gate.before(task.comp, steps);
         // A body has fewer variables than 2^64, which needn't be shown.
         steps = steps.wrapping_add(1);
         variables.push(None)?;
     }
-    Ok(State {
-        turns: Vec::new(post.alloc),
+    Ok(Frame {
+        turns: Vec::new(task.alloc),
         variables,
         steps,
     })
 }
 
-/// Carries out the body of a behaviour at its station, where nothing has been done yet, to its end.
+/// Carries out the body of a behaviour, by a worker that has done nothing yet, to its end.
 ///
 /// 50 `Memory` only where an allocation was refused: the behaviour has ended there.
 pub fn behave<R: Wait, G: Gate>(
     rt: &R,
     gate: &G,
-    post: &Post<'_>,
-    station: &mut Station,
+    task: &Task<'_>,
+    worker: &mut Worker,
 ) -> Result<Outcome, Memory>
-    requires manned { IsManned (role_of post.now) station.old }
-    requires begun { moments station.old.desk.log ≡ [] }
-    requires can { CanBehave post.now }
-    ensures manned { OnOk result (IsManned (role_of post.now) station.new) }
-    ensures same { OnOk result (IsSame station.old station.new) }
+    requires consistent { IsConsistent (role_of task.now) worker.old }
+    requires begun { moments worker.old.desk.log ≡ [] }
+    requires can { CanBehave task.now }
+    ensures consistent { OnOk result (IsConsistent (role_of task.now) worker.new) }
+    ensures same { OnOk result (IsSame worker.old worker.new) }
     ensures ended { IfOk result (λ o.
-        HasEnded (role_of post.now) post.now.behaviour.body.now o station.new.desk.log) }
-    ensures within { IfOk result (WaitsWithin station.new.desk.ports) }
+        HasEnded (role_of task.now) task.now.behaviour.body.now o worker.new.desk.log) }
+    ensures within { IfOk result (WaitsWithin worker.new.desk.ports) }
 {
-    let mut state = begin(gate, post)?;
-    let statements = post.behaviour.body.statements.as_slice();
-    let lasting = lasting_block(post.alloc, statements)?;
+    let mut frame = begin(gate, task)?;
+    let statements = task.behaviour.body.statements.as_slice();
+    let lasting = lasting_block(task.alloc, statements)?;
     let block = Block {
         statements,
         lasting: lasting.as_slice(),
     };
-    let scene = Scene { rt, gate, post };
-    let outcome = execute(&scene, &mut *station, &mut state, block)?;
+    let execution = Execution { rt, gate, task };
+    let outcome = execute(&execution, &mut *worker, &mut frame, block)?;
     Ok(outcome)
 }

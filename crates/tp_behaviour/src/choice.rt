@@ -63,7 +63,7 @@ pub struct GuardView<'t> {
 
 /// What trying branches came to.
 #[derive(Drop)]
-pub enum Sight {
+pub enum LookResult {
     /// By the branch at this place this envelope was taken or found.
     Taken(usize, Env<Message>),
     /// A `trigger` discarded the top message.
@@ -73,27 +73,27 @@ pub enum Sight {
 }
 
 /// Tries a `receive` (ES 201 873-1, 22.2.2).
-fn try_receive(desk: &mut Desk, guard: &GuardView<'_>, branch: usize) -> Result<Sight, Memory>
+fn try_receive(desk: &mut Desk, guard: &GuardView<'_>, branch: usize) -> Result<LookResult, Memory>
     requires within { guard.now.port < desk.old.ports }
     requires kind { guard.now.kind ≡ ReceiveKind.Receive }
-    ensures { IfOk result (λ sight. Tried (viewed guard.now) branch desk.old sight desk.new) }
+    ensures { IfOk result (λ look. Tried (viewed guard.now) branch desk.old look desk.new) }
 {
     match desk.receive(guard.port, &guard.wanted, guard.sender, branch)? {
-        Some(env) => Ok(Sight::Taken(branch, env)),
-        None => Ok(Sight::Nothing),
+        Some(env) => Ok(LookResult::Taken(branch, env)),
+        None => Ok(LookResult::Nothing),
     }
 }
 
 /// Tries a `trigger` (22.2.3).
-fn try_trigger(desk: &mut Desk, guard: &GuardView<'_>, branch: usize) -> Result<Sight, Memory>
+fn try_trigger(desk: &mut Desk, guard: &GuardView<'_>, branch: usize) -> Result<LookResult, Memory>
     requires within { guard.now.port < desk.old.ports }
     requires kind { guard.now.kind ≡ ReceiveKind.Trigger }
-    ensures { IfOk result (λ sight. Tried (viewed guard.now) branch desk.old sight desk.new) }
+    ensures { IfOk result (λ look. Tried (viewed guard.now) branch desk.old look desk.new) }
 {
     match desk.trigger(guard.port, &guard.wanted, guard.sender, branch)? {
-        TriggerAnswer::Took(env) => Ok(Sight::Taken(branch, env)),
-        TriggerAnswer::Dropped(_) => Ok(Sight::Discarded),
-        TriggerAnswer::Nothing => Ok(Sight::Nothing),
+        TriggerAnswer::Took(env) => Ok(LookResult::Taken(branch, env)),
+        TriggerAnswer::Dropped(_) => Ok(LookResult::Discarded),
+        TriggerAnswer::Nothing => Ok(LookResult::Nothing),
     }
 }
 
@@ -103,17 +103,17 @@ fn try_check(
     desk: &mut Desk,
     guard: &GuardView<'_>,
     branch: usize,
-) -> Result<Sight, Memory>
+) -> Result<LookResult, Memory>
     requires within { guard.now.port < desk.old.ports }
     requires kind { guard.now.kind ≡ ReceiveKind.Check }
-    ensures { IfOk result (λ sight. Tried (viewed guard.now) branch desk.old sight desk.new) }
+    ensures { IfOk result (λ look. Tried (viewed guard.now) branch desk.old look desk.new) }
 {
     match desk.check(guard.port, &guard.wanted, guard.sender, branch)? {
         Some(env) => {
             let env = env.copy(alloc)?;
-            Ok(Sight::Taken(branch, env))
+            Ok(LookResult::Taken(branch, env))
         }
-        None => Ok(Sight::Nothing),
+        None => Ok(LookResult::Nothing),
     }
 }
 
@@ -123,9 +123,9 @@ pub(crate) fn attempt(
     desk: &mut Desk,
     guard: &GuardView<'_>,
     branch: usize,
-) -> Result<Sight, Memory>
+) -> Result<LookResult, Memory>
     requires { guard.now.port < desk.old.ports }
-    ensures { IfOk result (λ sight. Tried (viewed guard.now) branch desk.old sight desk.new) }
+    ensures { IfOk result (λ look. Tried (viewed guard.now) branch desk.old look desk.new) }
 {
     match guard.kind {
         ReceiveKind::Receive => try_receive(desk, guard, branch),
@@ -143,16 +143,16 @@ pub(crate) fn snapshot<G: Gate>(
     alloc: Global,
     desk: &mut Desk,
     guards: &[GuardView<'_>],
-) -> Result<Sight, Memory>
+) -> Result<LookResult, Memory>
     requires { All (λ g. g.port < desk.old.ports) guards.now }
-    ensures { IfOk result (λ sight. Looked (all_viewed guards.now) desk.old sight desk.new) }
+    ensures { IfOk result (λ look. Looked (all_viewed guards.now) desk.old look desk.new) }
 {
     for (branch, guard) in guards.iter().enumerate() {
         gate.inside(desk.comp(), guard.port);
         match attempt(alloc, &mut *desk, guard, branch)? {
-            Sight::Nothing => {}
-            sight => return Ok(sight),
+            LookResult::Nothing => {}
+            look => return Ok(look),
         }
     }
-    Ok(Sight::Nothing)
+    Ok(LookResult::Nothing)
 }

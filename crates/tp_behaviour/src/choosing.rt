@@ -1,17 +1,17 @@
 //! What an `alt` comes to.
 ghost use Rattle.std.specs.Prelude.{◌<◌, All, IfOk, OnOk};
 ghost use Rattle.tp_behaviour.specs.Seen.{Chose, Grew};
-ghost use Rattle.tp_behaviour.specs.Stations.{IsManned, IsSame, role_of};
+ghost use Rattle.tp_behaviour.specs.Workers.{IsConsistent, IsSame, role_of};
 ghost use Rattle.tp_behaviour.specs.Views.{all_viewed};
 
-use crate::choice::{GuardView, Sight};
+use crate::choice::{GuardView, LookResult};
+use crate::execution::Execution;
 use crate::gate::Gate;
 use crate::looking::{look_at_branches, note};
-use crate::post::Post;
-use crate::scene::Scene;
-use crate::station::Station;
+use crate::task::Task;
+use crate::worker::Worker;
 use std::sync::Wait;
-use tp_floor::bell::Woken;
+use tp_floor::notifier::Woken;
 use tp_inbox::entry::Entry;
 use tp_inbox::owner::Owner;
 use tp_queue::event::Env;
@@ -31,12 +31,12 @@ pub enum Choice {
 
 /// Waits until something comes into the inbox, or nothing can come any more: that is the answer.
 /// Where all wait, it closes all inboxes.
-fn wait_for_more<R: Wait>(rt: &R, post: &Post<'_>, owner: &Owner) -> bool {
+fn wait_for_more<R: Wait>(rt: &R, task: &Task<'_>, owner: &Owner) -> bool {
     match owner.wait(rt) {
         Woken::Arrived => false,
         Woken::Closed => true,
         Woken::Last => {
-            for closer in post.closers {
+            for closer in task.closers {
                 closer.close(rt);
             }
             true
@@ -49,33 +49,33 @@ fn wait_for_more<R: Wait>(rt: &R, post: &Post<'_>, owner: &Owner) -> bool {
 ///
 /// 50 `Memory` only where an allocation was refused.
 pub(crate) fn choose<R: Wait, G: Gate>(
-    scene: &Scene<'_, R, G>,
-    station: &mut Station,
+    execution: &Execution<'_, R, G>,
+    worker: &mut Worker,
     guards: &[GuardView<'_>],
     has_else: bool,
 ) -> Result<Choice, Memory>
-    requires manned { IsManned (role_of scene.now.post.now) station.old }
-    requires within { All (λ g. g.port < station.old.desk.ports) guards.now }
-    ensures manned { OnOk result (IsManned (role_of scene.now.post.now) station.new) }
-    ensures same { OnOk result (IsSame station.old station.new) }
+    requires consistent { IsConsistent (role_of execution.now.task.now) worker.old }
+    requires within { All (λ g. g.port < worker.old.desk.ports) guards.now }
+    ensures consistent { OnOk result (IsConsistent (role_of execution.now.task.now) worker.new) }
+    ensures same { OnOk result (IsSame worker.old worker.new) }
     ensures chose { IfOk result (λ choice.
         Grew (Chose (all_viewed guards.now) has_else choice)
-        station.old.desk.log station.new.desk.log) }
+        worker.old.desk.log worker.new.desk.log) }
 {
     let mut last = false;
-    for _ in scene.rt.forever() {
-        match look_at_branches(scene, &mut *station, guards)? {
-            Sight::Taken(branch, env) => return Ok(Choice::Branch(branch, env)),
-            Sight::Discarded => {}
-            Sight::Nothing => {
+    for _ in execution.rt.forever() {
+        match look_at_branches(execution, &mut *worker, guards)? {
+            LookResult::Taken(branch, env) => return Ok(Choice::Branch(branch, env)),
+            LookResult::Discarded => {}
+            LookResult::Nothing => {
                 if has_else {
-                    note(scene.post, &mut *station, Entry::Else)?;
+                    note(execution.task, &mut *worker, Entry::Else)?;
                     return Ok(Choice::Else);
                 }
                 if last {
                     return Ok(Choice::Waits);
                 }
-                last = wait_for_more(scene.rt, scene.post, &station.owner);
+                last = wait_for_more(execution.rt, execution.task, &worker.owner);
             }
         }
     }

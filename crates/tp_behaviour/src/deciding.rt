@@ -4,16 +4,16 @@ ghost use Rattle.tp_play.specs.Playable.{CanEnterAll};
 ghost use Rattle.tp_behaviour.specs.Lasting.{AreLastingBranches};
 ghost use Rattle.tp_behaviour.specs.Outcomes.{HoldsAsDeclared, depth_of, stage_at};
 ghost use Rattle.tp_behaviour.specs.Parts.{Decided, IsEntered, IsDecisionOf, RestsWithin};
-ghost use Rattle.tp_behaviour.specs.Stations.{IsManned, IsSame, role_of};
+ghost use Rattle.tp_behaviour.specs.Workers.{IsConsistent, IsSame, role_of};
 
 use crate::choice::Guard;
 use crate::choosing::{Choice, choose};
+use crate::execution::Execution;
 use crate::gate::Gate;
 use crate::lasting::Alt;
-use crate::post::Post;
 use crate::receiving::{fill_guards, redirect, view_guards};
-use crate::scene::Scene;
-use crate::station::{State, Station};
+use crate::task::Task;
+use crate::worker::{Frame, Worker};
 use std::sync::Wait;
 use tp_play::body::Branch;
 use tp_queue::event::Env;
@@ -33,50 +33,51 @@ pub enum Decision {
 
 /// Puts what was taken or found by the branch at this place into the variables that it names
 /// (22.2.2). Takes no memory.
-fn enter(post: &Post<'_>, state: &mut State, branches: &[Branch], place: usize, env: Env<Message>)
+fn enter(task: &Task<'_>, frame: &mut Frame, branches: &[Branch], place: usize, env: Env<Message>)
     requires there { place < length branches.now }
-    requires held { HoldsAsDeclared post.now state.old }
-    requires can { CanEnterAll (stage_at post.now) (depth_of state.old) branches.now }
-    ensures held { HoldsAsDeclared post.now state.new }
-    ensures turns { state.new.turns.items ≡ state.old.turns.items }
+    requires held { HoldsAsDeclared task.now frame.old }
+    requires can { CanEnterAll (stage_at task.now) (depth_of frame.old) branches.now }
+    ensures held { HoldsAsDeclared task.now frame.new }
+    ensures turns { frame.new.turns.items ≡ frame.old.turns.items }
     ensures set { IsEntered branches.now place env
-        state.old.variables.items state.new.variables.items }
+        frame.old.variables.items frame.new.variables.items }
 {
-    redirect(post, &mut *state, &branches[place].receiving, env);
+    redirect(task, &mut *frame, &branches[place].receiving, env);
 }
 
 /// Carries out an `alt` up to the block that it goes on with (ES 201 873-1, 20.2).
 ///
 /// 50 `Memory` only where an allocation was refused.
 pub(crate) fn decide<R: Wait, G: Gate>(
-    scene: &Scene<'_, R, G>,
-    station: &mut Station,
-    state: &mut State,
+    execution: &Execution<'_, R, G>,
+    worker: &mut Worker,
+    frame: &mut Frame,
     alt: Alt<'_>,
 ) -> Result<Decision, Memory>
-    requires manned { IsManned (role_of scene.now.post.now) station.old }
-    requires held { HoldsAsDeclared scene.now.post.now state.old }
-    requires can { CanEnterAll (stage_at scene.now.post.now) (depth_of state.old) alt.branches.now }
+    requires consistent { IsConsistent (role_of execution.now.task.now) worker.old }
+    requires held { HoldsAsDeclared execution.now.task.now frame.old }
+    requires can { CanEnterAll
+        (stage_at execution.now.task.now) (depth_of frame.old) alt.branches.now }
     requires lasting { AreLastingBranches alt.branches.now alt.lasting.now }
-    ensures manned { OnOk result (IsManned (role_of scene.now.post.now) station.new) }
-    ensures same { OnOk result (IsSame station.old station.new) }
-    ensures held { OnOk result (HoldsAsDeclared scene.now.post.now state.new) }
-    ensures turns { OnOk result (state.new.turns.items ≡ state.old.turns.items) }
+    ensures consistent { OnOk result (IsConsistent (role_of execution.now.task.now) worker.new) }
+    ensures same { OnOk result (IsSame worker.old worker.new) }
+    ensures held { OnOk result (HoldsAsDeclared execution.now.task.now frame.new) }
+    ensures turns { OnOk result (frame.new.turns.items ≡ frame.old.turns.items) }
     ensures decided { IfOk result (λ decision.
-        Decided scene.now.post.now alt.entry.branches.now alt.entry.has_else decision
-        station.old state.old station.new state.new) }
+        Decided execution.now.task.now alt.entry.branches.now alt.entry.has_else decision
+        worker.old frame.old worker.new frame.new) }
     ensures there { IfOk result (IsDecisionOf alt.entry.branches.now) }
-    ensures within { IfOk result (RestsWithin station.old.desk.ports) }
+    ensures within { IfOk result (RestsWithin worker.old.desk.ports) }
 {
-    let views = view_guards(scene.post, &*state, alt.branches, alt.lasting)?;
-    match choose(scene, &mut *station, views.as_slice(), alt.has_else)? {
+    let views = view_guards(execution.task, &*frame, alt.branches, alt.lasting)?;
+    match choose(execution, &mut *worker, views.as_slice(), alt.has_else)? {
         Choice::Branch(place, env) => {
-            enter(scene.post, &mut *state, alt.branches, place, env);
+            enter(execution.task, &mut *frame, alt.branches, place, env);
             Ok(Decision::Branch(place))
         }
         Choice::Else => Ok(Decision::Else),
         Choice::Waits => {
-            let guards = fill_guards(scene.post, &*state, alt.branches)?;
+            let guards = fill_guards(execution.task, &*frame, alt.branches)?;
             Ok(Decision::Waits(guards))
         }
     }

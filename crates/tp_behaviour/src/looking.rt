@@ -5,14 +5,14 @@ ghost use Rattle.tp_inbox.specs.Routed.{AreArrivals};
 ghost use Rattle.tp_behaviour.specs.Fresh.{HasOwn, LooksAtPorts};
 ghost use Rattle.tp_behaviour.specs.Moments.{moments};
 ghost use Rattle.tp_behaviour.specs.Seen.{AddsEntry, Saw};
-ghost use Rattle.tp_behaviour.specs.Stations.{IsManned, IsPlain, IsSame, role_of};
+ghost use Rattle.tp_behaviour.specs.Workers.{IsConsistent, IsPlain, IsSame, role_of};
 ghost use Rattle.tp_behaviour.specs.Views.{all_viewed};
 
-use crate::choice::{GuardView, Sight, snapshot};
+use crate::choice::{GuardView, LookResult, snapshot};
+use crate::execution::Execution;
 use crate::gate::Gate;
-use crate::post::Post;
-use crate::scene::Scene;
-use crate::station::Station;
+use crate::task::Task;
+use crate::worker::Worker;
 use std::sync::Wait;
 use tp_inbox::entry::Entry;
 use tp_refusal::memory::Memory;
@@ -20,16 +20,16 @@ use tp_refusal::memory::Memory;
 /// Moves what has come into the inbox to the ports.
 ///
 /// 50 `Memory` only where an allocation was refused.
-fn draw<R: Wait>(rt: &R, post: &Post<'_>, station: &mut Station) -> Result<(), Memory>
-    requires { IsManned (role_of post.now) station.old }
-    ensures manned { OnOk result (IsManned (role_of post.now) station.new) }
-    ensures same { OnOk result (IsSame station.old station.new) }
-    ensures ports { OnOk result (station.new.desk.ports ≡ station.old.desk.ports) }
-    ensures trace { OnOk result (moments station.new.desk.log ≡ moments station.old.desk.log) }
+fn drain<R: Wait>(rt: &R, task: &Task<'_>, worker: &mut Worker) -> Result<(), Memory>
+    requires { IsConsistent (role_of task.now) worker.old }
+    ensures consistent { OnOk result (IsConsistent (role_of task.now) worker.new) }
+    ensures same { OnOk result (IsSame worker.old worker.new) }
+    ensures ports { OnOk result (worker.new.desk.ports ≡ worker.old.desk.ports) }
+    ensures trace { OnOk result (moments worker.new.desk.log ≡ moments worker.old.desk.log) }
     ensures routed { OnOk result
-        (AreArrivals station.new.owner.inbox.routes station.new.owner.drained) }
+        (AreArrivals worker.new.owner.inbox.routes worker.new.owner.drained) }
 {
-    station.owner.drain(rt, &mut station.desk)?;
+    worker.owner.drain(rt, &mut worker.desk)?;
     Ok(())
 }
 
@@ -37,17 +37,17 @@ fn draw<R: Wait>(rt: &R, post: &Post<'_>, station: &mut Station) -> Result<(), M
 /// is there.
 ///
 /// 50 `Memory` only where an allocation was refused.
-pub(crate) fn look_in<R: Wait>(rt: &R, post: &Post<'_>, station: &mut Station) -> Result<(), Memory>
-    requires manned { IsManned (role_of post.now) station.old }
-    ensures manned { OnOk result (IsManned (role_of post.now) station.new) }
-    ensures same { OnOk result (IsSame station.old station.new) }
-    ensures ports { OnOk result (station.new.desk.ports ≡ station.old.desk.ports) }
-    ensures trace { OnOk result (moments station.new.desk.log ≡ moments station.old.desk.log) }
-    ensures own { OnOk result (HasOwn post.now.comp station.new.desk.log) }
+pub(crate) fn look_in<R: Wait>(rt: &R, task: &Task<'_>, worker: &mut Worker) -> Result<(), Memory>
+    requires consistent { IsConsistent (role_of task.now) worker.old }
+    ensures consistent { OnOk result (IsConsistent (role_of task.now) worker.new) }
+    ensures same { OnOk result (IsSame worker.old worker.new) }
+    ensures ports { OnOk result (worker.new.desk.ports ≡ worker.old.desk.ports) }
+    ensures trace { OnOk result (moments worker.new.desk.log ≡ moments worker.old.desk.log) }
+    ensures own { OnOk result (HasOwn task.now.comp worker.new.desk.log) }
 {
     for _ in rt.forever() {
-        draw(rt, post, &mut *station)?;
-        if station.outbox.is_level(&station.owner) {
+        drain(rt, task, &mut *worker)?;
+        if worker.outbox.is_level(&worker.owner) {
             return Ok(());
         }
     }
@@ -58,19 +58,19 @@ pub(crate) fn look_in<R: Wait>(rt: &R, post: &Post<'_>, station: &mut Station) -
 /// Notes what the behaviour did itself: an entry that is no sending.
 ///
 /// 50 `Memory` only where an allocation was refused.
-pub(crate) fn note(post: &Post<'_>, station: &mut Station, entry: Entry) -> Result<(), Memory>
-    requires manned { IsManned (role_of post.now) station.old }
+pub(crate) fn note(task: &Task<'_>, worker: &mut Worker, entry: Entry) -> Result<(), Memory>
+    requires consistent { IsConsistent (role_of task.now) worker.old }
     requires noted { IsNote entry }
     requires plain { IsPlain entry }
-    requires own { LooksAtPorts entry → HasOwn post.now.comp station.old.desk.log }
-    ensures manned { OnOk result (IsManned (role_of post.now) station.new) }
-    ensures same { OnOk result (IsSame station.old station.new) }
-    ensures ports { OnOk result (station.new.desk.ports ≡ station.old.desk.ports) }
-    ensures trace { OnOk result (AddsEntry station.old.desk entry station.new.desk) }
+    requires own { LooksAtPorts entry → HasOwn task.now.comp worker.old.desk.log }
+    ensures consistent { OnOk result (IsConsistent (role_of task.now) worker.new) }
+    ensures same { OnOk result (IsSame worker.old worker.new) }
+    ensures ports { OnOk result (worker.new.desk.ports ≡ worker.old.desk.ports) }
+    ensures trace { OnOk result (AddsEntry worker.old.desk entry worker.new.desk) }
 {
     // Contracts alone ask where the behaviour is carried out.
-    let _post = post;
-    let Ok(()) = station.desk.note(entry) else {
+    let _task = task;
+    let Ok(()) = worker.desk.note(entry) else {
         return Err(Memory);
     };
     Ok(())
@@ -81,20 +81,25 @@ pub(crate) fn note(post: &Post<'_>, station: &mut Station, entry: Entry) -> Resu
 ///
 /// 50 `Memory` only where an allocation was refused.
 pub(crate) fn look_at_branches<R: Wait, G: Gate>(
-    scene: &Scene<'_, R, G>,
-    station: &mut Station,
+    execution: &Execution<'_, R, G>,
+    worker: &mut Worker,
     guards: &[GuardView<'_>],
-) -> Result<Sight, Memory>
-    requires manned { IsManned (role_of scene.now.post.now) station.old }
-    requires within { All (λ g. g.port < station.old.desk.ports) guards.now }
-    ensures manned { OnOk result (IsManned (role_of scene.now.post.now) station.new) }
-    ensures same { OnOk result (IsSame station.old station.new) }
-    ensures ports { OnOk result (station.new.desk.ports ≡ station.old.desk.ports) }
-    ensures saw { IfOk result (λ sight.
-        Saw scene.now.post.now.comp (all_viewed guards.now) sight
-        station.old.desk.log station.new.desk.log) }
+) -> Result<LookResult, Memory>
+    requires consistent { IsConsistent (role_of execution.now.task.now) worker.old }
+    requires within { All (λ g. g.port < worker.old.desk.ports) guards.now }
+    ensures consistent { OnOk result (IsConsistent (role_of execution.now.task.now) worker.new) }
+    ensures same { OnOk result (IsSame worker.old worker.new) }
+    ensures ports { OnOk result (worker.new.desk.ports ≡ worker.old.desk.ports) }
+    ensures saw { IfOk result (λ look.
+        Saw execution.now.task.now.comp (all_viewed guards.now) look
+        worker.old.desk.log worker.new.desk.log) }
 {
-    look_in(scene.rt, scene.post, &mut *station)?;
-    let sight = snapshot(scene.gate, scene.post.alloc, &mut station.desk, guards)?;
-    Ok(sight)
+    look_in(execution.rt, execution.task, &mut *worker)?;
+    let look = snapshot(
+        execution.gate,
+        execution.task.alloc,
+        &mut worker.desk,
+        guards,
+    )?;
+    Ok(look)
 }

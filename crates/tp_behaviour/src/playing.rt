@@ -3,15 +3,15 @@ ghost use Rattle.std.specs.Prelude.{◌<◌, IfOk, OnOk};
 ghost use Rattle.tp_play.specs.declared.body.Statement.TheVariants as statement;
 ghost use Rattle.tp_play.specs.Playable.{CanSend};
 ghost use Rattle.tp_behaviour.specs.Outcomes.{HoldsAsDeclared, Stepped, WaitsWithin, depth_of, stage_at};
-ghost use Rattle.tp_behaviour.specs.Stations.{IsManned, IsSame, role_of};
+ghost use Rattle.tp_behaviour.specs.Workers.{IsConsistent, IsSame, role_of};
 
 use crate::acting::{all_ports, control, set_verdict};
+use crate::execution::Execution;
 use crate::gate::Gate;
 use crate::outcome::Outcome;
-use crate::post::Post;
-use crate::scene::Scene;
 use crate::sending::send;
-use crate::station::{State, Station};
+use crate::task::Task;
+use crate::worker::{Frame, Worker};
 use std::sync::Wait;
 use tp_play::body::SendOperation;
 use tp_queue::operation::PortOperation;
@@ -22,22 +22,22 @@ use tp_value::verdict::Verdict;
 ///
 /// 50 `Memory` as [`send`].
 pub(crate) fn play_send<R: Wait, G: Gate>(
-    scene: &Scene<'_, R, G>,
-    station: &mut Station,
-    state: &State,
+    execution: &Execution<'_, R, G>,
+    worker: &mut Worker,
+    frame: &Frame,
     sending: &SendOperation,
 ) -> Result<Outcome, Memory>
-    requires manned { IsManned (role_of scene.now.post.now) station.old }
-    requires held { HoldsAsDeclared scene.now.post.now state.now }
-    requires can { CanSend (stage_at scene.now.post.now) (depth_of state.now) sending.now }
-    ensures manned { OnOk result (IsManned (role_of scene.now.post.now) station.new) }
-    ensures same { OnOk result (IsSame station.old station.new) }
+    requires consistent { IsConsistent (role_of execution.now.task.now) worker.old }
+    requires held { HoldsAsDeclared execution.now.task.now frame.now }
+    requires can { CanSend (stage_at execution.now.task.now) (depth_of frame.now) sending.now }
+    ensures consistent { OnOk result (IsConsistent (role_of execution.now.task.now) worker.new) }
+    ensures same { OnOk result (IsSame worker.old worker.new) }
     ensures ended { IfOk result (λ o.
-        Stepped scene.now.post.now (statement.Send sending.now) o
-        station.old state.now station.new state.now) }
-    ensures within { IfOk result (WaitsWithin station.old.desk.ports) }
+        Stepped execution.now.task.now (statement.Send sending.now) o
+        worker.old frame.now worker.new frame.now) }
+    ensures within { IfOk result (WaitsWithin worker.old.desk.ports) }
 {
-    match send(scene, &mut *station, state, sending)? {
+    match send(execution, &mut *worker, frame, sending)? {
         None => Ok(Outcome::Done),
         Some(fault) => Ok(Outcome::Error(fault)),
     }
@@ -47,24 +47,24 @@ pub(crate) fn play_send<R: Wait, G: Gate>(
 ///
 /// 50 `Memory` only where an allocation was refused.
 pub(crate) fn play_control<R: Wait, G: Gate>(
-    scene: &Scene<'_, R, G>,
-    station: &mut Station,
-    state: &State,
+    execution: &Execution<'_, R, G>,
+    worker: &mut Worker,
+    frame: &Frame,
     port: u32,
     operation: PortOperation,
 ) -> Result<Outcome, Memory>
-    requires manned { IsManned (role_of scene.now.post.now) station.old }
-    requires within { port < (stage_at scene.now.post.now).ports }
-    ensures manned { OnOk result (IsManned (role_of scene.now.post.now) station.new) }
-    ensures same { OnOk result (IsSame station.old station.new) }
+    requires consistent { IsConsistent (role_of execution.now.task.now) worker.old }
+    requires within { port < (stage_at execution.now.task.now).ports }
+    ensures consistent { OnOk result (IsConsistent (role_of execution.now.task.now) worker.new) }
+    ensures same { OnOk result (IsSame worker.old worker.new) }
     ensures ended { IfOk result (λ o.
-        Stepped scene.now.post.now (statement.Control port operation) o
-        station.old state.now station.new state.now) }
-    ensures within { IfOk result (WaitsWithin station.old.desk.ports) }
+        Stepped execution.now.task.now (statement.Control port operation) o
+        worker.old frame.now worker.new frame.now) }
+    ensures within { IfOk result (WaitsWithin worker.old.desk.ports) }
 {
     // Contracts alone speak of the variables: they stay as they are.
-    let _state = state;
-    control(scene, &mut *station, port, operation)?;
+    let _frame = frame;
+    control(execution, &mut *worker, port, operation)?;
     Ok(Outcome::Done)
 }
 
@@ -72,22 +72,22 @@ pub(crate) fn play_control<R: Wait, G: Gate>(
 ///
 /// 50 `Memory` only where an allocation was refused.
 pub(crate) fn play_all_ports<R: Wait, G: Gate>(
-    scene: &Scene<'_, R, G>,
-    station: &mut Station,
-    state: &State,
+    execution: &Execution<'_, R, G>,
+    worker: &mut Worker,
+    frame: &Frame,
     operation: PortOperation,
 ) -> Result<Outcome, Memory>
-    requires manned { IsManned (role_of scene.now.post.now) station.old }
-    ensures manned { OnOk result (IsManned (role_of scene.now.post.now) station.new) }
-    ensures same { OnOk result (IsSame station.old station.new) }
+    requires consistent { IsConsistent (role_of execution.now.task.now) worker.old }
+    ensures consistent { OnOk result (IsConsistent (role_of execution.now.task.now) worker.new) }
+    ensures same { OnOk result (IsSame worker.old worker.new) }
     ensures ended { IfOk result (λ o.
-        Stepped scene.now.post.now (statement.AllPorts operation) o
-        station.old state.now station.new state.now) }
-    ensures within { IfOk result (WaitsWithin station.old.desk.ports) }
+        Stepped execution.now.task.now (statement.AllPorts operation) o
+        worker.old frame.now worker.new frame.now) }
+    ensures within { IfOk result (WaitsWithin worker.old.desk.ports) }
 {
     // Contracts alone speak of the variables: they stay as they are.
-    let _state = state;
-    all_ports(scene, &mut *station, operation)?;
+    let _frame = frame;
+    all_ports(execution, &mut *worker, operation)?;
     Ok(Outcome::Done)
 }
 
@@ -95,21 +95,21 @@ pub(crate) fn play_all_ports<R: Wait, G: Gate>(
 ///
 /// 50 `Memory` only where an allocation was refused.
 pub(crate) fn play_set_verdict(
-    post: &Post<'_>,
-    station: &mut Station,
-    state: &State,
+    task: &Task<'_>,
+    worker: &mut Worker,
+    frame: &Frame,
     verdict: Verdict,
 ) -> Result<Outcome, Memory>
-    requires manned { IsManned (role_of post.now) station.old }
-    ensures manned { OnOk result (IsManned (role_of post.now) station.new) }
-    ensures same { OnOk result (IsSame station.old station.new) }
+    requires consistent { IsConsistent (role_of task.now) worker.old }
+    ensures consistent { OnOk result (IsConsistent (role_of task.now) worker.new) }
+    ensures same { OnOk result (IsSame worker.old worker.new) }
     ensures ended { IfOk result (λ o.
-        Stepped post.now (statement.SetVerdict verdict) o
-        station.old state.now station.new state.now) }
-    ensures within { IfOk result (WaitsWithin station.old.desk.ports) }
+        Stepped task.now (statement.SetVerdict verdict) o
+        worker.old frame.now worker.new frame.now) }
+    ensures within { IfOk result (WaitsWithin worker.old.desk.ports) }
 {
     // Contracts alone speak of the variables: they stay as they are.
-    let _state = state;
-    set_verdict(post, &mut *station, verdict)?;
+    let _frame = frame;
+    set_verdict(task, &mut *worker, verdict)?;
     Ok(Outcome::Done)
 }

@@ -8,19 +8,19 @@ ghost use Rattle.tp_behaviour.specs.Held.{guard_of, redirected, set_to};
 ghost use Rattle.tp_behaviour.specs.Lasting.{AreLastingBranches, Lasts};
 ghost use Rattle.tp_behaviour.specs.Outcomes.{HoldsAsDeclared, Stepped, WaitsWithin, depth_of, stage_at};
 ghost use Rattle.tp_behaviour.specs.Paths.{guards_of};
-ghost use Rattle.tp_behaviour.specs.Stations.{IsManned, IsSame, role_of, values_of};
+ghost use Rattle.tp_behaviour.specs.Workers.{IsConsistent, IsSame, role_of, values_of};
 ghost use Rattle.tp_behaviour.specs.Views.{all_viewed, template_in, viewed};
 ghost use Rattle.tp_play.specs.Fills.{filled_wanted, needed_by_wanted};
 
 use crate::choice::{Guard, GuardView, TemplateView};
 use crate::choosing::{Choice, choose};
+use crate::execution::Execution;
 use crate::gate::Gate;
 use crate::held::Held;
 use crate::lasting::Lasting;
 use crate::outcome::Outcome;
-use crate::post::Post;
-use crate::scene::Scene;
-use crate::station::{State, Station};
+use crate::task::Task;
+use crate::worker::{Frame, Worker};
 use std::alloc::Global;
 use std::sync::Wait;
 use tp_config::port_type::CompId;
@@ -31,12 +31,12 @@ use tp_refusal::memory::Memory;
 use tp_value::message::{Message, MsgTemplate};
 
 /// The number of the component that a reference names, if one is given. Takes no memory.
-fn expected_sender(post: &Post<'_>, place: Option<usize>) -> Option<u32>
-    requires { CanExpect (stage_at post.now) place }
-    ensures { result ≡ option_map (λ k. slice_index_or (role_of post.now).references k 0) place }
+fn expected_sender(task: &Task<'_>, place: Option<usize>) -> Option<u32>
+    requires { CanExpect (stage_at task.now) place }
+    ensures { result ≡ option_map (λ k. slice_index_or (role_of task.now).references k 0) place }
 {
     match place {
-        Some(place) => Some(post.behaviour.references[place].0),
+        Some(place) => Some(task.behaviour.references[place].0),
         None => None,
     }
 }
@@ -68,23 +68,23 @@ fn view_template<'t>(
 ///
 /// 50 `Memory` only where an allocation was refused.
 fn view_guard<'t>(
-    post: &Post<'_>,
-    state: &State,
+    task: &Task<'_>,
+    frame: &Frame,
     receiving: &Receiving,
     lasting: &'t Option<MsgTemplate>,
 ) -> Result<GuardView<'t>, Memory>
-    requires can { CanReceive (stage_at post.now) (depth_of state.now) receiving.now }
+    requires can { CanReceive (stage_at task.now) (depth_of frame.now) receiving.now }
     requires lasting { Lasts receiving.now.wanted lasting.now }
     ensures { IfOk result (λ guard.
-        viewed guard ≡ guard_of (role_of post.now) (values_of state.now) receiving.now) }
+        viewed guard ≡ guard_of (role_of task.now) (values_of frame.now) receiving.now) }
 {
-    let turns = state.turns.as_slice();
-    let wanted = view_template(post.alloc, &receiving.wanted, lasting, turns)?;
+    let turns = frame.turns.as_slice();
+    let wanted = view_template(task.alloc, &receiving.wanted, lasting, turns)?;
     Ok(GuardView {
         port: receiving.port,
         kind: receiving.kind,
         wanted,
-        sender: expected_sender(post, receiving.sender),
+        sender: expected_sender(task, receiving.sender),
     })
 }
 
@@ -92,19 +92,19 @@ fn view_guard<'t>(
 ///
 /// 50 `Memory` only where an allocation was refused.
 pub(crate) fn view_guards<'t>(
-    post: &Post<'_>,
-    state: &State,
+    task: &Task<'_>,
+    frame: &Frame,
     branches: &[Branch],
     lasting: &'t [Lasting],
 ) -> Result<Vec<GuardView<'t>>, Memory>
-    requires can { CanEnterAll (stage_at post.now) (depth_of state.now) branches.now }
+    requires can { CanEnterAll (stage_at task.now) (depth_of frame.now) branches.now }
     requires lasting { AreLastingBranches branches.now lasting.now }
     ensures { IfOk result (λ guards.
-        all_viewed guards.items ≡ guards_of (role_of post.now) (values_of state.now) branches.now) }
+        all_viewed guards.items ≡ guards_of (role_of task.now) (values_of frame.now) branches.now) }
 {
-    let mut guards = Vec::new(post.alloc);
+    let mut guards = Vec::new(task.alloc);
     for (place, branch) in branches.iter().enumerate() {
-        let guard = view_guard(post, state, &branch.receiving, &lasting[place].wanted)?;
+        let guard = view_guard(task, frame, &branch.receiving, &lasting[place].wanted)?;
         guards.push(guard)?;
     }
     Ok(guards)
@@ -114,17 +114,17 @@ pub(crate) fn view_guards<'t>(
 /// it.
 ///
 /// 50 `Memory` only where an allocation was refused.
-fn fill_guard(post: &Post<'_>, state: &State, receiving: &Receiving) -> Result<Guard, Memory>
-    requires { CanReceive (stage_at post.now) (depth_of state.now) receiving.now }
+fn fill_guard(task: &Task<'_>, frame: &Frame, receiving: &Receiving) -> Result<Guard, Memory>
+    requires { CanReceive (stage_at task.now) (depth_of frame.now) receiving.now }
     ensures { IfOk result (λ guard.
-        guard ≡ guard_of (role_of post.now) (values_of state.now) receiving.now) }
+        guard ≡ guard_of (role_of task.now) (values_of frame.now) receiving.now) }
 {
-    let wanted = fill_template(post.alloc, &receiving.wanted, state.turns.as_slice())?;
+    let wanted = fill_template(task.alloc, &receiving.wanted, frame.turns.as_slice())?;
     Ok(Guard {
         port: receiving.port,
         kind: receiving.kind,
         wanted,
-        sender: expected_sender(post, receiving.sender),
+        sender: expected_sender(task, receiving.sender),
     })
 }
 
@@ -133,17 +133,17 @@ fn fill_guard(post: &Post<'_>, state: &State, receiving: &Receiving) -> Result<G
 ///
 /// 50 `Memory` only where an allocation was refused.
 pub(crate) fn fill_guards(
-    post: &Post<'_>,
-    state: &State,
+    task: &Task<'_>,
+    frame: &Frame,
     branches: &[Branch],
 ) -> Result<Vec<Guard>, Memory>
-    requires { CanEnterAll (stage_at post.now) (depth_of state.now) branches.now }
+    requires { CanEnterAll (stage_at task.now) (depth_of frame.now) branches.now }
     ensures { IfOk result (λ guards.
-        guards.items ≡ guards_of (role_of post.now) (values_of state.now) branches.now) }
+        guards.items ≡ guards_of (role_of task.now) (values_of frame.now) branches.now) }
 {
-    let mut guards = Vec::new(post.alloc);
+    let mut guards = Vec::new(task.alloc);
     for branch in branches {
-        let guard = fill_guard(post, state, &branch.receiving)?;
+        let guard = fill_guard(task, frame, &branch.receiving)?;
         guards.push(guard)?;
     }
     Ok(guards)
@@ -163,24 +163,24 @@ fn keep(variables: &mut Vec<Option<Held>>, place: Option<usize>, held: Held)
 
 /// Puts what was taken or found into the variables that the operation names: the value, and then
 /// the sender (ES 201 873-1, 22.2.2). Takes no memory.
-pub(crate) fn redirect(post: &Post<'_>, state: &mut State, receiving: &Receiving, env: Env<Message>)
-    requires can { CanReceive (stage_at post.now) (depth_of state.old) receiving.now }
-    requires held { HoldsAsDeclared post.now state.old }
-    ensures turns { state.new.turns.items ≡ state.old.turns.items }
-    ensures set { state.new.variables.items
-        ≡ redirected receiving.now env state.old.variables.items }
-    ensures held { HoldsAsDeclared post.now state.new }
+pub(crate) fn redirect(task: &Task<'_>, frame: &mut Frame, receiving: &Receiving, env: Env<Message>)
+    requires can { CanReceive (stage_at task.now) (depth_of frame.old) receiving.now }
+    requires held { HoldsAsDeclared task.now frame.old }
+    ensures turns { frame.new.turns.items ≡ frame.old.turns.items }
+    ensures set { frame.new.variables.items
+        ≡ redirected receiving.now env frame.old.variables.items }
+    ensures held { HoldsAsDeclared task.now frame.new }
 {
     // Contracts alone ask where the behaviour is carried out.
-    let _post = post;
+    let _task = task;
     let Env {
         sender,
         number: _,
         msg,
     } = env;
-    keep(&mut state.variables, receiving.value_to, Held::Value(msg));
+    keep(&mut frame.variables, receiving.value_to, Held::Value(msg));
     keep(
-        &mut state.variables,
+        &mut frame.variables,
         receiving.sender_to,
         Held::Component(CompId(sender)),
     );
@@ -190,34 +190,34 @@ pub(crate) fn redirect(post: &Post<'_>, state: &mut State, receiving: &Receiving
 ///
 /// 50 `Memory` only where an allocation was refused.
 pub(crate) fn receive<R: Wait, G: Gate>(
-    scene: &Scene<'_, R, G>,
-    station: &mut Station,
-    state: &mut State,
+    execution: &Execution<'_, R, G>,
+    worker: &mut Worker,
+    frame: &mut Frame,
     receiving: &Receiving,
     lasting: &Option<MsgTemplate>,
 ) -> Result<Outcome, Memory>
-    requires manned { IsManned (role_of scene.now.post.now) station.old }
-    requires held { HoldsAsDeclared scene.now.post.now state.old }
-    requires can { CanReceive (stage_at scene.now.post.now) (depth_of state.old) receiving.now }
+    requires consistent { IsConsistent (role_of execution.now.task.now) worker.old }
+    requires held { HoldsAsDeclared execution.now.task.now frame.old }
+    requires can { CanReceive (stage_at execution.now.task.now) (depth_of frame.old) receiving.now }
     requires lasting { Lasts receiving.now.wanted lasting.now }
-    ensures manned { OnOk result (IsManned (role_of scene.now.post.now) station.new) }
-    ensures same { OnOk result (IsSame station.old station.new) }
-    ensures held { OnOk result (HoldsAsDeclared scene.now.post.now state.new) }
-    ensures turns { OnOk result (state.new.turns.items ≡ state.old.turns.items) }
+    ensures consistent { OnOk result (IsConsistent (role_of execution.now.task.now) worker.new) }
+    ensures same { OnOk result (IsSame worker.old worker.new) }
+    ensures held { OnOk result (HoldsAsDeclared execution.now.task.now frame.new) }
+    ensures turns { OnOk result (frame.new.turns.items ≡ frame.old.turns.items) }
     ensures ended { IfOk result (λ o.
-        Stepped scene.now.post.now (statement.Receive receiving.now) o
-        station.old state.old station.new state.new) }
-    ensures within { IfOk result (WaitsWithin station.old.desk.ports) }
+        Stepped execution.now.task.now (statement.Receive receiving.now) o
+        worker.old frame.old worker.new frame.new) }
+    ensures within { IfOk result (WaitsWithin worker.old.desk.ports) }
 {
-    let view = view_guard(scene.post, &*state, receiving, lasting)?;
-    match choose(scene, &mut *station, &[view], false)? {
+    let view = view_guard(execution.task, &*frame, receiving, lasting)?;
+    match choose(execution, &mut *worker, &[view], false)? {
         Choice::Branch(_, env) => {
-            redirect(scene.post, &mut *state, receiving, env);
+            redirect(execution.task, &mut *frame, receiving, env);
             Ok(Outcome::Done)
         }
         Choice::Waits => {
-            let guard = fill_guard(scene.post, &*state, receiving)?;
-            let mut guards = Vec::with_capacity(scene.post.alloc, 1)?;
+            let guard = fill_guard(execution.task, &*frame, receiving)?;
+            let mut guards = Vec::with_capacity(execution.task.alloc, 1)?;
             guards.push_reserved(guard);
             Ok(Outcome::Waiting(guards))
         }

@@ -10,14 +10,14 @@ ghost use Rattle.tp_behaviour.specs.Outcomes.{HoldsAsDeclared, depth_of, stage_a
 ghost use Rattle.tp_behaviour.specs.Paths.{IsSentOn, IsStarted};
 ghost use Rattle.tp_behaviour.specs.Seen.{AddsEntry, Grew};
 ghost use Rattle.tp_behaviour.specs.Sends.{CanName, SendsAt, next_sent};
-ghost use Rattle.tp_behaviour.specs.Stations.{IsManned, IsSame, role_of, values_of};
+ghost use Rattle.tp_behaviour.specs.Workers.{IsConsistent, IsSame, role_of, values_of};
 
+use crate::execution::Execution;
 use crate::gate::Gate;
 use crate::looking::note;
-use crate::post::Post;
-use crate::scene::Scene;
-use crate::station::{State, Station};
+use crate::task::Task;
 use crate::values::{message_of, named_of};
+use crate::worker::{Frame, Worker};
 use std::sync::Wait;
 use tp_config::port_type::{CompId, PortRef, RouteId};
 use tp_config::routes::RouteFault;
@@ -32,21 +32,21 @@ use tp_value::message::Message;
 ///
 /// 50 `Memory` only where an allocation was refused.
 fn fail(
-    post: &Post<'_>,
-    station: &mut Station,
-    state: &State,
+    task: &Task<'_>,
+    worker: &mut Worker,
+    frame: &Frame,
     sending: &SendOperation,
     fault: SendFault,
 ) -> Result<Option<SendFault>, Memory>
-    requires manned { IsManned (role_of post.now) station.old }
-    requires cause { IsFailure (role_of post.now) (values_of state.now) sending.now
-        station.old.desk.log fault }
-    ensures manned { OnOk result (IsManned (role_of post.now) station.new) }
-    ensures same { OnOk result (IsSame station.old station.new) }
-    ensures sends { IfOk result (SendsAt post.now state.now sending.now station.old station.new) }
+    requires consistent { IsConsistent (role_of task.now) worker.old }
+    requires cause { IsFailure (role_of task.now) (values_of frame.now) sending.now
+        worker.old.desk.log fault }
+    ensures consistent { OnOk result (IsConsistent (role_of task.now) worker.new) }
+    ensures same { OnOk result (IsSame worker.old worker.new) }
+    ensures sends { IfOk result (SendsAt task.now frame.now sending.now worker.old worker.new) }
 {
-    let (_state, _sending) = (state, sending);
-    note(post, &mut *station, Entry::Failed(fault))?;
+    let (_frame, _sending) = (frame, sending);
+    note(task, &mut *worker, Entry::Failed(fault))?;
     Ok(Some(fault))
 }
 
@@ -56,22 +56,22 @@ fn fail(
 /// 50 `Memory` where an allocation was refused; and where the route has taken all that it takes, or
 /// no stamp is left, neither of which a test case of at most 100,000 statements reaches.
 fn send_on<R: Wait, G: Gate>(
-    scene: &Scene<'_, R, G>,
-    station: &mut Station,
+    execution: &Execution<'_, R, G>,
+    worker: &mut Worker,
     route: RouteId,
     message: Message,
 ) -> Result<(), Memory>
-    requires manned { IsManned (role_of scene.now.post.now) station.old }
-    requires known { Contains (routes_of station.old.outbox) route }
-    ensures manned { OnOk result (IsManned (role_of scene.now.post.now) station.new) }
-    ensures same { OnOk result (IsSame station.old station.new) }
-    ensures log { OnOk result (station.new.desk.log
-        ≡ station.old.desk.log ++ next_sent route message station.old.desk.log ∷ []) }
-    ensures trace { OnOk result (AddsEntry station.old.desk
-        (next_sent route message station.old.desk.log) station.new.desk) }
+    requires consistent { IsConsistent (role_of execution.now.task.now) worker.old }
+    requires known { Contains (routes_of worker.old.outbox) route }
+    ensures consistent { OnOk result (IsConsistent (role_of execution.now.task.now) worker.new) }
+    ensures same { OnOk result (IsSame worker.old worker.new) }
+    ensures log { OnOk result (worker.new.desk.log
+        ≡ worker.old.desk.log ++ next_sent route message worker.old.desk.log ∷ []) }
+    ensures trace { OnOk result (AddsEntry worker.old.desk
+        (next_sent route message worker.old.desk.log) worker.new.desk) }
 {
-    let rt = scene.rt;
-    let Ok(()) = station.outbox.send(rt, &mut station.desk, route, message) else {
+    let rt = execution.rt;
+    let Ok(()) = worker.outbox.send(rt, &mut worker.desk, route, message) else {
         return Err(Memory);
     };
     Ok(())
@@ -82,36 +82,36 @@ fn send_on<R: Wait, G: Gate>(
 ///
 /// 50 `Memory` as [`send_on`].
 fn send_to<R: Wait, G: Gate>(
-    scene: &Scene<'_, R, G>,
-    station: &mut Station,
-    state: &State,
+    execution: &Execution<'_, R, G>,
+    worker: &mut Worker,
+    frame: &Frame,
     sending: &SendOperation,
     message: Message,
     named: Option<CompId>,
 ) -> Result<Option<SendFault>, Memory>
-    requires manned { IsManned (role_of scene.now.post.now) station.old }
-    requires started { IsStarted station.old.desk.log sending.now.port }
-    requires sent { IsSentAs (values_of state.now) sending.now.sent message }
+    requires consistent { IsConsistent (role_of execution.now.task.now) worker.old }
+    requires started { IsStarted worker.old.desk.log sending.now.port }
+    requires sent { IsSentAs (values_of frame.now) sending.now.sent message }
     requires named { IsNamed
-        (role_of scene.now.post.now) (values_of state.now) sending.now.to named }
-    ensures manned { OnOk result (IsManned (role_of scene.now.post.now) station.new) }
-    ensures same { OnOk result (IsSame station.old station.new) }
+        (role_of execution.now.task.now) (values_of frame.now) sending.now.to named }
+    ensures consistent { OnOk result (IsConsistent (role_of execution.now.task.now) worker.new) }
+    ensures same { OnOk result (IsSame worker.old worker.new) }
     ensures sends { IfOk result
-        (SendsAt scene.now.post.now state.now sending.now station.old station.new) }
+        (SendsAt execution.now.task.now frame.now sending.now worker.old worker.new) }
 {
     let port = PortRef {
-        comp: scene.post.comp,
+        comp: execution.task.comp,
         port: sending.port,
     };
-    match scene.post.config.route(port, named) {
+    match execution.task.config.route(port, named) {
         Ok(route) => {
-            send_on(scene, &mut *station, route, message)?;
+            send_on(execution, &mut *worker, route, message)?;
             Ok(None)
         }
         Err(fault) => fail(
-            scene.post,
-            &mut *station,
-            state,
+            execution.task,
+            &mut *worker,
+            frame,
             sending,
             SendFault::Unrouted(fault),
         ),
@@ -122,22 +122,22 @@ fn send_to<R: Wait, G: Gate>(
 ///
 /// 50 `Memory` as [`send_on`].
 fn send_on_each<R: Wait, G: Gate>(
-    scene: &Scene<'_, R, G>,
-    station: &mut Station,
+    execution: &Execution<'_, R, G>,
+    worker: &mut Worker,
     routes: &[RouteId],
     message: &Message,
 ) -> Result<(), Memory>
-    requires manned { IsManned (role_of scene.now.post.now) station.old }
-    requires known { All (Contains (routes_of station.old.outbox)) routes.now }
-    ensures manned { OnOk result (IsManned (role_of scene.now.post.now) station.new) }
-    ensures same { OnOk result (IsSame station.old station.new) }
-    ensures each { OnOk result ((port : ℕ) → IsStarted station.old.desk.log port
+    requires consistent { IsConsistent (role_of execution.now.task.now) worker.old }
+    requires known { All (Contains (routes_of worker.old.outbox)) routes.now }
+    ensures consistent { OnOk result (IsConsistent (role_of execution.now.task.now) worker.new) }
+    ensures same { OnOk result (IsSame worker.old worker.new) }
+    ensures each { OnOk result ((port : ℕ) → IsStarted worker.old.desk.log port
         → Grew (AllZip (IsSentOn port message.now) routes.now)
-        station.old.desk.log station.new.desk.log) }
+        worker.old.desk.log worker.new.desk.log) }
 {
     for route in routes {
-        let copy = message.copy(scene.post.alloc)?;
-        send_on(scene, &mut *station, *route, copy)?;
+        let copy = message.copy(execution.task.alloc)?;
+        send_on(execution, &mut *worker, *route, copy)?;
     }
     Ok(())
 }
@@ -147,31 +147,31 @@ fn send_on_each<R: Wait, G: Gate>(
 ///
 /// 50 `Memory` as [`send_on`].
 fn send_to_all<R: Wait, G: Gate>(
-    scene: &Scene<'_, R, G>,
-    station: &mut Station,
-    state: &State,
+    execution: &Execution<'_, R, G>,
+    worker: &mut Worker,
+    frame: &Frame,
     sending: &SendOperation,
     message: &Message,
 ) -> Result<Option<SendFault>, Memory>
-    requires manned { IsManned (role_of scene.now.post.now) station.old }
-    requires started { IsStarted station.old.desk.log sending.now.port }
-    requires sent { IsSentAs (values_of state.now) sending.now.sent message.now }
+    requires consistent { IsConsistent (role_of execution.now.task.now) worker.old }
+    requires started { IsStarted worker.old.desk.log sending.now.port }
+    requires sent { IsSentAs (values_of frame.now) sending.now.sent message.now }
     requires all { sending.now.to ≡ receiver.All }
-    ensures manned { OnOk result (IsManned (role_of scene.now.post.now) station.new) }
-    ensures same { OnOk result (IsSame station.old station.new) }
+    ensures consistent { OnOk result (IsConsistent (role_of execution.now.task.now) worker.new) }
+    ensures same { OnOk result (IsSame worker.old worker.new) }
     ensures sends { IfOk result
-        (SendsAt scene.now.post.now state.now sending.now station.old station.new) }
+        (SendsAt execution.now.task.now frame.now sending.now worker.old worker.new) }
 {
     let port = PortRef {
-        comp: scene.post.comp,
+        comp: execution.task.comp,
         port: sending.port,
     };
-    let routes = scene.post.config.routes_from(port)?;
+    let routes = execution.task.config.routes_from(port)?;
     if routes.is_empty() {
         let no_route = SendFault::Unrouted(RouteFault::NoRoute);
-        return fail(scene.post, &mut *station, state, sending, no_route);
+        return fail(execution.task, &mut *worker, frame, sending, no_route);
     }
-    send_on_each(scene, &mut *station, routes.as_slice(), message)?;
+    send_on_each(execution, &mut *worker, routes.as_slice(), message)?;
     Ok(None)
 }
 
@@ -179,27 +179,27 @@ fn send_to_all<R: Wait, G: Gate>(
 ///
 /// 50 `Memory` as [`send_on`].
 fn send_to_one<R: Wait, G: Gate>(
-    scene: &Scene<'_, R, G>,
-    station: &mut Station,
-    state: &State,
+    execution: &Execution<'_, R, G>,
+    worker: &mut Worker,
+    frame: &Frame,
     sending: &SendOperation,
     message: Message,
 ) -> Result<Option<SendFault>, Memory>
-    requires manned { IsManned (role_of scene.now.post.now) station.old }
-    requires started { IsStarted station.old.desk.log sending.now.port }
-    requires sent { IsSentAs (values_of state.now) sending.now.sent message }
-    requires names { CanName state.now.variables.items
-        (length scene.now.post.now.behaviour.references.now) sending.now.to }
-    ensures manned { OnOk result (IsManned (role_of scene.now.post.now) station.new) }
-    ensures same { OnOk result (IsSame station.old station.new) }
+    requires consistent { IsConsistent (role_of execution.now.task.now) worker.old }
+    requires started { IsStarted worker.old.desk.log sending.now.port }
+    requires sent { IsSentAs (values_of frame.now) sending.now.sent message }
+    requires names { CanName frame.now.variables.items
+        (length execution.now.task.now.behaviour.references.now) sending.now.to }
+    ensures consistent { OnOk result (IsConsistent (role_of execution.now.task.now) worker.new) }
+    ensures same { OnOk result (IsSame worker.old worker.new) }
     ensures sends { IfOk result
-        (SendsAt scene.now.post.now state.now sending.now station.old station.new) }
+        (SendsAt execution.now.task.now frame.now sending.now worker.old worker.new) }
 {
-    match named_of(scene.post, state, sending.to) {
-        Some(named) => send_to(scene, &mut *station, state, sending, message, named),
+    match named_of(execution.task, frame, sending.to) {
+        Some(named) => send_to(execution, &mut *worker, frame, sending, message, named),
         None => {
             let unset_receiver = SendFault::UnsetVariable;
-            fail(scene.post, &mut *station, state, sending, unset_receiver)
+            fail(execution.task, &mut *worker, frame, sending, unset_receiver)
         }
     }
 }
@@ -208,27 +208,27 @@ fn send_to_one<R: Wait, G: Gate>(
 ///
 /// 50 `Memory` as [`send_on`].
 fn send_started<R: Wait, G: Gate>(
-    scene: &Scene<'_, R, G>,
-    station: &mut Station,
-    state: &State,
+    execution: &Execution<'_, R, G>,
+    worker: &mut Worker,
+    frame: &Frame,
     sending: &SendOperation,
 ) -> Result<Option<SendFault>, Memory>
-    requires manned { IsManned (role_of scene.now.post.now) station.old }
-    requires started { IsStarted station.old.desk.log sending.now.port }
-    requires held { HoldsAsDeclared scene.now.post.now state.now }
-    requires can { CanSend (stage_at scene.now.post.now) (depth_of state.now) sending.now }
-    ensures manned { OnOk result (IsManned (role_of scene.now.post.now) station.new) }
-    ensures same { OnOk result (IsSame station.old station.new) }
+    requires consistent { IsConsistent (role_of execution.now.task.now) worker.old }
+    requires started { IsStarted worker.old.desk.log sending.now.port }
+    requires held { HoldsAsDeclared execution.now.task.now frame.now }
+    requires can { CanSend (stage_at execution.now.task.now) (depth_of frame.now) sending.now }
+    ensures consistent { OnOk result (IsConsistent (role_of execution.now.task.now) worker.new) }
+    ensures same { OnOk result (IsSame worker.old worker.new) }
     ensures sends { IfOk result
-        (SendsAt scene.now.post.now state.now sending.now station.old station.new) }
+        (SendsAt execution.now.task.now frame.now sending.now worker.old worker.new) }
 {
-    let Some(message) = message_of(scene.post.alloc, state, &sending.sent)? else {
+    let Some(message) = message_of(execution.task.alloc, frame, &sending.sent)? else {
         let unset_message = SendFault::UnsetVariable;
-        return fail(scene.post, &mut *station, state, sending, unset_message);
+        return fail(execution.task, &mut *worker, frame, sending, unset_message);
     };
     match sending.to {
-        Receiver::All => send_to_all(scene, &mut *station, state, sending, &message),
-        _ => send_to_one(scene, &mut *station, state, sending, message),
+        Receiver::All => send_to_all(execution, &mut *worker, frame, sending, &message),
+        _ => send_to_one(execution, &mut *worker, frame, sending, message),
     }
 }
 
@@ -239,26 +239,26 @@ fn send_started<R: Wait, G: Gate>(
 ///
 /// 50 `Memory` as [`send_on`].
 pub(crate) fn send<R: Wait, G: Gate>(
-    scene: &Scene<'_, R, G>,
-    station: &mut Station,
-    state: &State,
+    execution: &Execution<'_, R, G>,
+    worker: &mut Worker,
+    frame: &Frame,
     sending: &SendOperation,
 ) -> Result<Option<SendFault>, Memory>
-    requires manned { IsManned (role_of scene.now.post.now) station.old }
-    requires held { HoldsAsDeclared scene.now.post.now state.now }
-    requires can { CanSend (stage_at scene.now.post.now) (depth_of state.now) sending.now }
-    ensures manned { OnOk result (IsManned (role_of scene.now.post.now) station.new) }
-    ensures same { OnOk result (IsSame station.old station.new) }
+    requires consistent { IsConsistent (role_of execution.now.task.now) worker.old }
+    requires held { HoldsAsDeclared execution.now.task.now frame.now }
+    requires can { CanSend (stage_at execution.now.task.now) (depth_of frame.now) sending.now }
+    ensures consistent { OnOk result (IsConsistent (role_of execution.now.task.now) worker.new) }
+    ensures same { OnOk result (IsSame worker.old worker.new) }
     ensures sends { IfOk result
-        (SendsAt scene.now.post.now state.now sending.now station.old station.new) }
+        (SendsAt execution.now.task.now frame.now sending.now worker.old worker.new) }
 {
-    if station.desk.queue(sending.port).may_send() {
-        send_started(scene, &mut *station, state, sending)
+    if worker.desk.queue(sending.port).may_send() {
+        send_started(execution, &mut *worker, frame, sending)
     } else {
         fail(
-            scene.post,
-            &mut *station,
-            state,
+            execution.task,
+            &mut *worker,
+            frame,
             sending,
             SendFault::NotSending,
         )

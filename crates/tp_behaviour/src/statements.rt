@@ -5,16 +5,16 @@ ghost use Rattle.tp_play.specs.Sizes.{turns_between};
 ghost use Rattle.tp_behaviour.specs.Lasting.{AreLasting, AreLastingBranches, IsLasting};
 ghost use Rattle.tp_behaviour.specs.Outcomes.{Executed, HoldsAsDeclared, Stepped, WaitsWithin, depth_of, stage_at};
 ghost use Rattle.tp_behaviour.specs.Parts.{ExecutedAt, ExecutedIn, Turned};
-ghost use Rattle.tp_behaviour.specs.Stations.{IsManned, IsSame, role_of};
+ghost use Rattle.tp_behaviour.specs.Workers.{IsConsistent, IsSame, role_of};
 
 use crate::deciding::{Decision, decide};
+use crate::execution::Execution;
 use crate::gate::Gate;
 use crate::lasting::{Alt, Block, Lasting};
 use crate::outcome::Outcome;
 use crate::playing::{play_all_ports, play_control, play_send, play_set_verdict};
 use crate::receiving::receive;
-use crate::scene::Scene;
-use crate::station::{State, Station};
+use crate::worker::{Frame, Worker};
 use std::ops::Range;
 use std::sync::Wait;
 use tp_play::body::Statement;
@@ -25,31 +25,31 @@ use tp_refusal::memory::Memory;
 /// 50 `Memory` only where an allocation was refused.
 #[cycle(statements)]
 pub(crate) fn execute<R: Wait, G: Gate>(
-    scene: &Scene<'_, R, G>,
-    station: &mut Station,
-    state: &mut State,
+    execution: &Execution<'_, R, G>,
+    worker: &mut Worker,
+    frame: &mut Frame,
     block: Block<'_>,
 ) -> Result<Outcome, Memory>
-    requires manned { IsManned (role_of scene.now.post.now) station.old }
-    requires held { HoldsAsDeclared scene.now.post.now state.old }
+    requires consistent { IsConsistent (role_of execution.now.task.now) worker.old }
+    requires held { HoldsAsDeclared execution.now.task.now frame.old }
     requires can { CanPlayAll
-        (stage_at scene.now.post.now) (depth_of state.old) block.statements.now }
+        (stage_at execution.now.task.now) (depth_of frame.old) block.statements.now }
     requires lasting { AreLasting block.statements.now block.lasting.now }
-    ensures manned { OnOk result (IsManned (role_of scene.now.post.now) station.new) }
-    ensures same { OnOk result (IsSame station.old station.new) }
-    ensures held { OnOk result (HoldsAsDeclared scene.now.post.now state.new) }
-    ensures turns { OnOk result (state.new.turns.items ≡ state.old.turns.items) }
+    ensures consistent { OnOk result (IsConsistent (role_of execution.now.task.now) worker.new) }
+    ensures same { OnOk result (IsSame worker.old worker.new) }
+    ensures held { OnOk result (HoldsAsDeclared execution.now.task.now frame.new) }
+    ensures turns { OnOk result (frame.new.turns.items ≡ frame.old.turns.items) }
     ensures ended { IfOk result (λ o.
-        Executed scene.now.post.now block.entry.statements.now o
-        station.old state.old station.new state.new) }
-    ensures within { IfOk result (WaitsWithin station.old.desk.ports) }
+        Executed execution.now.task.now block.entry.statements.now o
+        worker.old frame.old worker.new frame.new) }
+    ensures within { IfOk result (WaitsWithin worker.old.desk.ports) }
 {
     for (place, statement) in block.statements.iter().enumerate() {
-        scene.gate.before(scene.post.comp, state.steps);
+        execution.gate.before(execution.task.comp, frame.steps);
         // No run comes to 2^64 steps, so that this needn't be shown.
-        state.steps = state.steps.wrapping_add(1);
+        frame.steps = frame.steps.wrapping_add(1);
         let lasting = &block.lasting[place];
-        match step(scene, &mut *station, &mut *state, statement, lasting)? {
+        match step(execution, &mut *worker, &mut *frame, statement, lasting)? {
             Outcome::Done => {}
             stop => return Ok(stop),
         }
@@ -62,49 +62,49 @@ pub(crate) fn execute<R: Wait, G: Gate>(
 /// 50 `Memory` only where an allocation was refused.
 #[cycle(statements)]
 fn step<R: Wait, G: Gate>(
-    scene: &Scene<'_, R, G>,
-    station: &mut Station,
-    state: &mut State,
+    execution: &Execution<'_, R, G>,
+    worker: &mut Worker,
+    frame: &mut Frame,
     statement: &Statement,
     lasting: &Lasting,
 ) -> Result<Outcome, Memory>
-    requires manned { IsManned (role_of scene.now.post.now) station.old }
-    requires held { HoldsAsDeclared scene.now.post.now state.old }
-    requires can { CanPlay (stage_at scene.now.post.now) (depth_of state.old) statement.now }
+    requires consistent { IsConsistent (role_of execution.now.task.now) worker.old }
+    requires held { HoldsAsDeclared execution.now.task.now frame.old }
+    requires can { CanPlay (stage_at execution.now.task.now) (depth_of frame.old) statement.now }
     requires lasting { IsLasting statement.now lasting.now }
-    ensures manned { OnOk result (IsManned (role_of scene.now.post.now) station.new) }
-    ensures same { OnOk result (IsSame station.old station.new) }
-    ensures held { OnOk result (HoldsAsDeclared scene.now.post.now state.new) }
-    ensures turns { OnOk result (state.new.turns.items ≡ state.old.turns.items) }
+    ensures consistent { OnOk result (IsConsistent (role_of execution.now.task.now) worker.new) }
+    ensures same { OnOk result (IsSame worker.old worker.new) }
+    ensures held { OnOk result (HoldsAsDeclared execution.now.task.now frame.new) }
+    ensures turns { OnOk result (frame.new.turns.items ≡ frame.old.turns.items) }
     ensures ended { IfOk result (λ o.
-        Stepped scene.now.post.now statement.now o station.old state.old station.new state.new) }
-    ensures within { IfOk result (WaitsWithin station.old.desk.ports) }
+        Stepped execution.now.task.now statement.now o worker.old frame.old worker.new frame.new) }
+    ensures within { IfOk result (WaitsWithin worker.old.desk.ports) }
 {
     match statement {
-        Statement::Send(sending) => play_send(scene, station, state, sending),
+        Statement::Send(sending) => play_send(execution, worker, frame, sending),
         Statement::Receive(receiving) => {
-            receive(scene, station, state, receiving, &lasting.wanted)
+            receive(execution, worker, frame, receiving, &lasting.wanted)
         }
         Statement::Control(port, operation) => {
-            play_control(scene, station, state, *port, *operation)
+            play_control(execution, worker, frame, *port, *operation)
         }
-        Statement::AllPorts(operation) => play_all_ports(scene, station, state, *operation),
-        Statement::SetVerdict(verdict) => { play_set_verdict(scene.post, station, state, *verdict) }
+        Statement::AllPorts(operation) => play_all_ports(execution, worker, frame, *operation),
+        Statement::SetVerdict(verdict) => play_set_verdict(execution.task, worker, frame, *verdict),
         Statement::Alt(branches, otherwise) => {
             let alt = Alt {
                 branches: branches.as_slice(),
                 has_else: otherwise.is_some(),
                 lasting: lasting.branches.as_slice(),
             };
-            match decide(scene, station, state, alt)? {
-                Decision::Branch(place) => branch(scene, station, state, alt, place),
+            match decide(execution, worker, frame, alt)? {
+                Decision::Branch(place) => branch(execution, worker, frame, alt, place),
                 Decision::Else => match otherwise {
                     Some(block) => {
                         let block = Block {
                             statements: block.as_slice(),
                             lasting: lasting.block.as_slice(),
                         };
-                        execute(scene, station, state, block)
+                        execute(execution, worker, frame, block)
                     }
                     // It is chosen only where there is one.
                     None => unreachable!(),
@@ -117,7 +117,7 @@ fn step<R: Wait, G: Gate>(
                 statements: block.as_slice(),
                 lasting: lasting.block.as_slice(),
             };
-            turns(scene, station, state, *first..*bound, block)
+            turns(execution, worker, frame, *first..*bound, block)
         }
     }
 }
@@ -127,31 +127,32 @@ fn step<R: Wait, G: Gate>(
 /// 50 `Memory` only where an allocation was refused.
 #[cycle(statements)]
 fn branch<R: Wait, G: Gate>(
-    scene: &Scene<'_, R, G>,
-    station: &mut Station,
-    state: &mut State,
+    execution: &Execution<'_, R, G>,
+    worker: &mut Worker,
+    frame: &mut Frame,
     alt: Alt<'_>,
     place: usize,
 ) -> Result<Outcome, Memory>
     requires within { place < length alt.branches.now }
-    requires manned { IsManned (role_of scene.now.post.now) station.old }
-    requires held { HoldsAsDeclared scene.now.post.now state.old }
-    requires can { CanEnterAll (stage_at scene.now.post.now) (depth_of state.old) alt.branches.now }
+    requires consistent { IsConsistent (role_of execution.now.task.now) worker.old }
+    requires held { HoldsAsDeclared execution.now.task.now frame.old }
+    requires can { CanEnterAll
+        (stage_at execution.now.task.now) (depth_of frame.old) alt.branches.now }
     requires lasting { AreLastingBranches alt.branches.now alt.lasting.now }
-    ensures manned { OnOk result (IsManned (role_of scene.now.post.now) station.new) }
-    ensures same { OnOk result (IsSame station.old station.new) }
-    ensures held { OnOk result (HoldsAsDeclared scene.now.post.now state.new) }
-    ensures turns { OnOk result (state.new.turns.items ≡ state.old.turns.items) }
+    ensures consistent { OnOk result (IsConsistent (role_of execution.now.task.now) worker.new) }
+    ensures same { OnOk result (IsSame worker.old worker.new) }
+    ensures held { OnOk result (HoldsAsDeclared execution.now.task.now frame.new) }
+    ensures turns { OnOk result (frame.new.turns.items ≡ frame.old.turns.items) }
     ensures ended { IfOk result (λ o.
-        ExecutedAt scene.now.post.now alt.entry.branches.now place o
-        station.old state.old station.new state.new) }
-    ensures within { IfOk result (WaitsWithin station.old.desk.ports) }
+        ExecutedAt execution.now.task.now alt.entry.branches.now place o
+        worker.old frame.old worker.new frame.new) }
+    ensures within { IfOk result (WaitsWithin worker.old.desk.ports) }
 {
     let block = Block {
         statements: alt.branches[place].block.as_slice(),
         lasting: alt.lasting[place].block.as_slice(),
     };
-    execute(scene, station, state, block)
+    execute(execution, worker, frame, block)
 }
 
 /// Carries out a block once for each value of a loop variable, from the first on, below the bound
@@ -160,32 +161,32 @@ fn branch<R: Wait, G: Gate>(
 /// 50 `Memory` only where an allocation was refused.
 #[cycle(statements)]
 fn turns<R: Wait, G: Gate>(
-    scene: &Scene<'_, R, G>,
-    station: &mut Station,
-    state: &mut State,
+    execution: &Execution<'_, R, G>,
+    worker: &mut Worker,
+    frame: &mut Frame,
     values: Range<i64>,
     block: Block<'_>,
 ) -> Result<Outcome, Memory>
-    requires manned { IsManned (role_of scene.now.post.now) station.old }
-    requires held { HoldsAsDeclared scene.now.post.now state.old }
+    requires consistent { IsConsistent (role_of execution.now.task.now) worker.old }
+    requires held { HoldsAsDeclared execution.now.task.now frame.old }
     requires can { CanPlayAll
-        (stage_at scene.now.post.now) (depth_of state.old + 1) block.statements.now }
+        (stage_at execution.now.task.now) (depth_of frame.old + 1) block.statements.now }
     requires lasting { AreLasting block.statements.now block.lasting.now }
-    ensures manned { OnOk result (IsManned (role_of scene.now.post.now) station.new) }
-    ensures same { OnOk result (IsSame station.old station.new) }
-    ensures held { OnOk result (HoldsAsDeclared scene.now.post.now state.new) }
-    ensures turns { OnOk result (state.new.turns.items ≡ state.old.turns.items) }
+    ensures consistent { OnOk result (IsConsistent (role_of execution.now.task.now) worker.new) }
+    ensures same { OnOk result (IsSame worker.old worker.new) }
+    ensures held { OnOk result (HoldsAsDeclared execution.now.task.now frame.new) }
+    ensures turns { OnOk result (frame.new.turns.items ≡ frame.old.turns.items) }
     ensures ended { IfOk result (λ o.
-        Turned scene.now.post.now values.start block.entry.statements.now
-        (turns_between values.start values.end) o station.old state.old station.new state.new) }
-    ensures within { IfOk result (WaitsWithin station.old.desk.ports) }
+        Turned execution.now.task.now values.start block.entry.statements.now
+        (turns_between values.start values.end) o worker.old frame.old worker.new frame.new) }
+    ensures within { IfOk result (WaitsWithin worker.old.desk.ports) }
 {
     // There may be more turns of nothing than can be made.
     if block.statements.is_empty() {
         return Ok(Outcome::Done);
     }
     for value in values.start..values.end {
-        match turn(scene, &mut *station, &mut *state, value, block)? {
+        match turn(execution, &mut *worker, &mut *frame, value, block)? {
             Outcome::Done => {}
             outcome => return Ok(outcome),
         }
@@ -198,28 +199,28 @@ fn turns<R: Wait, G: Gate>(
 /// 50 `Memory` only where an allocation was refused.
 #[cycle(statements)]
 fn turn<R: Wait, G: Gate>(
-    scene: &Scene<'_, R, G>,
-    station: &mut Station,
-    state: &mut State,
+    execution: &Execution<'_, R, G>,
+    worker: &mut Worker,
+    frame: &mut Frame,
     value: i64,
     block: Block<'_>,
 ) -> Result<Outcome, Memory>
-    requires manned { IsManned (role_of scene.now.post.now) station.old }
-    requires held { HoldsAsDeclared scene.now.post.now state.old }
+    requires consistent { IsConsistent (role_of execution.now.task.now) worker.old }
+    requires held { HoldsAsDeclared execution.now.task.now frame.old }
     requires can { CanPlayAll
-        (stage_at scene.now.post.now) (depth_of state.old + 1) block.statements.now }
+        (stage_at execution.now.task.now) (depth_of frame.old + 1) block.statements.now }
     requires lasting { AreLasting block.statements.now block.lasting.now }
-    ensures manned { OnOk result (IsManned (role_of scene.now.post.now) station.new) }
-    ensures same { OnOk result (IsSame station.old station.new) }
-    ensures held { OnOk result (HoldsAsDeclared scene.now.post.now state.new) }
-    ensures turns { OnOk result (state.new.turns.items ≡ state.old.turns.items) }
+    ensures consistent { OnOk result (IsConsistent (role_of execution.now.task.now) worker.new) }
+    ensures same { OnOk result (IsSame worker.old worker.new) }
+    ensures held { OnOk result (HoldsAsDeclared execution.now.task.now frame.new) }
+    ensures turns { OnOk result (frame.new.turns.items ≡ frame.old.turns.items) }
     ensures ended { IfOk result (λ o.
-        ExecutedIn scene.now.post.now (state.old.turns.items ++ value ∷ [])
-        block.entry.statements.now o station.old state.old station.new state.new) }
-    ensures within { IfOk result (WaitsWithin station.old.desk.ports) }
+        ExecutedIn execution.now.task.now (frame.old.turns.items ++ value ∷ [])
+        block.entry.statements.now o worker.old frame.old worker.new frame.new) }
+    ensures within { IfOk result (WaitsWithin worker.old.desk.ports) }
 {
-    state.turns.push(value)?;
-    let outcome = execute(scene, station, &mut *state, block)?;
-    state.turns.pop();
+    frame.turns.push(value)?;
+    let outcome = execute(execution, worker, &mut *frame, block)?;
+    frame.turns.pop();
     Ok(outcome)
 }

@@ -3,11 +3,11 @@ ghost use Rattle.std.specs.Prelude.{IfOk, MatchOption, length};
 ghost use Rattle.tp_behaviour.specs.declared.held.Held.TheVariants as held;
 ghost use Rattle.tp_behaviour.specs.Held.{Holds, IsNamed, IsSentAs, IsUnset, NamesUnset, SendsUnset};
 ghost use Rattle.tp_behaviour.specs.Sends.{CanFill, CanName};
-ghost use Rattle.tp_behaviour.specs.Stations.{HoldsNoMessage, HoldsMessages, role_of, values_of};
+ghost use Rattle.tp_behaviour.specs.Workers.{HoldsNoMessage, HoldsMessages, role_of, values_of};
 
 use crate::held::Held;
-use crate::post::Post;
-use crate::station::State;
+use crate::task::Task;
+use crate::worker::Frame;
 use std::alloc::Global;
 use tp_config::port_type::CompId;
 use tp_play::body::{Receiver, Sent};
@@ -17,12 +17,12 @@ use tp_refusal::memory::Memory;
 use tp_value::message::Message;
 
 /// The message that the variable at this place holds, where it is set.
-fn message_in(state: &State, place: usize) -> Option<&Message>
-    requires { HoldsMessages state.now.variables.items place }
-    ensures { MatchOption result (IsUnset (values_of state.now) place)
-        (λ m. Holds (values_of state.now) place (held.Value m.now)) }
+fn message_in(frame: &Frame, place: usize) -> Option<&Message>
+    requires { HoldsMessages frame.now.variables.items place }
+    ensures { MatchOption result (IsUnset (values_of frame.now) place)
+        (λ m. Holds (values_of frame.now) place (held.Value m.now)) }
 {
-    match &state.variables[place] {
+    match &frame.variables[place] {
         Some(held) => match held {
             Held::Value(message) => Some(message),
             // The variable is one of messages.
@@ -33,12 +33,12 @@ fn message_in(state: &State, place: usize) -> Option<&Message>
 }
 
 /// The component that the variable at this place holds, where it is set.
-fn component_in(state: &State, place: usize) -> Option<CompId>
-    requires { HoldsNoMessage state.now.variables.items place }
-    ensures { MatchOption result (IsUnset (values_of state.now) place)
-        (λ c. Holds (values_of state.now) place (held.Component c)) }
+fn component_in(frame: &Frame, place: usize) -> Option<CompId>
+    requires { HoldsNoMessage frame.now.variables.items place }
+    ensures { MatchOption result (IsUnset (values_of frame.now) place)
+        (λ c. Holds (values_of frame.now) place (held.Component c)) }
 {
-    match &state.variables[place] {
+    match &frame.variables[place] {
         Some(held) => match held {
             Held::Component(comp) => Some(*comp),
             // The variable is one of components.
@@ -53,19 +53,19 @@ fn component_in(state: &State, place: usize) -> Option<CompId>
 /// 50 `Memory` only where an allocation was refused.
 pub(crate) fn message_of(
     alloc: Global,
-    state: &State,
+    frame: &Frame,
     sent: &Sent,
 ) -> Result<Option<Message>, Memory>
-    requires { CanFill state.now.variables.items (length state.now.turns.items) sent.now }
-    ensures { IfOk result (λ m. MatchOption m (SendsUnset (values_of state.now) sent.now)
-        (IsSentAs (values_of state.now) sent.now)) }
+    requires { CanFill frame.now.variables.items (length frame.now.turns.items) sent.now }
+    ensures { IfOk result (λ m. MatchOption m (SendsUnset (values_of frame.now) sent.now)
+        (IsSentAs (values_of frame.now) sent.now)) }
 {
     match sent {
         Sent::Written(message) => {
-            let filled = fill_message(alloc, message, state.turns.as_slice())?;
+            let filled = fill_message(alloc, message, frame.turns.as_slice())?;
             Ok(Some(filled))
         }
-        Sent::Variable(place) => match message_in(state, *place) {
+        Sent::Variable(place) => match message_in(frame, *place) {
             Some(message) => {
                 let copy = message.copy(alloc)?;
                 Ok(Some(copy))
@@ -77,15 +77,15 @@ pub(crate) fn message_of(
 
 /// The component that is named as the receiver of one message, if one is; or `None` where it is a
 /// variable that isn't set. Takes no memory.
-pub(crate) fn named_of(post: &Post<'_>, state: &State, to: Receiver) -> Option<Option<CompId>>
-    requires { CanName state.now.variables.items (length post.now.behaviour.references.now) to }
-    ensures { MatchOption result (NamesUnset (values_of state.now) to)
-        (IsNamed (role_of post.now) (values_of state.now) to) }
+pub(crate) fn named_of(task: &Task<'_>, frame: &Frame, to: Receiver) -> Option<Option<CompId>>
+    requires { CanName frame.now.variables.items (length task.now.behaviour.references.now) to }
+    ensures { MatchOption result (NamesUnset (values_of frame.now) to)
+        (IsNamed (role_of task.now) (values_of frame.now) to) }
 {
     match to {
         Receiver::Nobody => Some(None),
-        Receiver::Reference(place) => Some(Some(post.behaviour.references[place])),
-        Receiver::Variable(place) => match component_in(state, place) {
+        Receiver::Reference(place) => Some(Some(task.behaviour.references[place])),
+        Receiver::Variable(place) => match component_in(frame, place) {
             Some(comp) => Some(Some(comp)),
             None => None,
         },

@@ -17,36 +17,36 @@ use Rattle.tp_inbox.specs.Ledgers.{AreSenders, Inbox, IsSenderInto, Sending, put
 use Rattle.tp_inbox.proofs.Arrivals.{arrivals-append}
 use Rattle.tp_inbox.proofs.Ways.{came_by_routes, sent_by_routes}
 use Rattle.tp_behaviour.specs.Outboxes.{routes_of}
-use Rattle.tp_exec.specs.declared.ended.Ended.{Ended}
-use Rattle.tp_exec.specs.Held.{HasAll, HasCome, HasComeFrom, IsCounted, IsHandedBack, ShareNone, ways_by}
-use Rattle.tp_exec.specs.Rounds.{Way, way_by, ways_in}
+use Rattle.tp_exec.specs.declared.ended.EndedComponent.{EndedComponent}
+use Rattle.tp_exec.specs.Held.{HasAll, HasCome, HasComeFrom, IsCounted, IsHandedBack, ShareNone, links_by}
+use Rattle.tp_exec.specs.Rounds.{Link, link_by, links_in}
 use Rattle.tp_exec.proofs.Pairs.{flat_there, mapped_pairs}
 use Rattle.tp_exec.proofs.Senders.{among_by, by_among, source_there, sources_apart}
 
 -- they are those of these components into the inbox
-back_senders : (logs : ℕ → List Entry) (i : Inbox) (cs : List CompId) (ss : List Sending) → AllZip (IsHandedBack logs) (ways_by i cs) ss
+back_senders : (logs : ℕ → List Entry) (i : Inbox) (cs : List CompId) (ss : List Sending) → AllZip (IsHandedBack logs) (links_by i cs) ss
     → All (IsSenderInto i) ss × (map (λ (s : Sending). s.source) ss ≡ cs)
 back_senders logs i [] [] z = (All-nil (IsSenderInto i), refl)
 back_senders logs i [] (s ∷ ss) z = absurd z
 back_senders logs i (c ∷ cs) [] z = absurd z
 back_senders logs i (c ∷ cs) (s ∷ ss) z =
     let more = back_senders logs i cs ss z.1 in
-    let from : s.source ≡ c = ap (λ (w : Way). w.1) z.0.0 in
+    let from : s.source ≡ c = ap (λ (w : Link). w.1) z.0.0 in
     let into : IsSenderInto i s =
-    (ap (λ (w : Way). w.0) z.0.0, ap (λ (w : Way). w.2) z.0.0 ∙ ap (λ (d : CompId). routes_by d i.routes) (sym from)) in
+    (ap (λ (w : Link). w.0) z.0.0, ap (λ (w : Link). w.2) z.0.0 ∙ ap (λ (d : CompId). routes_by d i.routes) (sym from)) in
     (All-cons (IsSenderInto i) s ss into more.0, λ k. from k ∷ more.1 k)
 
 -- those of the inbox, in its order
-pub are_senders : (logs : ℕ → List Entry) (i : Inbox) (ss : List Sending) → AllZip (IsHandedBack logs) (ways_in i) ss → AreSenders i ss
+pub are_senders : (logs : ℕ → List Entry) (i : Inbox) (ss : List Sending) → AllZip (IsHandedBack logs) (links_in i) ss → AreSenders i ss
 are_senders logs i ss z = back_senders logs i (sources_of i.routes) ss z
 
 -- among them is that of each of these components
-back_from : (logs : ℕ → List Entry) (i : Inbox) (cs : List CompId) (ss : List Sending) → AllZip (IsHandedBack logs) (ways_by i cs) ss → (c : CompId)
-    → Contains cs c → (s : Sending) × Contains ss s × IsHandedBack logs (way_by i c) s
+back_from : (logs : ℕ → List Entry) (i : Inbox) (cs : List CompId) (ss : List Sending) → AllZip (IsHandedBack logs) (links_by i cs) ss → (c : CompId)
+    → Contains cs c → (s : Sending) × Contains ss s × IsHandedBack logs (link_by i c) s
 back_from logs i [] ss z c h = absurd (omega (arith, h.1))
 back_from logs i (d ∷ cs) [] z c h = absurd z
 back_from logs i (d ∷ cs) (s ∷ ss) z c (zero, low, is) =
-    (s, (0, omega arith, refl), subst (λ (e : CompId). IsHandedBack logs (way_by i e) s) is z.0)
+    (s, (0, omega arith, refl), subst (λ (e : CompId). IsHandedBack logs (link_by i e) s) is z.0)
 back_from logs i (d ∷ cs) (s ∷ ss) z c (suc k, low, is) =
     let w = back_from logs i cs ss z.1 c (k, omega arith, is) in
     let there = w.1.1 in
@@ -87,18 +87,18 @@ length-numbered n (m ∷ ms) = ap suc (length-numbered (n + 1) ms)
 abbrev Came : CompId → List Entry → CompId × List Posted → Type 0
 Came comp log v = arrived_from comp v.0 log ≡ v.1
 
-module _ (logs : ℕ → List Entry) (i : Inbox) (e : Ended) (ss : List Sending) (z : AllZip (IsHandedBack logs) (ways_in i) ss)
+module _ (logs : ℕ → List Entry) (i : Inbox) (e : EndedComponent) (ss : List Sending) (z : AllZip (IsHandedBack logs) (links_in i) ss)
     (came : AreDelivered i.comp e.desk.log (map put_by ss)) (order : AreNumbered i.routes e.desk.log)
     (here : All (λ (r : RouteId). r.to.comp ≡ i.comp) i.routes)
     (counts : (s : Sending) (r : RouteId) → Contains ss s → Contains s.routes r → Contains i.routes r → IsCounted e.counts.items s r) where
   -- what a component's history says was sent there is what its sender has put
-  put_as : (c : CompId) (s : Sending) → IsHandedBack logs (way_by i c) s → sent_to i.comp (logs c.0) ≡ s.ledger
-  put_as c s back = ap (λ (j : Inbox). sent_to j.comp (logs c.0)) (sym (ap (λ (w : Way). w.0) back.0)) ∙ back.1
+  put_as : (c : CompId) (s : Sending) → IsHandedBack logs (link_by i c) s → sent_to i.comp (logs c.0) ≡ s.ledger
+  put_as c s back = ap (λ (j : Inbox). sent_to j.comp (logs c.0)) (sym (ap (λ (w : Link). w.0) back.0)) ∙ back.1
 
   -- and this is what came
-  came_as : (c : CompId) (s : Sending) → Contains ss s → IsHandedBack logs (way_by i c) s → arrived_from i.comp c e.desk.log ≡ s.ledger
+  came_as : (c : CompId) (s : Sending) → Contains ss s → IsHandedBack logs (link_by i c) s → arrived_from i.comp c e.desk.log ≡ s.ledger
   came_as c s there back =
-      ap (λ (d : CompId). arrived_from i.comp d e.desk.log) (sym (ap (λ (w : Way). w.1) back.0))
+      ap (λ (d : CompId). arrived_from i.comp d e.desk.log) (sym (ap (λ (w : Link). w.1) back.0))
       ∙ All-contains (Came i.comp e.desk.log) (map put_by ss) (put_by s) came (map_contains put_by ss s there)
 
   come_on : (r : RouteId) → Contains i.routes r → HasCome logs e r
@@ -106,7 +106,7 @@ module _ (logs : ℕ → List Entry) (i : Inbox) (e : Ended) (ss : List Sending)
       let w = back_from logs i (sources_of i.routes) ss z r.source (source_there i.routes r known) in
       let s : Sending = w.0 in
       let to : r.to.comp ≡ i.comp = All-contains (λ (q : RouteId). q.to.comp ≡ i.comp) i.routes r here known in
-      let has : Contains s.routes r = subst (λ (v : Way). Contains v.2 r) (sym w.2.0) (among_by r.source i.routes r known refl) in
+      let has : Contains s.routes r = subst (λ (v : Link). Contains v.2 r) (sym w.2.0) (among_by r.source i.routes r known refl) in
       let put : arrived_on r e.desk.log ≡ posted_on r s.ledger =
       came_by_routes i.comp r.source e.desk.log s.ledger (came_as r.source s w.1 w.2) r refl to in
       let ordered = All-contains (λ (q : RouteId). (ms : List Stamped) × (arrived_on q e.desk.log ≡ numbered 0 ms)) i.routes r order known in

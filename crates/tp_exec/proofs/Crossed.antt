@@ -13,7 +13,7 @@ use Rattle.tp_behaviour.specs.Fresh.{LooksAtPorts}
 use Rattle.tp_exec.specs.Order.{Spot}
 use Rattle.tp_exec.specs.OneOrder.{HasOneOrder, IsAt, IsOrderOf, IsOwn, came_before, entry_at, log_in, sender_to, senders_to, sends_to}
 use Rattle.tp_exec.specs.Greedy.{many, sends}
-use Rattle.tp_exec.specs.Sights.{CrossedLooks, Misses}
+use Rattle.tp_exec.specs.LookLaws.{CrossedLooks, Misses}
 use Rattle.tp_exec.proofs.OneOrder.{own_none, spot}
 use Rattle.tp_exec.proofs.Messages.{given_front, given_one}
 use Rattle.tp_exec.proofs.Stuck.{look_own, many_here, many_sent, sum_one, unit}

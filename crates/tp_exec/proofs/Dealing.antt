@@ -1,4 +1,4 @@
--- How the senders come to the stations of those who send by them.
+-- How the senders come to the workers of those who send by them.
 use Rattle.std.proofs.Common.{◌≡◌, ◌≢◌, ◌⊎◌, inl, inr, ℕ, zero, suc, ◌<◌, Bool, true, cond, eq-eqb, ne_eqb, Some, List, [], ◌∷◌, ◌++◌, get_or, length, slice_get, map, refl, sym, ap, ◌∙◌, subst, append_assoc, arith}
 use Rattle.std.specs.Prelude.{All, AllPairs, filter, slice_set}
 use Rattle.std.specs.Global.{Global}
@@ -10,18 +10,18 @@ use Rattle.std.proofs.lemmas.List.Elements.{All-head, All-tail, filter_passes}
 use Rattle.std.proofs.lemmas.List.Kept.{AllPairs-filter}
 use Rattle.std.proofs.lemmas.Option.{same_Some}
 use Rattle.tp_inbox.specs.Ledgers.{Sending}
-use Rattle.tp_behaviour.specs.declared.station.Station.{Station}
+use Rattle.tp_behaviour.specs.declared.worker.Worker.{Worker}
 use Rattle.tp_exec.specs.Openings.{AreApart, AreHandedOut, AreTwo, HasGiven, IsBare, IsFirstThere, IsFromOneOf, giving, is_of, rest_of}
 use Rattle.tp_exec.proofs.Pairs.{all_before, pairs_before}
 
 -- of all the senders, those before the rest have been handed out
-pub record AreDealt (before : List Station) (all rest : List Sending) (now : List Station) : Type 0 where
+pub record AreDealt (before : List Worker) (all rest : List Sending) (now : List Worker) : Type 0 where
   pub same : map rest_of now ≡ map rest_of before
-  pub dealt : (k : ℕ) (x : Station) → slice_get now k ≡ Some x → x.outbox ++ filter (is_of k) rest ≡ filter (is_of k) all
+  pub dealt : (k : ℕ) (x : Worker) → slice_get now k ≡ Some x → x.outbox ++ filter (is_of k) rest ≡ filter (is_of k) all
   pub within : All (IsFromOneOf before) rest
 
--- as many stations as before
-pub as_many : (before now : List Station) → map rest_of now ≡ map rest_of before → length now ≡ length before
+-- as many workers as before
+pub as_many : (before now : List Worker) → map rest_of now ≡ map rest_of before → length now ≡ length before
 as_many before now same = sym (length-map now rest_of) ∙ ap length same ∙ length-map before rest_of
 
 from_here : (y : Sending) (more : List Sending) → filter (is_of y.source.0) (y ∷ more) ≡ y ∷ filter (is_of y.source.0) more
@@ -44,10 +44,10 @@ set_cases (x ∷ xs) (suc j) (suc k) v y e =
       | inr h ↦ inr (λ (g : suc j ≡ suc k). h.0 (omega (arith, g)), h.1)
     ]
 
--- a station with one sender more has else what it had
-kept : (xs : List Station) (j : ℕ) (x : Station) (y : Sending) → slice_get xs j ≡ Some x → map rest_of (slice_set xs j (giving x y)) ≡ map rest_of xs
+-- a worker with one sender more has else what it had
+kept : (xs : List Worker) (j : ℕ) (x : Worker) (y : Sending) → slice_get xs j ≡ Some x → map rest_of (slice_set xs j (giving x y)) ≡ map rest_of xs
 kept [] j x y stands = refl
-kept (z ∷ zs) zero x y stands = ap (λ (u : Station). rest_of u ∷ map rest_of zs) (sym (same_Some z x stands))
+kept (z ∷ zs) zero x y stands = ap (λ (u : Worker). rest_of u ∷ map rest_of zs) (sym (same_Some z x stands))
 kept (z ∷ zs) (suc j) x y stands = ap (λ l. rest_of z ∷ l) (kept zs j x y stands)
 
 nothing : {X : Type 0} (xs : List X) → length xs ≡ 0 → xs ≡ []
@@ -59,7 +59,7 @@ pub no_rest : {X : Type 0} (it : IntoIter X Global) → into_iter_len it ≡ 0 �
 no_rest it none = nothing (into_iter_items it) (sym it.rest.ok.0 ∙ none)
 
 -- where none has been handed out, and where all have
-pub dealt_first : (before : List Station) (all : List Sending) → All IsBare before
+pub dealt_first : (before : List Worker) (all : List Sending) → All IsBare before
     → All (IsFromOneOf before) all → AreDealt before all all before
 dealt_first before all bare within = record {
   same = refl;
@@ -67,16 +67,16 @@ dealt_first before all bare within = record {
   within = within;
 }
   where
-    empty : (xs : List Station) (k : ℕ) (x : Station) → slice_get xs k ≡ Some x → All IsBare xs → x.outbox ≡ []
+    empty : (xs : List Worker) (k : ℕ) (x : Worker) → slice_get xs k ≡ Some x → All IsBare xs → x.outbox ≡ []
     empty [] k x stands h = absurd (cc)
     empty (z ∷ zs) zero x stands h = subst IsBare (same_Some z x stands) (All-head IsBare z zs h)
     empty (z ∷ zs) (suc k) x stands h = empty zs k x stands (All-tail IsBare z zs h)
 
-pub dealt_last : (before : List Station) (all : List Sending) (now : List Station) → AreDealt before all [] now → AreHandedOut before all now
+pub dealt_last : (before : List Worker) (all : List Sending) (now : List Worker) → AreDealt before all [] now → AreHandedOut before all now
 dealt_last before all now h = record { same = h.same; senders = λ k x stands. sym (append-nil x.outbox) ∙ h.dealt k x stands }
 
 -- one more
-module _ (before : List Station) (all rest : List Sending) (y : Sending) (now : List Station) (h : AreDealt before all (y ∷ rest) now) where
+module _ (before : List Worker) (all rest : List Sending) (y : Sending) (now : List Worker) (h : AreDealt before all (y ∷ rest) now) where
   pub dealt_within : IsFromOneOf now y
   dealt_within = subst (λ n. y.source.0 < n) (sym (as_many before now h.same)) (All-head (IsFromOneOf before) y rest h.within)
 
@@ -92,7 +92,7 @@ module _ (before : List Station) (all rest : List Sending) (y : Sending) (now : 
       all_before ours x.outbox (y ∷ filter (is_of k) rest) (subst (All ours) (sym is) (filter_passes (is_of k) all)) in
       λ j d low. two j d low (λ i. record { 0 = eqb-true (get_or x.outbox j d).source.0 k (here j d low) i })
 
-  pub dealt_next : (after : List Station) → HasGiven y now after → AreDealt before all rest after
+  pub dealt_next : (after : List Worker) → HasGiven y now after → AreDealt before all rest after
   dealt_next after given = record {
     same = ap (map rest_of) given.2 ∙ kept now y.source.0 given.0 y given.1 ∙ h.same;
     dealt = λ k z stands. by k z (set_cases now y.source.0 k (giving given.0 y) z (subst (λ l. slice_get l k ≡ Some z) given.2 stands));
@@ -105,9 +105,9 @@ module _ (before : List Station) (all rest : List Sending) (y : Sending) (now : 
           ∙ ap (λ l. given.0.outbox ++ l) (sym (from_here y rest))
           ∙ h.dealt y.source.0 given.0 given.1
 
-      by : (k : ℕ) (z : Station) → ((k ≡ y.source.0) × (giving given.0 y ≡ z)) ⊎ ((y.source.0 ≢ k) × (slice_get now k ≡ Some z)) → z.outbox
+      by : (k : ℕ) (z : Worker) → ((k ≡ y.source.0) × (giving given.0 y ≡ z)) ⊎ ((y.source.0 ≢ k) × (slice_get now k ≡ Some z)) → z.outbox
           ++ filter (is_of k) rest ≡ filter (is_of k) all
       by k z (inl w) =
           subst (λ j. z.outbox ++ filter (is_of j) rest ≡ filter (is_of j) all) (sym w.0)
-          (subst (λ (u : Station). u.outbox ++ filter (is_of y.source.0) rest ≡ filter (is_of y.source.0) all) w.1 had)
+          (subst (λ (u : Worker). u.outbox ++ filter (is_of y.source.0) rest ≡ filter (is_of y.source.0) all) w.1 had)
       by k z (inr w) = ap (λ l. z.outbox ++ l) (sym (from_else k y rest w.0)) ∙ h.dealt k z w.1

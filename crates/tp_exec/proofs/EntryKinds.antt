@@ -4,9 +4,9 @@ use Rattle.tp_inbox.specs.declared.entry.Entry.{Entry}
 use Rattle.tp_inbox.specs.declared.entry.Entry.TheVariants as entry
 use Rattle.tp_inbox.specs.History.{is_arrival}
 use Rattle.tp_behaviour.specs.Fresh.{LooksAtPorts}
-use Rattle.tp_exec.specs.declared.kind.Kind.TheVariants as kind
+use Rattle.tp_exec.specs.declared.kind.EntryKind.TheVariants as kind
 use Rattle.tp_exec.specs.OneOrder.{sends_to, source_of}
-use Rattle.tp_exec.specs.Courses.{kind_of}
+use Rattle.tp_exec.specs.OrderProgress.{kind_of}
 
 pub of_came : (e : Entry) (s : ℕ) → kind_of e ≡ kind.Came s → (is_arrival e ≡ true) × (source_of e ≡ Some s)
 of_came (entry.Arrive p v t) s is = let same : v.sender ≡ s = cc in (refl, ap (λ n. Some n) same)

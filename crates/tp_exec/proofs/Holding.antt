@@ -10,18 +10,18 @@ use Rattle.std.proofs.lemmas.List.Elements.{All-head, All-tail}
 use Rattle.tp_inbox.specs.declared.entry.Entry.{Entry}
 use Rattle.tp_inbox.specs.Ledgers.{Sending, end_of}
 use Rattle.tp_inbox.proofs.Routes.{same_or_not}
-use Rattle.tp_behaviour.specs.Stations.{IsNoted}
-use Rattle.tp_exec.specs.Rounds.{Way, comes_from}
+use Rattle.tp_behaviour.specs.Workers.{IsNoted}
+use Rattle.tp_exec.specs.Rounds.{Link, comes_from}
 use Rattle.tp_exec.specs.Held.{AreAtHand, CanTake, Gives, IsHandedBack, Leaves}
 
 abbrev Hand : Type 0
 Hand = IntoIter Sending Global
 
-from_here : (m : Way) (more : List Way) → filter (comes_from m.1.0) (m ∷ more) ≡ m ∷ filter (comes_from m.1.0) more
+from_here : (m : Link) (more : List Link) → filter (comes_from m.1.0) (m ∷ more) ≡ m ∷ filter (comes_from m.1.0) more
 from_here m more = ap (λ (b : Bool). cond b (m ∷ filter (comes_from m.1.0) more) (filter (comes_from m.1.0) more))
     (eq-eqb m.1.0 m.1.0 refl)
 
-from_else : (k : ℕ) (m : Way) (more : List Way) → m.1.0 ≢ k → filter (comes_from k) (m ∷ more) ≡ filter (comes_from k) more
+from_else : (k : ℕ) (m : Link) (more : List Link) → m.1.0 ≢ k → filter (comes_from k) (m ∷ more) ≡ filter (comes_from k) more
 from_else k m more n = ap (λ (b : Bool). cond b (m ∷ filter (comes_from k) more) (filter (comes_from k) more)) (ne_eqb m.1.0 k n)
 
 parts : {A : Type 0} (x y : A) (xs ys : List A) → x ∷ xs ≡ y ∷ ys → (x ≡ y) × (xs ≡ ys)
@@ -35,10 +35,10 @@ nothing (x ∷ xs) e = absurd (omega arith)
 pub no_rest : {X : Type 0} (it : IntoIter X Global) → into_iter_len it ≡ 0 → into_iter_items it ≡ []
 no_rest it none = nothing (into_iter_items it) (sym it.rest.ok.0 ∙ none)
 
--- the senders on these ways are held, and the next way is m
-module _ (logs : ℕ → List Entry) (hands : List Hand) (m : Way) (more : List Way) (h : AreAtHand logs hands (m ∷ more)) where
+-- the senders on these links are held, and the next link is m
+module _ (logs : ℕ → List Entry) (hands : List Hand) (m : Link) (more : List Link) (h : AreAtHand logs hands (m ∷ more)) where
   pub inside : m.1.0 < length hands
-  inside = All-head (λ (n : Way). n.1.0 < length hands) m more h.within
+  inside = All-head (λ (n : Link). n.1.0 < length hands) m more h.within
 
   -- o has the senders of its component, and what a step leaves of it
   module _ (o it : Hand) (is : o ≡ slice_index_or hands m.1.0 o) where
@@ -84,12 +84,12 @@ module _ (logs : ℕ → List Entry) (hands : List Hand) (m : Way) (more : List 
                 (h.noted k d (omega arith)))
                 (same_or_not k m.1.0);
             within = λ k d low. subst (λ (n : ℕ). (slice_index_or more k d).1.0 < n) (sym long)
-                (All-tail (λ (n : Way). n.1.0 < length hands) m more h.within k d low);
+                (All-tail (λ (n : Link). n.1.0 < length hands) m more h.within k d low);
           }
 
 -- o has the senders of a component, the next of which is r, and then has those of it
-module _ (hands : List Hand) (m : Way) (o it : Hand) (is : o ≡ slice_index_or hands m.1.0 o) where
-  -- there is a next one, and it is the one on the next way
+module _ (hands : List Hand) (m : Link) (o it : Hand) (is : o ≡ slice_index_or hands m.1.0 o) where
+  -- there is a next one, and it is the one on the next link
   pub gives_one : (r : Option Sending) → into_iter_steps o r it → MatchOption r (¬ CanTake hands (m ∷ [])) (λ s. Gives hands (m ∷ []) (s ∷ []))
   gives_one None steps = λ w. held_some w.0 hands m w.1 w.2 o it is steps.0
   gives_one (Some x) steps = λ logs more h. (held_back logs hands m more h o it is x steps.0, tt)

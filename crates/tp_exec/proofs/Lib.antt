@@ -3,10 +3,10 @@ pub mod Senders
 pub mod Counted
 pub mod Outgoing
 pub mod RouteEnds
-pub mod Ways
+pub mod Links
 pub mod OpenedInboxes
 pub mod Dealing
-pub mod Manning
+pub mod HandedOut
 pub mod NoCircle
 pub mod LawfulTraces
 pub mod Overtaking
@@ -25,8 +25,8 @@ pub mod Crossing
 pub mod AllPlayed
 pub mod OneOrder
 pub mod EntryKinds
-pub mod Courses
+pub mod OrderProgress
 pub mod Stuck
-pub mod Dues
+pub mod AwaitedArrivals
 pub mod Crossed
 pub mod Messages

@@ -18,9 +18,9 @@ use Rattle.tp_behaviour.specs.Fresh.{LooksAtPorts}
 use Rattle.tp_exec.specs.Order.{Spot}
 use Rattle.tp_exec.specs.OneOrder.{IsAt, IsOrderOf, IsOwn, entry_at, log_in, logs_of, sender_to, sends_to, source_of}
 use Rattle.tp_exec.specs.Greedy.{many}
-use Rattle.tp_exec.specs.Sights.{LooksSeeSent, sending_in, posted_at, posted_by}
+use Rattle.tp_exec.specs.LookLaws.{LooksSeeSent, sending_in, posted_at, posted_by}
 use Rattle.tp_exec.proofs.OneOrder.{spot, spot_is}
-use Rattle.tp_exec.proofs.Courses.{log_is}
+use Rattle.tp_exec.proofs.OrderProgress.{log_is}
 use Rattle.tp_exec.proofs.Stuck.{many_sent, take_one, unit}
 
 -- what is given of the fronts of a list
@@ -96,13 +96,13 @@ arrival_size c d (entry.Arrive p v t) =
     size_if (c.0 == v.sender) _ ∙ ap unit (turned c.0 v.sender) ∙ sym one
 arrival_size c d _ = refl
 
-post_size : (c d : CompId) (x : ℕ) (o : Option Entry) → length (cons_option (cond (c.0 == x) (sending_in d o) None) [])
+task_size : (c d : CompId) (x : ℕ) (o : Option Entry) → length (cons_option (cond (c.0 == x) (sending_in d o) None) [])
     ≡ many c.0 (cons_option (cond (sends_to d.0 o) (Some x) None) [])
-post_size c d x None = size_none (c.0 == x)
-post_size c d x (Some (entry.Sent q n m)) =
+task_size c d x None = size_none (c.0 == x)
+task_size c d x (Some (entry.Sent q n m)) =
     size_both (c.0 == x) (d.0 == q.to.comp.0) _ ∙ ap (λ (b : Bool). cond (d.0 == q.to.comp.0) (unit b) 0) (turned c.0 x)
     ∙ sym (many_sent x c.0 (d.0 == q.to.comp.0))
-post_size c d x (Some _) = size_none (c.0 == x)
+task_size c d x (Some _) = size_none (c.0 == x)
 
 module _ (logs : List (List Entry)) (full : List Spot) (is : IsOrderOf logs full) (c d : CompId) where
   -- what c did before a place is what the order has of it so far
@@ -111,9 +111,9 @@ module _ (logs : List (List Entry)) (full : List Spot) (is : IsOrderOf logs full
     each : (q : ℕ) → IsOwn logs (spot c.0 q) → q < p → (j : ℕ) × (j < i) × IsAt full j (spot c.0 q)
     list : posted_by logs c d (take i full) ≡ filter_map (sending_to d) (take p (log_in logs c.0))
 
-  no_post : (e : Entry) → is_arrival e ≡ true → sending_to d e ≡ None
-  no_post (entry.Sent r n m) arrival = absurd (cc)
-  no_post _ arrival = refl
+  no_task : (e : Entry) → is_arrival e ≡ true → sending_to d e ≡ None
+  no_task (entry.Sent r n m) arrival = absurd (cc)
+  no_task _ arrival = refl
 
   bool_cases : (b : Bool) → (b ≡ true) ⊎ (b ≡ false)
   bool_cases true = inl refl
@@ -166,7 +166,7 @@ module _ (logs : List (List Entry)) (full : List Spot) (is : IsOrderOf logs full
       let gap : p + (q - p) ≡ q = omega (arith, from) in
       let flat : filter_map (sending_to d) (take q log) ≡ filter_map (sending_to d) (take p log) =
       ap (λ n. filter_map (sending_to d) (take n log)) (sym gap)
-      ∙ given_flat (sending_to d) log p (q - p) (λ r e up to stands. no_post e (between r e up (omega (arith, to, from)) stands)) in
+      ∙ given_flat (sending_to d) log p (q - p) (λ r e up to stands. no_task e (between r e up (omega (arith, to, from)) stands)) in
       record {
         own = λ j b less at_b same. elim (cases_eq j i) [
           | inl level ↦
@@ -213,7 +213,7 @@ module _ (logs : List (List Entry)) (full : List Spot) (is : IsOrderOf logs full
       let p = past.0 in
       let none : (r : ℕ) (e : Entry) → p ≤ r → r < p + length log → slice_get log r ≡ Some e → sending_to d e ≡ None = λ r e up to stands.
       elim (bool_cases (is_arrival e)) [
-        | inl met ↦ no_post e met
+        | inl met ↦ no_task e met
         | inr unmet ↦
             let one : IsOwn logs (spot c.0 r) = record { act = e; stands = stands; own = unmet } in
             let j = is.each (spot c.0 r) one in
@@ -235,7 +235,7 @@ module _ (logs : List (List Entry)) (full : List Spot) (is : IsOrderOf logs full
       let ys = posted_by logs c d (take i full) in
       let seen = ap (many c.0) (is.seen i (spot d.0 place) e there stands look) in
       let one = as_many (arrival_from d c) source_of c.0 (arrival_size c d) (take place log) in
-      let two = as_many (posted_at logs c d) (sender_to logs d.0) c.0 (λ a. post_size c d a.comp (entry_at logs a)) (take i full) in
+      let two = as_many (posted_at logs c d) (sender_to logs d.0) c.0 (λ a. task_size c d a.comp (entry_at logs a)) (take i full) in
       let size : length xs ≡ length ys = omega (arith, seen, one, two) in
       given_front (arrival_from d c) log place
       ∙ ap (λ n. take n (filter_map (arrival_from d c) log)) size

@@ -13,7 +13,7 @@ use Rattle.tp_inbox.specs.History.{is_arrival}
 use Rattle.tp_behaviour.specs.Fresh.{LooksAtPorts}
 use Rattle.tp_exec.specs.Order.{Spot}
 use Rattle.tp_exec.specs.OneOrder.{IsAt, IsFrontOf, IsOrderOf, IsOwn, entry_at, log_in, sender_to, senders_to, source_of, sources}
-use Rattle.tp_exec.specs.Courses.{IsGone, MayFollow}
+use Rattle.tp_exec.specs.OrderProgress.{IsGone, MayFollow}
 
 -- where spots stand in an order once one more is put behind it
 at_still : (xs : List Spot) (y : Spot) (i : ℕ) (x : Spot) → IsAt xs i x → IsAt (xs ++ y ∷ []) i x

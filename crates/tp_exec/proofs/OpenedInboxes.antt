@@ -9,10 +9,10 @@ use Rattle.tp_config.specs.declared.port_type.CompId.{CompId}
 use Rattle.tp_config.specs.Setup.{Setup}
 use Rattle.tp_inbox.specs.Ledgers.{Inbox, Sending, end_of, new_sender}
 use Rattle.tp_inbox.specs.Routed.{sources_of}
-use Rattle.tp_behaviour.specs.declared.station.Station.{Station}
+use Rattle.tp_behaviour.specs.declared.worker.Worker.{Worker}
 use Rattle.tp_exec.specs.declared.inboxes.Opened.{Opened}
 use Rattle.tp_exec.specs.Openings.{AreOpened, IsBare, IsOpened, IsUnused}
-use Rattle.tp_exec.specs.Rounds.{all_ways, way_by, ways_in}
+use Rattle.tp_exec.specs.Rounds.{all_links, link_by, links_in}
 
 -- what stands at a place of a list with one more is of the list, or is the one
 push_cases : {X : Type 0} (xs : List X) (x : X) (k : ℕ) (y : X) → slice_get (xs ++ x ∷ []) k ≡ Some y → (slice_get xs k ≡ Some y) ⊎ ((k ≡ length xs) × (x ≡ y))
@@ -25,42 +25,42 @@ push_cases (z ∷ zs) x (suc k) y e =
       | inr h ↦ inr (ap suc h.0, h.1)
     ]
 
--- the senders of an inbox are those of the ways into it
-new_ends : (i : Inbox) (cs : List CompId) → map end_of (map (new_sender i) cs) ≡ map (way_by i) cs
+-- the senders of an inbox are those of the links into it
+new_ends : (i : Inbox) (cs : List CompId) → map end_of (map (new_sender i) cs) ≡ map (link_by i) cs
 new_ends i [] = refl
-new_ends i (c ∷ cs) = ap (λ l. way_by i c ∷ l) (new_ends i cs)
+new_ends i (c ∷ cs) = ap (λ l. link_by i c ∷ l) (new_ends i cs)
 
 new_unused : (i : Inbox) (cs : List CompId) → All IsUnused (map (new_sender i) cs)
 new_unused i [] = All-nil IsUnused
 new_unused i (c ∷ cs) = All-cons IsUnused (new_sender i c) (map (new_sender i) cs) refl (new_unused i cs)
 
 -- none yet
-pub opened_none : (s : Setup) (o : Opened) → o.stations.items ≡ [] → o.senders.items ≡ [] → o.closers.items ≡ [] → AreOpened s 0 o
-opened_none s o stations senders closers = record {
-  count = ap length stations;
-  each = λ k x stands. let e : slice_get [] k ≡ Some x = subst (λ l. slice_get l k ≡ Some x) stations stands in absurd (cc);
-  bare = subst (All IsBare) (sym stations) (All-nil IsBare);
-  senders = ap (map end_of) senders ∙ sym (ap all_ways stations);
+pub opened_none : (s : Setup) (o : Opened) → o.workers.items ≡ [] → o.senders.items ≡ [] → o.closers.items ≡ [] → AreOpened s 0 o
+opened_none s o workers senders closers = record {
+  count = ap length workers;
+  each = λ k x stands. let e : slice_get [] k ≡ Some x = subst (λ l. slice_get l k ≡ Some x) workers stands in absurd (cc);
+  bare = subst (All IsBare) (sym workers) (All-nil IsBare);
+  senders = ap (map end_of) senders ∙ sym (ap all_links workers);
   unused = subst (All IsUnused) (sym senders) (All-nil IsUnused);
   closers = ap length closers;
 }
 
 -- one more
-pub opened_next : (s : Setup) (n : ℕ) (o now : Opened) (x : Station) (ys : List Sending) → AreOpened s n o → IsOpened s n x → x.outbox ≡ []
-    → ys ≡ map (new_sender x.owner.inbox) (sources_of x.owner.inbox.routes) → now.stations.items ≡ o.stations.items ++ x ∷ []
+pub opened_next : (s : Setup) (n : ℕ) (o now : Opened) (x : Worker) (ys : List Sending) → AreOpened s n o → IsOpened s n x → x.outbox ≡ []
+    → ys ≡ map (new_sender x.owner.inbox) (sources_of x.owner.inbox.routes) → now.workers.items ≡ o.workers.items ++ x ∷ []
     → now.senders.items ≡ o.senders.items ++ ys → length now.closers.items ≡ length o.closers.items + 1 → AreOpened s (n + 1) now
-opened_next s n o now x ys h one bare mine stations senders closers = record {
-  count = ap length stations ∙ length_push o.stations.items x ∙ ap (λ k. k + 1) h.count;
-  each = λ k y stands. by k y (push_cases o.stations.items x k y (subst (λ l. slice_get l k ≡ Some y) stations stands));
-  bare = subst (All IsBare) (sym stations) (All-push IsBare o.stations.items x h.bare bare);
+opened_next s n o now x ys h one bare mine workers senders closers = record {
+  count = ap length workers ∙ length_push o.workers.items x ∙ ap (λ k. k + 1) h.count;
+  each = λ k y stands. by k y (push_cases o.workers.items x k y (subst (λ l. slice_get l k ≡ Some y) workers stands));
+  bare = subst (All IsBare) (sym workers) (All-push IsBare o.workers.items x h.bare bare);
   senders =
       ap (map end_of) (senders ∙ ap (λ l. o.senders.items ++ l) mine)
       ∙ map-append end_of o.senders.items new
       ∙ ap (λ l. l ++ map end_of new) h.senders
-      ∙ ap (λ l. all_ways o.stations.items ++ l) (new_ends x.owner.inbox (sources_of x.owner.inbox.routes))
-      ∙ ap (λ l. all_ways o.stations.items ++ l) (sym (append-nil (ways_in x.owner.inbox)))
-      ∙ sym (flat_map-append (λ (y : Station). ways_in y.owner.inbox) o.stations.items (x ∷ []))
-      ∙ sym (ap all_ways stations);
+      ∙ ap (λ l. all_links o.workers.items ++ l) (new_ends x.owner.inbox (sources_of x.owner.inbox.routes))
+      ∙ ap (λ l. all_links o.workers.items ++ l) (sym (append-nil (links_in x.owner.inbox)))
+      ∙ sym (flat_map-append (λ (y : Worker). links_in y.owner.inbox) o.workers.items (x ∷ []))
+      ∙ sym (ap all_links workers);
   unused =
       subst (All IsUnused) (sym (senders ∙ ap (λ l. o.senders.items ++ l) mine))
       (All-append IsUnused o.senders.items new h.unused (new_unused x.owner.inbox (sources_of x.owner.inbox.routes)));
@@ -70,6 +70,6 @@ opened_next s n o now x ys h one bare mine stations senders closers = record {
     new : List Sending
     new = map (new_sender x.owner.inbox) (sources_of x.owner.inbox.routes)
 
-    by : (k : ℕ) (y : Station) → (slice_get o.stations.items k ≡ Some y) ⊎ ((k ≡ length o.stations.items) × (x ≡ y)) → IsOpened s k y
+    by : (k : ℕ) (y : Worker) → (slice_get o.workers.items k ≡ Some y) ⊎ ((k ≡ length o.workers.items) × (x ≡ y)) → IsOpened s k y
     by k y (inl old) = h.each k y old
     by k y (inr w) = subst (λ j. IsOpened s j y) (sym (w.0 ∙ h.count)) (subst (IsOpened s n) w.1 one)

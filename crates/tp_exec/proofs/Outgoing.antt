@@ -17,30 +17,30 @@ use Rattle.tp_inbox.specs.Routed.{IsArrivalOn}
 use Rattle.tp_inbox.specs.Ledgers.{Sending, end_of}
 use Rattle.tp_inbox.proofs.Arrivals.{came_in}
 use Rattle.tp_inbox.proofs.Made.{routes_here}
-use Rattle.tp_behaviour.specs.declared.station.Station.{Station}
+use Rattle.tp_behaviour.specs.declared.worker.Worker.{Worker}
 use Rattle.tp_behaviour.specs.Outboxes.{routes_of}
-use Rattle.tp_behaviour.specs.Stations.{IsSentBy}
-use Rattle.tp_exec.specs.Rounds.{AreStations, Way, all_ways, comes_from, comp_at}
+use Rattle.tp_behaviour.specs.Workers.{IsSentBy}
+use Rattle.tp_exec.specs.Rounds.{AreWorkers, Link, all_links, comes_from, comp_at}
 use Rattle.tp_exec.proofs.Pairs.{flat_from, passed}
 use Rattle.tp_exec.proofs.Senders.{by_among}
-use Rattle.tp_exec.proofs.Ways.{way_of}
+use Rattle.tp_exec.proofs.Links.{link_of}
 
 -- the route comes from this component, and is one into the component to which it leads
 abbrev pub IsOut : Setup → CompId → RouteId → Type 0
 IsOut s c r = (r.source ≡ c) × Contains (routes_into s r.to.comp) r
 
 -- the routes of a component's senders are routes from it
-pub ways_out : (s : Setup) (stations : List Station) → AreStations s stations → (k : ℕ) (x : Station) → slice_get stations k ≡ Some x → (r : RouteId)
+pub links_out : (s : Setup) (workers : List Worker) → AreWorkers s workers → (k : ℕ) (x : Worker) → slice_get workers k ≡ Some x → (r : RouteId)
     → Contains (routes_of x.outbox) r → IsOut s (comp_at k) r
-ways_out s stations are k x at r h =
+links_out s workers are k x at r h =
     let y = flat_from (λ (z : Sending). z.routes) x.outbox r h in
-    let kept : Contains (filter (comes_from k) (all_ways stations)) (end_of y.0) =
+    let kept : Contains (filter (comes_from k) (all_links workers)) (end_of y.0) =
     subst (λ l. Contains l (end_of y.0)) (are.senders k x at) (map_contains end_of x.outbox y.0 y.1) in
-    let p = passed (comes_from k) (all_ways stations) (end_of y.0) kept in
-    let w = way_of stations (end_of y.0) p.0 in
-    let from : w.source ≡ comp_at k = ap (λ (v : Way). v.1) w.is ∙ ap comp_at (eqb-true y.0.source.0 k p.1) in
-    let among = by_among w.source w.station.owner.inbox.routes r (subst (λ (v : Way). Contains v.2 r) (sym w.is) y.2) in
-    let into : Contains (routes_into s (comp_at w.place)) r = subst (λ rs. Contains rs r) (are.routes w.place w.station w.stands) among.0 in
+    let p = passed (comes_from k) (all_links workers) (end_of y.0) kept in
+    let w = link_of workers (end_of y.0) p.0 in
+    let from : w.source ≡ comp_at k = ap (λ (v : Link). v.1) w.is ∙ ap comp_at (eqb-true y.0.source.0 k p.1) in
+    let among = by_among w.source w.worker.owner.inbox.routes r (subst (λ (v : Link). Contains v.2 r) (sym w.is) y.2) in
+    let into : Contains (routes_into s (comp_at w.place)) r = subst (λ rs. Contains rs r) (are.routes w.place w.worker w.stands) among.0 in
     let to : r.to.comp ≡ comp_at w.place =
     All-contains (λ (q : RouteId). q.to.comp ≡ comp_at w.place) (routes_into s (comp_at w.place)) r (routes_here s (comp_at w.place)) into in
     (among.1 ∙ from, subst (λ (c : CompId). Contains (routes_into s c) r) (sym to) into)

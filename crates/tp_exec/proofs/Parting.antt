@@ -15,11 +15,11 @@ use Rattle.tp_config.specs.Routes.{routes_into}
 use Rattle.tp_inbox.specs.declared.entry.Entry.{Entry}
 use Rattle.tp_inbox.specs.Ledgers.{Sending, end_of}
 use Rattle.tp_inbox.specs.Routed.{sources_of}
-use Rattle.tp_behaviour.specs.Stations.{IsManned, IsNoted}
+use Rattle.tp_behaviour.specs.Workers.{IsConsistent, IsNoted}
 use Rattle.tp_exec.specs.declared.idle.Idle.{Idle}
 use Rattle.tp_exec.specs.declared.played.Played.{Played}
-use Rattle.tp_exec.specs.Rounds.{AreStations, Way, all_ways, comp_at, comes_from, stations_of, way_by, ways_in}
-use Rattle.tp_exec.specs.Held.{AreAtHand, IsIdle, idle_of, log_at, outbox_of, ways_to}
+use Rattle.tp_exec.specs.Rounds.{AreWorkers, Link, all_links, comp_at, comes_from, workers_of, link_by, links_in}
+use Rattle.tp_exec.specs.Held.{AreAtHand, IsIdle, idle_of, log_at, outbox_of, links_to}
 use Rattle.tp_exec.proofs.Sources.{sources_within}
 
 abbrev Hand : Type 0
@@ -38,42 +38,42 @@ mapped_at f xs k x is = slice_get-map f xs k ∙ ap (option_map f) is
 all_places : {A : Type 0} (P : A → Type 0) (xs : List A) → ((k : ℕ) (x : A) → slice_get xs k ≡ Some x → P x) → All P xs
 all_places P xs h = λ k d low. h k (slice_index_or xs k d) (slice_get-get_or xs k d low)
 
--- what holds of all components with routes into inboxes holds of all ways
+-- what holds of all components with routes into inboxes holds of all links
 all_sources : (P : CompId → Type 0) (xs : List Idle) → All (λ (x : Idle). All P (sources_of x.owner.inbox.routes)) xs
-    → All (λ (way : Way). P way.1) (ways_to xs)
-all_sources P [] h = All-nil (λ (way : Way). P way.1)
+    → All (λ (link : Link). P link.1) (links_to xs)
+all_sources P [] h = All-nil (λ (link : Link). P link.1)
 all_sources P (x ∷ xs) h =
     let Q : Idle → Type 0 = λ x. All P (sources_of x.owner.inbox.routes) in
-    All-append (λ (way : Way). P way.1) (ways_in x.owner.inbox) (ways_to xs)
-    (All-map (λ (way : Way). P way.1) (way_by x.owner.inbox) (sources_of x.owner.inbox.routes) (All-head Q x xs h))
+    All-append (λ (link : Link). P link.1) (links_in x.owner.inbox) (links_to xs)
+    (All-map (λ (link : Link). P link.1) (link_by x.owner.inbox) (sources_of x.owner.inbox.routes) (All-head Q x xs h))
     (all_sources P xs (All-tail Q x xs h))
 
-same_ways : (played : List Played) → all_ways (stations_of played) ≡ ways_to (map idle_of played)
-same_ways [] = refl
-same_ways (p ∷ played) = ap (λ l. ways_in p.station.owner.inbox ++ l) (same_ways played)
+same_links : (played : List Played) → all_links (workers_of played) ≡ links_to (map idle_of played)
+same_links [] = refl
+same_links (p ∷ played) = ap (λ l. links_in p.worker.owner.inbox ++ l) (same_links played)
 
-module _ (s : Setup) (l : IsSetup s) (played : List Played) (h : AreStations s (stations_of played)) where
+module _ (s : Setup) (l : IsSetup s) (played : List Played) (h : AreWorkers s (workers_of played)) where
   pub long : length played ≡ length s.components
-  long = sym (length-map played (λ (p : Played). p.station)) ∙ h.everyone
+  long = sym (length-map played (λ (p : Played). p.worker)) ∙ h.everyone
 
-  pub station_at : (k : ℕ) (p : Played) → slice_get played k ≡ Some p → slice_get (stations_of played) k ≡ Some p.station
-  station_at k p is = mapped_at (λ (x : Played). x.station) played k p is
+  pub worker_at : (k : ℕ) (p : Played) → slice_get played k ≡ Some p → slice_get (workers_of played) k ≡ Some p.worker
+  worker_at k p is = mapped_at (λ (x : Played). x.worker) played k p is
 
-  pub manned_at : (k : ℕ) (p : Played) → slice_get played k ≡ Some p → IsManned (record { config = s; comp = comp_at k; references = [] }) p.station
-  manned_at k p is = h.staffed k p.station (station_at k p is) []
+  pub consistent_at : (k : ℕ) (p : Played) → slice_get played k ≡ Some p → IsConsistent (record { config = s; comp = comp_at k; references = [] }) p.worker
+  consistent_at k p is = h.worker_of k p.worker (worker_at k p is) []
 
   idle_at : (k : ℕ) (p : Played) → slice_get played k ≡ Some p → IsIdle s (idle_of p)
   idle_at k p is =
-      let m = manned_at k p is in record {
+      let m = consistent_at k p is in record {
         desk = m.desk;
         arrived = m.arrived;
-        routes = h.routes k p.station (station_at k p is) ∙ ap (routes_into s) (sym (m.desk.0 ∙ m.posted.comp));
+        routes = h.routes k p.worker (worker_at k p is) ∙ ap (routes_into s) (sym (m.desk.0 ∙ m.ends.comp));
       }
 
   pub all_idle : All (IsIdle s) (map idle_of played)
   all_idle = All-map (IsIdle s) idle_of played (all_places (λ p. IsIdle s (idle_of p)) played idle_at)
 
-  all_within : All (λ (way : Way). way.1.0 < length s.components) (ways_to (map idle_of played))
+  all_within : All (λ (link : Link). link.1.0 < length s.components) (links_to (map idle_of played))
   all_within =
       let P : CompId → Type 0 = λ c. c.0 < length s.components in
       all_sources P (map idle_of played)
@@ -90,21 +90,21 @@ module _ (s : Setup) (l : IsSetup s) (played : List Played) (h : AreStations s (
 
     -- a component's hand has its outbox
     has_outbox : (k : ℕ) (d : Hand) → k < length hands → (p : Played) → slice_get played k ≡ Some p → into_iter_items (slice_index_or hands k d)
-        ≡ p.station.outbox
+        ≡ p.worker.outbox
     has_outbox k d low p is =
         let hand = mapped_at into_iter_items hands k (slice_index_or hands k d) (slice_get-get_or hands k d low) in
-        same_Some (into_iter_items (slice_index_or hands k d)) p.station.outbox (sym hand ∙ ap (λ xs. slice_get xs k) are ∙ mapped_at outbox_of played k p is)
+        same_Some (into_iter_items (slice_index_or hands k d)) p.worker.outbox (sym hand ∙ ap (λ xs. slice_get xs k) are ∙ mapped_at outbox_of played k p is)
 
-    -- each has the senders on the ways that come from it
-    pub all_held : AreAtHand (log_at played) hands (ways_to (map idle_of played))
+    -- each has the senders on the links that come from it
+    pub all_held : AreAtHand (log_at played) hands (links_to (map idle_of played))
     all_held = record {
       each = λ k d low.
           let p = player k low in
-          ap (map end_of) (has_outbox k d low p.0 p.1) ∙ h.senders k p.0.station (station_at k p.0 p.1) ∙ ap (filter (comes_from k)) (same_ways played);
+          ap (map end_of) (has_outbox k d low p.0 p.1) ∙ h.senders k p.0.worker (worker_at k p.0 p.1) ∙ ap (filter (comes_from k)) (same_links played);
       noted = λ k d low.
           let p = player k low in
-          let log : log_at played k ≡ p.0.station.desk.log = ap (λ o. option_map_or (λ (x : Played). x.station.desk.log) o []) p.1 in
+          let log : log_at played k ≡ p.0.worker.desk.log = ap (λ o. option_map_or (λ (x : Played). x.worker.desk.log) o []) p.1 in
           subst (λ (ss : List Sending). All (IsNoted (log_at played k)) ss) (sym (has_outbox k d low p.0 p.1))
-          (subst (λ (k : List Entry). All (IsNoted k) p.0.station.outbox) (sym log) (manned_at k p.0 p.1).noted);
-      within = subst (λ n. All (λ (way : Way). way.1.0 < n) (ways_to (map idle_of played))) (sym (hands_long ∙ long)) all_within;
+          (subst (λ (k : List Entry). All (IsNoted k) p.0.worker.outbox) (sym log) (consistent_at k p.0 p.1).noted);
+      within = subst (λ n. All (λ (link : Link). link.1.0 < n) (links_to (map idle_of played))) (sym (hands_long ∙ long)) all_within;
     }

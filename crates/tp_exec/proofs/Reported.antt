@@ -30,7 +30,7 @@ use Rattle.tp_behaviour.specs.Fresh.{Fresh}
 use Rattle.tp_behaviour.specs.Held.{Actor}
 use Rattle.tp_behaviour.specs.Outcomes.{HasEnded, WaitsWithin}
 use Rattle.tp_behaviour.proofs.Stopped.{still_stops}
-use Rattle.tp_exec.specs.declared.ended.Ended.{Ended}
+use Rattle.tp_exec.specs.declared.ended.EndedComponent.{EndedComponent}
 use Rattle.tp_exec.specs.Delivery.{FollowsBehaviour, IsCompReport, IsDelivered, IsDeliveredBetween, IsOnRoute, IsReportOf, numbers_from}
 use Rattle.tp_exec.specs.OneOrder.{logs_of}
 use Rattle.tp_exec.specs.Rounds.{BehaviourEnded}
@@ -73,13 +73,13 @@ module _ {A B : Type 0} (R : A → B → Type 0) where
   pub zip_all : (rest all : List A) (done : List B) → rest ≡ [] → ((more : List B) → AllZip R rest more → AllZip R all (done ++ more)) → AllZip R all done
   zip_all rest all done none go = subst (AllZip R all) (append-nil done) (go [] (subst (λ (l : List A). AllZip R l []) (sym none) tt))
 
--- there is room for the rest
-pub room_more : {A B : Type 0} (before rest : List A) (done after : List B) (x : A) (y : B) (room now : ℕ) → before ≡ x ∷ rest → after ≡ done ++ y ∷ []
-    → now ≡ room → length done + length before ≤ room → length after + length rest ≤ now
-room_more before rest done after x y room now is was same low = omega (arith, low, same, ap length is, ap length was, length-push done y)
+-- there is space for the rest
+pub space_more : {A B : Type 0} (before rest : List A) (done after : List B) (x : A) (y : B) (space now : ℕ) → before ≡ x ∷ rest → after ≡ done ++ y ∷ []
+    → now ≡ space → length done + length before ≤ space → length after + length rest ≤ now
+space_more before rest done after x y space now is was same low = omega (arith, low, same, ap length is, ap length was, length-push done y)
 
 -- what is reported has the histories that there were
-pub same_logs : (s : Setup) (es : List Ended) (ys : List CompReport) → AllZip (IsReportedAs s) es ys → logs_of ys ≡ map (λ (e : Ended). e.desk.log) es
+pub same_logs : (s : Setup) (es : List EndedComponent) (ys : List CompReport) → AllZip (IsReportedAs s) es ys → logs_of ys ≡ map (λ (e : EndedComponent). e.desk.log) es
 same_logs s [] [] zip = refl
 same_logs s [] (y ∷ ys) zip = absurd zip
 same_logs s (e ∷ es) [] zip = absurd zip
@@ -105,17 +105,17 @@ numbers n (m ∷ ms) =
     let next : n + 1 ≡ 1 + n = omega arith in
     ap (λ l. n ∷ l) (numbers (n + 1) ms ∙ ap (λ i. numbers_from i (numbered (n + 1) ms)) next)
 
-module _ (made : Made) (ended : List Ended) (run : IsOfARun made ended) where
+module _ (made : Made) (ended : List EndedComponent) (run : IsOfARun made ended) where
   -- what a waiting component waits for are operations on its ports
-  pub waits_within : All (λ (e : Ended). WaitsWithin e.desk.ports e.outcome) ended
+  pub waits_within : All (λ (e : EndedComponent). WaitsWithin e.desk.ports e.outcome) ended
   waits_within k d low = (run.each k _ (slice_get-get_or ended k d low)).within
 
-  pub all_there : All (λ (e : Ended). IsComponent made.config e.desk.comp) ended
+  pub all_there : All (λ (e : EndedComponent). IsComponent made.config e.desk.comp) ended
   all_there k d low =
       subst (IsComponent made.config) (sym (run.each k _ (slice_get-get_or ended k d low)).comp) (subst (λ n. k < n) run.come.everyone low)
 
-module _ (made : Made) (ended : List Ended) (run : IsOfARun made ended) (xs : List CompReport) (told : AllZip (IsReportedAs made.config) ended xs) where
-  abbrev Told : Ended → CompReport → Type 0
+module _ (made : Made) (ended : List EndedComponent) (run : IsOfARun made ended) (xs : List CompReport) (told : AllZip (IsReportedAs made.config) ended xs) where
+  abbrev Told : EndedComponent → CompReport → Type 0
   Told = IsReportedAs made.config
 
   all_told : length xs ≡ length made.config.components
@@ -124,7 +124,7 @@ module _ (made : Made) (ended : List Ended) (run : IsOfARun made ended) (xs : Li
   component : All IsAtRest ended → (c : CompId) (x : CompReport) → slice_get xs c.0 ≡ Some x → IsCompReport made c x
   component rest c x at =
       let w = first_at Told ended xs c.0 x told at in
-      let e : Ended = w.0 in
+      let e : EndedComponent = w.0 in
       let r = w.2 in
       let own = run.each c.0 e w.1 in
       let log : x.desk.log ≡ e.desk.log = ap (λ (d : Journal). d.log) r.desk in

@@ -15,18 +15,18 @@ use Rattle.tp_inbox.specs.declared.entry.Entry.{Entry}
 use Rattle.tp_inbox.specs.declared.entry.Entry.TheVariants as entry
 use Rattle.tp_inbox.specs.History.{is_arrival}
 use Rattle.tp_behaviour.specs.declared.outcome.Outcome.{Outcome}
-use Rattle.tp_behaviour.specs.declared.station.Station.{Station}
+use Rattle.tp_behaviour.specs.declared.worker.Worker.{Worker}
 use Rattle.tp_behaviour.specs.Fresh.{HasOwn, LooksAtPorts}
 use Rattle.tp_behaviour.specs.Held.{Actor, unset}
 use Rattle.tp_behaviour.specs.Moments.{Moment, moments, moments_after, own}
 use Rattle.tp_behaviour.specs.Outboxes.{routes_of}
 use Rattle.tp_behaviour.specs.Outcomes.{Ends, HasEnded, WaitsWithin}
-use Rattle.tp_behaviour.specs.Stations.{IsSentBy}
-use Rattle.tp_exec.specs.declared.ended.Ended.{Ended}
+use Rattle.tp_behaviour.specs.Workers.{IsSentBy}
+use Rattle.tp_exec.specs.declared.ended.EndedComponent.{EndedComponent}
 use Rattle.tp_exec.specs.declared.played.Played.{Played}
-use Rattle.tp_exec.specs.Rounds.{ArePlayed, AreStations, BehaviourEnded, comp_at, stations_of}
+use Rattle.tp_exec.specs.Rounds.{ArePlayed, AreWorkers, BehaviourEnded, comp_at, workers_of}
 use Rattle.tp_exec.specs.Settlings.{AreSettled, IsComponentOf, IsOfARun, IsSentOut}
-use Rattle.tp_exec.proofs.Outgoing.{IsOut, ways_out}
+use Rattle.tp_exec.proofs.Outgoing.{IsOut, links_out}
 use Rattle.tp_exec.proofs.Settled.{same_moments}
 
 -- histories with one trace differ by arrivals
@@ -77,18 +77,18 @@ module _ (out : List RouteId) where
   quiet (entry.Failed c) is = tt
 
   gone_out : (s : Setup) (c : CompId) → ((r : RouteId) → Contains out r → IsOut s c r) → (e : Entry) → IsSentBy out e → IsSentOut s c e
-  gone_out s c ways (entry.Sent r n m) h = ways r h
-  gone_out s c ways (entry.Arrive p e stamp) h = tt
-  gone_out s c ways (entry.Took p e b) h = tt
-  gone_out s c ways (entry.Found p e b) h = tt
-  gone_out s c ways (entry.Dropped p e b) h = tt
-  gone_out s c ways (entry.Cleared p) h = tt
-  gone_out s c ways (entry.Started p) h = tt
-  gone_out s c ways (entry.Stopped p) h = tt
-  gone_out s c ways (entry.Halted p) h = tt
-  gone_out s c ways entry.Else h = tt
-  gone_out s c ways (entry.Verdict v) h = tt
-  gone_out s c ways (entry.Failed fault) h = tt
+  gone_out s c links (entry.Sent r n m) h = links r h
+  gone_out s c links (entry.Arrive p e stamp) h = tt
+  gone_out s c links (entry.Took p e b) h = tt
+  gone_out s c links (entry.Found p e b) h = tt
+  gone_out s c links (entry.Dropped p e b) h = tt
+  gone_out s c links (entry.Cleared p) h = tt
+  gone_out s c links (entry.Started p) h = tt
+  gone_out s c links (entry.Stopped p) h = tt
+  gone_out s c links (entry.Halted p) h = tt
+  gone_out s c links entry.Else h = tt
+  gone_out s c links (entry.Verdict v) h = tt
+  gone_out s c links (entry.Failed fault) h = tt
 
 -- a behaviour that has ended has done so in each history with its trace
 ended_so : (r : Actor) (body : Body) (o : Outcome) (k l : List Entry) → moments l ≡ moments k → HasEnded r body o k → HasEnded r body o l
@@ -101,31 +101,31 @@ behaviour_ended s c None o k l same h =
     ended_so (record { config = s; comp = c; references = [] }) (record { variables = []; statements = [] }) o k l same h
 
 -- **what the components of a run have come to once all messages have come**
-pub of_a_run : (made : Made) (played : List Played) (ended : List Ended) → AreStations made.config (stations_of played) → ArePlayed made played
+pub of_a_run : (made : Made) (played : List Played) (ended : List EndedComponent) → AreWorkers made.config (workers_of played) → ArePlayed made played
     → AreSettled made.config played ended
     → IsOfARun made ended
 of_a_run made played ended are done settled = record { each = component; come = settled.come }
   where
-    component : (k : ℕ) (e : Ended) → slice_get ended k ≡ Some e → IsComponentOf made k e
+    component : (k : ℕ) (e : EndedComponent) → slice_get ended k ≡ Some e → IsComponentOf made k e
     component k e at =
         let c : CompId = comp_at k in
         let w = settled.each k e at in
         let p : Played = w.0 in
-        let x : Station = p.station in
-        let here : slice_get (stations_of played) k ≡ Some x = slice_get-map (λ (q : Played). q.station) played k
-        ∙ ap (option_map (λ (q : Played). q.station)) w.1 in
-        let manned = are.staffed k x here [] in
+        let x : Worker = p.worker in
+        let here : slice_get (workers_of played) k ≡ Some x = slice_get-map (λ (q : Played). q.worker) played k
+        ∙ ap (option_map (λ (q : Played). q.worker)) w.1 in
+        let consistent = are.worker_of k x here [] in
         let own = done k p w.1 in
         let trace = same_moments p e w.2 in
         record {
-          comp = w.2.comp ∙ manned.desk.0 ∙ manned.posted.comp;
-          ports = w.2.ports ∙ manned.desk.1 ∙ manned.posted.ports;
+          comp = w.2.comp ∙ consistent.desk.0 ∙ consistent.ends.comp;
+          ports = w.2.ports ∙ consistent.desk.1 ∙ consistent.ends.ports;
           ended = subst (λ (o : Outcome). BehaviourEnded made.config c (behaviour_at made k) o e.desk.log) (sym w.2.outcome)
               (behaviour_ended made.config c (behaviour_at made k) p.outcome x.desk.log e.desk.log trace own.ended);
           within = subst (λ (o : Outcome). WaitsWithin e.desk.ports o) (sym w.2.outcome) (subst (λ n. WaitsWithin n p.outcome) (sym w.2.ports) own.within);
-          fresh = subst (λ (ts : List Moment). All (λ (t : Moment). LooksAtPorts t.entry → HasOwn c t.before) ts) (sym trace) manned.fresh;
+          fresh = subst (λ (ts : List Moment). All (λ (t : Moment). LooksAtPorts t.entry → HasOwn c t.before) ts) (sym trace) consistent.fresh;
           sent = All-weaker (IsSentBy (routes_of x.outbox)) (IsSentOut made.config c)
-              (gone_out (routes_of x.outbox) made.config c (ways_out made.config (stations_of played) are k x here)) e.desk.log
-              (same_trace (IsSentBy (routes_of x.outbox)) (quiet (routes_of x.outbox)) x.desk.log e.desk.log trace manned.sent);
+              (gone_out (routes_of x.outbox) made.config c (links_out made.config (workers_of played) are k x here)) e.desk.log
+              (same_trace (IsSentBy (routes_of x.outbox)) (quiet (routes_of x.outbox)) x.desk.log e.desk.log trace consistent.sent);
           sound = w.2.sound;
         }

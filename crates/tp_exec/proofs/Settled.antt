@@ -23,16 +23,16 @@ use Rattle.tp_inbox.proofs.Rests.{rest_sends_nothing, rest_sends_to_none}
 use Rattle.tp_behaviour.specs.Moments.{moments}
 use Rattle.tp_behaviour.specs.Outboxes.{routes_of}
 use Rattle.tp_behaviour.proofs.Moments.{moments-arrivals}
-use Rattle.tp_exec.specs.declared.ended.Ended.{Ended}
+use Rattle.tp_exec.specs.declared.ended.EndedComponent.{EndedComponent}
 use Rattle.tp_exec.specs.declared.played.Played.{Played}
 use Rattle.tp_exec.specs.Delivery.{IsDeliveredBetween, IsOnRoute}
-use Rattle.tp_exec.specs.Rounds.{AreStations, comp_at, stations_of}
+use Rattle.tp_exec.specs.Rounds.{AreWorkers, comp_at, workers_of}
 use Rattle.tp_exec.specs.Settlings.{AreSettled, IsAllThere, IsSettled}
 use Rattle.tp_exec.specs.Held.{HasCome, HasComeFrom, IsDone, IsEndOf, idle_of, log_at}
-use Rattle.tp_exec.proofs.Outgoing.{none_came, none_sent, ways_out}
+use Rattle.tp_exec.proofs.Outgoing.{none_came, none_sent, links_out}
 use Rattle.tp_exec.proofs.Senders.{source_or_not}
 use Rattle.tp_exec.proofs.Sources.{leads_to, receiver_within, source_within}
-use Rattle.tp_exec.proofs.Parting.{at_place, long, manned_at, station_at}
+use Rattle.tp_exec.proofs.Parting.{at_place, long, consistent_at, worker_at}
 
 -- of two lists that fit place by place, what stands beside an element of the second
 beside_second : {A B C : Type 0} (f : A → B) (R : B → C → Type 0) (xs : List A) (ys : List C) → AllZip R (map f xs) ys → (k : ℕ) (y : C)
@@ -89,7 +89,7 @@ all_on s c (e ∷ k) all =
     All-cons (IsOnRoute s c) e k here.0 (all_on s c k here.1)
 
 -- more has come to the component, that is all
-settled_as : (p : Played) (e : Ended) → IsEndOf (idle_of p) e → IsSettled p e
+settled_as : (p : Played) (e : EndedComponent) → IsEndOf (idle_of p) e → IsSettled p e
 settled_as p e h = record {
   outcome = h.outcome;
   comp = h.comp;
@@ -100,31 +100,31 @@ settled_as p e h = record {
 }
 
 -- the behaviour has done no more
-pub same_moments : (p : Played) (e : Ended) → IsSettled p e → moments e.desk.log ≡ moments p.station.desk.log
-same_moments p e h = ap moments h.grown ∙ moments-arrivals p.station.desk.log (rest_arrivals h.rest) (rest_arrives h.rest)
+pub same_moments : (p : Played) (e : EndedComponent) → IsSettled p e → moments e.desk.log ≡ moments p.worker.desk.log
+same_moments p e h = ap moments h.grown ∙ moments-arrivals p.worker.desk.log (rest_arrivals h.rest) (rest_arrives h.rest)
 
 -- so it has sent no more
-sent_as : (p : Played) (e : Ended) → IsEndOf (idle_of p) e → (r : RouteId) → sent_on r e.desk.log ≡ sent_on r p.station.desk.log
-sent_as p e h r = ap (sent_on r) h.grown ∙ rest_sends_nothing r p.station.desk.log h.rest
+sent_as : (p : Played) (e : EndedComponent) → IsEndOf (idle_of p) e → (r : RouteId) → sent_on r e.desk.log ≡ sent_on r p.worker.desk.log
+sent_as p e h r = ap (sent_on r) h.grown ∙ rest_sends_nothing r p.worker.desk.log h.rest
 
-module _ (s : Setup) (l : IsSetup s) (played : List Played) (h : AreStations s (stations_of played)) (ended : List Ended)
+module _ (s : Setup) (l : IsSetup s) (played : List Played) (h : AreWorkers s (workers_of played)) (ended : List EndedComponent)
     (z : AllZip (IsDone (log_at played)) (map idle_of played) ended) where
-  player_of : (k : ℕ) (e : Ended) → slice_get ended k ≡ Some e → (p : Played) × (slice_get played k ≡ Some p) × IsDone (log_at played) (idle_of p) e
+  player_of : (k : ℕ) (e : EndedComponent) → slice_get ended k ≡ Some e → (p : Played) × (slice_get played k ≡ Some p) × IsDone (log_at played) (idle_of p) e
   player_of k e is = beside_second idle_of (IsDone (log_at played)) played ended z k e is
 
   -- the component of a number below that of the components
   comp_of : (k : ℕ) → k < length s.components → (p : Played) × (slice_get played k ≡ Some p)
-      × ((e : Ended) × (slice_get ended k ≡ Some e) × IsDone (log_at played) (idle_of p) e)
+      × ((e : EndedComponent) × (slice_get ended k ≡ Some e) × IsDone (log_at played) (idle_of p) e)
   comp_of k low =
       let p = at_place played k (omega (arith, low, long s l played h)) in
       (p.0, p.1, beside_first idle_of (IsDone (log_at played)) played ended z k p.0 p.1)
 
-  routes_at : (k : ℕ) (p : Played) → slice_get played k ≡ Some p → p.station.owner.inbox.routes ≡ routes_into s (comp_at k)
-  routes_at k p is = h.routes k p.station (station_at s l played h k p is)
+  routes_at : (k : ℕ) (p : Played) → slice_get played k ≡ Some p → p.worker.owner.inbox.routes ≡ routes_into s (comp_at k)
+  routes_at k p is = h.routes k p.worker (worker_at s l played h k p is)
 
   -- the history of a component before the last messages came
-  log_of : (k : ℕ) (p : Played) → slice_get played k ≡ Some p → log_at played k ≡ p.station.desk.log
-  log_of k p is = ap (λ o. option_map_or (λ (x : Played). x.station.desk.log) o []) is
+  log_of : (k : ℕ) (p : Played) → slice_get played k ≡ Some p → log_at played k ≡ p.worker.desk.log
+  log_of k p is = ap (λ o. option_map_or (λ (x : Played). x.worker.desk.log) o []) is
 
   there : (k : ℕ) (r : RouteId) → Contains (routes_into s (comp_at k)) r → IsAllThere ended r
   there k r is =
@@ -132,8 +132,8 @@ module _ (s : Setup) (l : IsSetup s) (played : List Played) (h : AreStations s (
       let source = comp_of r.source.0 (source_within s l (comp_at k) r is) in
       let to : r.to.comp ≡ comp_at k = leads_to s l (comp_at k) r is in
       let into : Contains (routes_into s r.to.comp) r = subst (λ c. Contains (routes_into s c) r) (sym to) is in
-      let known : Contains receiver.0.station.owner.inbox.routes r = subst (λ rs. Contains rs r) (sym (routes_at r.to.comp.0 receiver.0 receiver.1)) into in
-      let come = All-contains (HasCome (log_at played) receiver.2.0) receiver.0.station.owner.inbox.routes r receiver.2.2.come.routes known in
+      let known : Contains receiver.0.worker.owner.inbox.routes r = subst (λ rs. Contains rs r) (sym (routes_at r.to.comp.0 receiver.0 receiver.1)) into in
+      let come = All-contains (HasCome (log_at played) receiver.2.0) receiver.0.worker.owner.inbox.routes r receiver.2.2.come.routes known in
       let sent = sent_as source.0 source.2.0 source.2.2.end r ∙ ap (sent_on r) (sym (log_of r.source.0 source.0 source.1)) ∙ come.sent in record {
         source = source.2.0;
         source_is = source.2.1;
@@ -146,14 +146,14 @@ module _ (s : Setup) (l : IsSetup s) (played : List Played) (h : AreStations s (
       }
 
   -- one with routes to a component has sent there what has come from it, and one with none has sent nothing
-  from_to : (c d : CompId) (p q : Played) (y : Ended) → slice_get played c.0 ≡ Some p → slice_get played d.0 ≡ Some q → IsDone (log_at played) (idle_of q) y
-      → q.station.owner.inbox.comp ≡ d → IsDeliveredBetween c d p.station.desk.log y.desk.log
+  from_to : (c d : CompId) (p q : Played) (y : EndedComponent) → slice_get played c.0 ≡ Some p → slice_get played d.0 ≡ Some q → IsDone (log_at played) (idle_of q) y
+      → q.worker.owner.inbox.comp ≡ d → IsDeliveredBetween c d p.worker.desk.log y.desk.log
   from_to c d p q y at to done here = by (source_or_not inbox.routes c) where
     inbox : Inbox
-    inbox = q.station.owner.inbox
+    inbox = q.worker.owner.inbox
 
     log : List Entry
-    log = p.station.desk.log
+    log = p.worker.desk.log
 
     by : Contains (sources_of inbox.routes) c ⊎ ((r : RouteId) → Contains inbox.routes r → r.source ≢ c) → sent_to d log ≡ arrived_from d c y.desk.log
     by (inl has) =
@@ -161,22 +161,22 @@ module _ (s : Setup) (l : IsSetup s) (played : List Played) (h : AreStations s (
         All-contains (HasComeFrom (log_at played) inbox y) (sources_of inbox.routes) c done.come.sources has in
         subst (λ (e : CompId). sent_to e log ≡ arrived_from e c y.desk.log) here (ap (sent_to inbox.comp) (sym (log_of c.0 p at)) ∙ come)
     by (inr none) =
-        let out : List RouteId = routes_of p.station.outbox in
-        let stations = stations_of played in
+        let out : List RouteId = routes_of p.worker.outbox in
+        let workers = workers_of played in
         let not_there : (r : RouteId) → Contains out r → r.to.comp ≢ d = λ r has leads.
-        let w = ways_out s stations h c.0 p.station (station_at s l played h c.0 p at) r has in
+        let w = links_out s workers h c.0 p.worker (worker_at s l played h c.0 p at) r has in
         let into : Contains inbox.routes r = subst (λ rs. Contains rs r) (sym (routes_at d.0 q to))
         (subst (λ (e : CompId). Contains (routes_into s e) r) leads w.1) in
         none r into w.0 in
-        none_sent d out not_there log (manned_at s l played h c.0 p at).sent ∙ sym (none_came d c inbox.routes none y.desk.log done.end.routed)
+        none_sent d out not_there log (consistent_at s l played h c.0 p at).sent ∙ sym (none_came d c inbox.routes none y.desk.log done.end.routed)
 
-  between : (c d : CompId) (x y : Ended) → slice_get ended c.0 ≡ Some x → slice_get ended d.0 ≡ Some y → IsDeliveredBetween c d x.desk.log y.desk.log
+  between : (c d : CompId) (x y : EndedComponent) → slice_get ended c.0 ≡ Some x → slice_get ended d.0 ≡ Some y → IsDeliveredBetween c d x.desk.log y.desk.log
   between c d x y from to =
       let p = player_of c.0 x from in
       let q = player_of d.0 y to in
-      let sent : sent_to d x.desk.log ≡ sent_to d p.0.station.desk.log =
-      ap (sent_to d) p.2.end.grown ∙ rest_sends_to_none d p.0.station.desk.log p.2.end.rest in
-      sent ∙ from_to c d p.0 q.0 y p.1 q.1 q.2 (manned_at s l played h d.0 q.0 q.1).posted.comp
+      let sent : sent_to d x.desk.log ≡ sent_to d p.0.worker.desk.log =
+      ap (sent_to d) p.2.end.grown ∙ rest_sends_to_none d p.0.worker.desk.log p.2.end.rest in
+      sent ∙ from_to c d p.0 q.0 y p.1 q.1 q.2 (consistent_at s l played h d.0 q.0 q.1).ends.comp
 
   -- all messages have come to those who played
   pub all_settled : AreSettled s played ended

@@ -12,11 +12,11 @@ use Rattle.tp_inbox.specs.declared.entry.Entry.{Entry}
 use Rattle.tp_inbox.specs.declared.entry.Entry.TheVariants as entry
 use Rattle.tp_inbox.specs.History.{is_arrival}
 use Rattle.tp_behaviour.specs.Fresh.{LooksAtPorts}
-use Rattle.tp_exec.specs.declared.kind.Kind.{Kind}
-use Rattle.tp_exec.specs.declared.kind.Kind.TheVariants as kind
+use Rattle.tp_exec.specs.declared.kind.EntryKind.{EntryKind}
+use Rattle.tp_exec.specs.declared.kind.EntryKind.TheVariants as kind
 use Rattle.tp_exec.specs.Order.{Spot}
 use Rattle.tp_exec.specs.OneOrder.{IsAt, IsOrderOf, IsOwn, came_before, entry_at, log_in, sender_to, senders_to, sends_to, source_of, sources}
-use Rattle.tp_exec.specs.Courses.{IsGone, kind_of}
+use Rattle.tp_exec.specs.OrderProgress.{IsGone, kind_of}
 use Rattle.tp_exec.specs.Greedy.{AreLookedBefore, CanDo, IsGreedy, IsStuck, many, sends}
 use Rattle.tp_exec.proofs.OneOrder.{came_all, came_on, one_more, spot, spot_is}
 use Rattle.tp_exec.proofs.EntryKinds.{of_came, of_sent}
@@ -258,7 +258,7 @@ module _ (logs : List (List Entry)) (at came out : ℕ → ℕ) (order : List Sp
 
   -- so the next one of the order could be done
   could : (i : ℕ) (gone : ℕ → ℕ) → IsPast i gone → (a : Spot) → IsAt full i a → at a.comp ≡ a.place → (e : Entry)
-      → entry_at logs a ≡ Some e → is_arrival e ≡ false → (k : Kind) → kind_of e ≡ k → CanDo logs at came out a.comp k
+      → entry_at logs a ≡ Some e → is_arrival e ≡ false → (k : EntryKind) → kind_of e ≡ k → CanDo logs at came out a.comp k
   could i gone past a there place e stands own (kind.Came s) kind_is = absurd (false≢true (sym own ∙ (of_came e s kind_is).0))
   could i gone past a there place e stands own kind.Looked kind_is =
       let c = a.comp in

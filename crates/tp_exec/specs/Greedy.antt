@@ -6,13 +6,13 @@ use Rattle.std.specs.Global.{Global}
 use Rattle.tp_inbox.specs.declared.entry.Entry.{Entry}
 use Rattle.tp_behaviour.specs.Fresh.{LooksAtPorts}
 use Rattle.tp_report.specs.declared.report.CompReport.{CompReport}
-use Rattle.tp_exec.specs.declared.course.Course.{Course}
-use Rattle.tp_exec.specs.declared.kind.Due.{Due}
-use Rattle.tp_exec.specs.declared.kind.Kind.{Kind}
-use Rattle.tp_exec.specs.declared.kind.Kind.TheVariants as kind
+use Rattle.tp_exec.specs.declared.progress.OrderProgress.{OrderProgress}
+use Rattle.tp_exec.specs.declared.kind.AwaitedArrival.{AwaitedArrival}
+use Rattle.tp_exec.specs.declared.kind.EntryKind.{EntryKind}
+use Rattle.tp_exec.specs.declared.kind.EntryKind.TheVariants as kind
 use Rattle.tp_exec.specs.Order.{Spot}
 use Rattle.tp_exec.specs.OneOrder.{log_in, logs_of, senders_to, sends_to, sources}
-use Rattle.tp_exec.specs.Courses.{IsGone, due_sources, kind_of}
+use Rattle.tp_exec.specs.OrderProgress.{IsGone, awaited_sources, kind_of}
 
 -- how many messages are sent to the component in this history
 abbrev pub sends : ℕ → List Entry → ℕ
@@ -35,13 +35,13 @@ pub record IsGreedy (logs : List (List Entry)) (at out : ℕ → ℕ) (order : L
       → length (sources (take q (log_in logs c))) < out c → q < at c
 
 -- some order is gone through so far, with these numbers for each component
-abbrev pub IsCourseBy : List (List Entry) → List ℕ → List ℕ → List ℕ → Type 0
-IsCourseBy logs places came sent =
+abbrev pub IsProgressBy : List (List Entry) → List ℕ → List ℕ → List ℕ → Type 0
+IsProgressBy logs places came sent =
     (order : List Spot) × IsGone logs (slice_index places) (slice_index came) (slice_index sent) order
     × IsGreedy logs (slice_index places) (slice_index sent) order
 
-abbrev pub IsCourse : List (List Entry) → Course → Type 0
-IsCourse logs course = IsCourseBy logs course.places.items course.came.items course.sent.items
+abbrev pub IsProgress : List (List Entry) → OrderProgress → Type 0
+IsProgress logs progress = IsProgressBy logs progress.places.items progress.came.items progress.sent.items
 
 -- the next message to that component is this one's, and that one has looked where it was to look before
 abbrev pub MaySend : List (List Entry) → (ℕ → ℕ) → (ℕ → ℕ) → ℕ → ℕ → Type 0
@@ -49,7 +49,7 @@ MaySend logs at out c d =
     (slice_get (sources (log_in logs d)) (out d) ≡ Some c) × AreLookedBefore (log_in logs d) (out d) (at d)
 
 -- the component can do a thing of this kind
-abbrev pub CanDo : List (List Entry) → (ℕ → ℕ) → (ℕ → ℕ) → (ℕ → ℕ) → ℕ → Kind → Type 0
+abbrev pub CanDo : List (List Entry) → (ℕ → ℕ) → (ℕ → ℕ) → (ℕ → ℕ) → ℕ → EntryKind → Type 0
 CanDo logs at came out c (kind.Came source) = came c < out c
 CanDo logs at came out c kind.Looked = came c ≡ out c
 CanDo logs at came out c kind.Quiet = Unit {0}
@@ -65,16 +65,17 @@ abbrev pub IsStuck : List (List Entry) → (ℕ → ℕ) → (ℕ → ℕ) → (
 IsStuck logs at came out = (c : ℕ) → IsHeld logs at came out c
 
 -- each place is the least that is behind the looks which have to be before that message was sent
-abbrev pub AreAfter : List Entry → List Due → Type 0
-AreAfter k dues =
-    (n : ℕ) (due : Due) → slice_get dues n ≡ Some due → (p : ℕ) → (due.after ≤ p) ↔ AreLookedBefore k n p
+abbrev pub AreAfter : List Entry → List AwaitedArrival → Type 0
+AreAfter k all_awaited =
+    (n : ℕ) (awaited : AwaitedArrival) → slice_get all_awaited n ≡ Some awaited
+    → (p : ℕ) → (awaited.after ≤ p) ↔ AreLookedBefore k n p
 
-abbrev pub AreAllAfter : List CompReport → List (Vec Due Global) → Type 0
+abbrev pub AreAllAfter : List CompReport → List (Vec AwaitedArrival Global) → Type 0
 AreAllAfter components all =
-    (c : ℕ) (x : CompReport) (v : Vec Due Global) → slice_get components c ≡ Some x → slice_get all c ≡ Some v
-    → AreAfter x.desk.log v.items
+    (c : ℕ) (x : CompReport) (v : Vec AwaitedArrival Global)
+    → slice_get components c ≡ Some x → slice_get all c ≡ Some v → AreAfter x.desk.log v.items
 
 -- this is known of the messages that came to these components
-pub record AreDuesOf (components : List CompReport) (all : List (Vec Due Global)) : Type 0 where
-  pub are : map (λ x. due_sources x.items) all ≡ map sources (logs_of components)
+pub record AreAwaitedOf (components : List CompReport) (all : List (Vec AwaitedArrival Global)) : Type 0 where
+  pub are : map (λ x. awaited_sources x.items) all ≡ map sources (logs_of components)
   pub after : AreAllAfter components all

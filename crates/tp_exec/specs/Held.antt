@@ -18,31 +18,31 @@ use Rattle.tp_inbox.specs.History.{arrivals, arrived_from, arrived_on, count_of,
 use Rattle.tp_inbox.specs.Ledgers.{Inbox, IsDeskOf, Sending, end_of}
 use Rattle.tp_inbox.specs.Places.{route_eq}
 use Rattle.tp_inbox.specs.Routed.{IsArrivalOn, rest_arrivals, sources_of}
-use Rattle.tp_behaviour.specs.Stations.{IsNoted}
-use Rattle.tp_exec.specs.declared.ended.Ended.{Ended}
+use Rattle.tp_behaviour.specs.Workers.{IsNoted}
+use Rattle.tp_exec.specs.declared.ended.EndedComponent.{EndedComponent}
 use Rattle.tp_exec.specs.declared.idle.Idle.{Idle}
 use Rattle.tp_exec.specs.declared.played.Played.{Played}
-use Rattle.tp_exec.specs.Rounds.{Way, comes_from, way_by, ways_in}
+use Rattle.tp_exec.specs.Rounds.{Link, comes_from, link_by, links_in}
 use Rattle.tp_exec.specs.Settlings.{IsSoundJournal}
 
 -- a component without its senders
 abbrev pub idle_of : Played → Idle
-idle_of p = record { owner = p.station.owner; desk = p.station.desk; outcome = p.outcome }
+idle_of p = record { owner = p.worker.owner; desk = p.worker.desk; outcome = p.outcome }
 
 abbrev pub outbox_of : Played → List Sending
-outbox_of p = p.station.outbox
+outbox_of p = p.worker.outbox
 
 -- the history of the component of this number, empty where there is no such component
 abbrev pub log_at : List Played → ℕ → List Entry
-log_at played k = option_map_or (λ (p : Played). p.station.desk.log) (slice_get played k) []
+log_at played k = option_map_or (λ (p : Played). p.worker.desk.log) (slice_get played k) []
 
--- the ways into an inbox from these components
-abbrev pub ways_by : Inbox → List CompId → List Way
-ways_by inbox sources = map (way_by inbox) sources
+-- the links into an inbox from these components
+abbrev pub links_by : Inbox → List CompId → List Link
+links_by inbox sources = map (link_by inbox) sources
 
--- the ways into the inboxes of these, inbox after inbox
-abbrev pub ways_to : List Idle → List Way
-ways_to idles = flat_map (λ (x : Idle). ways_in x.owner.inbox) idles
+-- the links into the inboxes of these, inbox after inbox
+abbrev pub links_to : List Idle → List Link
+links_to idles = flat_map (λ (x : Idle). links_in x.owner.inbox) idles
 
 -- the table has, for this route, how many messages the sender has put on it
 abbrev pub IsFiled : {S : Type 0} → IndexMap RouteId ℕ S → Sending → RouteId → Type 0
@@ -60,33 +60,33 @@ ShareNone s t = All (λ (r : RouteId). All (λ (q : RouteId). q ≢ r) t.routes)
 abbrev pub IsCounted : List (RouteId × ℕ) → Sending → RouteId → Type 0
 IsCounted counts s r = count_of r counts ≡ length (posted_on r s.ledger)
 
--- each component, whose history is this, has those of the senders on these ways that are from it, in their order, and
+-- each component, whose history is this, has those of the senders on these links that are from it, in their order, and
 -- has noted what they have put
-pub record AreAtHand (logs : ℕ → List Entry) (hands : List (IntoIter Sending Global)) (ways : List Way) : Type 0 where
+pub record AreAtHand (logs : ℕ → List Entry) (hands : List (IntoIter Sending Global)) (links : List Link) : Type 0 where
   pub each : (k : ℕ) (d : IntoIter Sending Global) → k < length hands
-      → map end_of (into_iter_items (slice_index_or hands k d)) ≡ filter (comes_from k) ways
+      → map end_of (into_iter_items (slice_index_or hands k d)) ≡ filter (comes_from k) links
   pub noted : (k : ℕ) (d : IntoIter Sending Global) → k < length hands
       → All (IsNoted (logs k)) (into_iter_items (slice_index_or hands k d))
-  pub within : All (λ (way : Way). way.1.0 < length hands) ways
+  pub within : All (λ (link : Link). link.1.0 < length hands) links
 
--- the sender is that on this way, and its component has noted what it has put
-abbrev pub IsHandedBack : (ℕ → List Entry) → Way → Sending → Type 0
-IsHandedBack logs way s = (end_of s ≡ way) × IsNoted (logs way.1.0) s
+-- the sender is that on this link, and its component has noted what it has put
+abbrev pub IsHandedBack : (ℕ → List Entry) → Link → Sending → Type 0
+IsHandedBack logs link s = (end_of s ≡ link) × IsNoted (logs link.1.0) s
 
--- whoever has senders has, first of all, those on these ways
-abbrev pub CanTake : List (IntoIter Sending Global) → List Way → Type 0
-CanTake hands ways = (logs : ℕ → List Entry) × (more : List Way) × AreAtHand logs hands (ways ++ more)
+-- whoever has senders has, first of all, those on these links
+abbrev pub CanTake : List (IntoIter Sending Global) → List Link → Type 0
+CanTake hands links = (logs : ℕ → List Entry) × (more : List Link) × AreAtHand logs hands (links ++ more)
 
--- without those on these ways they have all others
-abbrev pub Leaves : List (IntoIter Sending Global) → List Way → List (IntoIter Sending Global) → Type 0
-Leaves hands ways after =
-    (logs : ℕ → List Entry) (more : List Way) → AreAtHand logs hands (ways ++ more) → AreAtHand logs after more
+-- without those on these links they have all others
+abbrev pub Leaves : List (IntoIter Sending Global) → List Link → List (IntoIter Sending Global) → Type 0
+Leaves hands links after =
+    (logs : ℕ → List Entry) (more : List Link) → AreAtHand logs hands (links ++ more) → AreAtHand logs after more
 
--- those on these ways are these
-abbrev pub Gives : List (IntoIter Sending Global) → List Way → List Sending → Type 0
-Gives hands ways senders =
-    (logs : ℕ → List Entry) (more : List Way) → AreAtHand logs hands (ways ++ more)
-    → AllZip (IsHandedBack logs) ways senders
+-- those on these links are these
+abbrev pub Gives : List (IntoIter Sending Global) → List Link → List Sending → Type 0
+Gives hands links senders =
+    (logs : ℕ → List Entry) (more : List Link) → AreAtHand logs hands (links ++ more)
+    → AllZip (IsHandedBack logs) links senders
 
 -- its inbox and its desk are those of one component, into which the inbox's routes lead, and what it has drained is
 -- what has arrived at the desk
@@ -97,7 +97,7 @@ pub record IsIdle (s : Setup) (x : Idle) : Type 0 where
 
 -- what has ended is this component, to which more has come, that is all; its history is a sound one, each arrival is of
 -- a route into its inbox, and there is a count for each
-pub record IsEndOf (x : Idle) (e : Ended) : Type 0 where
+pub record IsEndOf (x : Idle) (e : EndedComponent) : Type 0 where
   pub outcome : e.outcome ≡ x.outcome
   pub comp : e.desk.comp ≡ x.desk.comp
   pub ports : e.desk.ports ≡ x.desk.ports
@@ -108,28 +108,28 @@ pub record IsEndOf (x : Idle) (e : Ended) : Type 0 where
   pub counts : map (λ n. n.0) e.counts.items ≡ x.owner.inbox.routes
 
 -- on a route all has come to this component that the history of the route's sender says was sent, and it is counted
-pub record HasCome (logs : ℕ → List Entry) (e : Ended) (r : RouteId) : Type 0 where
+pub record HasCome (logs : ℕ → List Entry) (e : EndedComponent) (r : RouteId) : Type 0 where
   pub ledger : List Stamped
   pub sent : sent_on r (logs r.source.0) ≡ numbered 0 ledger
   pub arrived : arrived_on r e.desk.log ≡ numbered 0 ledger
   pub counted : count_of r e.counts.items ≡ length ledger
 
 -- over all routes into this inbox has come from that component, in its order, what its history says was sent there
-abbrev pub HasComeFrom : (ℕ → List Entry) → Inbox → Ended → CompId → Type 0
+abbrev pub HasComeFrom : (ℕ → List Entry) → Inbox → EndedComponent → CompId → Type 0
 HasComeFrom logs inbox e c = sent_to inbox.comp (logs c.0) ≡ arrived_from inbox.comp c e.desk.log
 
 -- all has come to the component: on each route into this inbox, and from each component with such routes
-pub record HasAll (logs : ℕ → List Entry) (inbox : Inbox) (e : Ended) : Type 0 where
+pub record HasAll (logs : ℕ → List Entry) (inbox : Inbox) (e : EndedComponent) : Type 0 where
   pub routes : All (HasCome logs e) inbox.routes
   pub sources : All (HasComeFrom logs inbox e) (sources_of inbox.routes)
 
 -- the component has ended, and all has come to it
-pub record IsDone (logs : ℕ → List Entry) (x : Idle) (e : Ended) : Type 0 where
+pub record IsDone (logs : ℕ → List Entry) (x : Idle) (e : EndedComponent) : Type 0 where
   pub end : IsEndOf x e
   pub come : HasAll logs x.owner.inbox e
 
 -- all has come to the component that the senders into its inbox, of those that these have, have put
-abbrev pub AllCome : List (IntoIter Sending Global) → Idle → Ended → Type 0
+abbrev pub AllCome : List (IntoIter Sending Global) → Idle → EndedComponent → Type 0
 AllCome hands x e =
-    (logs : ℕ → List Entry) (more : List Way) → AreAtHand logs hands (ways_in x.owner.inbox ++ more)
+    (logs : ℕ → List Entry) (more : List Link) → AreAtHand logs hands (links_in x.owner.inbox ++ more)
     → HasAll logs x.owner.inbox e

@@ -5,11 +5,11 @@ pub mod Held
 pub mod Order
 pub mod Returns
 pub mod Rounds
-pub mod Seats
+pub mod Children
 pub mod Settlings
 pub mod Reporting
 pub mod Laws
 pub mod OneOrder
-pub mod Courses
+pub mod OrderProgress
 pub mod Greedy
-pub mod Sights
+pub mod LookLaws

@@ -11,7 +11,7 @@ use Rattle.tp_report.specs.Verdicts.{local_verdict}
 use Rattle.tp_behaviour.specs.declared.outcome.Outcome.{Outcome}
 use Rattle.tp_behaviour.specs.declared.outcome.Outcome.TheVariants as outcome
 use Rattle.tp_behaviour.specs.Choices.{NoneOpen}
-use Rattle.tp_exec.specs.declared.ended.Ended.{Ended}
+use Rattle.tp_exec.specs.declared.ended.EndedComponent.{EndedComponent}
 use Rattle.tp_exec.specs.declared.fault.RunFault.{RunFault}
 use Rattle.tp_exec.specs.declared.fault.RunFault.TheVariants as run_fault
 use Rattle.tp_exec.specs.OneOrder.{HasOneOrder}
@@ -33,7 +33,7 @@ IsRest k (outcome.Waiting guards) = NoneOpen k guards.items
 IsRest k _ = Unit {0}
 
 -- none of the branches at which the component waits is open in its final queues
-abbrev pub IsAtRest : Ended → Type 0
+abbrev pub IsAtRest : EndedComponent → Type 0
 IsAtRest e = IsRest e.desk.log e.outcome
 
 -- how a behaviour ended, for its report
@@ -44,7 +44,7 @@ end_as (outcome.Waiting guards) = end.Waiting
 
 -- this is reported of the component: its name, its ports and its history, its end, its verdict, and the numbers of its
 -- routes
-pub record IsReportedAs (s : Setup) (e : Ended) (x : CompReport) : Type 0 where
+pub record IsReportedAs (s : Setup) (e : EndedComponent) (x : CompReport) : Type 0 where
   pub name : slice_get (names s) e.desk.comp.0 ≡ Some (string_bytes x.name)
   pub desk : x.desk ≡ e.desk
   pub ending : x.ending ≡ end_as e.outcome
@@ -53,12 +53,12 @@ pub record IsReportedAs (s : Setup) (e : Ended) (x : CompReport) : Type 0 where
   pub sound : IsSoundJournal e.desk
 
 -- no one order of all that the components did gives their histories
-abbrev pub IsWithoutOrder : List Ended → Type 0
-IsWithoutOrder ended = ¬ HasOneOrder (map (λ (e : Ended). e.desk.log) ended)
+abbrev pub IsWithoutOrder : List EndedComponent → Type 0
+IsWithoutOrder ended = ¬ HasOneOrder (map (λ (e : EndedComponent). e.desk.log) ended)
 
 -- why there is no report of what a run came to: a behaviour waits for what is there; or none does, and memory was
 -- refused, or no one order gives the histories
-abbrev pub IsRefusal : List Ended → RunFault → Type 0
+abbrev pub IsRefusal : List EndedComponent → RunFault → Type 0
 IsRefusal ended run_fault.NoThread = ⊥
 IsRefusal ended run_fault.Memory = All IsAtRest ended
 IsRefusal ended run_fault.Restless = ¬ All IsAtRest ended
@@ -67,12 +67,12 @@ IsRefusal ended run_fault.NoOrder = All IsAtRest ended × IsWithoutOrder ended
 -- there is what a run of the test case may have come to, by all that is proved of one, and a behaviour waits for what
 -- is there
 abbrev pub IsRestless : Made → Type 0
-IsRestless made = (ended : List Ended) × IsOfARun made ended × (¬ All IsAtRest ended)
+IsRestless made = (ended : List EndedComponent) × IsOfARun made ended × (¬ All IsAtRest ended)
 
 -- there is what a run of the test case may have come to, by all that is proved of one; no behaviour waits for what is
 -- there, and no one order gives that
 abbrev pub IsDisordered : Made → Type 0
-IsDisordered made = (ended : List Ended) × IsOfARun made ended × All IsAtRest ended × IsWithoutOrder ended
+IsDisordered made = (ended : List EndedComponent) × IsOfARun made ended × All IsAtRest ended × IsWithoutOrder ended
 
 -- this is why a run of the test case has no report: that a behaviour waits for what is there is said only where one
 -- does, and that no one order gives what the components did only where none does

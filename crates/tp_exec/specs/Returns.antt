@@ -4,62 +4,62 @@ use Rattle.tp_config.specs.declared.port_type.CompId.{CompId}
 use Rattle.tp_play.specs.Seen.{as_behaviour}
 use Rattle.tp_play.specs.TestCases.{Made, behaviour_at}
 use Rattle.tp_inbox.specs.Ledgers.{Inbox, end_of}
-use Rattle.tp_behaviour.specs.declared.post.Post.{Post}
-use Rattle.tp_behaviour.specs.declared.station.Station.{Station}
+use Rattle.tp_behaviour.specs.declared.task.Task.{Task}
+use Rattle.tp_behaviour.specs.declared.worker.Worker.{Worker}
 use Rattle.tp_behaviour.specs.Moments.{moments}
 use Rattle.tp_behaviour.specs.Outcomes.{CanBehave, HasEnded, WaitsWithin}
-use Rattle.tp_behaviour.specs.Stations.{IsManned, role_of}
+use Rattle.tp_behaviour.specs.Workers.{IsConsistent, role_of}
 use Rattle.tp_exec.specs.declared.played.Played.{Played}
-use Rattle.tp_exec.specs.Rounds.{HasNotBegun, HasPlayed, IsStaffed, Way}
+use Rattle.tp_exec.specs.Rounds.{HasNotBegun, HasPlayed, IsWorkerOf, Link}
 
--- whose inbox and whose senders they are
-abbrev pub badge_of : Station → Inbox × List Way
-badge_of x = (x.owner.inbox, map end_of x.outbox)
+-- by what a worker is known: whose inbox and whose senders it has
+abbrev pub identity_of : Worker → Inbox × List Link
+identity_of x = (x.owner.inbox, map end_of x.outbox)
 
 -- the same of all that came back
-abbrev pub badges_of : List Played → List (Inbox × List Way)
-badges_of played = map (λ (p : Played). badge_of p.station) played
+abbrev pub identities_of : List Played → List (Inbox × List Link)
+identities_of played = map (λ (p : Played). identity_of p.worker) played
 
--- the number of the component whose station it is
-abbrev pub station_number : Station → ℕ
-station_number x = x.owner.inbox.comp.0
+-- the number of the component whose worker it is
+abbrev pub worker_number : Worker → ℕ
+worker_number x = x.owner.inbox.comp.0
 
--- the station is that of its component, and nothing has happened there
-pub record IsWaiting (made : Made) (x : Station) : Type 0 where
-  pub staffed : IsStaffed made.config (station_number x) x
+-- the worker is that of its component, and has done nothing yet
+pub record IsWaiting (made : Made) (x : Worker) : Type 0 where
+  pub worker_of : IsWorkerOf made.config (worker_number x) x
   pub begun : HasNotBegun x
 
 -- the component has something to do
-abbrev pub IsBusy : Made → Station → Type 0
-IsBusy made x = behaviour_at made (station_number x) ≢ None
+abbrev pub IsBusy : Made → Worker → Type 0
+IsBusy made x = behaviour_at made (worker_number x) ≢ None
 
--- the post is that of this component
-pub record IsPostOf (made : Made) (c : CompId) (post : Post) : Type 0 where
-  pub config : post.config.now ≡ made.config
-  pub comp : post.comp ≡ c
-  pub behaviour : behaviour_at made c.0 ≡ Some (as_behaviour post.behaviour)
-  pub can : CanBehave post
+-- the task is that of this component
+pub record IsTaskOf (made : Made) (c : CompId) (task : Task) : Type 0 where
+  pub config : task.config.now ≡ made.config
+  pub comp : task.comp ≡ c
+  pub behaviour : behaviour_at made c.0 ≡ Some (as_behaviour task.behaviour)
+  pub can : CanBehave task
 
--- the behaviour can begin at the station
-pub record CanBegin (post : Post) (x : Station) : Type 0 where
-  pub manned : IsManned (role_of post) x
+-- the behaviour can be begun by the worker
+pub record CanBegin (task : Task) (x : Worker) : Type 0 where
+  pub consistent : IsConsistent (role_of task) x
   pub begun : moments x.desk.log ≡ []
-  pub can : CanBehave post
+  pub can : CanBehave task
 
--- the behaviour has come to its end at the station, which is the one where it began
-pub record HasBehaved (post : Post) (before : Station) (p : Played) : Type 0 where
-  pub badge : badge_of p.station ≡ badge_of before
-  pub manned : IsManned (role_of post) p.station
-  pub ended : HasEnded (role_of post) post.behaviour.body.now p.outcome p.station.desk.log
-  pub within : WaitsWithin p.station.desk.ports p.outcome
+-- the behaviour has come to its end with the worker that began it
+pub record HasBehaved (task : Task) (before : Worker) (p : Played) : Type 0 where
+  pub identity : identity_of p.worker ≡ identity_of before
+  pub consistent : IsConsistent (role_of task) p.worker
+  pub ended : HasEnded (role_of task) task.behaviour.body.now p.outcome p.worker.desk.log
+  pub within : WaitsWithin p.worker.desk.ports p.outcome
 
--- the component has done what it is there for, and the station is still its own
+-- the component has done what it is there for, and the worker is still its own
 pub record HasReturned (made : Made) (p : Played) : Type 0 where
-  pub staffed : IsStaffed made.config (station_number p.station) p.station
-  pub played : HasPlayed made (station_number p.station) p
+  pub worker_of : IsWorkerOf made.config (worker_number p.worker) p.worker
+  pub played : HasPlayed made (worker_number p.worker) p
 
--- what comes back from the thread of a component: the station that went into it, and what the component is there for is
+-- what comes back from the thread of a component: the worker that went into it, and what the component is there for is
 -- done
-pub record IsBack (made : Made) (before : Station) (p : Played) : Type 0 where
-  pub badge : badge_of p.station ≡ badge_of before
+pub record IsBack (made : Made) (before : Worker) (p : Played) : Type 0 where
+  pub identity : identity_of p.worker ≡ identity_of before
   pub returned : HasReturned made p

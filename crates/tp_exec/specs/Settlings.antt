@@ -17,7 +17,7 @@ use Rattle.tp_play.specs.TestCases.{Made, behaviour_at}
 use Rattle.tp_behaviour.specs.Fresh.{Fresh}
 use Rattle.tp_behaviour.specs.Outcomes.{WaitsWithin}
 use Rattle.tp_exec.specs.declared.played.Played.{Played}
-use Rattle.tp_exec.specs.declared.ended.Ended.{Ended}
+use Rattle.tp_exec.specs.declared.ended.EndedComponent.{EndedComponent}
 use Rattle.tp_exec.specs.Delivery.{IsDeliveredBetween, IsOnRoute}
 use Rattle.tp_exec.specs.Rounds.{BehaviourEnded, comp_at}
 
@@ -29,20 +29,20 @@ pub record IsSoundJournal (d : Journal) : Type 0 where
 
 -- the component is the one that played, and has done what it did; its history, a sound one, has more arrivals behind
 -- it, that is all
-pub record IsSettled (p : Played) (e : Ended) : Type 0 where
+pub record IsSettled (p : Played) (e : EndedComponent) : Type 0 where
   pub outcome : e.outcome ≡ p.outcome
-  pub comp : e.desk.comp ≡ p.station.desk.comp
-  pub ports : e.desk.ports ≡ p.station.desk.ports
+  pub comp : e.desk.comp ≡ p.worker.desk.comp
+  pub ports : e.desk.ports ≡ p.worker.desk.ports
   pub rest : List (ℕ × Env Message × ℕ)
-  pub grown : e.desk.log ≡ p.station.desk.log ++ rest_arrivals rest
+  pub grown : e.desk.log ≡ p.worker.desk.log ++ rest_arrivals rest
   pub sound : IsSoundJournal e.desk
 
 -- on a route, all that was sent has come, in its order, numbered from 0 and under its stamps, and is as much as the
 -- sender has put
-pub record IsAllThere (ended : List Ended) (r : RouteId) : Type 0 where
-  pub source : Ended
+pub record IsAllThere (ended : List EndedComponent) (r : RouteId) : Type 0 where
+  pub source : EndedComponent
   pub source_is : slice_get ended r.source.0 ≡ Some source
-  pub receiver : Ended
+  pub receiver : EndedComponent
   pub receiver_is : slice_get ended r.to.comp.0 ≡ Some receiver
   pub same : sent_on r source.desk.log ≡ arrived_on r receiver.desk.log
   pub ledger : List Stamped
@@ -50,20 +50,20 @@ pub record IsAllThere (ended : List Ended) (r : RouteId) : Type 0 where
   pub counted : count_of r receiver.counts.items ≡ length ledger
 
 -- all messages of the run have come
-pub record HasAllCome (s : Setup) (ended : List Ended) : Type 0 where
+pub record HasAllCome (s : Setup) (ended : List EndedComponent) : Type 0 where
   pub everyone : length ended ≡ length s.components
   -- each arrival is of a route
-  pub routed : (k : ℕ) (e : Ended) → slice_get ended k ≡ Some e → All (IsOnRoute s (comp_at k)) e.desk.log
+  pub routed : (k : ℕ) (e : EndedComponent) → slice_get ended k ≡ Some e → All (IsOnRoute s (comp_at k)) e.desk.log
   pub there : (k : ℕ) (r : RouteId) → Contains (routes_into s (comp_at k)) r → IsAllThere ended r
   -- from each component to each, over all routes in one order
-  pub between : (c d : CompId) (x y : Ended) → slice_get ended c.0 ≡ Some x → slice_get ended d.0 ≡ Some y
+  pub between : (c d : CompId) (x y : EndedComponent) → slice_get ended c.0 ≡ Some x → slice_get ended d.0 ≡ Some y
       → IsDeliveredBetween c d x.desk.log y.desk.log
-  pub counts : (k : ℕ) (e : Ended) → slice_get ended k ≡ Some e
+  pub counts : (k : ℕ) (e : EndedComponent) → slice_get ended k ≡ Some e
       → map (λ n. n.0) e.counts.items ≡ routes_into s (comp_at k)
 
 -- these are what those who played came to once all messages had come
-pub record AreSettled (s : Setup) (played : List Played) (ended : List Ended) : Type 0 where
-  pub each : (k : ℕ) (e : Ended) → slice_get ended k ≡ Some e
+pub record AreSettled (s : Setup) (played : List Played) (ended : List EndedComponent) : Type 0 where
+  pub each : (k : ℕ) (e : EndedComponent) → slice_get ended k ≡ Some e
       → (p : Played) × (slice_get played k ≡ Some p) × IsSettled p e
   pub come : HasAllCome s ended
 
@@ -74,7 +74,7 @@ IsSentOut s c _ = Unit {0}
 
 -- a component of a run: it is at its place, it has done what it is there for, each operation was a fresh one, and its
 -- history is a sound one
-pub record IsComponentOf (made : Made) (k : ℕ) (e : Ended) : Type 0 where
+pub record IsComponentOf (made : Made) (k : ℕ) (e : EndedComponent) : Type 0 where
   pub comp : e.desk.comp ≡ comp_at k
   pub ports : e.desk.ports ≡ length (ports_at made.config.types made.config.components (comp_at k))
   pub ended : BehaviourEnded made.config (comp_at k) (behaviour_at made k) e.outcome e.desk.log
@@ -84,6 +84,6 @@ pub record IsComponentOf (made : Made) (k : ℕ) (e : Ended) : Type 0 where
   pub sound : IsSoundJournal e.desk
 
 -- what a run of the test case came to
-pub record IsOfARun (made : Made) (ended : List Ended) : Type 0 where
-  pub each : (k : ℕ) (e : Ended) → slice_get ended k ≡ Some e → IsComponentOf made k e
+pub record IsOfARun (made : Made) (ended : List EndedComponent) : Type 0 where
+  pub each : (k : ℕ) (e : EndedComponent) → slice_get ended k ≡ Some e → IsComponentOf made k e
   pub come : HasAllCome made.config ended

@@ -5,7 +5,7 @@ use tp_inbox::desk::Desk;
 
 /// A component to which all has come that was sent to it.
 #[derive(Drop)]
-pub(crate) struct Ended {
+pub(crate) struct EndedComponent {
     /// Its ports and its history.
     pub(crate) desk: Desk,
     /// How its behaviour ended.

@@ -1,16 +1,16 @@
-//! The stations of a run: an inbox and a desk for each component, and each sender with the
+//! The workers of a run: an inbox and a desk for each component, and each sender with the
 //! component that it sends for.
 ghost use Rattle.std.specs.Prelude.{◌≡◌, ◌+◌, All, IfOk, OnOk, length};
 ghost use Rattle.tp_config.specs.Allowed.{IsSetup};
 ghost use Rattle.tp_config.specs.Setup.{IsComponent};
 ghost use Rattle.tp_exec.specs.Openings.{AreApart, AreHandedOut, AreOpened, HasGiven};
 ghost use Rattle.tp_exec.specs.Openings.{IsBare, IsFirstThere, IsFromOneOf};
-ghost use Rattle.tp_exec.specs.Rounds.{AreStations, HasNotBegun};
+ghost use Rattle.tp_exec.specs.Rounds.{AreWorkers, HasNotBegun};
 
 use std::alloc::Global;
 use std::sync::Arc;
 use tp_behaviour::outbox::Outbox;
-use tp_behaviour::station::Station;
+use tp_behaviour::worker::Worker;
 use tp_config::config::Config;
 use tp_config::port_type::CompId;
 use tp_floor::floor::Floor;
@@ -23,8 +23,8 @@ use tp_refusal::memory::Memory;
 /// The inboxes of the first components, before their senders are handed out.
 #[derive(Drop)]
 struct Opened {
-    /// A station for each of these components, with no sender.
-    stations: Vec<Station>,
+    /// A worker for each of these components, with no sender.
+    workers: Vec<Worker>,
     /// The senders into these inboxes, inbox after inbox.
     senders: Vec<Sender>,
     /// What closes each of these inboxes.
@@ -47,12 +47,12 @@ fn open_next(
 {
     let (owner, mut senders, closer) = inbox(alloc, config, comp, floor)?;
     let desk = Desk::new(alloc, config, comp)?;
-    let station = Station {
+    let worker = Worker {
         owner,
         desk,
         outbox: Outbox::new(alloc),
     };
-    opened.stations.push(station)?;
+    opened.workers.push(worker)?;
     opened.senders.append(&mut senders)?;
     opened.closers.push(closer)?;
     Ok(())
@@ -70,7 +70,7 @@ fn open_inboxes(
     ensures lawful { IsSetup config.now }
 {
     let mut opened = Opened {
-        stations: Vec::new(alloc),
+        workers: Vec::new(alloc),
         senders: Vec::new(alloc),
         closers: Vec::new(alloc),
     };
@@ -84,49 +84,49 @@ fn open_inboxes(
 /// Gives a sender to the component that sends by it, which has none into its inbox yet.
 ///
 /// 50 `Memory` where an allocation was refused.
-fn hand_to(stations: &mut Vec<Station>, sender: Sender) -> Result<(), Memory>
-    requires within { IsFromOneOf stations.old.items sender }
-    requires apart { IsFirstThere stations.old.items sender }
-    ensures { OnOk result (HasGiven sender stations.old.items stations.new.items) }
+fn hand_to(workers: &mut Vec<Worker>, sender: Sender) -> Result<(), Memory>
+    requires within { IsFromOneOf workers.old.items sender }
+    requires apart { IsFirstThere workers.old.items sender }
+    ensures { OnOk result (HasGiven sender workers.old.items workers.new.items) }
 {
     let source = sender.source();
-    stations[source.0 as usize].outbox.add(sender)
+    workers[source.0 as usize].outbox.add(sender)
 }
 
 /// Hands the senders out, each to the component that sends by it, in their order.
 ///
 /// 50 `Memory` where an allocation was refused.
-fn hand_out(stations: Vec<Station>, senders: Vec<Sender>) -> Result<Vec<Station>, Memory>
-    requires bare { All IsBare stations.items }
-    requires within { All (IsFromOneOf stations.items) senders.items }
+fn hand_out(workers: Vec<Worker>, senders: Vec<Sender>) -> Result<Vec<Worker>, Memory>
+    requires bare { All IsBare workers.items }
+    requires within { All (IsFromOneOf workers.items) senders.items }
     requires apart { AreApart senders.items }
-    ensures { IfOk result (λ manned. AreHandedOut stations.items senders.items manned.items) }
+    ensures { IfOk result (λ equipped. AreHandedOut workers.items senders.items equipped.items) }
 {
-    let mut manned = stations;
+    let mut equipped = workers;
     for sender in senders {
-        hand_to(&mut manned, sender)?;
+        hand_to(&mut equipped, sender)?;
     }
-    Ok(manned)
+    Ok(equipped)
 }
 
-/// A station for each component of the configuration, in their order, and what closes their
+/// A worker for each component of the configuration, in their order, and what closes their
 /// inboxes. Each component has its senders: one into each inbox to which a route leads from it.
 ///
 /// 50 `Memory` only where an allocation was refused.
-pub(crate) fn make_stations(
+pub(crate) fn make_workers(
     alloc: Global,
     config: &Config,
     floor: &Arc<Floor, Global>,
-) -> Result<(Vec<Station>, Vec<Closer>), Memory>
-    ensures stations { IfOk result (λ made. AreStations config.now made.0.items) }
+) -> Result<(Vec<Worker>, Vec<Closer>), Memory>
+    ensures workers { IfOk result (λ made. AreWorkers config.now made.0.items) }
     ensures begun { IfOk result (λ made. All HasNotBegun made.0.items) }
     ensures closers { IfOk result (λ made. length made.1.items ≡ length config.now.components) }
 {
     let Opened {
-        stations,
+        workers,
         senders,
         closers,
     } = open_inboxes(alloc, config, floor)?;
-    let manned = hand_out(stations, senders)?;
-    Ok((manned, closers))
+    let equipped = hand_out(workers, senders)?;
+    Ok((equipped, closers))
 }

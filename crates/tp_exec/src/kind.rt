@@ -2,7 +2,7 @@
 
 /// What an entry is for the order.
 #[derive(Clone, Copy)]
-pub(crate) enum Kind {
+pub(crate) enum EntryKind {
     /// A message came, from the component of this number.
     Came(u32),
     /// One was sent, to the component of this number.
@@ -15,7 +15,7 @@ pub(crate) enum Kind {
 
 /// What is known of a message that came.
 #[derive(Clone, Copy)]
-pub(crate) struct Due {
+pub(crate) struct AwaitedArrival {
     /// The number of its sender.
     pub(crate) source: u32,
     /// A place in the history of the component that it came to: that behind the last look before it

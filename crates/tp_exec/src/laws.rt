@@ -1,6 +1,6 @@
 //! Laws of what a report promises, each as a function whose contract it is. They do nothing.
 ghost use Rattle.tp_exec.specs.Laws.{RoutesFollow, TracesAreLawful};
-ghost use Rattle.tp_exec.specs.Sights.{CrossedLooks, LooksSeeSent};
+ghost use Rattle.tp_exec.specs.LookLaws.{CrossedLooks, LooksSeeSent};
 
 /// The law that what is delivered between two components is delivered on each route from the one to
 /// the other.

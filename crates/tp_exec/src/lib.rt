@@ -2,7 +2,6 @@
 #![tactic(auto)]
 
 mod counting;
-mod course;
 mod ended;
 pub mod fault;
 mod idle;
@@ -11,6 +10,7 @@ mod kind;
 pub mod laws;
 mod one_order;
 mod played;
+mod progress;
 mod reporting;
 mod returning;
 pub mod run;

@@ -4,165 +4,181 @@ ghost use Rattle.std.specs.Prelude.{IfNone, IfOk, IfSome, IsTrue, OnOk, length, 
 ghost use Rattle.std.specs.Prelude.{slice_index, slice_set, sum};
 ghost use Rattle.tp_report.specs.declared.report.CompReport.{CompReport as Report};
 ghost use Rattle.tp_exec.specs.OneOrder.{HasOneOrder, log_in, logs_of, sources};
-ghost use Rattle.tp_exec.specs.Courses.{HasRoom, HasSize, affected, due_sources};
-ghost use Rattle.tp_exec.specs.Courses.{kind_of as kind_of_entry, came_then, sent_then};
-ghost use Rattle.tp_exec.specs.Greedy.{AreAfter, AreDuesOf, CanDo, IsCourse, IsHeld, IsStuck};
+ghost use Rattle.tp_exec.specs.OrderProgress.{HasSpace, HasSize, affected, awaited_sources};
+ghost use Rattle.tp_exec.specs.OrderProgress.{kind_of as kind_of_entry, came_then, sent_then};
+ghost use Rattle.tp_exec.specs.Greedy.{AreAfter, AreAwaitedOf, CanDo, IsProgress, IsHeld, IsStuck};
 ghost use Rattle.tp_exec.specs.Greedy.{MaySend};
 
-use crate::course::Course;
-use crate::kind::{Due, Kind};
+use crate::kind::{AwaitedArrival, EntryKind};
+use crate::progress::OrderProgress;
 use std::alloc::Global;
 use tp_inbox::entry::Entry;
 use tp_refusal::memory::Memory;
 use tp_report::report::CompReport;
 
 /// What an entry is for the order.
-fn kind_of(entry: &Entry) -> Kind
+fn kind_of(entry: &Entry) -> EntryKind
     ensures { result ≡ kind_of_entry entry.now }
 {
     match entry {
-        Entry::Arrive(_, env, _) => Kind::Came(env.sender),
-        Entry::Sent(route, _, _) => Kind::Sent(route.to.comp.0),
-        Entry::Verdict(_) | Entry::Failed(_) => Kind::Quiet,
-        Entry::Took(..) | Entry::Found(..) | Entry::Dropped(..) | Entry::Else => Kind::Looked,
-        Entry::Cleared(_) | Entry::Started(_) => Kind::Looked,
-        Entry::Stopped(_) | Entry::Halted(_) => Kind::Looked,
+        Entry::Arrive(_, env, _) => EntryKind::Came(env.sender),
+        Entry::Sent(route, _, _) => EntryKind::Sent(route.to.comp.0),
+        Entry::Verdict(_) | Entry::Failed(_) => EntryKind::Quiet,
+        Entry::Took(..) | Entry::Found(..) | Entry::Dropped(..) | Entry::Else => EntryKind::Looked,
+        Entry::Cleared(_) | Entry::Started(_) => EntryKind::Looked,
+        Entry::Stopped(_) | Entry::Halted(_) => EntryKind::Looked,
     }
 }
 
 /// What is known of the messages that came, in the order in which they came.
 ///
 /// 50 `Memory` where an allocation was refused.
-fn dues_of(alloc: Global, log: &[Entry]) -> Result<Vec<Due>, Memory>
-    ensures sources { IfOk result (λ dues. due_sources dues.items ≡ sources log.now) }
-    ensures after { IfOk result (λ dues. AreAfter log.now dues.items) }
+fn awaited_of(alloc: Global, log: &[Entry]) -> Result<Vec<AwaitedArrival>, Memory>
+    ensures sources { IfOk result (λ all_awaited.
+        awaited_sources all_awaited.items ≡ sources log.now) }
+    ensures after { IfOk result (λ all_awaited. AreAfter log.now all_awaited.items) }
 {
-    let mut dues = Vec::new(alloc);
+    let mut all_awaited = Vec::new(alloc);
     let mut after = 0;
     for (place, entry) in log.iter().enumerate() {
         match kind_of(entry) {
-            Kind::Came(source) => dues.push(Due { source, after })?,
-            Kind::Looked => after = place + 1,
-            Kind::Sent(_) | Kind::Quiet => {}
+            EntryKind::Came(source) => all_awaited.push(AwaitedArrival { source, after })?,
+            EntryKind::Looked => after = place + 1,
+            EntryKind::Sent(_) | EntryKind::Quiet => {}
         }
     }
-    Ok(dues)
+    Ok(all_awaited)
 }
 
 /// What is known of the messages that came to each of these components.
 ///
 /// 50 `Memory` where an allocation was refused.
-fn all_dues(alloc: Global, components: &[CompReport]) -> Result<Vec<Vec<Due>>, Memory>
-    ensures { IfOk result (λ all. AreDuesOf components.now all.items) }
+fn awaited_of_each(
+    alloc: Global,
+    components: &[CompReport],
+) -> Result<Vec<Vec<AwaitedArrival>>, Memory>
+    ensures { IfOk result (λ all. AreAwaitedOf components.now all.items) }
 {
     let mut all = Vec::new(alloc);
     for component in components {
-        all.push(dues_of(alloc, component.desk.log())?)?;
+        all.push(awaited_of(alloc, component.desk.log())?)?;
     }
     Ok(all)
 }
 
 /// Whether the next message to that component is one of this one's, and may be sent.
-fn may_send(dues: &[Vec<Due>], course: &Course, c: usize, to: usize) -> bool
-    requires { HasSize course.now (length dues.now) }
-    ensures can { (components : List Report) → AreDuesOf components dues.now → (IsTrue result
-        ↔ MaySend (logs_of components) (slice_index course.now.places.items)
-        (slice_index course.now.sent.items) c to) }
-    ensures room { IsTrue result → (to < length course.now.sent.items)
-        × (slice_index course.now.sent.items to + 1 < 2 ^ 64) }
+fn may_send(
+    all_awaited: &[Vec<AwaitedArrival>],
+    progress: &OrderProgress,
+    c: usize,
+    to: usize,
+) -> bool
+    requires { HasSize progress.now (length all_awaited.now) }
+    ensures can { (components : List Report) → AreAwaitedOf components all_awaited.now
+        → (IsTrue result
+        ↔ MaySend (logs_of components) (slice_index progress.now.places.items)
+        (slice_index progress.now.sent.items) c to) }
+    ensures space { IsTrue result → (to < length progress.now.sent.items)
+        × (slice_index progress.now.sent.items to + 1 < 2 ^ 64) }
 {
     // Nothing comes to a component that isn't there.
-    if to >= dues.len() {
+    if to >= all_awaited.len() {
         return false;
     }
-    let come = dues[to].as_slice();
-    let at = course.sent[to];
+    let come = all_awaited[to].as_slice();
+    let at = progress.sent[to];
     if at >= come.len() {
         return false;
     }
-    let due = come[at];
-    if due.source as usize != c {
+    let awaited = come[at];
+    if awaited.source as usize != c {
         return false;
     }
-    due.after <= course.places[to]
+    awaited.after <= progress.places[to]
 }
 
 /// Whether the component can do the next thing, of this kind.
-fn is_possible(dues: &[Vec<Due>], course: &Course, c: usize, kind: Kind) -> bool
-    requires size { HasSize course.now (length dues.now) }
-    requires within { c < length dues.now }
-    ensures can { (components : List Report) → AreDuesOf components dues.now → (IsTrue result
-        ↔ CanDo (logs_of components) (slice_index course.now.places.items)
-        (slice_index course.now.came.items) (slice_index course.now.sent.items) c kind) }
-    ensures room { IsTrue result →
-        HasRoom course.now.came.items course.now.sent.items c kind }
+fn is_possible(
+    all_awaited: &[Vec<AwaitedArrival>],
+    progress: &OrderProgress,
+    c: usize,
+    kind: EntryKind,
+) -> bool
+    requires size { HasSize progress.now (length all_awaited.now) }
+    requires within { c < length all_awaited.now }
+    ensures can { (components : List Report) → AreAwaitedOf components all_awaited.now
+        → (IsTrue result
+        ↔ CanDo (logs_of components) (slice_index progress.now.places.items)
+        (slice_index progress.now.came.items) (slice_index progress.now.sent.items) c kind) }
+    ensures space { IsTrue result →
+        HasSpace progress.now.came.items progress.now.sent.items c kind }
 {
     match kind {
-        Kind::Came(_) => course.came[c] < course.sent[c],
-        Kind::Looked => course.came[c] == course.sent[c],
-        Kind::Quiet => true,
-        Kind::Sent(to) => may_send(dues, course, c, to as usize),
+        EntryKind::Came(_) => progress.came[c] < progress.sent[c],
+        EntryKind::Looked => progress.came[c] == progress.sent[c],
+        EntryKind::Quiet => true,
+        EntryKind::Sent(to) => may_send(all_awaited, progress, c, to as usize),
     }
 }
 
 /// Goes by the next thing of the component, of this kind, and answers whom it affects.
-fn go_by(course: &mut Course, c: usize, kind: Kind) -> usize
-    requires places { c < length course.old.places.items }
-    requires came { c < length course.old.came.items }
-    requires size { length course.old.sent.items ≡ length course.old.came.items }
-    requires room { HasRoom course.old.came.items course.old.sent.items c kind }
-    requires next { slice_index course.old.places.items c + 1 < 2 ^ 64 }
-    ensures places { course.new.places.items ≡ slice_set course.old.places.items c
-        (slice_index course.old.places.items c + 1) }
-    ensures came { course.new.came.items ≡ came_then c kind course.old.came.items }
-    ensures sent { course.new.sent.items ≡ sent_then kind course.old.sent.items }
+fn go_by(progress: &mut OrderProgress, c: usize, kind: EntryKind) -> usize
+    requires places { c < length progress.old.places.items }
+    requires came { c < length progress.old.came.items }
+    requires size { length progress.old.sent.items ≡ length progress.old.came.items }
+    requires space { HasSpace progress.old.came.items progress.old.sent.items c kind }
+    requires next { slice_index progress.old.places.items c + 1 < 2 ^ 64 }
+    ensures places { progress.new.places.items ≡ slice_set progress.old.places.items c
+        (slice_index progress.old.places.items c + 1) }
+    ensures came { progress.new.came.items ≡ came_then c kind progress.old.came.items }
+    ensures sent { progress.new.sent.items ≡ sent_then kind progress.old.sent.items }
     ensures affected { result ≡ affected c kind }
-    ensures within { result < length course.old.came.items }
+    ensures within { result < length progress.old.came.items }
 {
-    course.places[c] += 1;
+    progress.places[c] += 1;
     match kind {
-        Kind::Came(_) => {
-            course.came[c] += 1;
+        EntryKind::Came(_) => {
+            progress.came[c] += 1;
             c
         }
-        Kind::Sent(to) => {
-            course.sent[to as usize] += 1;
+        EntryKind::Sent(to) => {
+            progress.sent[to as usize] += 1;
             to as usize
         }
-        Kind::Looked | Kind::Quiet => c,
+        EntryKind::Looked | EntryKind::Quiet => c,
     }
 }
 
 /// Does the next thing of the component where that is possible, and answers whom it affects.
 fn step(
     components: &[CompReport],
-    dues: &[Vec<Due>],
-    course: &mut Course,
+    all_awaited: &[Vec<AwaitedArrival>],
+    progress: &mut OrderProgress,
     c: usize,
 ) -> Option<usize>
-    requires size { HasSize course.old (length components.now) }
-    requires dues { AreDuesOf components.now dues.now }
+    requires size { HasSize progress.old (length components.now) }
+    requires all_awaited { AreAwaitedOf components.now all_awaited.now }
     requires within { c < length components.now }
-    requires course { IsCourse (logs_of components.now) course.old }
-    ensures size { HasSize course.new (length components.now) }
-    ensures course { IsCourse (logs_of components.now) course.new }
+    requires progress { IsProgress (logs_of components.now) progress.old }
+    ensures size { HasSize progress.new (length components.now) }
+    ensures progress { IsProgress (logs_of components.now) progress.new }
     ensures ahead { IfSome result (λ d. (d < length components.now)
-        × (sum course.new.places.items ≡ sum course.old.places.items + 1)) }
+        × (sum progress.new.places.items ≡ sum progress.old.places.items + 1)) }
     ensures held { IfNone result (IsHeld (logs_of components.now)
-        (slice_index course.old.places.items) (slice_index course.old.came.items)
-        (slice_index course.old.sent.items) c) }
-    ensures same { IfNone result (course.new ≡ course.old) }
+        (slice_index progress.old.places.items) (slice_index progress.old.came.items)
+        (slice_index progress.old.sent.items) c) }
+    ensures same { IfNone result (progress.new ≡ progress.old) }
 {
     let log = components[c].desk.log();
-    let place = course.places[c];
+    let place = progress.places[c];
     if place >= log.len() {
         return None;
     }
     let kind = kind_of(&log[place]);
-    if !is_possible(dues, course, c, kind) {
+    if !is_possible(all_awaited, progress, c, kind) {
         return None;
     }
-    Some(go_by(course, c, kind))
+    Some(go_by(progress, c, kind))
 }
 
 /// Puts the number in the list, where it isn't the last there.
@@ -184,25 +200,25 @@ fn put_in(number: usize, ready: &mut Vec<usize>) -> Result<(), Memory>
 ///
 /// 50 `Memory` where an allocation was refused.
 fn wake(
-    dues: &[Vec<Due>],
-    course: &Course,
+    all_awaited: &[Vec<AwaitedArrival>],
+    progress: &OrderProgress,
     c: usize,
     affected: usize,
     ready: &mut Vec<usize>,
 ) -> Result<(), Memory>
-    requires size { HasSize course.now (length dues.now) }
-    requires affected { affected < length dues.now }
-    requires below { All (λ x. x < length dues.now) ready.old.items }
-    ensures below { OnOk result (All (λ x. x < length dues.now) ready.new.items) }
+    requires size { HasSize progress.now (length all_awaited.now) }
+    requires affected { affected < length all_awaited.now }
+    requires below { All (λ x. x < length all_awaited.now) ready.old.items }
+    ensures below { OnOk result (All (λ x. x < length all_awaited.now) ready.new.items) }
     ensures most { OnOk result (length ready.new.items ≤ length ready.old.items + 2) }
 {
     if affected != c {
         put_in(affected, &mut *ready)?;
     }
-    if let Some(due) = dues[affected].get(course.sent[affected]) {
-        let next = due.source as usize;
+    if let Some(awaited) = all_awaited[affected].get(progress.sent[affected]) {
+        let next = awaited.source as usize;
         // A component that isn't there does nothing.
-        if next != c && next < dues.len() {
+        if next != c && next < all_awaited.len() {
             put_in(next, &mut *ready)?;
         }
     }
@@ -215,25 +231,25 @@ fn wake(
 /// 50 `Memory` where an allocation was refused.
 fn go_far(
     components: &[CompReport],
-    dues: &[Vec<Due>],
-    course: &mut Course,
+    all_awaited: &[Vec<AwaitedArrival>],
+    progress: &mut OrderProgress,
     c: usize,
     ready: &mut Vec<usize>,
 ) -> Result<(), Memory>
-    requires size { HasSize course.old (length components.now) }
-    requires dues { AreDuesOf components.now dues.now }
-    requires course { IsCourse (logs_of components.now) course.old }
+    requires size { HasSize progress.old (length components.now) }
+    requires all_awaited { AreAwaitedOf components.now all_awaited.now }
+    requires progress { IsProgress (logs_of components.now) progress.old }
     requires within { c < length components.now }
     requires ready { All (λ x. x < length components.now) ready.old.items }
-    ensures size { HasSize course.new (length components.now) }
-    ensures course { IsCourse (logs_of components.now) course.new }
-    ensures grown { sum course.old.places.items ≤ sum course.new.places.items }
+    ensures size { HasSize progress.new (length components.now) }
+    ensures progress { IsProgress (logs_of components.now) progress.new }
+    ensures grown { sum progress.old.places.items ≤ sum progress.new.places.items }
     ensures ready { OnOk result (All (λ x. x < length components.now) ready.new.items) }
-    ensures most { OnOk result (length ready.new.items + 2 * sum course.old.places.items
-        ≤ length ready.old.items + 2 * sum course.new.places.items) }
+    ensures most { OnOk result (length ready.new.items + 2 * sum progress.old.places.items
+        ≤ length ready.old.items + 2 * sum progress.new.places.items) }
 {
-    while let Some(affected) = step(components, dues, &mut *course, c) {
-        wake(dues, course, c, affected, &mut *ready)?;
+    while let Some(affected) = step(components, all_awaited, &mut *progress, c) {
+        wake(all_awaited, progress, c, affected, &mut *ready)?;
     }
     Ok(())
 }
@@ -244,21 +260,21 @@ fn go_far(
 /// 50 `Memory` where an allocation was refused.
 fn go_on(
     components: &[CompReport],
-    dues: &[Vec<Due>],
-    course: &mut Course,
+    all_awaited: &[Vec<AwaitedArrival>],
+    progress: &mut OrderProgress,
     ready: &mut Vec<usize>,
 ) -> Result<(), Memory>
-    requires size { HasSize course.old (length components.now) }
-    requires dues { AreDuesOf components.now dues.now }
-    requires course { IsCourse (logs_of components.now) course.old }
+    requires size { HasSize progress.old (length components.now) }
+    requires all_awaited { AreAwaitedOf components.now all_awaited.now }
+    requires progress { IsProgress (logs_of components.now) progress.old }
     requires ready { All (λ x. x < length components.now) ready.old.items }
-    ensures size { HasSize course.new (length components.now) }
-    ensures course { IsCourse (logs_of components.now) course.new }
-    ensures grown { sum course.old.places.items ≤ sum course.new.places.items }
+    ensures size { HasSize progress.new (length components.now) }
+    ensures progress { IsProgress (logs_of components.now) progress.new }
+    ensures grown { sum progress.old.places.items ≤ sum progress.new.places.items }
     ensures ready { OnOk result (All (λ x. x < length components.now) ready.new.items) }
 {
     while let Some(c) = ready.pop() {
-        go_far(components, dues, &mut *course, c, &mut *ready)?;
+        go_far(components, all_awaited, &mut *progress, c, &mut *ready)?;
     }
     Ok(())
 }
@@ -269,27 +285,27 @@ fn go_on(
 fn go_all(
     alloc: Global,
     components: &[CompReport],
-    dues: &[Vec<Due>],
-    course: &mut Course,
+    all_awaited: &[Vec<AwaitedArrival>],
+    progress: &mut OrderProgress,
 ) -> Result<(), Memory>
-    requires size { HasSize course.old (length components.now) }
-    requires dues { AreDuesOf components.now dues.now }
-    requires course { IsCourse (logs_of components.now) course.old }
-    ensures size { HasSize course.new (length components.now) }
-    ensures course { IsCourse (logs_of components.now) course.new }
+    requires size { HasSize progress.old (length components.now) }
+    requires all_awaited { AreAwaitedOf components.now all_awaited.now }
+    requires progress { IsProgress (logs_of components.now) progress.old }
+    ensures size { HasSize progress.new (length components.now) }
+    ensures progress { IsProgress (logs_of components.now) progress.new }
     ensures stuck { OnOk result (IsStuck (logs_of components.now)
-        (slice_index course.new.places.items) (slice_index course.new.came.items)
-        (slice_index course.new.sent.items)) }
+        (slice_index progress.new.places.items) (slice_index progress.new.came.items)
+        (slice_index progress.new.sent.items)) }
 {
     let mut ready = Vec::new(alloc);
     let mut c = 0;
     while c < components.len() {
-        match step(components, dues, &mut *course, c) {
+        match step(components, all_awaited, &mut *progress, c) {
             None => c += 1,
             Some(affected) => {
                 ready.push(c)?;
-                wake(dues, course, c, affected, &mut ready)?;
-                go_on(components, dues, &mut *course, &mut ready)?;
+                wake(all_awaited, progress, c, affected, &mut ready)?;
+                go_on(components, all_awaited, &mut *progress, &mut ready)?;
                 c = 0;
             }
         }
@@ -298,13 +314,13 @@ fn go_all(
 }
 
 /// Whether all is done.
-fn is_ended(components: &[CompReport], course: &Course) -> bool
-    requires { HasSize course.now (length components.now) }
+fn is_ended(components: &[CompReport], progress: &OrderProgress) -> bool
+    requires { HasSize progress.now (length components.now) }
     ensures { IsTrue result ↔ ((c : ℕ) → c < length components.now
-        → slice_index course.now.places.items c ≡ length (log_in (logs_of components.now) c)) }
+        → slice_index progress.now.places.items c ≡ length (log_in (logs_of components.now) c)) }
 {
     for c in 0..components.len() {
-        if course.places[c] != components[c].desk.log().len() {
+        if progress.places[c] != components[c].desk.log().len() {
             return false;
         }
     }
@@ -314,15 +330,15 @@ fn is_ended(components: &[CompReport], course: &Course) -> bool
 /// The beginning of so many histories: nothing is gone by.
 ///
 /// 50 `Memory` where an allocation was refused.
-fn begin(alloc: Global, size: usize) -> Result<Course, Memory>
-    ensures { IfOk result (λ course. (course.places.items ≡ replicate size 0)
-        × (course.came.items ≡ replicate size 0)
-        × (course.sent.items ≡ replicate size 0)) }
+fn begin(alloc: Global, size: usize) -> Result<OrderProgress, Memory>
+    ensures { IfOk result (λ progress. (progress.places.items ≡ replicate size 0)
+        × (progress.came.items ≡ replicate size 0)
+        × (progress.sent.items ≡ replicate size 0)) }
 {
     let places = vec![in alloc; 0; size]?;
     let came = vec![in alloc; 0; size]?;
     let sent = vec![in alloc; 0; size]?;
-    Ok(Course { places, came, sent })
+    Ok(OrderProgress { places, came, sent })
 }
 
 /// Whether there is one order of all that the components did that gives their histories, each
@@ -333,8 +349,8 @@ fn begin(alloc: Global, size: usize) -> Result<Course, Memory>
 pub(crate) fn has_one_order(alloc: Global, components: &[CompReport]) -> Result<bool, Memory>
     ensures { IfOk result (λ is. IsTrue is ↔ HasOneOrder (logs_of components.now)) }
 {
-    let dues = all_dues(alloc, components)?;
-    let mut course = begin(alloc, components.len())?;
-    go_all(alloc, components, &dues, &mut course)?;
-    Ok(is_ended(components, &course))
+    let all_awaited = awaited_of_each(alloc, components)?;
+    let mut progress = begin(alloc, components.len())?;
+    go_all(alloc, components, &all_awaited, &mut progress)?;
+    Ok(is_ended(components, &progress))
 }

@@ -10,7 +10,7 @@ ghost use Rattle.tp_exec.specs.Reporting.{IsAtRest, IsRefusal, IsReportedAs, IsW
 ghost use Rattle.tp_exec.specs.Reporting.{end_as};
 ghost use Rattle.tp_exec.specs.Settlings.{IsOfARun};
 
-use crate::ended::Ended;
+use crate::ended::EndedComponent;
 use crate::fault::RunFault;
 use crate::one_order::has_one_order;
 use crate::waiting::are_at_rest;
@@ -35,11 +35,15 @@ fn end_of(outcome: &Outcome) -> End
 }
 
 /// The report of a component.
-fn report_component(alloc: Global, config: &Config, component: Ended) -> Result<CompReport, Memory>
+fn report_component(
+    alloc: Global,
+    config: &Config,
+    component: EndedComponent,
+) -> Result<CompReport, Memory>
     requires { IsComponent config.now component.desk.comp }
     ensures { IfOk result (IsReportedAs config.now component) }
 {
-    let Ended {
+    let EndedComponent {
         desk,
         outcome,
         counts,
@@ -59,7 +63,7 @@ fn report_component(alloc: Global, config: &Config, component: Ended) -> Result<
 fn report_components(
     alloc: Global,
     config: &Config,
-    components: Vec<Ended>,
+    components: Vec<EndedComponent>,
 ) -> Result<Vec<CompReport>, Memory>
     requires { All (λ e. IsComponent config.now e.desk.comp) components.items }
     ensures { IfOk result (λ reports.
@@ -79,7 +83,7 @@ fn report_components(
 fn report_in_order(
     alloc: Global,
     config: &Config,
-    components: Vec<Ended>,
+    components: Vec<EndedComponent>,
 ) -> Result<Option<Vec<CompReport>>, Memory>
     requires { All (λ e. IsComponent config.now e.desk.comp) components.items }
     ensures { IfOk result (λ made. MatchOption made (IsWithoutOrder components.items)
@@ -112,7 +116,7 @@ fn conclude(components: Vec<CompReport>) -> Report
 pub(crate) fn make_report(
     alloc: Global,
     test_case: &TestCase,
-    ended: Vec<Ended>,
+    ended: Vec<EndedComponent>,
 ) -> Result<Report, RunFault>
     requires { IsOfARun test_case.now ended.items }
     ensures report { IfOk result (IsReportOf test_case.now) }

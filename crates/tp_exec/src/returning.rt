@@ -3,15 +3,15 @@ ghost use Rattle.std.specs.Prelude.{◌≡◌, ◌∷◌, [], IfOk, MatchOption,
 ghost use Rattle.std.specs.Vec.Iter.{into_iter_items};
 ghost use Rattle.tp_inbox.specs.Ledgers.{Inbox};
 ghost use Rattle.tp_inbox.specs.Routed.{sources_of};
-ghost use Rattle.tp_exec.specs.Held.{CanTake, Gives, Leaves, idle_of, outbox_of, ways_by};
-ghost use Rattle.tp_exec.specs.Rounds.{way_by};
+ghost use Rattle.tp_exec.specs.Held.{CanTake, Gives, Leaves, idle_of, outbox_of, links_by};
+ghost use Rattle.tp_exec.specs.Rounds.{link_by};
 
 use crate::idle::Idle;
 use crate::played::Played;
 use indexmap::IndexSet;
 use std::alloc::Global;
 use std::vec::IntoIter;
-use tp_behaviour::station::Station;
+use tp_behaviour::worker::Worker;
 use tp_config::port_type::{CompId, RouteId};
 use tp_inbox::sender::Sender;
 use tp_refusal::memory::Memory;
@@ -30,12 +30,12 @@ pub(crate) fn part_played(
     let mut idles = Vec::new(alloc);
     let mut hands = Vec::new(alloc);
     for one in played {
-        let Played { station, outcome } = one;
-        let Station {
+        let Played { worker, outcome } = one;
+        let Worker {
             owner,
             desk,
             outbox,
-        } = station;
+        } = worker;
         idles.push(Idle {
             owner,
             desk,
@@ -63,11 +63,11 @@ pub(crate) fn distinct_sources(alloc: Global, routes: &[RouteId]) -> Result<Vec<
 /// Takes this component's sender into an inbox from the component, where it is the next. Takes no
 /// memory.
 fn take_one(source: CompId, hands: &mut Vec<IntoIter<Sender>>) -> Option<Sender>
-    requires { (i : Inbox) × CanTake hands.old.items (way_by i source ∷ []) }
-    ensures held { (i : Inbox) → Leaves hands.old.items (way_by i source ∷ []) hands.new.items }
+    requires { (i : Inbox) × CanTake hands.old.items (link_by i source ∷ []) }
+    ensures held { (i : Inbox) → Leaves hands.old.items (link_by i source ∷ []) hands.new.items }
     ensures back { (i : Inbox) → MatchOption result
-        (¬ CanTake hands.old.items (way_by i source ∷ []))
-        (λ s. Gives hands.old.items (way_by i source ∷ []) (s ∷ [])) }
+        (¬ CanTake hands.old.items (link_by i source ∷ []))
+        (λ s. Gives hands.old.items (link_by i source ∷ []) (s ∷ [])) }
 {
     hands[source.0 as usize].next()
 }
@@ -81,11 +81,11 @@ pub(crate) fn take_back(
     sources: Vec<CompId>,
     hands: &mut Vec<IntoIter<Sender>>,
 ) -> Result<Vec<Sender>, Memory>
-    requires { (i : Inbox) × CanTake hands.old.items (ways_by i sources.items) }
+    requires { (i : Inbox) × CanTake hands.old.items (links_by i sources.items) }
     ensures held { OnOk result ((i : Inbox)
-        → Leaves hands.old.items (ways_by i sources.items) hands.new.items) }
+        → Leaves hands.old.items (links_by i sources.items) hands.new.items) }
     ensures back { IfOk result (λ back. (i : Inbox)
-        → Gives hands.old.items (ways_by i sources.items) back.items) }
+        → Gives hands.old.items (links_by i sources.items) back.items) }
 {
     let mut back = Vec::new(alloc);
     for source in sources {

@@ -7,10 +7,10 @@ ghost use Rattle.tp_exec.specs.Reporting.{IsRunFault, living_below};
 ghost use Rattle.tp_report.specs.Reports.{IsReportable};
 
 use crate::fault::RunFault;
-use crate::inboxes::make_stations;
+use crate::inboxes::make_workers;
 use crate::reporting::make_report;
 use crate::settling::settle_all;
-use crate::threads::{Hall, play_all};
+use crate::threads::{RunContext, play_all};
 use std::alloc::Global;
 use std::sync::Wait;
 use std::thread::Threads;
@@ -55,15 +55,15 @@ pub fn run<R: Threads + Wait + Sync, G: Gate>(
     let Ok(floor) = Floor::new(alloc, count_living(test_case)) else {
         return Err(RunFault::Memory);
     };
-    let Ok((stations, closers)) = make_stations(alloc, test_case.config(), &floor) else {
+    let Ok((workers, closers)) = make_workers(alloc, test_case.config(), &floor) else {
         return Err(RunFault::Memory);
     };
-    let hall = Hall {
+    let context = RunContext {
         alloc,
         floor,
         closers,
     };
-    let played = play_all(rt, gate, test_case, &hall, stations)?;
+    let played = play_all(rt, gate, test_case, &context, workers)?;
     let Ok(ended) = settle_all(rt, alloc, test_case.config(), played) else {
         return Err(RunFault::Memory);
     };

@@ -8,11 +8,11 @@ ghost use Rattle.tp_inbox.specs.Ledgers.{AreSenders, IsDeskOf, Sending, put_by};
 ghost use Rattle.tp_inbox.specs.Routed.{AreDelivered, AreNumbered, AreRoutes, IsArrivalOn};
 ghost use Rattle.tp_inbox.specs.Routed.{rest_arrivals};
 ghost use Rattle.tp_exec.specs.Held.{AllCome, CanTake, Gives, IsCounted, IsEndOf, IsIdle, Leaves};
-ghost use Rattle.tp_exec.specs.Rounds.{AreStations, stations_of, ways_in};
+ghost use Rattle.tp_exec.specs.Rounds.{AreWorkers, workers_of, links_in};
 ghost use Rattle.tp_exec.specs.Settlings.{AreSettled};
 
 use crate::counting::count_all;
-use crate::ended::Ended;
+use crate::ended::EndedComponent;
 use crate::idle::Idle;
 use crate::played::Played;
 use crate::returning::{distinct_sources, part_played, take_back};
@@ -79,11 +79,11 @@ fn take_senders(
 ) -> Result<(Vec<Sender>, Vec<(RouteId, u64)>), Memory>
     requires routes { idle.now.owner.inbox.routes
         ≡ routes_into config.now idle.now.desk.comp }
-    requires held { CanTake hands.old.items (ways_in idle.now.owner.inbox) }
+    requires held { CanTake hands.old.items (links_in idle.now.owner.inbox) }
     ensures held { OnOk result
-        (Leaves hands.old.items (ways_in idle.now.owner.inbox) hands.new.items) }
+        (Leaves hands.old.items (links_in idle.now.owner.inbox) hands.new.items) }
     ensures back { IfOk result (λ taken.
-        Gives hands.old.items (ways_in idle.now.owner.inbox) taken.0.items) }
+        Gives hands.old.items (links_in idle.now.owner.inbox) taken.0.items) }
     ensures routes { IfOk result (λ taken.
         map (λ n. n.0) taken.1.items ≡ idle.now.owner.inbox.routes) }
     ensures counted { IfOk result (λ taken. (s : Sending) (r : Route) →
@@ -106,11 +106,11 @@ fn settle_one<R: Wait>(
     config: &Config,
     idle: Idle,
     hands: &mut Vec<IntoIter<Sender>>,
-) -> Result<Ended, Memory>
+) -> Result<EndedComponent, Memory>
     requires idle { IsIdle config.now idle }
-    requires held { CanTake hands.old.items (ways_in idle.owner.inbox) }
+    requires held { CanTake hands.old.items (links_in idle.owner.inbox) }
     ensures held { OnOk result
-        (Leaves hands.old.items (ways_in idle.owner.inbox) hands.new.items) }
+        (Leaves hands.old.items (links_in idle.owner.inbox) hands.new.items) }
     ensures end { IfOk result (IsEndOf idle) }
     ensures come { IfOk result (AllCome hands.old.items idle) }
 {
@@ -124,7 +124,7 @@ fn settle_one<R: Wait>(
     append(&mut desk, rest)?;
     // It says that the history is a sound one.
     let _log = desk.log();
-    Ok(Ended {
+    Ok(EndedComponent {
         desk,
         outcome,
         counts,
@@ -140,8 +140,8 @@ pub(crate) fn settle_all<R: Wait>(
     alloc: Global,
     config: &Config,
     played: Vec<Played>,
-) -> Result<Vec<Ended>, Memory>
-    requires { AreStations config.now (stations_of played.items) }
+) -> Result<Vec<EndedComponent>, Memory>
+    requires { AreWorkers config.now (workers_of played.items) }
     ensures { IfOk result (λ ended. AreSettled config.now played.items ended.items) }
 {
     let mut all = Vec::with_capacity(alloc, config.len())?;

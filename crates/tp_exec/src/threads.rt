@@ -4,9 +4,9 @@ ghost use Rattle.std.specs.Prelude.{length, map, vec_capacity};
 ghost use Rattle.tp_play.specs.TestCases.{Made, behaviour_at};
 ghost use Rattle.tp_exec.specs.Faults.{IsThreadFault};
 ghost use Rattle.tp_exec.specs.Returns.{CanBegin, HasBehaved, HasReturned, IsBack, IsBusy};
-ghost use Rattle.tp_exec.specs.Returns.{IsPostOf, IsWaiting, badge_of, badges_of, station_number};
-ghost use Rattle.tp_exec.specs.Rounds.{ArePlayed, AreStations, HasNotBegun, stations_of};
-ghost use Rattle.tp_exec.specs.Seats.{IsSeat, badge_at};
+ghost use Rattle.tp_exec.specs.Returns.{IsTaskOf, IsWaiting, identity_of, identities_of, worker_number};
+ghost use Rattle.tp_exec.specs.Rounds.{ArePlayed, AreWorkers, HasNotBegun, workers_of};
+ghost use Rattle.tp_exec.specs.Children.{IsChild, identity_at};
 
 use crate::fault::RunFault;
 use crate::played::Played;
@@ -18,8 +18,8 @@ use std::thread::{Promise, PromisedHandle, Scope, Threads};
 use tp_behaviour::behaving::behave;
 use tp_behaviour::gate::Gate;
 use tp_behaviour::outcome::Outcome;
-use tp_behaviour::post::Post;
-use tp_behaviour::station::Station;
+use tp_behaviour::task::Task;
+use tp_behaviour::worker::Worker;
 use tp_config::port_type::CompId;
 use tp_floor::floor::Floor;
 use tp_inbox::owner::Closer;
@@ -29,7 +29,7 @@ use tp_refusal::memory::Memory;
 /// What all behaviours of a run share. It owns its parts: of a closure that keeps a struct of
 /// references, nothing is known where it is called.
 #[derive(Drop)]
-pub(crate) struct Hall {
+pub(crate) struct RunContext {
     /// Where memory is taken from.
     pub(crate) alloc: Global,
     /// What counts those that live and those that rest.
@@ -43,53 +43,53 @@ pub(crate) struct Hall {
 struct Was {
     /// The test case, which says what it is there for.
     test_case: Snapshot<TestCase>,
-    /// Its station.
-    station: Snapshot<Station>,
+    /// Its worker.
+    worker: Snapshot<Worker>,
 }
 
 impl Promise<Result<Played, Memory>> for Was {
     ghost use Rattle.std.specs.Prelude.{IfOk};
     ghost use Rattle.tp_exec.specs.Returns.{IsBack};
 
-    ghost kept_by = { λ p r. IfOk r (IsBack p.test_case.value p.station.value) };
+    ghost kept_by = { λ p r. IfOk r (IsBack p.test_case.value p.worker.value) };
 }
 
-/// Where a component is once those before it have begun.
+/// A component that has begun, as seen by the thread that began it.
 #[derive(Drop)]
-enum Seat {
-    /// In its thread.
-    Away(PromisedHandle<Result<Played, Memory>, Was>),
-    /// Here: it has nothing to do.
-    Here(Played),
+enum Child {
+    /// Its thread, which was not joined yet.
+    Running(PromisedHandle<Result<Played, Memory>, Was>),
+    /// It has nothing to do, and so no thread.
+    Done(Played),
 }
 
 /// One behaviour has ended: where all others rest, nothing will wake them, and all inboxes are
 /// closed.
-fn leave<R: Wait>(rt: &R, hall: &Hall) {
-    if hall.floor.leave(rt) {
-        for closer in &hall.closers {
+fn leave<R: Wait>(rt: &R, context: &RunContext) {
+    if context.floor.leave(rt) {
+        for closer in &context.closers {
             closer.close(rt);
         }
     }
 }
 
-/// The post of a component that has something to do.
-fn post_of<'t>(test_case: &'t TestCase, hall: &'t Hall, comp: CompId) -> Post<'t>
+/// The task of a component that has something to do.
+fn task_of<'t>(test_case: &'t TestCase, context: &'t RunContext, comp: CompId) -> Task<'t>
     requires { behaviour_at test_case.now comp.0 ≢ None }
-    ensures post { IsPostOf test_case.now comp result }
-    ensures closers { result.closers.now ≡ hall.now.closers.items }
+    ensures task { IsTaskOf test_case.now comp result }
+    ensures closers { result.closers.now ≡ context.now.closers.items }
 {
     let Some(behaviour) = test_case.body(comp) else {
         // It has a behaviour, by the condition.
         unreachable!();
     };
-    Post {
-        alloc: hall.alloc,
+    Task {
+        alloc: context.alloc,
         config: test_case.config(),
         types: test_case.types(),
         comp,
         behaviour,
-        closers: hall.closers.as_slice(),
+        closers: context.closers.as_slice(),
     }
 }
 
@@ -97,15 +97,15 @@ fn post_of<'t>(test_case: &'t TestCase, hall: &'t Hall, comp: CompId) -> Post<'t
 fn play<R: Wait, G: Gate>(
     rt: &R,
     gate: &G,
-    post: &Post<'_>,
-    station: Station,
+    task: &Task<'_>,
+    worker: Worker,
 ) -> Result<Played, Memory>
-    requires { CanBegin post.now station }
-    ensures { IfOk result (HasBehaved post.now station) }
+    requires { CanBegin task.now worker }
+    ensures { IfOk result (HasBehaved task.now worker) }
 {
-    let mut station = station;
-    let outcome = behave(rt, gate, post, &mut station)?;
-    Ok(Played { station, outcome })
+    let mut worker = worker;
+    let outcome = behave(rt, gate, task, &mut worker)?;
+    Ok(Played { worker, outcome })
 }
 
 /// The whole life of a component that has something to do. It leaves the floor however its
@@ -114,96 +114,96 @@ fn live<R: Wait, G: Gate>(
     rt: &R,
     gate: &G,
     test_case: &TestCase,
-    hall: &Hall,
-    station: Station,
+    context: &RunContext,
+    worker: Worker,
 ) -> Result<Played, Memory>
-    requires waiting { IsWaiting test_case.now station }
-    requires busy { IsBusy test_case.now station }
-    ensures { IfOk result (IsBack test_case.now station) }
+    requires waiting { IsWaiting test_case.now worker }
+    requires busy { IsBusy test_case.now worker }
+    ensures { IfOk result (IsBack test_case.now worker) }
 {
-    let post = post_of(test_case, hall, station.desk.comp());
-    let played = play(rt, gate, &post, station);
-    leave(rt, hall);
+    let task = task_of(test_case, context, worker.desk.comp());
+    let played = play(rt, gate, &task, worker);
+    leave(rt, context);
     played
 }
 
 /// A component that has nothing to do has done it.
-fn done_at_once(station: Station) -> Played
-    ensures same { result.station ≡ station }
-    ensures returned { (made : Made) → IsWaiting made station →
-        behaviour_at made (station_number station) ≡ None → HasReturned made result }
+fn done_at_once(worker: Worker) -> Played
+    ensures same { result.worker ≡ worker }
+    ensures returned { (made : Made) → IsWaiting made worker →
+        behaviour_at made (worker_number worker) ≡ None → HasReturned made result }
 {
     Played {
-        station,
+        worker,
         outcome: Outcome::Done,
     }
 }
 
-/// Where a component is once it has begun: in a thread of its own, or here if it has nothing to
-/// do. Nothing where the starting of the thread was refused: its behaviour has then ended, and has
-/// left the floor.
+/// Begins a component: in a thread of its own, or, if it has nothing to do, at once. Nothing where
+/// the starting of the thread was refused: its behaviour has then ended, and has left the floor.
 fn set_out<'s, E, R: Wait + Sync, G: Gate>(
     rt: &'s R,
     scope: &Scope<'s, E>,
     gate: &'s G,
     test_case: &'s TestCase,
-    hall: &'s Hall,
-    station: Station,
-) -> Option<Seat>
-    requires { IsWaiting test_case.now station }
-    ensures badge { IfSome result (λ seat. badge_at seat ≡ badge_of station) }
-    ensures seat { IfSome result (IsSeat test_case.now) }
+    context: &'s RunContext,
+    worker: Worker,
+) -> Option<Child>
+    requires { IsWaiting test_case.now worker }
+    ensures identity { IfSome result (λ child. identity_at child ≡ identity_of worker) }
+    ensures child { IfSome result (IsChild test_case.now) }
 {
-    if test_case.body(station.desk.comp()).is_none() {
-        return Some(Seat::Here(done_at_once(station)));
+    if test_case.body(worker.desk.comp()).is_none() {
+        return Some(Child::Done(done_at_once(worker)));
     }
     let was = Was {
         test_case: Snapshot::of(test_case),
-        station: Snapshot::of(&station),
+        worker: Snapshot::of(&worker),
     };
     let play = move || -> Result<Played, Memory>
-        requires { IsWaiting test_case.now station × IsBusy test_case.now station }
-        ensures { IfOk result (IsBack test_case.entry.now station) }
-    { live(rt, gate, test_case, hall, station) };
-    let Ok(child) = scope.spawn_with(was, play) else {
-        leave(rt, hall);
+        requires { IsWaiting test_case.now worker × IsBusy test_case.now worker }
+        ensures { IfOk result (IsBack test_case.entry.now worker) }
+    { live(rt, gate, test_case, context, worker) };
+    let Ok(handle) = scope.spawn_with(was, play) else {
+        leave(rt, context);
         return None;
     };
-    Some(Seat::Away(child))
+    Some(Child::Running(handle))
 }
 
-/// What comes back from this seat, once it has come.
-fn fetch<R: Threads>(rt: &R, seat: Seat) -> Result<Played, Memory>
-    ensures badge { IfOk result (λ p. badge_of p.station ≡ badge_at seat) }
+/// What comes back from this component, once it has come.
+fn fetch<R: Threads>(rt: &R, child: Child) -> Result<Played, Memory>
+    ensures identity { IfOk result (λ p. identity_of p.worker ≡ identity_at child) }
     ensures returned { IfOk result (λ p.
-        (made : Made) → IsSeat made seat → HasReturned made p) }
+        (made : Made) → IsChild made child → HasReturned made p) }
 {
-    match seat {
-        Seat::Away(child) => child.join(rt),
-        Seat::Here(played) => Ok(played),
+    match child {
+        Child::Running(handle) => handle.join(rt),
+        Child::Done(played) => Ok(played),
     }
 }
 
 /// Joins all the threads, also where one has met 50, and puts what comes back into this list, in
-/// the order of the seats. Takes no memory.
+/// the order of the components. Takes no memory.
 ///
 /// 50 `Memory` where an allocation was refused in one of them.
 fn join_all<R: Threads>(
     rt: &R,
     list: Vec<Played>,
-    seats: Vec<Seat>,
+    children: Vec<Child>,
 ) -> Result<Vec<Played>, RunFault>
     requires empty { list.items ≡ [] }
-    requires room { length seats.items ≤ vec_capacity list }
-    ensures badges { IfOk result (λ back. badges_of back.items ≡ map badge_at seats.items) }
+    requires space { length children.items ≤ vec_capacity list }
+    ensures identities { IfOk result (λ back.
+        identities_of back.items ≡ map identity_at children.items) }
     ensures returned { IfOk result (λ back. (made : Made) →
-        All (IsSeat made) seats.items → All (HasReturned made) back.items) }
+        All (IsChild made) children.items → All (HasReturned made) back.items) }
     ensures fault { IfErr result IsThreadFault }
 {
     let mut back = list;
     let mut short = false;
-    for seat in seats {
-        match fetch(rt, seat) {
+    for child in children {
+        match fetch(rt, child) {
             Ok(played) => back.push_reserved(played),
             Err(Memory) => short = true,
         }
@@ -214,7 +214,7 @@ fn join_all<R: Threads>(
     Ok(back)
 }
 
-/// Each component in its seat, all of them at the same time, and then all joined.
+/// Begins each component, so that all run at the same time, and then joins them all.
 ///
 /// 51 `NoThread` where the starting of a thread was refused; else 50 `Memory` where an allocation
 /// was refused.
@@ -222,11 +222,12 @@ fn play_each<R: Threads + Wait + Sync, G: Gate>(
     rt: &R,
     gate: &G,
     test_case: &TestCase,
-    hall: &Hall,
-    stations: Vec<Station>,
+    context: &RunContext,
+    workers: Vec<Worker>,
 ) -> Result<Vec<Played>, RunFault>
-    requires { All (IsWaiting test_case.now) stations.items }
-    ensures badges { IfOk result (λ back. badges_of back.items ≡ map badge_of stations.items) }
+    requires { All (IsWaiting test_case.now) workers.items }
+    ensures identities { IfOk result (λ back.
+        identities_of back.items ≡ map identity_of workers.items) }
     ensures returned { IfOk result (λ back. All (HasReturned test_case.now) back.items) }
     ensures fault { IfErr result IsThreadFault }
 {
@@ -234,30 +235,30 @@ fn play_each<R: Threads + Wait + Sync, G: Gate>(
         thread::scope_env(),
         rt,
         |scope| -> Result<Vec<Played>, RunFault>
-            requires { All (IsWaiting test_case.now) stations.items }
-            ensures badges { IfOk result (λ back.
-                badges_of back.items ≡ map badge_of stations.items) }
+            requires { All (IsWaiting test_case.now) workers.items }
+            ensures identities { IfOk result (λ back.
+                identities_of back.items ≡ map identity_of workers.items) }
             ensures returned { IfOk result (λ back.
                 All (HasReturned test_case.entry.now) back.items) }
             ensures fault { IfErr result IsThreadFault }
         {
-            let count = stations.len();
-            let (Ok(back), Ok(mut seats)) = (
-                Vec::with_capacity(hall.alloc, count),
-                Vec::with_capacity(hall.alloc, count),
+            let count = workers.len();
+            let (Ok(back), Ok(mut children)) = (
+                Vec::with_capacity(context.alloc, count),
+                Vec::with_capacity(context.alloc, count),
             ) else {
                 return Err(RunFault::Memory);
             };
             let mut refused = false;
-            for station in stations {
+            for worker in workers {
                 // A thread keeps what it is lent, so each is lent copies of these references.
-                let (rt, gate, test_case, hall) = (rt, gate, test_case, hall);
-                match set_out(rt, scope, gate, test_case, hall, station) {
-                    Some(seat) => seats.push_reserved(seat),
+                let (rt, gate, test_case, context) = (rt, gate, test_case, context);
+                match set_out(rt, scope, gate, test_case, context, worker) {
+                    Some(child) => children.push_reserved(child),
                     None => refused = true,
                 }
             }
-            let joined = join_all(rt, back, seats);
+            let joined = join_all(rt, back, children);
             if refused {
                 return Err(RunFault::NoThread);
             }
@@ -276,15 +277,15 @@ pub(crate) fn play_all<R: Threads + Wait + Sync, G: Gate>(
     rt: &R,
     gate: &G,
     test_case: &TestCase,
-    hall: &Hall,
-    stations: Vec<Station>,
+    context: &RunContext,
+    workers: Vec<Worker>,
 ) -> Result<Vec<Played>, RunFault>
-    requires stations { AreStations test_case.now.config stations.items }
-    requires begun { All HasNotBegun stations.items }
-    ensures stations { IfOk result (λ played.
-        AreStations test_case.now.config (stations_of played.items)) }
+    requires workers { AreWorkers test_case.now.config workers.items }
+    requires begun { All HasNotBegun workers.items }
+    ensures workers { IfOk result (λ played.
+        AreWorkers test_case.now.config (workers_of played.items)) }
     ensures played { IfOk result (λ played. ArePlayed test_case.now played.items) }
     ensures fault { IfErr result IsThreadFault }
 {
-    play_each(rt, gate, test_case, hall, stations)
+    play_each(rt, gate, test_case, context, workers)
 }

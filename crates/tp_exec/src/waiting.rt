@@ -4,7 +4,7 @@ ghost use Rattle.tp_behaviour.specs.Choices.{IsOpen, NoneOpen};
 ghost use Rattle.tp_behaviour.specs.Outcomes.{WaitsWithin};
 ghost use Rattle.tp_exec.specs.Reporting.{IsAtRest};
 
-use crate::ended::Ended;
+use crate::ended::EndedComponent;
 use tp_behaviour::choice::Guard;
 use tp_behaviour::outcome::Outcome;
 use tp_inbox::desk::Desk;
@@ -42,7 +42,7 @@ fn none_open(desk: &Desk, guards: &[Guard]) -> bool
 }
 
 /// Whether none of the branches at which the component waits is open in its final queues.
-fn is_at_rest(component: &Ended) -> bool
+fn is_at_rest(component: &EndedComponent) -> bool
     requires { WaitsWithin component.now.desk.ports component.now.outcome }
     ensures { IsTrue result ↔ IsAtRest component.now }
 {
@@ -53,7 +53,7 @@ fn is_at_rest(component: &Ended) -> bool
 }
 
 /// Whether no component waits for what has come. Takes no memory.
-pub(crate) fn are_at_rest(components: &[Ended]) -> bool
+pub(crate) fn are_at_rest(components: &[EndedComponent]) -> bool
     requires { All (λ e. WaitsWithin e.desk.ports e.outcome) components.now }
     ensures { IsTrue result ↔ All IsAtRest components.now }
 {

@@ -1,4 +1,4 @@
--- That a floor may go into a thread and be shared with one, and that a bell may go into one.
+-- That a floor may go into a thread and be shared with one, and that a notifier may go into one.
 use denote.Param.Send.{IsSend, IsSync, sendable}
 use Rattle.std.proofs.Crossing.{crosses}
 use Rattle.atomic_table.proofs.shared.Shared.TheSendSync.{the_send as shared_send, the_sync as shared_sync}
@@ -6,9 +6,9 @@ use Rattle.atomic_table.proofs.send_lease.SendLease.TheSendSync.{the_send as lea
 use Rattle.atomic_table.proofs.shared.Seat.TheSendSync.{the_send as pass_send}
 use Rattle.tp_floor.specs.contracts.floor.Counts as counts
 use Rattle.tp_floor.specs.contracts.floor.Floor as floor
-use Rattle.tp_floor.specs.contracts.floor.Place as place
-use Rattle.tp_floor.specs.contracts.bell.Bell as bell
-use Rattle.tp_floor.specs.contracts.bell.Bell.TheInside as bell_inside
+use Rattle.tp_floor.specs.contracts.floor.FloorPlace as place
+use Rattle.tp_floor.specs.contracts.notifier.Notifier as notifier
+use Rattle.tp_floor.specs.contracts.notifier.Notifier.TheInside as notifier_inside
 
 counts_send : IsSend counts.the_row
 counts_send = search (sendable, crosses) depth 20
@@ -23,8 +23,8 @@ floor_sync = search (sendable, crosses, shared_sync, lease_sync, counts_send) de
 place_field_send : IsSend (place.the_field).row
 place_field_send = search (sendable, crosses, floor_send, floor_sync, pass_send) depth 20
 
-bell_inside_send : IsSend bell_inside.the_row
-bell_inside_send = search (sendable, crosses, place_field_send) depth 20
+notifier_inside_send : IsSend notifier_inside.the_row
+notifier_inside_send = search (sendable, crosses, place_field_send) depth 20
 
-pub bell_send : IsSend bell.the_row
-bell_send = search (sendable, crosses, bell_inside_send) depth 20
+pub notifier_send : IsSend notifier.the_row
+notifier_send = search (sendable, crosses, notifier_inside_send) depth 20

@@ -1,3 +1,3 @@
-pub mod Bells
-pub mod Ringing
+pub mod Notifiers
+pub mod NotifierState
 pub mod Standing

@@ -3,7 +3,7 @@ ghost use Rattle.std.specs.Prelude.{◌≡◌, ◌<◌, ◌≤◌, ◌↔◌, �
 ghost use Rattle.std.specs.Arc.{arc_value};
 ghost use Rattle.crossbeam_utils.specs.Seq.{IsSamePass, cell_view};
 
-use crate::seam::{OpenSeam, Seam};
+use crate::hook::{NoHook, RaceHook};
 use crossbeam_utils::atomic::seq_cell::{Pass, RuledSeqCell, Words};
 use crossbeam_utils::rule::{Outcome, Protocol};
 use std::alloc::Global;
@@ -104,10 +104,10 @@ type Cell = RuledSeqCell<Counts, u64, Standing, 2>;
 
 /// Who lives and who rests in a run, so that a run in which all wait can be noticed.
 ///
-/// A behaviour lives until it has left. It rests from the moment that it finds nothing at its bell
-/// until a push is announced there or the inbox is closed. The number that rests is the number of
-/// bells whose owner rests. The counts have no lock that lasts longer than one call here, so that
-/// they may be changed under an inbox's lock.
+/// A behaviour lives until it has left. It rests from the moment that it finds nothing at its
+/// notifier until a push is announced there or the inbox is closed. The number that rests is the
+/// number of notifiers whose owner rests. The counts have no lock that lasts longer than one call
+/// here, so that they may be changed under an inbox's lock.
 #[derive(Drop)]
 pub struct Floor {
     counts: Cell,
@@ -159,17 +159,17 @@ impl Floor {
     /// them but their inboxes being closed. Where nobody lives it changes nothing, and answers
     /// false. Takes no memory.
     pub fn leave<R: Wait>(&self, rt: &R) -> bool {
-        self.leave_by(rt, &mut OpenSeam)
+        self.leave_by(rt, &mut NoHook)
     }
 
-    /// Leaves, with this seam.
-    pub(crate) fn leave_by<R: Wait, S: Seam>(&self, rt: &R, seam: &mut S) -> bool {
+    /// Leaves, with this hook.
+    pub(crate) fn leave_by<R: Wait, S: RaceHook>(&self, rt: &R, hook: &mut S) -> bool {
         let mut pass = self.counts.pass();
         for _ in rt.forever() {
             let seen = self.look(rt, &mut pass);
             let mut left = seen;
             let all_rest = left.leave();
-            seam.between();
+            hook.between();
             if self.exchange(rt, &mut pass, seen, left) {
                 return all_rest;
             }
@@ -196,23 +196,23 @@ impl Floor {
 /// that rests is the sum of this over all places, so that nobody rests or rises without being
 /// counted, and nobody is counted twice.
 #[derive(Drop)]
-pub(crate) struct Place {
+pub(crate) struct FloorPlace {
     floor: Arc<Floor, Global>,
     pub(crate) pass: Pass<Counts, u64>,
     ghost here: { pass.table_id ≡ (arc_value floor).counts.table.shared.table_id },
 }
 
-impl Place {
+impl FloorPlace {
     /// A place on this floor, of a behaviour that is awake.
-    pub(crate) fn on(floor: Arc<Floor, Global>) -> Place
+    pub(crate) fn on(floor: Arc<Floor, Global>) -> FloorPlace
         ensures { cell_view result.pass ≡ 0 }
     {
         let pass = floor.counts.pass();
-        Place { floor, pass }
+        FloorPlace { floor, pass }
     }
 
     /// The behaviour rests from now on. False where no other living one is awake: then it does not.
-    pub(crate) fn rest<R: Wait, S: Seam>(&mut self, rt: &R, seam: &mut S) -> bool
+    pub(crate) fn rest<R: Wait, S: RaceHook>(&mut self, rt: &R, hook: &mut S) -> bool
         requires { cell_view self.old.pass ≡ 0 }
         ensures { cell_view self.new.pass ≡ (if result then 1 else 0) }
     {
@@ -222,7 +222,7 @@ impl Place {
             if !rested.rest() {
                 return false;
             }
-            seam.between();
+            hook.between();
             if self.floor.exchange(rt, &mut self.pass, seen, rested) {
                 return true;
             }
@@ -232,7 +232,7 @@ impl Place {
     }
 
     /// The behaviour rests no more.
-    pub(crate) fn rise<R: Wait, S: Seam>(&mut self, rt: &R, seam: &mut S)
+    pub(crate) fn rise<R: Wait, S: RaceHook>(&mut self, rt: &R, hook: &mut S)
         requires { cell_view self.old.pass ≡ 1 }
         ensures { cell_view self.new.pass ≡ 0 }
     {
@@ -240,7 +240,7 @@ impl Place {
             let seen = self.floor.look(rt, &mut self.pass);
             let mut risen = seen;
             risen.rise();
-            seam.between();
+            hook.between();
             if self.floor.exchange(rt, &mut self.pass, seen, risen) {
                 return;
             }

@@ -1,8 +1,8 @@
-//! The floor that all behaviours of a run stand on, and the bell by which each of them is woken.
+//! The floor that all behaviours of a run stand on, and the notifier by which each is woken.
 #![tactic(auto)]
 
-pub mod bell;
 pub mod floor;
+pub mod hook;
+pub mod notifier;
 #[cfg(test)]
 mod races;
-pub mod seam;

@@ -11,7 +11,7 @@ use Rattle.tp_config.specs.declared.port_type.CompId.{CompId}
 use Rattle.tp_config.specs.declared.port_type.RouteId.{RouteId}
 use Rattle.tp_inbox.specs.declared.entry.Entry.{Entry}
 use Rattle.tp_inbox.specs.declared.envelope.Envelope.{Envelope}
-use Rattle.tp_inbox.specs.declared.hub.Hub.{Hub}
+use Rattle.tp_inbox.specs.declared.channel.Channel.{Channel}
 use Rattle.tp_inbox.specs.declared.rule.View.{View}
 use Rattle.tp_inbox.specs.History.{arrivals, arrived_on, arrived_from}
 use Rattle.tp_inbox.specs.Envelopes.{AreFronts, AreWhole, AreRouted, Begins, Ledger, among, one_of, before, EndsWith}
@@ -44,52 +44,52 @@ pub front_and_back : {A : Type 0} (all xs ys : List A) → all ≡ xs ++ ys → 
 front_and_back all xs ys is = is ∙ ap (λ l. l ++ ys) (sym (front_is all xs ys is))
 
 -- what the owner's pass knows, and of whom
-pub record Knowing (hub : Hub) (v : View) (sent : List Sent) : Type 0 where
+pub record Knowing (channel : Channel) (v : View) (sent : List Sent) : Type 0 where
   pub sound : Sound v
-  pub made : v.made ≡ length hub.routes.items
-  pub known : AllZip (IsPutOf hub.routes.items) v.known sent
+  pub made : v.made ≡ length channel.routes.items
+  pub known : AllZip (IsPutOf channel.routes.items) v.known sent
 
-pub routed_at : (hub : Hub) (v : View) (sent : List Sent) → Knowing hub v sent → AreRouted (length hub.routes.items) v.taken
-routed_at hub v sent h = subst (λ (n : ℕ). AreRouted n v.taken) h.made h.sound.routed
+pub routed_at : (channel : Channel) (v : View) (sent : List Sent) → Knowing channel v sent → AreRouted (length channel.routes.items) v.taken
+routed_at channel v sent h = subst (λ (n : ℕ). AreRouted n v.taken) h.made h.sound.routed
 
 -- what came from a component is what of its sender's envelopes was taken out
-came_of : (hub : Hub) (taken : List Envelope) → AreRouted (length hub.routes.items) taken → (x : Ledger) (s : Sent) → IsPutOf hub.routes.items x s
-    → arrived_from hub.comp s.0 (arrivals_of hub.routes.items taken) ≡ map (posted_of hub.routes.items) (among x.0 taken)
-came_of hub taken routed x s h = from_places hub.comp hub.ports hub.routes.items hub.routed s.0 x.0 h.0 taken routed
+came_of : (channel : Channel) (taken : List Envelope) → AreRouted (length channel.routes.items) taken → (x : Ledger) (s : Sent) → IsPutOf channel.routes.items x s
+    → arrived_from channel.comp s.0 (arrivals_of channel.routes.items taken) ≡ map (posted_of channel.routes.items) (among x.0 taken)
+came_of channel taken routed x s h = from_places channel.comp channel.ports channel.routes.items channel.routed s.0 x.0 h.0 taken routed
 
-begun_each : (hub : Hub) (taken : List Envelope) → AreRouted (length hub.routes.items) taken → (known : List Ledger) (sent : List Sent)
-    → AllZip (IsPutOf hub.routes.items) known sent → AreFronts taken known → AreBegun hub.comp (arrivals_of hub.routes.items taken) sent
-begun_each hub taken routed [] [] h fronts =
-    All-nil (λ (s : Sent). Begins (arrived_from hub.comp s.0 (arrivals_of hub.routes.items taken)) s.1)
-begun_each hub taken routed [] (s ∷ sent) h fronts = absurd h
-begun_each hub taken routed (x ∷ known) [] h fronts = absurd h
-begun_each hub taken routed (x ∷ known) (s ∷ sent) h fronts =
-    let posted = map (posted_of hub.routes.items) in
+begun_each : (channel : Channel) (taken : List Envelope) → AreRouted (length channel.routes.items) taken → (known : List Ledger) (sent : List Sent)
+    → AllZip (IsPutOf channel.routes.items) known sent → AreFronts taken known → AreBegun channel.comp (arrivals_of channel.routes.items taken) sent
+begun_each channel taken routed [] [] h fronts =
+    All-nil (λ (s : Sent). Begins (arrived_from channel.comp s.0 (arrivals_of channel.routes.items taken)) s.1)
+begun_each channel taken routed [] (s ∷ sent) h fronts = absurd h
+begun_each channel taken routed (x ∷ known) [] h fronts = absurd h
+begun_each channel taken routed (x ∷ known) (s ∷ sent) h fronts =
+    let posted = map (posted_of channel.routes.items) in
     let first : Begins (among x.0 taken) x.1 = all_head (λ (y : Ledger). Begins (among y.0 taken) y.1) x known fronts in
-    All-cons (λ (s : Sent). Begins (arrived_from hub.comp s.0 (arrivals_of hub.routes.items taken)) s.1) s sent (
+    All-cons (λ (s : Sent). Begins (arrived_from channel.comp s.0 (arrivals_of channel.routes.items taken)) s.1) s sent (
       posted first.0,
-      ap (λ l. l ++ posted first.0) (came_of hub taken routed x s h.0) ∙ sym (map-append (posted_of hub.routes.items) (among x.0 taken) first.0)
+      ap (λ l. l ++ posted first.0) (came_of channel taken routed x s h.0) ∙ sym (map-append (posted_of channel.routes.items) (among x.0 taken) first.0)
           ∙ ap posted first.1 ∙ sym h.0.1,
     )
-    (begun_each hub taken routed known sent h.1 (all_tail (λ (y : Ledger). Begins (among y.0 taken) y.1) x known fronts))
+    (begun_each channel taken routed known sent h.1 (all_tail (λ (y : Ledger). Begins (among y.0 taken) y.1) x known fronts))
 
-delivered_each : (hub : Hub) (taken : List Envelope) → AreRouted (length hub.routes.items) taken → (known : List Ledger) (sent : List Sent)
-    → AllZip (IsPutOf hub.routes.items) known sent → AreWhole taken known → AreDelivered hub.comp (arrivals_of hub.routes.items taken) sent
-delivered_each hub taken routed [] [] h whole =
-    All-nil (λ (s : Sent). arrived_from hub.comp s.0 (arrivals_of hub.routes.items taken) ≡ s.1)
-delivered_each hub taken routed [] (s ∷ sent) h whole = absurd h
-delivered_each hub taken routed (x ∷ known) [] h whole = absurd h
-delivered_each hub taken routed (x ∷ known) (s ∷ sent) h whole =
-    All-cons (λ (s : Sent). arrived_from hub.comp s.0 (arrivals_of hub.routes.items taken) ≡ s.1) s sent
-    (came_of hub taken routed x s h.0
-    ∙ ap (map (posted_of hub.routes.items)) (all_head (λ (y : Ledger). among y.0 taken ≡ y.1) x known whole) ∙ sym h.0.1)
-    (delivered_each hub taken routed known sent h.1 (all_tail (λ (y : Ledger). among y.0 taken ≡ y.1) x known whole))
+delivered_each : (channel : Channel) (taken : List Envelope) → AreRouted (length channel.routes.items) taken → (known : List Ledger) (sent : List Sent)
+    → AllZip (IsPutOf channel.routes.items) known sent → AreWhole taken known → AreDelivered channel.comp (arrivals_of channel.routes.items taken) sent
+delivered_each channel taken routed [] [] h whole =
+    All-nil (λ (s : Sent). arrived_from channel.comp s.0 (arrivals_of channel.routes.items taken) ≡ s.1)
+delivered_each channel taken routed [] (s ∷ sent) h whole = absurd h
+delivered_each channel taken routed (x ∷ known) [] h whole = absurd h
+delivered_each channel taken routed (x ∷ known) (s ∷ sent) h whole =
+    All-cons (λ (s : Sent). arrived_from channel.comp s.0 (arrivals_of channel.routes.items taken) ≡ s.1) s sent
+    (came_of channel taken routed x s h.0
+    ∙ ap (map (posted_of channel.routes.items)) (all_head (λ (y : Ledger). among y.0 taken ≡ y.1) x known whole) ∙ sym h.0.1)
+    (delivered_each channel taken routed known sent h.1 (all_tail (λ (y : Ledger). among y.0 taken ≡ y.1) x known whole))
 
-pub begun_at : (hub : Hub) (v : View) (sent : List Sent) (all : List Entry) (comp : CompId) → Knowing hub v sent
-    → arrivals_of hub.routes.items v.taken ≡ all → hub.comp ≡ comp → AreBegun comp all sent
-begun_at hub v sent all comp h is here =
+pub begun_at : (channel : Channel) (v : View) (sent : List Sent) (all : List Entry) (comp : CompId) → Knowing channel v sent
+    → arrivals_of channel.routes.items v.taken ≡ all → channel.comp ≡ comp → AreBegun comp all sent
+begun_at channel v sent all comp h is here =
     subst (λ (x : CompId × List Entry). AreBegun x.0 x.1 sent) (λ i. (here i, is i))
-    (begun_each hub v.taken (routed_at hub v sent h) v.known sent h.known h.sound.fronts)
+    (begun_each channel v.taken (routed_at channel v sent h) v.known sent h.known h.sound.fronts)
 
 -- what was drained and the rest is what came, behind a history whose arrivals were drained
 came_all : (comp source : CompId) (all drained rest log : List Entry) → all ≡ drained ++ rest → arrivals log ≡ drained
@@ -99,28 +99,28 @@ came_all comp source all drained rest log is same =
     ∙ ap (λ l. l ++ arrived_from comp source rest) (came_in comp source log ∙ ap (arrived_from comp source) same)
     ∙ sym (arrived_from-append comp source drained rest) ∙ ap (arrived_from comp source) (sym is)
 
-pub delivered_at : (hub : Hub) (v : View) (sent : List Sent) (drained rest log : List Entry) → Knowing hub v sent → AreWhole v.taken v.known
-    → arrivals_of hub.routes.items v.taken ≡ drained ++ rest → arrivals log ≡ drained → AreDelivered hub.comp (log ++ rest) sent
-delivered_at hub v sent drained rest log h whole is same k d low =
-    came_all hub.comp (slice_index_or sent k d).0 (arrivals_of hub.routes.items v.taken) drained rest log is same
-    ∙ delivered_each hub v.taken (routed_at hub v sent h) v.known sent h.known whole k d low
+pub delivered_at : (channel : Channel) (v : View) (sent : List Sent) (drained rest log : List Entry) → Knowing channel v sent → AreWhole v.taken v.known
+    → arrivals_of channel.routes.items v.taken ≡ drained ++ rest → arrivals log ≡ drained → AreDelivered channel.comp (log ++ rest) sent
+delivered_at channel v sent drained rest log h whole is same k d low =
+    came_all channel.comp (slice_index_or sent k d).0 (arrivals_of channel.routes.items v.taken) drained rest log is same
+    ∙ delivered_each channel v.taken (routed_at channel v sent h) v.known sent h.known whole k d low
 
 -- and it is numbered on each route
-pub numbered_at : (hub : Hub) (v : View) (sent : List Sent) (drained rest log : List Entry) → Knowing hub v sent
-    → arrivals_of hub.routes.items v.taken ≡ drained ++ rest → arrivals log ≡ drained → AreNumbered hub.routes.items (log ++ rest)
-numbered_at hub v sent drained rest log h is same k d low =
-    let r = slice_index_or hub.routes.items k d in
-    let n = numbered_on hub.comp hub.ports hub.routes.items hub.routed v.taken (routed_at hub v sent h) h.sound.order k d low in (
+pub numbered_at : (channel : Channel) (v : View) (sent : List Sent) (drained rest log : List Entry) → Knowing channel v sent
+    → arrivals_of channel.routes.items v.taken ≡ drained ++ rest → arrivals log ≡ drained → AreNumbered channel.routes.items (log ++ rest)
+numbered_at channel v sent drained rest log h is same k d low =
+    let r = slice_index_or channel.routes.items k d in
+    let n = numbered_on channel.comp channel.ports channel.routes.items channel.routed v.taken (routed_at channel v sent h) h.sound.order k d low in (
       n.0,
       arrived_on-append r log rest ∙ ap (λ l. l ++ arrived_on r rest) (arrived_in r log ∙ ap (arrived_on r) same) ∙ sym (arrived_on-append r drained rest)
           ∙ ap (arrived_on r) (sym is) ∙ n.1,
     )
 
-pub rest_at : (hub : Hub) (v : View) (inbox : Inbox) (drained rest : List Entry) → Sound v → v.made ≡ length hub.routes.items → inbox_of hub ≡ inbox
-    → arrivals_of hub.routes.items v.taken ≡ drained ++ rest → All (IsArrivalOn inbox.routes) rest
-rest_at hub v inbox drained rest sound made same is =
-    let on = are_on hub.routes.items v.taken (subst (λ (n : ℕ). AreRouted n v.taken) made sound.routed) in
-    let back = all_back (IsArrivalOn hub.routes.items) drained rest (subst (All (IsArrivalOn hub.routes.items)) is on) in
+pub rest_at : (channel : Channel) (v : View) (inbox : Inbox) (drained rest : List Entry) → Sound v → v.made ≡ length channel.routes.items → inbox_of channel ≡ inbox
+    → arrivals_of channel.routes.items v.taken ≡ drained ++ rest → All (IsArrivalOn inbox.routes) rest
+rest_at channel v inbox drained rest sound made same is =
+    let on = are_on channel.routes.items v.taken (subst (λ (n : ℕ). AreRouted n v.taken) made sound.routed) in
+    let back = all_back (IsArrivalOn channel.routes.items) drained rest (subst (All (IsArrivalOn channel.routes.items)) is on) in
     subst (λ (i : Inbox). All (IsArrivalOn i.routes) rest) same back
 
 -- the owner's pass once the senders have joined, and the queue was looked at

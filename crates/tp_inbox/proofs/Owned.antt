@@ -10,7 +10,7 @@ use Rattle.tp_config.specs.declared.port_type.CompId.{CompId}
 use Rattle.tp_config.specs.declared.port_type.RouteId.{RouteId}
 use Rattle.tp_inbox.specs.declared.entry.Entry.{Entry}
 use Rattle.tp_inbox.specs.declared.envelope.Envelope.{Envelope}
-use Rattle.tp_inbox.specs.declared.hub.Hub.{Hub}
+use Rattle.tp_inbox.specs.declared.channel.Channel.{Channel}
 use Rattle.tp_inbox.specs.declared.owner.Owner.TheInside as owner
 use Rattle.tp_inbox.specs.declared.rule.View.{View}
 use Rattle.tp_inbox.specs.Rule.{Sound}
@@ -27,7 +27,7 @@ use Rattle.tp_inbox.proofs.Arrivals.{are_on, arrivals-append, numbered_on, on_no
 
 -- what an owner sees itself as
 abbrev pub seen : owner.Inside → Draining
-seen s = record { inbox = inbox_of (arc_value s.hub); drained = drained_of s }
+seen s = record { inbox = inbox_of (arc_value s.channel); drained = drained_of s }
 
 -- the envelopes that it has drained
 abbrev pub moved : owner.Inside → List Envelope
@@ -35,13 +35,13 @@ moved s = before s.pass.me.view.client.taken (one_of s.hand)
 
 pub owner_arrivals : (s : owner.Inside) (v : Draining) → IsOwner s → seen s ≡ v → AreArrivals v.inbox.routes v.drained
 owner_arrivals s v o e =
-    let hub = arc_value s.hub in
-    let routes = hub.routes.items in
+    let channel = arc_value s.channel in
+    let routes = channel.routes.items in
     let routed : AreRouted (length routes) (moved s) = routed_before _ _ s.pass.me.view.client.taken (one_of s.hand) o.made o.sound.routed in
     subst (λ (x : Draining). AreArrivals x.inbox.routes x.drained) e
     record {
       routed = are_on routes (moved s) routed;
-      order = numbered_on hub.comp hub.ports routes hub.routed (moved s) routed (in_order_before s.pass.me.view.client.taken (one_of s.hand) o.sound.order);
+      order = numbered_on channel.comp channel.ports routes channel.routed (moved s) routed (in_order_before s.pass.me.view.client.taken (one_of s.hand) o.sound.order);
     }
 
 pub length-arrivals : (log : List Entry) → length (arrivals log) ≤ length log
@@ -56,9 +56,9 @@ length-arrivals (e ∷ log) = shorter (is_arrival e) e (filter is_arrival log) (
 -- the envelope that comes next is the next of its route
 pub next_of_route : (s : owner.Inside) (w : View) (e : Envelope) → IsOwner s → Sound w → KeepsRoutes s.pass.me.view.client w
     → GivesNext s.pass.me.view.client s.hand (Some e) w
-    → (e.place < length (arc_value s.hub).routes.items) × (e.number ≡ length (of e.place (moved s))) × (w.taken ≡ moved s ++ e ∷ [])
+    → (e.place < length (arc_value s.channel).routes.items) × (e.number ≡ length (of e.place (moved s))) × (w.taken ≡ moved s ++ e ∷ [])
 next_of_route s w e h sound same is =
-    let a = arrived w (moved s) e (length (arc_value s.hub).routes.items) sound (same.0 ∙ h.made) is in (a.0, a.1, is)
+    let a = arrived w (moved s) e (length (arc_value s.channel).routes.items) sound (same.0 ∙ h.made) is in (a.0, a.1, is)
 
 -- where it is in hand again, what was drained stands before it, as it did
 pub hand-back : (all xs : List Envelope) (e : Envelope) (o : Option Envelope) → o ≡ Some e → all ≡ xs ++ e ∷ []
@@ -88,16 +88,16 @@ pub ends-none : (all : List Envelope) (o : Option Envelope) → o ≡ None → E
 ends-none all o none = subst (λ (h : Option Envelope). EndsWith all (one_of h)) (sym none) (ends_nothing all)
 
 -- the port of an envelope is one of the desk's
-pub port_within : (hub : Hub) (d : Journal) (place port : ℕ) → d.ports ≡ hub.ports → place < length hub.routes.items
-    → port ≡ (route_at hub.routes.items place).to.port → port < d.ports
-port_within hub d place port ports low at =
-    let within : (route_at hub.routes.items place).to.port < hub.ports = hub.routed.within place absent_route low in omega arith
+pub port_within : (channel : Channel) (d : Journal) (place port : ℕ) → d.ports ≡ channel.ports → place < length channel.routes.items
+    → port ≡ (route_at channel.routes.items place).to.port → port < d.ports
+port_within channel d place port ports low at =
+    let within : (route_at channel.routes.items place).to.port < channel.ports = channel.routed.within place absent_route low in omega arith
 
 -- what is drained is no more than the desk's history holds
 pub drained_within : (s : owner.Inside) (v : Draining) (d : Journal) (place : ℕ) → seen s ≡ v → arrivals d.log ≡ v.drained
     → length (of place (moved s)) ≤ length d.log
 drained_within s v d place is same =
-    let routes = (arc_value s.hub).routes.items in
+    let routes = (arc_value s.channel).routes.items in
     let a : length (arrivals_of routes (moved s)) ≡ length (moved s) = length-map (moved s) (arrival_of routes) in
     let b : length (arrivals_of routes (moved s)) ≡ length (arrivals d.log) = ap (λ (x : Draining). length x.drained) is ∙ sym (ap length same) in
     let c = length-arrivals d.log in
@@ -121,32 +121,32 @@ arrivals_more d e drained now more was desk is same =
 pub counted_at : (s : owner.Inside) (v : Draining) (route : RouteId) (place n : ℕ) → IsOwner s → seen s ≡ v → get_by (route_eq route) s.places ≡ Some place
     → n ≡ get_or s.counts.items place 0 → n ≡ drained_on v route
 counted_at s v route place n o is found at =
-    let hub = arc_value s.hub in
-    let routes = hub.routes.items in
+    let channel = arc_value s.channel in
+    let routes = channel.routes.items in
     let known = o.places.known route place found in
     let low = known.0 in
     let routed = routed_before _ _ s.pass.me.view.client.taken (one_of s.hand) o.made o.sound.routed in
-    let here : route.to.comp ≡ hub.comp = ap (λ (r : RouteId). r.to.comp) (sym known.1) ∙ hub.routed.here place absent_route low in
-    at ∙ o.counts.1 place low ∙ ap length (sym (on_place hub.comp hub.ports routes hub.routed place low (moved s) routed))
+    let here : route.to.comp ≡ channel.comp = ap (λ (r : RouteId). r.to.comp) (sym known.1) ∙ channel.routed.here place absent_route low in
+    at ∙ o.counts.1 place low ∙ ap length (sym (on_place channel.comp channel.ports routes channel.routed place low (moved s) routed))
     ∙ ap (λ r. length (arrived_on r (drained_of s))) known.1
-    ∙ ap (λ b. cond b (length (arrived_on route (drained_of s))) 0) (sym (eq-eqb route.to.comp.0 hub.comp.0 (ap (λ (c : CompId). c.0) here)))
+    ∙ ap (λ b. cond b (length (arrived_on route (drained_of s))) 0) (sym (eq-eqb route.to.comp.0 channel.comp.0 (ap (λ (c : CompId). c.0) here)))
     ∙ ap (λ (x : Draining). drained_on x route) is
 
 -- of a route that isn't found nothing was drained
 pub none_counted : (s : owner.Inside) (v : Draining) (route : RouteId) → IsOwner s → seen s ≡ v → get_by (route_eq route) s.places ≡ None
     → 0 ≡ drained_on v route
-none_counted s v route o is none = by (cases_Bool (eqb route.to.comp.0 hub.comp.0)) ∙ ap (λ (x : Draining). drained_on x route) is
+none_counted s v route o is none = by (cases_Bool (eqb route.to.comp.0 channel.comp.0)) ∙ ap (λ (x : Draining). drained_on x route) is
   where
-    hub : Hub
-    hub = arc_value s.hub
+    channel : Channel
+    channel = arc_value s.channel
 
-    apart : (k : ℕ) → k < length hub.routes.items → route_at hub.routes.items k ≡ route → ⊥
+    apart : (k : ℕ) → k < length channel.routes.items → route_at channel.routes.items k ≡ route → ⊥
     apart k low same = none-some k (sym none ∙ ap (λ r. get_by (route_eq r) s.places) (sym same) ∙ o.places.found k low)
 
-    by : (eqb route.to.comp.0 hub.comp.0 ≡ true) ⊎ (eqb route.to.comp.0 hub.comp.0 ≡ false) → 0 ≡ drained_on (seen s) route
+    by : (eqb route.to.comp.0 channel.comp.0 ≡ true) ⊎ (eqb route.to.comp.0 channel.comp.0 ≡ false) → 0 ≡ drained_on (seen s) route
     by (inl same) =
-        let to : route.to.comp ≡ hub.comp = λ i. record { 0 = eqb-true route.to.comp.0 hub.comp.0 same i } in
+        let to : route.to.comp ≡ channel.comp = λ i. record { 0 = eqb-true route.to.comp.0 channel.comp.0 same i } in
         let routed = routed_before _ _ s.pass.me.view.client.taken (one_of s.hand) o.made o.sound.routed in
-        ap length (sym (on_none hub.comp hub.ports hub.routes.items hub.routed route to apart (moved s) routed))
+        ap length (sym (on_none channel.comp channel.ports channel.routes.items channel.routed route to apart (moved s) routed))
         ∙ ap (λ b. cond b (length (arrived_on route (drained_of s))) 0) (sym same)
     by (inr other) = ap (λ b. cond b (length (arrived_on route (drained_of s))) 0) (sym other)

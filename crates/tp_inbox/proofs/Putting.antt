@@ -26,10 +26,10 @@ use Rattle.tp_inbox.proofs.Arrivals.{same_place}
 -- what a sender sees itself as
 abbrev pub seen : sender.Inside → Sending
 seen s = record {
-  inbox = inbox_of (arc_value s.hub);
+  inbox = inbox_of (arc_value s.channel);
   source = s.source;
-  routes = map (route_at (arc_value s.hub).routes.items) s.places.items;
-  ledger = map (posted_of (arc_value s.hub).routes.items) s.pass.me.view.client.put;
+  routes = map (route_at (arc_value s.channel).routes.items) s.places.items;
+  ledger = map (posted_of (arc_value s.channel).routes.items) s.pass.me.view.client.put;
 }
 
 -- routes of which `same_route` says that they are the same
@@ -82,15 +82,15 @@ posted_at comp ports routes are p low (e ∷ es) h =
 pub on_way : (s : sender.Inside) (v : Sending) (way : ℕ) → IsSender s → seen s ≡ v → way < length v.routes
     → (way < length s.places.items) × (put_on_way v way ≡ of (get_or s.places.items way 0) s.pass.me.view.client.put)
 on_way s v way h is low =
-    let hub = arc_value s.hub in
-    let routes = hub.routes.items in
+    let channel = arc_value s.channel in
+    let routes = channel.routes.items in
     let few : way < length s.places.items =
     omega (arith, ap (λ (x : Sending). length x.routes) is, length-map s.places.items (route_at routes)) in
     let p = get_or s.places.items way 0 in (
       few,
       ap (λ (x : Sending). put_on_way x way) (sym is)
           ∙ ap (λ r. posted_on r (map (posted_of routes) s.pass.me.view.client.put)) (get_or-map (route_at routes) s.places.items way 0 absent_route few)
-          ∙ posted_at hub.comp hub.ports routes hub.routed p (h.low way 0 few) s.pass.me.view.client.put h.routed,
+          ∙ posted_at channel.comp channel.ports routes channel.routed p (h.low way 0 few) s.pass.me.view.client.put h.routed,
     )
 
 aimed_at : (comp : CompId) (ports : ℕ) (routes : List RouteId) → AreRoutes comp ports routes → (places : List ℕ) → All (λ p. p < length routes) places
@@ -102,9 +102,9 @@ aimed_at comp ports routes are places low k d few =
 -- a sender's routes lead to the component of its inbox
 pub ways_aimed : (s : sender.Inside) (v : Sending) → IsSender s → seen s ≡ v → All (λ (r : RouteId). r.to.comp ≡ v.inbox.comp) v.routes
 ways_aimed s v h is =
-    let hub = arc_value s.hub in
+    let channel = arc_value s.channel in
     subst (λ (x : Sending). All (λ (r : RouteId). r.to.comp ≡ x.inbox.comp) x.routes) is
-    (aimed_at hub.comp hub.ports hub.routes.items hub.routed s.places.items h.low)
+    (aimed_at channel.comp channel.ports channel.routes.items channel.routed s.places.items h.low)
 
 apart_routes : (comp : CompId) (ports : ℕ) (routes : List RouteId) → AreRoutes comp ports routes → (places : List ℕ) → All (λ p. p < length routes) places
     → AllPairs (λ p q. p ≢ q) places → AllPairs (λ (r q : RouteId). r ≢ q) (map (route_at routes) places)
@@ -118,9 +118,9 @@ apart_routes comp ports routes are places low apart k j d less few same =
 -- and no two of them are equal
 pub ways_apart : (s : sender.Inside) (v : Sending) → IsSender s → seen s ≡ v → AllPairs (λ (r q : RouteId). r ≢ q) v.routes
 ways_apart s v h is =
-    let hub = arc_value s.hub in
+    let channel = arc_value s.channel in
     subst (λ (x : Sending). AllPairs (λ (r q : RouteId). r ≢ q) x.routes) is
-    (apart_routes hub.comp hub.ports hub.routes.items hub.routed s.places.items h.low h.apart)
+    (apart_routes channel.comp channel.ports channel.routes.items channel.routed s.places.items h.low h.apart)
 
 -- what is counted for one of its routes
 pub told_at : (s : sender.Inside) (v : Sending) (way n : ℕ) → IsSender s → seen s ≡ v → way < length v.routes → n ≡ get_or s.counts.items way 0
@@ -192,10 +192,10 @@ pass_after v w places e is put =
 -- the ledger of a sender that has put one more on this one of its routes
 pub ledger_after : (s : sender.Inside) (v : Sending) (w : View) (way : ℕ) (e : Envelope) → IsSender s → seen s ≡ v → way < length v.routes
     → e.place ≡ get_or s.places.items way 0 → e.number ≡ length (put_on_way v way) → Puts s.pass.me.view.client e w
-    → map (posted_of (arc_value s.hub).routes.items) w.put
+    → map (posted_of (arc_value s.channel).routes.items) w.put
     ≡ v.ledger ++ record { route = route_at v.routes way; number = length (put_on_way v way); stamped = e.stamped } ∷ []
 ledger_after s v w way e h is low at num put =
-    let routes = (arc_value s.hub).routes.items in
+    let routes = (arc_value s.channel).routes.items in
     let k = on_way s v way h is low in
     let on : route_at routes e.place ≡ route_at v.routes way =
     ap (route_at routes) at ∙ sym (get_or-map (route_at routes) s.places.items way 0 absent_route k.0)
@@ -206,14 +206,14 @@ ledger_after s v w way e h is low at num put =
 -- what holds of a sender's fields once it has put one more on this one of its routes
 pub record Grown (s : sender.Inside) (w : View) (counts : List ℕ) : Type 0 where
   pub view : w ≡ sender_pass s.places.items w.put
-  pub routed : AreRouted (length (arc_value s.hub).routes.items) w.put
+  pub routed : AreRouted (length (arc_value s.channel).routes.items) w.put
   pub told : AreTold s.places.items counts w.put
 
 pub grown : (s : sender.Inside) (v : Sending) (w : View) (way : ℕ) (e : Envelope) (counts : List ℕ) → IsSender s
     → seen s ≡ v → way < length v.routes → e.place ≡ get_or s.places.items way 0 → e.number ≡ length (put_on_way v way)
     → Puts s.pass.me.view.client e w → counts ≡ set s.counts.items way (e.number + 1) → Grown s w counts
 grown s v w way e counts h is low at num put told =
-    let routes = (arc_value s.hub).routes.items in
+    let routes = (arc_value s.channel).routes.items in
     let k = on_way s v way h is low in
     let p = pass_after s.pass.me.view.client w s.places.items e h.view put in
     let here : e.number ≡ length (of e.place s.pass.me.view.client.put) = num ∙ ap length k.1
@@ -246,9 +246,9 @@ told_more places counts place h = (
 -- what holds of a sender's fields once it has one route more
 pub record Widened (s : sender.Inside) (w : View) (places counts : List ℕ) : Type 0 where
   pub view : w ≡ sender_pass places w.put
-  pub low : All (λ p. p < length (arc_value s.hub).routes.items) places
+  pub low : All (λ p. p < length (arc_value s.channel).routes.items) places
   pub apart : AllPairs (λ p q. p ≢ q) places
-  pub routed : AreRouted (length (arc_value s.hub).routes.items) w.put
+  pub routed : AreRouted (length (arc_value s.channel).routes.items) w.put
   pub told : AreTold places counts w.put
   pub put : w.put ≡ s.pass.me.view.client.put
 
@@ -257,8 +257,8 @@ pub widened : (s : sender.Inside) (v : Sending) (u w : View) (place : ℕ) (plac
     → places ≡ s.places.items ++ place ∷ [] → counts ≡ s.counts.items ++ 0 ∷ [] → place < length v.inbox.routes
     → All (λ r. r ≢ route_at v.inbox.routes place) v.routes → Widened s w places counts
 widened s v u w place places counts h is fresh other join at told low apart =
-    let hub = arc_value s.hub in
-    let routes = hub.routes.items in
+    let channel = arc_value s.channel in
+    let routes = channel.routes.items in
     let put = s.pass.me.view.client.put in
     let none : put ≡ [] = map_nil (posted_of routes) put (ap (λ (x : Sending). x.ledger) is ∙ fresh) in
     let same : w.put ≡ put = ap (λ (x : View). x.put) join in

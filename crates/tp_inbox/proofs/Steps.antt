@@ -67,7 +67,7 @@ pub begins : Delivers [] (owner_pass 0 [] [] ∷ [])
 begins = record {
   owner = 0;
   made = 0;
-  seat = λ p. none;
+  holder = λ p. none;
   taken = [];
   routed = tt;
   order = λ p. ([], refl);
@@ -89,11 +89,11 @@ sends n pass places put e own num items views _ h here =
       record {
         owner = h.owner;
         made = h.made;
-        seat = h.seat;
+        holder = h.holder;
         taken = h.taken;
         routed = subst (AreRouted h.made) whole (routed-append h.made all (e ∷ []) h.routed (there.0, tt));
         order = subst InOrder whole (in_order-push all e h.order count);
-        senders = each_set (FitsSender h.made h.seat (h.taken ++ (items ++ e ∷ []))) views pass w
+        senders = each_set (FitsSender h.made h.holder (h.taken ++ (items ++ e ∷ []))) views pass w
             (λ _. (mine.0, ap (among places) (sym whole) ∙ among-here places all e own ∙ ap (λ l. l ++ e ∷ []) mine.1))
             (λ j u apart e' s.
             let o = h.senders j u e' s in (
@@ -102,7 +102,7 @@ sends n pass places put e own num items views _ h here =
                   ∙ among-else u.places all e
                   (false_or (has u.places e.place) (λ yes_. apart (some-injective j pass (sym (o.0 e.place yes_).1 ∙ there.1)))) ∙ o.1,
             ));
-        owners = each_set (FitsOwner h.owner h.made h.seat h.taken (h.taken ++ (items ++ e ∷ []))) views pass w (λ o. absurd (off o))
+        owners = each_set (FitsOwner h.owner h.made h.holder h.taken (h.taken ++ (items ++ e ∷ []))) views pass w (λ o. absurd (off o))
             (λ j u apart e' o.
             let f = h.owners j u e' o in (
               f.0,
@@ -132,13 +132,13 @@ takes pass made taken known e items views h here =
       record {
         owner = h.owner;
         made = h.made;
-        seat = h.seat;
+        holder = h.holder;
         taken = more;
         routed = subst (AreRouted h.made) whole h.routed;
         order = subst InOrder whole h.order;
-        senders = each_set (FitsSender h.made h.seat (more ++ items)) views pass w (λ s. absurd (off s))
-            (λ j u _ e'. subst (λ l. FitsSender h.made h.seat l j u) whole (h.senders j u e'));
-        owners = each_set (FitsOwner h.owner h.made h.seat more (more ++ items)) views pass w
+        senders = each_set (FitsSender h.made h.holder (more ++ items)) views pass w (λ s. absurd (off s))
+            (λ j u _ e'. subst (λ l. FitsSender h.made h.holder l j u) whole (h.senders j u e'));
+        owners = each_set (FitsOwner h.owner h.made h.holder more (more ++ items)) views pass w
             (λ _. (mine.0, mine.1, ap (λ l. l ++ e ∷ []) mine.2, mine.3, ends))
             (λ j u apart e' o. absurd (apart ((h.owners j u e' o).0 ∙ sym mine.0)));
       },
@@ -167,39 +167,39 @@ splits pass made taken known items views h here =
     let right = sender_pass (made ∷ []) [] in
     let vs = set views pass left in
     let new = some (length vs) in
-    let seat = at h.seat made new in
+    let holder = at h.holder made new in
     let all = h.taken ++ items in
     record {
       owner = h.owner;
       made = h.made + 1;
-      seat = seat;
+      holder = holder;
       taken = h.taken;
       routed = routed-more h.made all h.routed;
       order = h.order;
-      senders = each_snoc (FitsSender (h.made + 1) seat all) vs right
-          (each_set (FitsSender (h.made + 1) seat all) views pass left (λ s. absurd (off s))
+      senders = each_snoc (FitsSender (h.made + 1) holder all) vs right
+          (each_set (FitsSender (h.made + 1) holder all) views pass left (λ s. absurd (off s))
           (λ j u _ e s.
           let o = h.senders j u e s in (
             λ p yes_.
                 let l = (o.0 p yes_).0 in
-                (omega arith, at-else h.seat made new p (λ eq. omega arith) ∙ (o.0 p yes_).1),
+                (omega arith, at-else h.holder made new p (λ eq. omega arith) ∙ (o.0 p yes_).1),
             o.1,
           )))
           (λ _. (
             λ p yes_.
                 let is = has-one made p yes_ in
-                (omega arith, ap seat is ∙ at-here h.seat made new),
+                (omega arith, ap holder is ∙ at-here h.holder made new),
             ap (λ n. among (n ∷ []) all) same ∙ among-new h.made all h.routed,
           ));
-      owners = each_snoc (FitsOwner h.owner (h.made + 1) seat h.taken all) vs right
-          (each_set (FitsOwner h.owner (h.made + 1) seat h.taken all) views pass left
+      owners = each_snoc (FitsOwner h.owner (h.made + 1) holder h.taken all) vs right
+          (each_set (FitsOwner h.owner (h.made + 1) holder h.taken all) views pass left
           (λ _. (
             mine.0,
             omega arith,
             mine.2,
             λ k d low p yes_.
                 let l = (mine.3 k d low p yes_).0 in
-                (omega arith, at-else h.seat made new p (λ eq. omega arith) ∙ (mine.3 k d low p yes_).1),
+                (omega arith, at-else h.holder made new p (λ eq. omega arith) ∙ (mine.3 k d low p yes_).1),
             mine.4,
           ))
           (λ j u apart e o. absurd (apart ((h.owners j u e o).0 ∙ sym mine.0))))
@@ -219,28 +219,28 @@ joins pass made taken known other places put items views h here two there =
     let vs = set views pass both in
     let was : get_elem? views other ≡ some w = ⊎_elim (λ x. absurd (two x.0)) (λ x. x.1) (at_set views pass other both w there) in
     let theirs = h.senders other w was refl in
-    let seat = at_all h.seat places none in
+    let holder = at_all h.holder places none in
     let all = h.taken ++ items in
-    let S : ℕ → View → Type 0 = λ j u. j ≢ other → FitsSender h.made seat all j u in
-    let O = FitsOwner h.owner h.made seat h.taken all in
-    let Left : Ledger → Type 0 = λ x. (p : ℕ) → has x.0 p ≡ true → (p < h.made) × (seat p ≡ none) in
+    let S : ℕ → View → Type 0 = λ j u. j ≢ other → FitsSender h.made holder all j u in
+    let O = FitsOwner h.owner h.made holder h.taken all in
+    let Left : Ledger → Type 0 = λ x. (p : ℕ) → has x.0 p ≡ true → (p < h.made) × (holder p ≡ none) in
     let Whole : Ledger → Type 0 = λ x. among x.0 all ≡ x.1 in
-    let free : (p : ℕ) → h.seat p ≡ none → seat p ≡ none = λ p is. stays (has places p) (h.seat p) is in
+    let free : (p : ℕ) → h.holder p ≡ none → holder p ≡ none = λ p is. stays (has places p) (h.holder p) is in
     record {
       owner = h.owner;
       made = h.made;
-      seat = seat;
+      holder = holder;
       taken = h.taken;
       routed = h.routed;
       order = h.order;
-      senders = each_set (FitsSender h.made seat all) vs other spent (λ s. absurd (off s))
+      senders = each_set (FitsSender h.made holder all) vs other spent (λ s. absurd (off s))
           (λ j u apart e.
           each_set S views pass both (λ _ s. absurd (off s))
           (λ i v _ e' not s.
           let o = h.senders i v e' s in (
             λ p yes_. (
               (o.0 p yes_).0,
-              at_all-else h.seat places none p (λ theirs_. not (some-injective i other (sym (o.0 p yes_).1 ∙ (theirs.0 p theirs_).1))) ∙ (o.0 p yes_).1,
+              at_all-else h.holder places none p (λ theirs_. not (some-injective i other (sym (o.0 p yes_).1 ∙ (theirs.0 p theirs_).1))) ∙ (o.0 p yes_).1,
             ),
             o.1,
           ))
@@ -253,7 +253,7 @@ joins pass made taken known other places put items views h here two there =
             mine.1,
             mine.2,
             All-append Left known ((places, put) ∷ []) (λ k d low p yes_. ((mine.3 k d low p yes_).0, free p (mine.3 k d low p yes_).1))
-                (all_one Left (places, put) (λ p yes_. ((theirs.0 p yes_).0, at_all-here h.seat places none p yes_))),
+                (all_one Left (places, put) (λ p yes_. ((theirs.0 p yes_).0, at_all-here h.holder places none p yes_))),
             All-append Whole known ((places, put) ∷ []) mine.4 (all_one Whole (places, put) theirs.1),
           ))
           (λ i v not e' o. absurd (not ((h.owners i v e' o).0 ∙ sym mine.0)))
@@ -274,26 +274,26 @@ pairs pass places put other others items views h here two there =
     let vs = set views pass both in
     let was : get_elem? views other ≡ some w = ⊎_elim (λ x. absurd (two x.0)) (λ x. x.1) (at_set views pass other both w there) in
     let theirs = h.senders other w was refl in
-    let seat = at_all h.seat others (some pass) in
+    let holder = at_all h.holder others (some pass) in
     let all = h.taken ++ items in
-    let S : ℕ → View → Type 0 = λ j u. j ≢ other → FitsSender h.made seat all j u in
-    let O : ℕ → View → Type 0 = FitsOwner h.owner h.made seat h.taken all in
-    let kept : (p : ℕ) → h.seat p ≡ some pass → seat p ≡ some pass = λ p is. stays (has others p) (h.seat p) is in
+    let S : ℕ → View → Type 0 = λ j u. j ≢ other → FitsSender h.made holder all j u in
+    let O : ℕ → View → Type 0 = FitsOwner h.owner h.made holder h.taken all in
+    let kept : (p : ℕ) → h.holder p ≡ some pass → holder p ≡ some pass = λ p is. stays (has others p) (h.holder p) is in
     record {
       owner = h.owner;
       made = h.made;
-      seat = seat;
+      holder = holder;
       taken = h.taken;
       routed = h.routed;
       order = h.order;
-      senders = each_set (FitsSender h.made seat all) vs other spent (λ s. absurd (off s))
+      senders = each_set (FitsSender h.made holder all) vs other spent (λ s. absurd (off s))
           (λ j u apart e.
           each_set S views pass both
           (λ _ _. (
             λ p yes_.
                 ⊎_elim
                 (λ (a : has places p ≡ true). ((mine.0 p a).0, kept p (mine.0 p a).1))
-                (λ (b : has others p ≡ true). ((theirs.0 p b).0, at_all-here h.seat others (some pass) p b))
+                (λ (b : has others p ≡ true). ((theirs.0 p b).0, at_all-here h.holder others (some pass) p b))
                 (has-either places others p yes_),
             among-more places others all theirs.1 ∙ mine.1,
           ))
@@ -301,7 +301,7 @@ pairs pass places put other others items views h here two there =
           let o = h.senders i v e' s in (
             λ p yes_. (
               (o.0 p yes_).0,
-              at_all-else h.seat others (some pass) p (λ theirs_. not (some-injective i other (sym (o.0 p yes_).1 ∙ (theirs.0 p theirs_).1)))
+              at_all-else h.holder others (some pass) p (λ theirs_. not (some-injective i other (sym (o.0 p yes_).1 ∙ (theirs.0 p theirs_).1)))
                   ∙ (o.0 p yes_).1,
             ),
             o.1,
@@ -317,7 +317,7 @@ pairs pass places put other others items views h here two there =
             f.2,
             λ k d low p yes_. (
               (f.3 k d low p yes_).0,
-              at_all-else h.seat others (some pass) p (λ theirs_. some-ne-none other (sym (theirs.0 p theirs_).1 ∙ (f.3 k d low p yes_).1))
+              at_all-else h.holder others (some pass) p (λ theirs_. some-ne-none other (sym (theirs.0 p theirs_).1 ∙ (f.3 k d low p yes_).1))
                   ∙ (f.3 k d low p yes_).1,
             ),
             f.4,

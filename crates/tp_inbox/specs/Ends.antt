@@ -5,7 +5,7 @@ use Rattle.crossbeam_queue.specs.SegTies.{IsSegPassOf}
 use Rattle.tp_inbox.specs.declared.posted.Posted.{Posted}
 use Rattle.tp_config.specs.declared.port_type.CompId.{CompId}
 use Rattle.tp_config.specs.declared.port_type.RouteId.{RouteId}
-use Rattle.tp_inbox.specs.declared.hub.Hub.{Hub}
+use Rattle.tp_inbox.specs.declared.channel.Channel.{Channel}
 use Rattle.tp_inbox.specs.declared.entry.Entry.{Entry}
 use Rattle.tp_inbox.specs.declared.envelope.Envelope.{Envelope}
 use Rattle.tp_inbox.specs.declared.rule.View.{View}
@@ -18,8 +18,8 @@ use Rattle.tp_inbox.specs.Places.{AreFiled}
 use Rattle.tp_inbox.specs.Ledgers.{Inbox}
 
 -- the inbox whose ends share this
-abbrev pub inbox_of : Hub → Inbox
-inbox_of h = record { comp = h.comp; ports = h.ports; routes = h.routes.items; queue = h.line }
+abbrev pub inbox_of : Channel → Inbox
+inbox_of h = record { comp = h.comp; ports = h.ports; routes = h.routes.items; queue = h.queue }
 
 -- what these components have put, by what the owner's pass knows of their senders
 abbrev pub sent_by : List RouteId → List CompId → List Ledger → List (CompId × List Posted)
@@ -40,34 +40,34 @@ AreTold places counts es =
 -- a sender's pass is of its inbox's queue, and knows the places of its routes, of which no two are equal, and what it
 -- has put; the counts are those of its routes
 pub record IsSender (s : sender.Inside) : Type 0 where
-  pub pass : IsSegPassOf (arc_value s.hub).line s.pass
+  pub pass : IsSegPassOf (arc_value s.channel).queue s.pass
   pub view : s.pass.me.view.client ≡ sender_pass s.places.items s.pass.me.view.client.put
-  pub low : All (λ p. p < length (arc_value s.hub).routes.items) s.places.items
+  pub low : All (λ p. p < length (arc_value s.channel).routes.items) s.places.items
   pub apart : AllPairs (λ p q. p ≢ q) s.places.items
-  pub routed : AreRouted (length (arc_value s.hub).routes.items) s.pass.me.view.client.put
+  pub routed : AreRouted (length (arc_value s.channel).routes.items) s.pass.me.view.client.put
   pub counts : AreTold s.places.items s.counts.items s.pass.me.view.client.put
 
--- what the owner has taken out is counted as the bell counts what was announced
+-- what the owner has taken out is counted as the notifier counts what was announced
 abbrev pub IsCounted : ℕ → View → Type 0
 IsCounted n v = n ≡ length v.taken % 2 ^ 64
 
 -- an owner's pass is of its inbox's queue; what it has taken out is what was drained, and then what is in hand, and is
--- counted as the bell counts what was announced; the counts are those of what was drained, and each route's place among
--- them is found; and there is room for each sender that comes back, and for what is in hand
+-- counted as the notifier counts what was announced; the counts are those of what was drained, and each route's place
+-- among them is found; and there is room for each sender that comes back, and for what is in hand
 pub record IsOwner (s : owner.Inside) : Type 0 where
-  pub pass : IsSegPassOf (arc_value s.hub).line s.pass
+  pub pass : IsSegPassOf (arc_value s.channel).queue s.pass
   pub sound : Sound s.pass.me.view.client
-  pub made : s.pass.me.view.client.made ≡ length (arc_value s.hub).routes.items
+  pub made : s.pass.me.view.client.made ≡ length (arc_value s.channel).routes.items
   pub known : s.pass.me.view.client.known ≡ []
   pub ends : EndsWith s.pass.me.view.client.taken (one_of s.hand)
   pub taken : IsCounted s.taken s.pass.me.view.client
   pub counts : AreCounts
-      (length (arc_value s.hub).routes.items)
+      (length (arc_value s.channel).routes.items)
       s.counts.items
       (before s.pass.me.view.client.taken (one_of s.hand))
-  pub places : AreFiled (length (arc_value s.hub).routes.items) (arc_value s.hub).routes.items s.places
+  pub places : AreFiled (length (arc_value s.channel).routes.items) (arc_value s.channel).routes.items s.places
   pub sources : s.sources.items ≡ []
-  pub sources_room : length (arc_value s.hub).routes.items ≤ vec_capacity s.sources
+  pub sources_room : length (arc_value s.channel).routes.items ≤ vec_capacity s.sources
   pub rest : s.rest.items ≡ []
   pub rest_room : 1 ≤ vec_capacity s.rest
 
@@ -88,4 +88,4 @@ GivesNext v hand None w = (hand ≡ None) × (w.taken ≡ v.taken)
 
 -- what was drained
 abbrev pub drained_of : owner.Inside → List Entry
-drained_of s = arrivals_of (arc_value s.hub).routes.items (before s.pass.me.view.client.taken (one_of s.hand))
+drained_of s = arrivals_of (arc_value s.channel).routes.items (before s.pass.me.view.client.taken (one_of s.hand))

@@ -15,7 +15,7 @@ use Rattle.tp_inbox.specs.Ends.{AreFrom, sent_by}
 
 -- the arrivals that all make which was taken out
 abbrev pub all_arrivals : Inside → List Entry
-all_arrivals s = arrivals_of (arc_value s.hub).routes.items s.pass.me.view.client.taken
+all_arrivals s = arrivals_of (arc_value s.channel).routes.items s.pass.me.view.client.taken
 
 -- the first of these, without the rest: what was drained
 abbrev pub front_of : Inside → List Entry
@@ -27,12 +27,12 @@ IsPutOf routes x s = AreFrom s.0 routes x.0 × (s.1 ≡ map (posted_of routes) x
 
 -- what the senders that have joined had put
 abbrev pub all_sent : Inside → List (CompId × List Posted)
-all_sent s = sent_by (arc_value s.hub).routes.items s.sources.items s.pass.me.view.client.known
+all_sent s = sent_by (arc_value s.channel).routes.items s.sources.items s.pass.me.view.client.known
 
 -- its pass is of its inbox's queue; these senders have joined; what was taken out is what was drained, then the rest
 pub record IsGathered (s : Inside) : Type 0 where
-  pub pass : IsSegPassOf (arc_value s.hub).line s.pass
+  pub pass : IsSegPassOf (arc_value s.channel).queue s.pass
   pub sound : Sound s.pass.me.view.client
-  pub made : s.pass.me.view.client.made ≡ length (arc_value s.hub).routes.items
-  pub known : AllZip (IsPutOf (arc_value s.hub).routes.items) s.pass.me.view.client.known (all_sent s)
+  pub made : s.pass.me.view.client.made ≡ length (arc_value s.channel).routes.items
+  pub known : AllZip (IsPutOf (arc_value s.channel).routes.items) s.pass.me.view.client.known (all_sent s)
   pub ends : all_arrivals s ≡ front_of s ++ rest_arrivals s.rest.items

@@ -24,30 +24,30 @@ spent = record { sends = false; places = []; put = []; owns = false; made = 0; t
 -- what a sender's pass has to do with the whole: it alone has its routes, and of all envelopes so far those of its
 -- routes are what it has put, in its order
 abbrev pub FitsSender : ℕ → (ℕ → Option ℕ) → List Envelope → ℕ → View → Type 0
-FitsSender made seat all pass v =
+FitsSender made holder all pass v =
     v.sends ≡ true
-    → ((p : ℕ) → has v.places p ≡ true → (p < made) × (seat p ≡ some pass)) × (among v.places all ≡ v.put)
+    → ((p : ℕ) → has v.places p ≡ true → (p < made) × (holder p ≡ some pass)) × (among v.places all ≡ v.put)
 
 -- the owner's, of which there is one: it knows what was taken out, how many routes there are, and what those put that
 -- have joined, whose routes nobody has any more
 abbrev pub FitsOwner : ℕ → ℕ → (ℕ → Option ℕ) → List Envelope → List Envelope → ℕ → View → Type 0
-FitsOwner owner made seat taken all pass v =
+FitsOwner owner made holder taken all pass v =
     v.owns ≡ true
     → (pass ≡ owner) × (v.made ≡ made) × (v.taken ≡ taken)
-    × All (λ (x : Ledger). (p : ℕ) → has x.0 p ≡ true → (p < made) × (seat p ≡ none)) v.known × AreWhole all v.known
+    × All (λ (x : Ledger). (p : ℕ) → has x.0 p ≡ true → (p < made) × (holder p ≡ none)) v.known × AreWhole all v.known
 
 -- for each sender the envelopes of its routes, of what was taken out and then of what is held, are what it has put, in
 -- its order over all its routes; on each route they are numbered from 0, and there is no other route
 pub record Delivers (items : List Envelope) (views : List View) : Type 0 where
   pub owner : ℕ
   pub made : ℕ
-  pub seat : ℕ → Option ℕ
+  pub holder : ℕ → Option ℕ
   pub taken : List Envelope
   pub routed : AreRouted made (taken ++ items)
   pub order : InOrder (taken ++ items)
-  pub senders : (pass : ℕ) (v : View) → get_elem? views pass ≡ some v → FitsSender made seat (taken ++ items) pass v
+  pub senders : (pass : ℕ) (v : View) → get_elem? views pass ≡ some v → FitsSender made holder (taken ++ items) pass v
   pub owners : (pass : ℕ) (v : View) → get_elem? views pass ≡ some v
-      → FitsOwner owner made seat taken (taken ++ items) pass v
+      → FitsOwner owner made holder taken (taken ++ items) pass v
 
 -- an envelope that was taken out is the next of its route, and of a route that there is
 abbrev pub Takes : View → Envelope → View → Type 0

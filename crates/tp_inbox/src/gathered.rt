@@ -8,9 +8,9 @@ ghost use Rattle.tp_inbox.specs.Routed.{arrivals_of, rest_arrivals};
 ghost use Rattle.tp_inbox.specs.Envelopes.{AreRouted};
 ghost use Rattle.tp_inbox.specs.Ledgers.{AreSenders, IsDeskOf, put_by};
 
+use crate::channel::Channel;
 use crate::desk::Desk;
 use crate::envelope::Envelope;
-use crate::hub::Hub;
 use crate::owner::{Owner, take_out};
 use crate::rule::{Pass, Route, Take};
 use crate::sender::Sender;
@@ -30,7 +30,7 @@ pub type Rest = Vec<(u32, Env<Message>, u64)>;
 /// sender has put.
 #[derive(Drop)]
 pub struct Gathered {
-    hub: Arc<Hub, Global>,
+    channel: Arc<Channel, Global>,
     pass: Pass,
     /// The components whose senders came back, in their order. What each has put the pass knows.
     sources: Vec<CompId>,
@@ -53,7 +53,7 @@ impl Model for Gathered {
     ghost use Rattle.tp_inbox.specs.Ends.{inbox_of};
 
     ghost view = { λ s. record {
-      inbox = inbox_of (arc_value s.hub);
+      inbox = inbox_of (arc_value s.channel);
       drained = front_of s;
       kept = rest_arrivals s.rest.items;
       sent = all_sent s;
@@ -63,14 +63,14 @@ impl Model for Gathered {
 }
 
 /// The envelope that was in hand, if any, as the first of the rest.
-fn with_hand(hub: &Hub, mut rest: Rest, hand: Option<Envelope>) -> Rest
+fn with_hand(channel: &Channel, mut rest: Rest, hand: Option<Envelope>) -> Rest
     requires empty { rest.items ≡ [] }
     requires room { 1 ≤ vec_capacity rest }
-    requires routed { AreRouted (length hub.now.routes.items) (one_of hand) }
-    ensures { rest_arrivals result.items ≡ arrivals_of hub.now.routes.items (one_of hand) }
+    requires routed { AreRouted (length channel.now.routes.items) (one_of hand) }
+    ensures { rest_arrivals result.items ≡ arrivals_of channel.now.routes.items (one_of hand) }
 {
     if let Some(envelope) = hand {
-        rest.push_reserved(hub.addressed(envelope));
+        rest.push_reserved(channel.addressed(envelope));
     }
     rest
 }
@@ -88,7 +88,7 @@ pub fn gather<R: Wait>(rt: &R, owner: Owner, senders: Vec<Sender>) -> Gathered
     ensures begun { AreBegun owner.inbox.comp (result.drained ++ result.kept) result.sent }
 {
     let Owner {
-        hub,
+        channel,
         mut pass,
         hand,
         mut sources,
@@ -99,19 +99,19 @@ pub fn gather<R: Wait>(rt: &R, owner: Owner, senders: Vec<Sender>) -> Gathered
     } = owner;
     for sender in senders {
         let Sender {
-            hub: _,
+            channel: _,
             pass: other,
             source,
             places: _,
             counts: _,
         } = sender;
-        hub.line.absorb::<Route>(&mut pass, other);
+        channel.queue.absorb::<Route>(&mut pass, other);
         sources.push_reserved(source);
     }
-    hub.line.len_as::<Take, R>(rt, &mut pass);
-    let rest = with_hand(&hub, rest, hand);
+    channel.queue.len_as::<Take, R>(rt, &mut pass);
+    let rest = with_hand(&channel, rest, hand);
     Gathered {
-        hub,
+        channel,
         pass,
         sources,
         rest,
@@ -144,7 +144,7 @@ impl Gathered {
         // Contracts alone speak of the desk.
         let _ = desk;
         let Gathered {
-            hub,
+            channel,
             mut pass,
             sources,
             mut rest,
@@ -154,16 +154,16 @@ impl Gathered {
                 return Err((
                     Memory,
                     Gathered {
-                        hub,
+                        channel,
                         pass,
                         sources,
                         rest,
                     },
                 ));
             }
-            match take_out(rt, &hub.line, &mut pass) {
+            match take_out(rt, &channel.queue, &mut pass) {
                 None => return Ok(rest),
-                Some(envelope) => rest.push_reserved(hub.addressed(envelope)),
+                Some(envelope) => rest.push_reserved(channel.addressed(envelope)),
             }
         }
         // The loop ends by a return alone.

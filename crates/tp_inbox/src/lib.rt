@@ -1,12 +1,12 @@
 //! One component's inbox and desk.
 #![tactic(auto)]
 
+mod channel;
 pub mod desk;
 pub mod ending;
 pub mod entry;
 mod envelope;
 pub mod gathered;
-mod hub;
 pub mod making;
 pub mod owner;
 pub mod posted;

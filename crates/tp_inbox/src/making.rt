@@ -12,7 +12,7 @@ ghost use Rattle.tp_inbox.specs.Ends.{inbox_of};
 ghost use Rattle.crossbeam_queue.specs.SegTies.{IsSegPassOf};
 ghost use Rattle.std.specs.Arc.{arc_value};
 
-use crate::hub::Hub;
+use crate::channel::Channel;
 use crate::owner::{Closer, Owner};
 use crate::rule::{InboxQueue, Pass, Route};
 use crate::sender::Sender;
@@ -69,23 +69,24 @@ fn sender_of(senders: &[Sender], source: CompId) -> Option<usize>
 /// 50 `Memory` where an allocation was refused.
 fn add_route(
     alloc: Global,
-    hub: &Arc<Hub, Global>,
+    channel: &Arc<Channel, Global>,
     senders: &mut Vec<Sender>,
     pass: Pass,
     place: usize,
 ) -> Result<(), Memory>
-    requires queue { IsSegPassOf (arc_value hub.now).line pass }
+    requires queue { IsSegPassOf (arc_value channel.now).queue pass }
     requires view { pass.me.view.client ≡ sender_pass (place ∷ []) [] }
-    requires place { place < length (arc_value hub.now).routes.items }
-    requires senders { AreMade (inbox_of (arc_value hub.now)) place senders.old.items }
-    ensures { OnOk result (AreMade (inbox_of (arc_value hub.now)) (place + 1) senders.new.items) }
+    requires place { place < length (arc_value channel.now).routes.items }
+    requires senders { AreMade (inbox_of (arc_value channel.now)) place senders.old.items }
+    ensures { OnOk result
+        (AreMade (inbox_of (arc_value channel.now)) (place + 1) senders.new.items) }
 {
-    let route = hub.routes[place];
+    let route = channel.routes[place];
     match sender_of(senders.as_slice(), route.source) {
         Some(index) => senders[index].extend(pass, place),
         None => {
-            let hub = Arc::try_clone(hub)?;
-            let sender = Sender::begin(alloc, hub, pass, place)?;
+            let channel = Arc::try_clone(channel)?;
+            let sender = Sender::begin(alloc, channel, pass, place)?;
             senders.push(sender)?;
             Ok(())
         }
@@ -94,41 +95,45 @@ fn add_route(
 
 /// A sender for each component that has routes into this inbox, with all of these, in the order of
 /// the first of these, with passes that are split off this one.
-fn split(alloc: Global, hub: &Arc<Hub, Global>, pass: &mut Pass) -> Result<Vec<Sender>, Memory>
-    requires queue { IsSegPassOf (arc_value hub.now).line pass.old }
+fn split(
+    alloc: Global,
+    channel: &Arc<Channel, Global>,
+    pass: &mut Pass,
+) -> Result<Vec<Sender>, Memory>
+    requires queue { IsSegPassOf (arc_value channel.now).queue pass.old }
     requires fresh { pass.old.me.view.client ≡ owner_pass 0 [] [] }
-    ensures queue { IfOk result (λ _. IsSegPassOf (arc_value hub.now).line pass.new) }
+    ensures queue { IfOk result (λ _. IsSegPassOf (arc_value channel.now).queue pass.new) }
     ensures made { IfOk result (λ _. pass.new.me.view.client
-        ≡ owner_pass (length (arc_value hub.now).routes.items) [] []) }
+        ≡ owner_pass (length (arc_value channel.now).routes.items) [] []) }
     ensures senders { IfOk result (λ senders. senders.items
-        ≡ map (new_sender (inbox_of (arc_value hub.now)))
-        (sources_of (arc_value hub.now).routes.items)) }
+        ≡ map (new_sender (inbox_of (arc_value channel.now)))
+        (sources_of (arc_value channel.now).routes.items)) }
 {
-    let count = hub.routes.len();
+    let count = channel.routes.len();
     let mut senders = Vec::new(alloc);
     for place in 0..count {
-        let theirs = hub.line.another::<Route>(pass);
-        add_route(alloc, hub, &mut senders, theirs, place)?;
+        let theirs = channel.queue.another::<Route>(pass);
+        add_route(alloc, channel, &mut senders, theirs, place)?;
     }
     Ok(senders)
 }
 
 /// The owner of an inbox from which nothing was drained, with a pass from which that of each route
 /// was split off.
-fn begin_owner(alloc: Global, hub: Arc<Hub, Global>, pass: Pass) -> Result<Owner, Memory>
-    requires queue { IsSegPassOf (arc_value hub).line pass }
+fn begin_owner(alloc: Global, channel: Arc<Channel, Global>, pass: Pass) -> Result<Owner, Memory>
+    requires queue { IsSegPassOf (arc_value channel).queue pass }
     requires made { pass.me.view.client
-        ≡ owner_pass (length (arc_value hub).routes.items) [] [] }
-    ensures inbox { IfOk result (λ owner. owner.inbox ≡ inbox_of (arc_value hub)) }
+        ≡ owner_pass (length (arc_value channel).routes.items) [] [] }
+    ensures inbox { IfOk result (λ owner. owner.inbox ≡ inbox_of (arc_value channel)) }
     ensures drained { IfOk result (λ owner. owner.drained ≡ []) }
 {
-    let count = hub.routes.len();
+    let count = channel.routes.len();
     let counts = Vec::from_elem(alloc, 0, count)?;
-    let places = places_of(alloc, hub.routes.as_slice())?;
+    let places = places_of(alloc, channel.routes.as_slice())?;
     let sources = Vec::with_capacity(alloc, count)?;
     let rest = Vec::with_capacity(alloc, 1)?;
     Ok(Owner {
-        hub,
+        channel,
         pass,
         hand: None,
         taken: 0,
@@ -162,13 +167,13 @@ pub fn inbox(
 {
     let routes = routes_of(config, comp)?;
     let floor = Arc::try_clone(floor)?;
-    let (line, mut pass) = InboxQueue::with_rule(alloc)?;
-    let hub = Hub::over(line, comp, config.port_count(comp), routes, floor);
-    let hub = Arc::new(alloc, hub)?;
-    let senders = split(alloc, &hub, &mut pass)?;
+    let (queue, mut pass) = InboxQueue::with_rule(alloc)?;
+    let channel = Channel::over(queue, comp, config.port_count(comp), routes, floor);
+    let channel = Arc::new(alloc, channel)?;
+    let senders = split(alloc, &channel, &mut pass)?;
     let closer = Closer {
-        hub: Arc::try_clone(&hub)?,
+        channel: Arc::try_clone(&channel)?,
     };
-    let owner = begin_owner(alloc, hub, pass)?;
+    let owner = begin_owner(alloc, channel, pass)?;
     Ok((owner, senders, closer))
 }

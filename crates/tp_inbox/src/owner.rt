@@ -10,9 +10,9 @@ ghost use Rattle.tp_inbox.specs.Ends.{Fetches, GivesNext, IsCounted, KeepsRoutes
 ghost use Rattle.tp_inbox.specs.Routed.{AreArrivals, arrival_of};
 ghost use Rattle.tp_inbox.specs.Ledgers.{IsDeskOf, drained_on};
 
+use crate::channel::Channel;
 use crate::desk::Desk;
 use crate::envelope::Envelope;
-use crate::hub::Hub;
 use crate::rule::{InboxQueue, Pass, Take};
 use crate::stamped::Stamped;
 use indexmap::IndexMap;
@@ -20,7 +20,7 @@ use std::alloc::Global;
 use std::marker::Model;
 use std::sync::{Arc, Wait};
 use tp_config::port_type::{CompId, RouteId};
-use tp_floor::bell::Woken;
+use tp_floor::notifier::Woken;
 use tp_queue::event::Env;
 use tp_refusal::memory::Memory;
 use tp_value::message::Message;
@@ -29,7 +29,7 @@ use tp_value::message::Message;
 /// order.
 #[derive(Drop)]
 pub struct Owner {
-    pub(crate) hub: Arc<Hub, Global>,
+    pub(crate) channel: Arc<Channel, Global>,
     pub(crate) pass: Pass,
     /// An envelope that was taken out of the queue and could not be moved.
     pub(crate) hand: Option<Envelope>,
@@ -57,37 +57,37 @@ impl Model for Owner {
 
     ghost use Rattle.tp_inbox.specs.Ends.{IsOwner, drained_of, inbox_of};
 
-    ghost view = { λ s. record { inbox = inbox_of (arc_value s.hub); drained = drained_of s } };
+    ghost view = { λ s. record { inbox = inbox_of (arc_value s.channel); drained = drained_of s } };
 
     ghost invariant = { IsOwner };
 }
 
 /// The next envelope of the queue. Nothing where the queue was found empty.
-pub(crate) fn take_out<R: Wait>(rt: &R, line: &InboxQueue, pass: &mut Pass) -> Option<Envelope>
-    requires queue { IsSegPassOf line.now pass.old }
+pub(crate) fn take_out<R: Wait>(rt: &R, queue: &InboxQueue, pass: &mut Pass) -> Option<Envelope>
+    requires queue { IsSegPassOf queue.now pass.old }
     requires sound { Sound pass.old.me.view.client }
-    ensures queue { IsSegPassOf line.now pass.new }
+    ensures queue { IsSegPassOf queue.now pass.new }
     ensures sound { Sound pass.new.me.view.client }
     ensures same { KeepsRoutes pass.old.me.view.client pass.new.me.view.client }
     ensures found { Fetches pass.old.me.view.client result pass.new.me.view.client }
 {
-    line.pop_as::<Take, R>(rt, pass)
+    queue.pop_as::<Take, R>(rt, pass)
 }
 
 /// The envelope in hand, or else the next of the queue, which is counted as taken out. Nothing
 /// where there is none in hand and the queue was found empty.
 fn next_envelope<R: Wait>(
     rt: &R,
-    line: &InboxQueue,
+    queue: &InboxQueue,
     pass: &mut Pass,
     hand: &mut Option<Envelope>,
     taken: &mut u64,
 ) -> Option<Envelope>
-    requires queue { IsSegPassOf line.now pass.old }
+    requires queue { IsSegPassOf queue.now pass.old }
     requires sound { Sound pass.old.me.view.client }
     requires ends { EndsWith pass.old.me.view.client.taken (one_of hand.old) }
     requires counted { IsCounted taken.old pass.old.me.view.client }
-    ensures queue { IsSegPassOf line.now pass.new }
+    ensures queue { IsSegPassOf queue.now pass.new }
     ensures sound { Sound pass.new.me.view.client }
     ensures same { KeepsRoutes pass.old.me.view.client pass.new.me.view.client }
     ensures hand { hand.new ≡ None }
@@ -97,8 +97,8 @@ fn next_envelope<R: Wait>(
     if hand.is_some() {
         return hand.take();
     }
-    let envelope = take_out(rt, line, pass)?;
-    // The bell counts what was announced in the same way.
+    let envelope = take_out(rt, queue, pass)?;
+    // The notifier counts what was announced in the same way.
     *taken = taken.wrapping_add(1);
     Some(envelope)
 }
@@ -107,20 +107,20 @@ fn next_envelope<R: Wait>(
 ///
 /// 50 `Memory` where an allocation was refused: the envelope is in hand then, where none was.
 fn deliver(
-    hub: &Hub,
+    channel: &Channel,
     hand: &mut Option<Envelope>,
     desk: &mut Desk,
     envelope: Envelope,
 ) -> Result<(), Memory>
-    requires place { envelope.place < length hub.now.routes.items }
-    requires ports { desk.old.ports ≡ hub.now.ports }
+    requires place { envelope.place < length channel.now.routes.items }
+    requires ports { desk.old.ports ≡ channel.now.ports }
     requires hand { hand.old ≡ None }
     ensures ok { OnOk result ((hand.new ≡ None)
-        × (desk.new ≡ adding desk.old (arrival_of hub.now.routes.items envelope))) }
+        × (desk.new ≡ adding desk.old (arrival_of channel.now.routes.items envelope))) }
     ensures err { OnErr result ((hand.new ≡ Some envelope) × (desk.new ≡ desk.old)) }
 {
     let place = envelope.place;
-    let (port, env, stamp) = hub.addressed(envelope);
+    let (port, env, stamp) = channel.addressed(envelope);
     match desk.arrive(port, env, stamp) {
         Ok(()) => Ok(()),
         Err((memory, back)) => {
@@ -163,13 +163,13 @@ impl Owner {
         ensures err { OnErr result ((desk.new ≡ desk.old) × (self.new ≡ self.old)) }
         ensures drained { AreArrivals self.new.inbox.routes self.new.drained }
     {
-        let line = &self.hub.line;
-        let found = next_envelope(rt, line, &mut self.pass, &mut self.hand, &mut self.taken);
+        let queue = &self.channel.queue;
+        let found = next_envelope(rt, queue, &mut self.pass, &mut self.hand, &mut self.taken);
         let Some(envelope) = found else {
             return Ok(false);
         };
         let (place, number) = (envelope.place, envelope.number);
-        deliver(&self.hub, &mut self.hand, desk, envelope)?;
+        deliver(&self.channel, &mut self.hand, desk, envelope)?;
         // The history holds this arrival, so that its number is below its length.
         let _held = desk.entries();
         self.counts[place] = number + 1;
@@ -219,20 +219,20 @@ impl Owner {
         if let Some(found) = in_hand(&self.hand) {
             return found;
         }
-        self.hub.wait_past(rt, self.taken)
+        self.channel.wait_past(rt, self.taken)
     }
 }
 
 /// Closes an inbox.
 #[derive(Drop)]
 pub struct Closer {
-    pub(crate) hub: Arc<Hub, Global>,
+    pub(crate) channel: Arc<Channel, Global>,
 }
 
 impl Closer {
     /// Closes the inbox: its owner, where it waits or comes to wait, finds no more than what is
     /// there already. Messages can be put and drained as before. Takes no memory.
     pub fn close<R: Wait>(&self, rt: &R) {
-        self.hub.close(rt);
+        self.channel.close(rt);
     }
 }

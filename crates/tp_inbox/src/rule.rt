@@ -61,9 +61,9 @@ impl Join<View> for Route {
 }
 
 /// A sender that takes over the routes of another, which has put nothing.
-pub(crate) struct Way;
+pub(crate) struct Takeover;
 
-impl Join<View> for Way {
+impl Join<View> for Takeover {
     ghost use Rattle.std.specs.Prelude.{◌++◌};
     ghost use Rattle.tp_inbox.specs.Rule.{sender_pass, spent};
 

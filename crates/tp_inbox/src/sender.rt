@@ -7,9 +7,9 @@ ghost use Rattle.tp_inbox.specs.Ends.{inbox_of};
 ghost use Rattle.tp_inbox.specs.Ledgers.{end_of, extended, first_sender, put_on_way, putting};
 ghost use Rattle.tp_inbox.specs.Routed.{route_at};
 
+use crate::channel::Channel;
 use crate::envelope::Envelope;
-use crate::hub::Hub;
-use crate::rule::{Pass, Put, Way};
+use crate::rule::{Pass, Put, Takeover};
 use crate::stamped::Stamped;
 use std::alloc::Global;
 use std::marker::Model;
@@ -40,7 +40,7 @@ pub enum PutFault {
 /// It may be moved into a thread of its own. There is no order between what different senders put.
 #[derive(Drop)]
 pub struct Sender {
-    pub(crate) hub: Arc<Hub, Global>,
+    pub(crate) channel: Arc<Channel, Global>,
     pub(crate) pass: Pass,
     /// The component that sends by it.
     pub(crate) source: CompId,
@@ -65,10 +65,10 @@ impl Model for Sender {
     ghost use Rattle.tp_inbox.specs.Ends.{inbox_of, IsSender};
 
     ghost view = { λ s. record {
-      inbox = inbox_of (arc_value s.hub);
+      inbox = inbox_of (arc_value s.channel);
       source = s.source;
-      routes = map (route_at (arc_value s.hub).routes.items) s.places.items;
-      ledger = map (posted_of (arc_value s.hub).routes.items) s.pass.me.view.client.put;
+      routes = map (route_at (arc_value s.channel).routes.items) s.places.items;
+      ledger = map (posted_of (arc_value s.channel).routes.items) s.pass.me.view.client.put;
     } };
 
     ghost invariant = { IsSender };
@@ -80,23 +80,23 @@ impl Sender {
     /// 50 `Memory` where an allocation was refused.
     pub(crate) fn begin(
         alloc: Global,
-        hub: Arc<Hub, Global>,
+        channel: Arc<Channel, Global>,
         pass: Pass,
         place: usize,
     ) -> Result<Sender, Memory>
-        requires queue { IsSegPassOf (arc_value hub).line pass }
+        requires queue { IsSegPassOf (arc_value channel).queue pass }
         requires view { pass.me.view.client ≡ sender_pass (place ∷ []) [] }
-        requires place { place < length (arc_value hub).routes.items }
-        ensures { IfOk result (λ s. s ≡ first_sender (inbox_of (arc_value hub))
-            (route_at (arc_value hub).routes.items place)) }
+        requires place { place < length (arc_value channel).routes.items }
+        ensures { IfOk result (λ s. s ≡ first_sender (inbox_of (arc_value channel))
+            (route_at (arc_value channel).routes.items place)) }
     {
-        let source = hub.routes[place].source;
+        let source = channel.routes[place].source;
         let mut places = Vec::with_capacity(alloc, 1)?;
         let mut counts = Vec::with_capacity(alloc, 1)?;
         places.push_reserved(place);
         counts.push_reserved(0);
         Ok(Sender {
-            hub,
+            channel,
             pass,
             source,
             places,
@@ -119,7 +119,7 @@ impl Sender {
     {
         self.places.reserve(1)?;
         self.counts.reserve(1)?;
-        self.hub.line.absorb::<Way>(&mut self.pass, other);
+        self.channel.queue.absorb::<Takeover>(&mut self.pass, other);
         self.places.push_reserved(place);
         self.counts.push_reserved(0);
         Ok(())
@@ -156,11 +156,11 @@ impl Sender {
             number,
             stamped,
         };
-        let line = &self.hub.line;
-        match line.push_as::<Put, R>(rt, &mut self.pass, envelope) {
+        let queue = &self.channel.queue;
+        match queue.push_as::<Put, R>(rt, &mut self.pass, envelope) {
             Ok(()) => {
                 self.counts[way] = number + 1;
-                self.hub.announce(rt);
+                self.channel.announce(rt);
                 Ok(number)
             }
             Err(back) => Err((PutFault::Memory, back.stamped)),
@@ -190,14 +190,14 @@ impl Sender {
         requires { way < length self.now.routes }
         ensures { result ≡ route_at self.now.routes way }
     {
-        self.hub.routes[self.places[way]]
+        self.channel.routes[self.places[way]]
     }
 
     /// The component whose inbox it puts into. Takes no memory.
     pub fn receiver(&self) -> CompId
         ensures { result ≡ self.now.inbox.comp }
     {
-        self.hub.comp
+        self.channel.comp
     }
 
     /// The component that sends by it. Takes no memory.

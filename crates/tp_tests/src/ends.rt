@@ -8,7 +8,7 @@ use std::process::Abort;
 use std::sync::{Arc, Wait};
 use tp_config::config::Config;
 use tp_config::port_type::{CompId, RouteId};
-use tp_floor::bell::Woken;
+use tp_floor::notifier::Woken;
 use tp_floor::floor::Floor;
 use tp_inbox::desk::Desk;
 use tp_inbox::gathered::{Rest, gather};

@@ -17,8 +17,8 @@ returns-in_default g c =
     let this_is = viewed_at c.args.guards.now at c.index-guards-branch.result c.loop-branch-test.true c.index-guards-branch.is in
     let same = c.loop-branch.invariant.0 in
     let none = subst (λ d. NoneOpen d.log (take at gs)) (sym same) c.loop-branch.invariant.1 in
-    subst (λ d. Looked gs d c.in_ok-sight.sight c.attempt.new.desk) same
-    (looked gs c.loop-branch.desk at this c.in_ok-sight.sight c.attempt.new.desk this_is none c.in_ok-sight.ensures c.in_default.not-Nothing)
+    subst (λ d. Looked gs d c.in_ok-look.look c.attempt.new.desk) same
+    (looked gs c.loop-branch.desk at this c.in_ok-look.look c.attempt.new.desk this_is none c.in_ok-look.ensures c.in_default.not-Nothing)
 
 -- it did nothing: it isn't open either
 pub loop-branch-preserved : goal.loop-branch-preserved
@@ -27,7 +27,7 @@ loop-branch-preserved g c =
     let this = viewed c.index-guards-branch.result in
     let this_is = viewed_at c.args.guards.now at c.index-guards-branch.result c.loop-branch-test.true c.index-guards-branch.is in
     let same = c.loop-branch.invariant.0 in
-    let tried = subst (λ s. Tried this at c.loop-branch.desk s c.attempt.new.desk) c.in-Nothing.is c.in_ok-sight.ensures in (
+    let tried = subst (λ s. Tried this at c.loop-branch.desk s c.attempt.new.desk) c.in-Nothing.is c.in_ok-look.ensures in (
       tried.1 ∙ same,
       one_more (λ x. ¬ IsOpen c.args.desk.now.log x) at (all_viewed c.args.guards.now) this this_is c.loop-branch.invariant.1
           (subst (λ d. ¬ IsOpen d.log this) same tried.0),

@@ -7,6 +7,6 @@ use Rattle.tp_behaviour.proofs.choosing.choose.Goals as goal
 pub returns-then-has_else-clause-chose : goal.returns-then-has_else-clause-chose
 returns-then-has_else-clause-chose g c =
     let saw = rw c.in-Nothing.is at c.in_ok-branch.ensures.saw in
-    chose_else (all_viewed c.args.guards.now) c.args.has_else c.args.station.now.desk.log c.loop.station.desk.log c.note.new.station.desk.log
-    c.look_at_branches.new.station.desk c.if-has_else.true
+    chose_else (all_viewed c.args.guards.now) c.args.has_else c.args.worker.now.desk.log c.loop.worker.desk.log c.note.new.worker.desk.log
+    c.look_at_branches.new.worker.desk c.if-has_else.true
     c.loop.invariant.drops saw.0 saw.1 c.in_ok-note-in-Nothing.ensures.trace

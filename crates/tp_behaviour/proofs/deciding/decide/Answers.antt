@@ -1,7 +1,7 @@
 -- What an `alt` goes on with is what was chosen.
 use Rattle.std.proofs.Common.{◌∙◌, ap}
 use Rattle.tp_behaviour.specs.Outcomes.{depth_of}
-use Rattle.tp_behaviour.specs.Stations.{role_of, values_of}
+use Rattle.tp_behaviour.specs.Workers.{role_of, values_of}
 use Rattle.tp_behaviour.specs.Views.{all_viewed}
 use Rattle.tp_behaviour.proofs.Decided.{chose_within, entered, guards_within}
 use Rattle.tp_behaviour.proofs.Viewed.{viewed_within}
@@ -9,24 +9,24 @@ use Rattle.tp_behaviour.proofs.deciding.decide.Goals as goal
 
 pub choose-requires-clause-within : goal.choose-requires-clause-within
 choose-requires-clause-within g c κs within =
-    viewed_within c.args.station.now.desk.ports c.as_slice.result.now
-    (guards_within c.args.scene.now.post.now c.args.station.now (depth_of c.args.state.now) (values_of c.args.state.now) c.args.alt.branches.now
+    viewed_within c.args.worker.now.desk.ports c.as_slice.result.now
+    (guards_within c.args.execution.now.task.now c.args.worker.now (depth_of c.args.frame.now) (values_of c.args.frame.now) c.args.alt.branches.now
     (all_viewed c.as_slice.result.now)
-    c.requires.manned c.requires.can (ap all_viewed c.as_slice.ensures.value ∙ c.in_ok-views.ensures))
+    c.requires.consistent c.requires.can (ap all_viewed c.as_slice.ensures.value ∙ c.in_ok-views.ensures))
 
 -- the branch that is chosen is one of these
 pub enter-requires-clause-there : goal.enter-requires-clause-there
 enter-requires-clause-there g c =
-    chose_within (role_of c.args.scene.now.post.now) (values_of c.args.state.now) c.args.alt.branches.now (all_viewed c.as_slice.result.now)
+    chose_within (role_of c.args.execution.now.task.now) (values_of c.args.frame.now) c.args.alt.branches.now (all_viewed c.as_slice.result.now)
     c.args.alt.has_else c.in-Branch.place c.in-Branch.env
-    c.args.station.now.desk.log c.choose.new.station.desk.log (ap all_viewed c.as_slice.ensures.value ∙ c.in_ok-views.ensures)
+    c.args.worker.now.desk.log c.choose.new.worker.desk.log (ap all_viewed c.as_slice.ensures.value ∙ c.in_ok-views.ensures)
     (rw c.in-Branch.is at c.in_ok-place.ensures.chose)
 
 pub returns-in-Branch-clause-decided : goal.returns-in-Branch-clause-decided
 returns-in-Branch-clause-decided g c =
-    entered (role_of c.args.scene.now.post.now) (values_of c.args.state.now) c.args.alt.branches.now (all_viewed c.as_slice.result.now) c.args.alt.has_else
+    entered (role_of c.args.execution.now.task.now) (values_of c.args.frame.now) c.args.alt.branches.now (all_viewed c.as_slice.result.now) c.args.alt.has_else
     c.in-Branch.place c.in-Branch.env
-    c.enter.new.state.variables.items c.args.station.now.desk.log c.choose.new.station.desk.log (ap all_viewed c.as_slice.ensures.value ∙ c.in_ok-views.ensures)
+    c.enter.new.frame.variables.items c.args.worker.now.desk.log c.choose.new.worker.desk.log (ap all_viewed c.as_slice.ensures.value ∙ c.in_ok-views.ensures)
     (rw c.in-Branch.is at c.in_ok-place.ensures.chose) c.enter.ensures.set
 
 pub returns-in-Branch-clause-there : goal.returns-in-Branch-clause-there
@@ -35,6 +35,6 @@ returns-in-Branch-clause-there g c = (c.enter.ensures.set.branch, c.enter.ensure
 -- what it waits for is within the ports
 pub returns-clause-within : goal.returns-clause-within
 returns-clause-within g c =
-    guards_within c.args.scene.now.post.now c.args.station.now (depth_of c.args.state.now) (values_of c.args.state.now) c.args.alt.branches.now
+    guards_within c.args.execution.now.task.now c.args.worker.now (depth_of c.args.frame.now) (values_of c.args.frame.now) c.args.alt.branches.now
     c.in_ok-guards-in-Waits.guards.items
-    c.requires.manned c.requires.can c.in_ok-guards-in-Waits.ensures
+    c.requires.consistent c.requires.can c.in_ok-guards-in-Waits.ensures

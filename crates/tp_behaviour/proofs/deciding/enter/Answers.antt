@@ -7,7 +7,7 @@ use Rattle.tp_behaviour.proofs.deciding.enter.Goals as goal
 
 pub redirect-requires-clause-can : goal.redirect-requires-clause-can
 redirect-requires-clause-can c =
-    receives_at (stage_at c.args.post.now) (depth_of c.args.state.now) c.args.branches.now c.args.place c.index-branches-place.result c.requires.can
+    receives_at (stage_at c.args.task.now) (depth_of c.args.frame.now) c.args.branches.now c.args.place c.index-branches-place.result c.requires.can
     c.requires.there
 
 -- they are those of the branch at this place

@@ -1,14 +1,14 @@
 -- What stays as it is from drain to drain.
 use Rattle.std.proofs.Common.{◌≡◌}
 use Rattle.tp_behaviour.specs.Moments.{moments}
-use Rattle.tp_behaviour.specs.Stations.{IsManned, IsSame, role_of}
+use Rattle.tp_behaviour.specs.Workers.{IsConsistent, IsSame, role_of}
 use Rattle.tp_behaviour.proofs.looking.look_in.Given as goal
 
 -- nothing has happened so far but arrivals
 abbrev pub invariant-loop : goal.invariant-loop
 invariant-loop g l = record {
-  manned : IsManned (role_of l.post) l.station;
-  same : IsSame l.initial.station l.station;
-  ports : l.station.desk.ports ≡ l.initial.station.desk.ports;
-  trace : moments l.station.desk.log ≡ moments l.initial.station.desk.log;
+  consistent : IsConsistent (role_of l.task) l.worker;
+  same : IsSame l.initial.worker l.worker;
+  ports : l.worker.desk.ports ≡ l.initial.worker.desk.ports;
+  trace : moments l.worker.desk.log ≡ moments l.initial.worker.desk.log;
 }

@@ -7,8 +7,8 @@ use Rattle.tp_behaviour.proofs.receiving.fill_guards.Goals as goal
 
 pub fill_guard-requires : goal.fill_guard-requires
 fill_guard-requires c =
-    let s = stage_at c.args.post.now in
-    let n = depth_of c.args.state.now in
+    let s = stage_at c.args.task.now in
+    let n = depth_of c.args.frame.now in
     let branch = c.branch-item.result in
     let can = enters_each s n c.args.branches.now c.requires c.loop-branch.branch-index branch c.loop-branch-test.true in
     enters_receive s n branch (subst (λ x. CanEnter s n x) (sym c.branch-item.is) can)

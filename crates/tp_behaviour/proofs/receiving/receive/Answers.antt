@@ -8,33 +8,33 @@ use Rattle.tp_behaviour.specs.declared.held.Held.{Held}
 use Rattle.tp_behaviour.specs.Held.{guard_of}
 use Rattle.tp_behaviour.specs.Paths.{IsStep}
 use Rattle.tp_behaviour.specs.Seen.{Chose, Grew}
-use Rattle.tp_behaviour.specs.Stations.{role_of, values_of}
+use Rattle.tp_behaviour.specs.Workers.{role_of, values_of}
 use Rattle.tp_behaviour.specs.Views.{viewed}
 use Rattle.tp_behaviour.proofs.Received.{received, waits_for}
 use Rattle.tp_behaviour.proofs.receiving.receive.Goals as goal
 
 pub returns-in-Branch-clause-ended : goal.returns-in-Branch-clause-ended
 returns-in-Branch-clause-ended g c =
-    let r = role_of c.args.scene.now.post.now in
-    let turns = c.args.state.now.turns.items in
-    let vs = c.args.state.now.variables.items in
+    let r = role_of c.args.execution.now.task.now in
+    let turns = c.args.frame.now.turns.items in
+    let vs = c.args.frame.now.variables.items in
     let x = c.args.receiving.now in
-    let k = c.args.station.now.desk.log in
-    let n = c.choose.new.station.desk.log in
+    let k = c.args.worker.now.desk.log in
+    let n = c.choose.new.worker.desk.log in
     let chose = rw c.in-Branch.is at c.in_ok-env.ensures.chose in
     subst (λ (ws : List (Option Held)). Grew (λ ts. IsStep r turns vs (b.Receive x) ts ws) k n) (sym c.redirect.ensures.set)
     (received r turns vs x (viewed c.in_ok-view.view ∷ []) c.in-Branch.field-0 c.in-Branch.env k n (ap (λ (y : Guard). y ∷ []) c.in_ok-view.ensures) chose)
 
 pub returns-in-Waits-clause-ended : goal.returns-in-Waits-clause-ended
 returns-in-Waits-clause-ended g c =
-    let r = role_of c.args.scene.now.post.now in
-    let turns = c.args.state.now.turns.items in
-    let vs = c.args.state.now.variables.items in
+    let r = role_of c.args.execution.now.task.now in
+    let turns = c.args.frame.now.turns.items in
+    let vs = c.args.frame.now.variables.items in
     let x = c.args.receiving.now in
-    let k = c.args.station.now.desk.log in
-    let n = c.choose.new.station.desk.log in
+    let k = c.args.worker.now.desk.log in
+    let n = c.choose.new.worker.desk.log in
     let chose = rw c.in-Waits.is at c.in_ok-env.ensures.chose in
-    let one : c.push_reserved.new.self.items ≡ guard_of r (values_of c.args.state.now) x ∷ [] =
+    let one : c.push_reserved.new.self.items ≡ guard_of r (values_of c.args.frame.now) x ∷ [] =
     c.push_reserved.ensures.items ∙ ap (λ (l : List Guard). l ++ c.in_ok-guard-in-Waits.guard ∷ []) c.in_ok-guards-in-Waits.ensures.items
     ∙ ap (λ (y : Guard). y ∷ []) c.in_ok-guard-in-Waits.ensures in
     waits_for r turns vs x c.push_reserved.new.self.items k n one

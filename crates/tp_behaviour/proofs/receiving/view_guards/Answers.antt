@@ -13,8 +13,8 @@ bounds-lasting-place c = omega (arith, zipped_long IsLastingBranch c.args.branch
 
 pub view_guard-requires-clause-can : goal.view_guard-requires-clause-can
 view_guard-requires-clause-can c =
-    let s = stage_at c.args.post.now in
-    let n = depth_of c.args.state.now in
+    let s = stage_at c.args.task.now in
+    let n = depth_of c.args.frame.now in
     let branch = c.index-branches-place.result in
     let can = enters_each s n c.args.branches.now c.requires.can c.loop-place.place branch c.loop-place-test.true in
     enters_receive s n branch (subst (λ x. CanEnter s n x) (sym c.index-branches-place.is) can)

@@ -8,7 +8,7 @@ use Rattle.tp_behaviour.proofs.sending.send_started.Goals as goal
 
 pub message_of-requires : goal.message_of-requires
 message_of-requires g c =
-    can_fill (stage_at c.args.scene.now.post.now) (depth_of c.args.state.now) c.args.state.now.variables.items c.args.sending.now.sent c.requires.held
+    can_fill (stage_at c.args.execution.now.task.now) (depth_of c.args.frame.now) c.args.frame.now.variables.items c.args.sending.now.sent c.requires.held
     c.requires.can.sent
 
 unset : {X : Type 0} (o : Option X) (U : Type 0) (P : X → Type 0) → MatchOption o U P → ((x : X) → o ≡ Some x → ⊥) → U
@@ -20,5 +20,5 @@ fail-requires-clause-cause g c = IsFailure.not_set c.requires.started (inl (unse
 
 pub send_to_one-requires-clause-names : goal.send_to_one-requires-clause-names
 send_to_one-requires-clause-names g c κs within =
-    can_name (stage_at c.args.scene.now.post.now) c.args.state.now.variables.items c.args.sending.now.to c.requires.held c.requires.can.to
+    can_name (stage_at c.args.execution.now.task.now) c.args.frame.now.variables.items c.args.sending.now.to c.requires.held c.requires.can.to
     c.in_default-to.not-All

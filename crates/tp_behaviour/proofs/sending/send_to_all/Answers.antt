@@ -5,7 +5,7 @@ use Rattle.std.proofs.lemmas.List.Elements.{Contains-get_or}
 use Rattle.std.specs.List.{AllZip}
 use Rattle.tp_behaviour.specs.Paths.{IsSentOn}
 use Rattle.tp_behaviour.specs.Seen.{Grew}
-use Rattle.tp_behaviour.specs.Stations.{role_of, values_of}
+use Rattle.tp_behaviour.specs.Workers.{role_of, values_of}
 use Rattle.tp_behaviour.proofs.Routed.{cause_none, no_items, sends_all, some_items}
 use Rattle.tp_behaviour.proofs.sending.send_to_all.Goals as goal
 
@@ -13,7 +13,7 @@ pub fail-requires-clause-cause : goal.fail-requires-clause-cause
 fail-requires-clause-cause g c =
     let routes = c.in_ok-routes.routes in
     let long : length routes.items ≡ vec_len routes = omega (arith, routes.ok.0) in
-    cause_none (role_of c.args.scene.now.post.now) (values_of c.args.state.now) c.args.sending.now c.args.message.now routes.items c.args.station.now.desk.log
+    cause_none (role_of c.args.execution.now.task.now) (values_of c.args.frame.now) c.args.sending.now c.args.message.now routes.items c.args.worker.now.desk.log
     c.requires.started c.requires.sent c.requires.all c.in_ok-routes.ensures.routes
     (no_items routes.items (vec_len routes) long (sym c.is_empty.ensures ∙ c.if-is_empty.true))
 
@@ -22,7 +22,7 @@ pub send_on_each-requires-clause-known : goal.send_on_each-requires-clause-known
 send_on_each-requires-clause-known g c κs within k d below =
     let xs = c.as_slice.result.now in
     let q = get_or xs k d in
-    c.requires.manned.posted.ways c.args.sending.now.port q
+    c.requires.consistent.ends.from_ports c.args.sending.now.port q
     (subst (λ l. Contains l q) (c.as_slice.ensures.value ∙ c.in_ok-routes.ensures.routes) (Contains-get_or xs k d below))
 
 pub returns-clause-sends : goal.returns-clause-sends
@@ -30,11 +30,11 @@ returns-clause-sends g c =
     let routes = c.in_ok-routes.routes in
     let x = c.args.sending.now in
     let m = c.args.message.now in
-    let before = c.args.station.now.desk.log in
-    let after = c.send_on_each.new.station.desk.log in
+    let before = c.args.worker.now.desk.log in
+    let after = c.send_on_each.new.worker.desk.log in
     let long : length routes.items ≡ vec_len routes = omega (arith, routes.ok.0) in
     let each = subst (λ l. Grew (AllZip (IsSentOn x.port m) l) before after) c.as_slice.ensures.value
     (c.in_ok-send_on_each.ensures.each x.port c.requires.started) in
-    sends_all (role_of c.args.scene.now.post.now) (values_of c.args.state.now) x m routes.items before after c.requires.sent c.requires.all
+    sends_all (role_of c.args.execution.now.task.now) (values_of c.args.frame.now) x m routes.items before after c.requires.sent c.requires.all
     c.in_ok-routes.ensures.routes
     (some_items routes.items (vec_len routes) long (sym c.is_empty.ensures ∙ c.if-is_empty.false)) each

@@ -18,7 +18,7 @@ use Rattle.tp_behaviour.specs.Parts.{Decided, ExecutedIn, IsDecisionOf, Turned}
 use Rattle.tp_behaviour.proofs.Branched.{step_branch, step_else, step_for, step_waits}
 use Rattle.tp_behaviour.proofs.Executed.{passed_all, passed_more, passed_start, passed_stop}
 use Rattle.tp_behaviour.proofs.LastingRules.{lasts_alt, lasts_block, lasts_else, lasts_for, lasts_receive, zipped_get, zipped_long}
-use Rattle.tp_behaviour.proofs.Manned.{same_then}
+use Rattle.tp_behaviour.proofs.Consistent.{same_then}
 use Rattle.tp_behaviour.proofs.Placed.{plays_at, plays_block}
 use Rattle.tp_behaviour.proofs.Stayed.{waits_from}
 use Rattle.tp_behaviour.proofs.Turned.{made_all, made_start, made_more, made_stop, none_there, turned_as, turned_empty}
@@ -27,59 +27,59 @@ use Rattle.tp_behaviour.proofs.statements.+statements.Goals as goal
 -- one statement after the other
 pub execute-loop-place-init : goal.execute-loop-place-init
 execute-loop-place-init g t c = record {
-  manned = c.requires.manned;
+  consistent = c.requires.consistent;
   same = record { inbox = refl; ends = refl };
   held = c.requires.held;
   turns = refl;
-  passed = passed_start c.args.scene.now.post.now c.args.block.statements.now c.args.station.now c.args.state.now;
+  passed = passed_start c.args.execution.now.task.now c.args.block.statements.now c.args.worker.now c.args.frame.now;
 }
 
 pub execute-step-requires-clause-can : goal.execute-step-requires-clause-can
 execute-step-requires-clause-can g t c κs within =
-    plays_at (stage_at c.args.scene.now.post.now) (depth_of c.loop-place.state) (depth_of c.args.state.now) c.args.block.statements.now c.loop-place.place
+    plays_at (stage_at c.args.execution.now.task.now) (depth_of c.loop-place.frame) (depth_of c.args.frame.now) c.args.block.statements.now c.loop-place.place
     c.statement-item.result
     (ap length c.loop-place.invariant.turns) c.loop-place-test.true c.statement-item.is c.requires.can
 
 pub execute-loop-place-preserved : goal.execute-loop-place-preserved
 execute-loop-place-preserved g t c =
     let step = c.in_ok-stop.ensures in
-    let done : Stepped c.args.scene.now.post.now c.statement-item.result outcome.Done c.loop-place.station c.loop-place.state c.step.new.station
-    c.step.new.state = rw c.in-Done.is at step.ended in
+    let done : Stepped c.args.execution.now.task.now c.statement-item.result outcome.Done c.loop-place.worker c.loop-place.frame c.step.new.worker
+    c.step.new.frame = rw c.in-Done.is at step.ended in
     record {
-      manned = step.manned;
-      same = same_then c.args.station.now c.loop-place.station c.step.new.station c.loop-place.invariant.same step.same;
+      consistent = step.consistent;
+      same = same_then c.args.worker.now c.loop-place.worker c.step.new.worker c.loop-place.invariant.same step.same;
       held = step.held;
       turns = step.turns ∙ c.loop-place.invariant.turns;
       passed =
-          passed_more c.args.scene.now.post.now c.args.block.statements.now c.loop-place.place c.statement-item.result c.args.station.now c.args.state.now
-          c.loop-place.station c.loop-place.state
-          c.step.new.station c.step.new.state c.loop-place.invariant.turns c.loop-place-test.true c.statement-item.is c.loop-place.invariant.passed done;
+          passed_more c.args.execution.now.task.now c.args.block.statements.now c.loop-place.place c.statement-item.result c.args.worker.now c.args.frame.now
+          c.loop-place.worker c.loop-place.frame
+          c.step.new.worker c.step.new.frame c.loop-place.invariant.turns c.loop-place-test.true c.statement-item.is c.loop-place.invariant.passed done;
     }
 
 pub execute-returns-in_default-clause-ended : goal.execute-returns-in_default-clause-ended
 execute-returns-in_default-clause-ended g t c =
-    passed_stop c.args.scene.now.post.now c.args.block.statements.now c.loop-place.place c.statement-item.result c.in_ok-stop.stop c.args.station.now
-    c.args.state.now
-    c.loop-place.station c.loop-place.state c.step.new.station c.step.new.state c.in_default.not-Done
+    passed_stop c.args.execution.now.task.now c.args.block.statements.now c.loop-place.place c.statement-item.result c.in_ok-stop.stop c.args.worker.now
+    c.args.frame.now
+    c.loop-place.worker c.loop-place.frame c.step.new.worker c.step.new.frame c.in_default.not-Done
     c.loop-place.invariant.turns c.loop-place-test.true c.statement-item.is c.loop-place.invariant.passed c.in_ok-stop.ensures.ended
 
 pub execute-returns-clause-ended : goal.execute-returns-clause-ended
 execute-returns-clause-ended g t c =
-    passed_all c.args.scene.now.post.now c.args.block.statements.now c.loop-place.place c.args.station.now c.args.state.now c.loop-place.station
-    c.loop-place.state
+    passed_all c.args.execution.now.task.now c.args.block.statements.now c.loop-place.place c.args.worker.now c.args.frame.now c.loop-place.worker
+    c.loop-place.frame
     c.loop-place-test.false c.loop-place.invariant.passed
 
 -- the ports are the same throughout
 pub execute-returns-in_default-clause-within : goal.execute-returns-in_default-clause-within
 execute-returns-in_default-clause-within g t c =
-    waits_from c.args.scene.now.post.now c.args.station.now c.loop-place.station c.in_ok-stop.stop c.requires.manned c.loop-place.invariant.manned
+    waits_from c.args.execution.now.task.now c.args.worker.now c.loop-place.worker c.in_ok-stop.stop c.requires.consistent c.loop-place.invariant.consistent
     c.in_ok-stop.ensures.within
 
 -- the block of a branch
 pub branch-execute-requires-clause-can : goal.branch-execute-requires-clause-can
 branch-execute-requires-clause-can g t c κs within =
-    subst (CanPlayAll (stage_at c.args.scene.now.post.now) (depth_of c.args.state.now)) (sym c.as_slice.ensures)
-    (plays_block (stage_at c.args.scene.now.post.now) (depth_of c.args.state.now) c.args.alt.branches.now c.args.place c.index-alt-place.result c.requires.can
+    subst (CanPlayAll (stage_at c.args.execution.now.task.now) (depth_of c.args.frame.now)) (sym c.as_slice.ensures)
+    (plays_block (stage_at c.args.execution.now.task.now) (depth_of c.args.frame.now) c.args.alt.branches.now c.args.place c.index-alt-place.result c.requires.can
     c.requires.within)
 
 pub branch-returns-clause-ended : goal.branch-returns-clause-ended
@@ -89,7 +89,7 @@ branch-returns-clause-ended g t c =
     (λ o h. (
       x,
       slice_get-get_or c.args.alt.branches.now c.args.place c.index-alt-place.result c.requires.within,
-      subst (λ (l : List Statement). Executed c.args.scene.now.post.now l o c.args.station.now c.args.state.now c.execute.new.station c.execute.new.state)
+      subst (λ (l : List Statement). Executed c.args.execution.now.task.now l o c.args.worker.now c.args.frame.now c.execute.new.worker c.execute.new.frame)
           c.as_slice.ensures h,
     ))
     c.execute.ensures.ended
@@ -97,46 +97,46 @@ branch-returns-clause-ended g t c =
 -- each statement
 pub step-play_send-requires-clause-can : goal.step-play_send-requires-clause-can
 step-play_send-requires-clause-can g t c κs within =
-    plays_send (stage_at c.args.scene.now.post.now) (depth_of c.args.state.now) c.args.statement.now c.in-Send.sending c.in-Send.is c.requires.can
+    plays_send (stage_at c.args.execution.now.task.now) (depth_of c.args.frame.now) c.args.statement.now c.in-Send.sending c.in-Send.is c.requires.can
 
 pub step-receive-requires-clause-can : goal.step-receive-requires-clause-can
 step-receive-requires-clause-can g t c κs within =
-    plays_receive (stage_at c.args.scene.now.post.now) (depth_of c.args.state.now) c.args.statement.now c.in-Receive.receiving c.in-Receive.is c.requires.can
+    plays_receive (stage_at c.args.execution.now.task.now) (depth_of c.args.frame.now) c.args.statement.now c.in-Receive.receiving c.in-Receive.is c.requires.can
 
 pub step-play_control-requires-clause-within : goal.step-play_control-requires-clause-within
 step-play_control-requires-clause-within g t c κs within =
-    plays_control (stage_at c.args.scene.now.post.now) (depth_of c.args.state.now) c.args.statement.now c.in-Control.port c.in-Control.operation
+    plays_control (stage_at c.args.execution.now.task.now) (depth_of c.args.frame.now) c.args.statement.now c.in-Control.port c.in-Control.operation
     c.in-Control.is c.requires.can
 
 pub step-decide-requires-clause-can : goal.step-decide-requires-clause-can
 step-decide-requires-clause-can g t c κs within =
-    subst (CanEnterAll (stage_at c.args.scene.now.post.now) (depth_of c.args.state.now)) (sym c.as_slice.ensures)
-    (plays_alt (stage_at c.args.scene.now.post.now) (depth_of c.args.state.now) c.args.statement.now c.in-Alt.branches c.in-Alt.otherwise c.in-Alt.is
+    subst (CanEnterAll (stage_at c.args.execution.now.task.now) (depth_of c.args.frame.now)) (sym c.as_slice.ensures)
+    (plays_alt (stage_at c.args.execution.now.task.now) (depth_of c.args.frame.now) c.args.statement.now c.in-Alt.branches c.in-Alt.otherwise c.in-Alt.is
     c.requires.can)
 
-pub step-branch-scene-requires-clause-within : goal.step-branch-scene-requires-clause-within
-step-branch-scene-requires-clause-within g t c κs within =
+pub step-branch-execution-requires-clause-within : goal.step-branch-execution-requires-clause-within
+step-branch-execution-requires-clause-within g t c κs within =
     let there : IsDecisionOf c.as_slice.result.now (decision.Branch c.in-Branch.place) = rw c.in-Branch.is at c.in_ok-place-in-Alt.ensures.there in
     slice_get_within c.as_slice.result.now c.in-Branch.place there.0 there.1
 
-pub step-branch-scene-requires-clause-can : goal.step-branch-scene-requires-clause-can
-step-branch-scene-requires-clause-can g t c κs within =
-    subst (λ n. CanEnterAll (stage_at c.args.scene.now.post.now) n c.as_slice.result.now) (sym (ap length c.in_ok-place-in-Alt.ensures.turns))
-    (subst (CanEnterAll (stage_at c.args.scene.now.post.now) (depth_of c.args.state.now)) (sym c.as_slice.ensures)
-    (plays_alt (stage_at c.args.scene.now.post.now) (depth_of c.args.state.now) c.args.statement.now c.in-Alt.branches c.in-Alt.otherwise c.in-Alt.is
+pub step-branch-execution-requires-clause-can : goal.step-branch-execution-requires-clause-can
+step-branch-execution-requires-clause-can g t c κs within =
+    subst (λ n. CanEnterAll (stage_at c.args.execution.now.task.now) n c.as_slice.result.now) (sym (ap length c.in_ok-place-in-Alt.ensures.turns))
+    (subst (CanEnterAll (stage_at c.args.execution.now.task.now) (depth_of c.args.frame.now)) (sym c.as_slice.ensures)
+    (plays_alt (stage_at c.args.execution.now.task.now) (depth_of c.args.frame.now) c.args.statement.now c.in-Alt.branches c.in-Alt.otherwise c.in-Alt.is
     c.requires.can))
 
 pub step-execute-requires-clause-can : goal.step-execute-requires-clause-can
 step-execute-requires-clause-can g t c κs within =
     let whole = c.in-Alt.is ∙ ap (λ o. b.Alt c.in-Alt.branches o) c.in-Some.is in
-    subst (λ n. CanPlayAll (stage_at c.args.scene.now.post.now) n c.as_slice-in-Some.result.now) (sym (ap length c.in_ok-place-in-Alt.ensures.turns))
-    (subst (CanPlayAll (stage_at c.args.scene.now.post.now) (depth_of c.args.state.now)) (sym c.as_slice-in-Some.ensures)
-    (plays_else (stage_at c.args.scene.now.post.now) (depth_of c.args.state.now) c.args.statement.now c.in-Alt.branches c.in-Some.block whole c.requires.can))
+    subst (λ n. CanPlayAll (stage_at c.args.execution.now.task.now) n c.as_slice-in-Some.result.now) (sym (ap length c.in_ok-place-in-Alt.ensures.turns))
+    (subst (CanPlayAll (stage_at c.args.execution.now.task.now) (depth_of c.args.frame.now)) (sym c.as_slice-in-Some.ensures)
+    (plays_else (stage_at c.args.execution.now.task.now) (depth_of c.args.frame.now) c.args.statement.now c.in-Alt.branches c.in-Some.block whole c.requires.can))
 
 pub step-turns-requires-clause-can : goal.step-turns-requires-clause-can
 step-turns-requires-clause-can g t c κs within =
-    subst (CanPlayAll (stage_at c.args.scene.now.post.now) (depth_of c.args.state.now + 1)) (sym c.as_slice-in-For.ensures)
-    (plays_for (stage_at c.args.scene.now.post.now) (depth_of c.args.state.now) c.args.statement.now c.in-For.first c.in-For.bound c.in-For.block c.in-For.is
+    subst (CanPlayAll (stage_at c.args.execution.now.task.now) (depth_of c.args.frame.now + 1)) (sym c.as_slice-in-For.ensures)
+    (plays_for (stage_at c.args.execution.now.task.now) (depth_of c.args.frame.now) c.args.statement.now c.in-For.first c.in-For.bound c.in-For.block c.in-For.is
     c.requires.can)
 
 -- what lasts of each statement, and of what it is made of
@@ -177,8 +177,8 @@ step-decide-requires-clause-lasting g t c κs within =
     (subst (λ xs. AreLastingBranches xs (out-Lasting c.args.lasting.now).branches) (sym c.as_slice.ensures)
     (lasts_alt c.args.statement.now c.args.lasting.now c.in-Alt.branches c.in-Alt.otherwise c.in-Alt.is c.requires.lasting))
 
-pub step-branch-scene-requires-clause-lasting : goal.step-branch-scene-requires-clause-lasting
-step-branch-scene-requires-clause-lasting g t c κs within =
+pub step-branch-execution-requires-clause-lasting : goal.step-branch-execution-requires-clause-lasting
+step-branch-execution-requires-clause-lasting g t c κs within =
     subst (λ ls. AreLastingBranches c.as_slice.result.now ls) (sym c.as_slice-in-Alt.ensures)
     (subst (λ xs. AreLastingBranches xs (out-Lasting c.args.lasting.now).branches) (sym c.as_slice.ensures)
     (lasts_alt c.args.statement.now c.args.lasting.now c.in-Alt.branches c.in-Alt.otherwise c.in-Alt.is c.requires.lasting))
@@ -200,40 +200,40 @@ step-turns-requires-clause-lasting g t c κs within =
 pub step-returns-in-Branch-clause-ended : goal.step-returns-in-Branch-clause-ended
 step-returns-in-Branch-clause-ended g t c =
     let decide = c.in_ok-place-in-Alt.ensures in
-    let decided : Decided c.args.scene.now.post.now c.as_slice.result.now c.is_some.result
-    (decision.Branch c.in-Branch.place) c.args.station.now c.args.state.now
-    c.decide.new.station c.decide.new.state
+    let decided : Decided c.args.execution.now.task.now c.as_slice.result.now c.is_some.result
+    (decision.Branch c.in-Branch.place) c.args.worker.now c.args.frame.now
+    c.decide.new.worker c.decide.new.frame
     = rw c.in-Branch.is at decide.decided in
-    IfOk-weaker c.branch-scene.result _ _
-    (λ o h. step_branch c.args.scene.now.post.now c.args.statement.now c.in-Alt.branches c.as_slice.result.now c.in-Alt.otherwise c.is_some.result
+    IfOk-weaker c.branch-execution.result _ _
+    (λ o h. step_branch c.args.execution.now.task.now c.args.statement.now c.in-Alt.branches c.as_slice.result.now c.in-Alt.otherwise c.is_some.result
     c.in-Branch.place o
-    c.args.station.now c.args.state.now c.decide.new.station c.decide.new.state c.branch-scene.new.station c.branch-scene.new.state
+    c.args.worker.now c.args.frame.now c.decide.new.worker c.decide.new.frame c.branch-execution.new.worker c.branch-execution.new.frame
     c.in-Alt.is c.as_slice.ensures decide.turns decided h)
-    c.branch-scene.ensures.ended
+    c.branch-execution.ensures.ended
 
 pub step-returns-in-Some-clause-ended : goal.step-returns-in-Some-clause-ended
 step-returns-in-Some-clause-ended g t c =
     let decide = c.in_ok-place-in-Alt.ensures in
-    let decided : Decided c.args.scene.now.post.now c.as_slice.result.now c.is_some.result decision.Else c.args.station.now c.args.state.now
-    c.decide.new.station
-    c.decide.new.state
+    let decided : Decided c.args.execution.now.task.now c.as_slice.result.now c.is_some.result decision.Else c.args.worker.now c.args.frame.now
+    c.decide.new.worker
+    c.decide.new.frame
     = rw c.in-Else.is at decide.decided in
     IfOk-weaker c.execute.result _ _
-    (λ o h. step_else c.args.scene.now.post.now c.args.statement.now c.in-Alt.branches c.as_slice.result.now c.in-Alt.otherwise c.in-Some.block
+    (λ o h. step_else c.args.execution.now.task.now c.args.statement.now c.in-Alt.branches c.as_slice.result.now c.in-Alt.otherwise c.in-Some.block
     c.as_slice-in-Some.result.now c.is_some.result o
-    c.args.station.now c.args.state.now c.decide.new.station c.decide.new.state c.execute.new.station c.execute.new.state
+    c.args.worker.now c.args.frame.now c.decide.new.worker c.decide.new.frame c.execute.new.worker c.execute.new.frame
     c.in-Alt.is c.in-Some.is c.as_slice.ensures c.as_slice-in-Some.ensures decide.turns decided h)
     c.execute.ensures.ended
 
 pub step-returns-in-Waits-clause-ended : goal.step-returns-in-Waits-clause-ended
 step-returns-in-Waits-clause-ended g t c =
     let decide = c.in_ok-place-in-Alt.ensures in
-    let decided : Decided c.args.scene.now.post.now c.as_slice.result.now c.is_some.result
-    (decision.Waits c.in-Waits.guards) c.args.station.now c.args.state.now
-    c.decide.new.station c.decide.new.state
+    let decided : Decided c.args.execution.now.task.now c.as_slice.result.now c.is_some.result
+    (decision.Waits c.in-Waits.guards) c.args.worker.now c.args.frame.now
+    c.decide.new.worker c.decide.new.frame
     = rw c.in-Waits.is at decide.decided in
-    step_waits c.args.scene.now.post.now c.args.statement.now c.in-Alt.branches c.as_slice.result.now c.in-Alt.otherwise c.is_some.result c.in-Waits.guards
-    c.args.station.now c.args.state.now c.decide.new.station c.decide.new.state c.in-Alt.is c.as_slice.ensures c.is_some.ensures decided
+    step_waits c.args.execution.now.task.now c.args.statement.now c.in-Alt.branches c.as_slice.result.now c.in-Alt.otherwise c.is_some.result c.in-Waits.guards
+    c.args.worker.now c.args.frame.now c.decide.new.worker c.decide.new.frame c.in-Alt.is c.as_slice.ensures c.is_some.ensures decided
 
 pub step-returns-in-For-clause-ended : goal.step-returns-in-For-clause-ended
 step-returns-in-For-clause-ended g t c =
@@ -242,27 +242,27 @@ step-returns-in-For-clause-ended g t c =
     let first = to_z w64 (of_z w64 c.in-For.first) in
     let bound = to_z w64 (of_z w64 c.in-For.bound) in
     IfOk-weaker c.turns.result
-    (λ o. Turned c.args.scene.now.post.now first c.as_slice-in-For.result.now (turns_between first bound) o c.args.station.now c.args.state.now
-    c.turns.new.station c.turns.new.state)
-    (λ o. Stepped c.args.scene.now.post.now c.args.statement.now o c.args.station.now c.args.state.now c.turns.new.station c.turns.new.state)
-    (λ o h. step_for c.args.scene.now.post.now c.args.statement.now c.in-For.first c.in-For.bound first bound c.in-For.block c.as_slice-in-For.result.now o
-    c.args.station.now c.args.state.now c.turns.new.station c.turns.new.state c.in-For.is (to_z-of_z w64 c.in-For.first low)
+    (λ o. Turned c.args.execution.now.task.now first c.as_slice-in-For.result.now (turns_between first bound) o c.args.worker.now c.args.frame.now
+    c.turns.new.worker c.turns.new.frame)
+    (λ o. Stepped c.args.execution.now.task.now c.args.statement.now o c.args.worker.now c.args.frame.now c.turns.new.worker c.turns.new.frame)
+    (λ o h. step_for c.args.execution.now.task.now c.args.statement.now c.in-For.first c.in-For.bound first bound c.in-For.block c.as_slice-in-For.result.now o
+    c.args.worker.now c.args.frame.now c.turns.new.worker c.turns.new.frame c.in-For.is (to_z-of_z w64 c.in-For.first low)
     (to_z-of_z w64 c.in-For.bound high) c.as_slice-in-For.ensures h)
     c.turns.ensures.ended
 
 -- the turns of a `for`
 pub turns-returns-then-is_empty-clause-ended : goal.turns-returns-then-is_empty-clause-ended
 turns-returns-then-is_empty-clause-ended g t c =
-    turned_empty c.args.scene.now.post.now c.args.values.start c.args.block.statements.now (turns_between c.args.values.start c.args.values.end)
-    c.args.station.now c.args.state.now (none_there c.args.block.statements.now c.if-is_empty.ensures)
+    turned_empty c.args.execution.now.task.now c.args.values.start c.args.block.statements.now (turns_between c.args.values.start c.args.values.end)
+    c.args.worker.now c.args.frame.now (none_there c.args.block.statements.now c.if-is_empty.ensures)
 
 pub turns-loop-value-init : goal.turns-loop-value-init
 turns-loop-value-init g t c = record {
-  manned = c.requires.manned;
+  consistent = c.requires.consistent;
   same = record { inbox = refl; ends = refl };
   held = c.requires.held;
   turns = refl;
-  made = made_start c.args.scene.now.post.now _ _ c.args.block.statements.now c.args.station.now c.args.state.now;
+  made = made_start c.args.execution.now.task.now _ _ c.args.block.statements.now c.args.worker.now c.args.frame.now;
 }
 
 pub turns-loop-value-preserved : goal.turns-loop-value-preserved
@@ -274,23 +274,23 @@ turns-loop-value-preserved g t c =
     let next = to_z w64 (of_z w64 (value +ℤ pos 1)) in
     let below : value <ℤ bound = grind (arith, ints) in
     let is : next ≡ value +ℤ pos 1 = omega (arith, ints) in
-    let done : ExecutedIn c.args.scene.now.post.now (c.loop-value.state.turns.items ++ value ∷ []) c.args.block.statements.now outcome.Done
-    c.loop-value.station c.loop-value.state c.turn.new.station c.turn.new.state
+    let done : ExecutedIn c.args.execution.now.task.now (c.loop-value.frame.turns.items ++ value ∷ []) c.args.block.statements.now outcome.Done
+    c.loop-value.worker c.loop-value.frame c.turn.new.worker c.turn.new.frame
     = rw c.in-Done.is at turn.ended in
     record {
-      manned = turn.manned;
-      same = same_then c.args.station.now c.loop-value.station c.turn.new.station c.loop-value.invariant.same turn.same;
+      consistent = turn.consistent;
+      same = same_then c.args.worker.now c.loop-value.worker c.turn.new.worker c.loop-value.invariant.same turn.same;
       held = turn.held;
       turns = turn.turns ∙ c.loop-value.invariant.turns;
       made =
-          made_more c.args.scene.now.post.now first value bound next c.args.block.statements.now c.args.station.now c.args.state.now c.loop-value.station
-          c.loop-value.state c.turn.new.station c.turn.new.state
+          made_more c.args.execution.now.task.now first value bound next c.args.block.statements.now c.args.worker.now c.args.frame.now c.loop-value.worker
+          c.loop-value.frame c.turn.new.worker c.turn.new.frame
           c.loop-value.invariant.turns below is c.loop-value.invariant.made done;
     }
 
 pub turns-returns-in_default-clause-same : goal.turns-returns-in_default-clause-same
 turns-returns-in_default-clause-same g t c =
-    same_then c.args.station.now c.loop-value.station c.turn.new.station c.loop-value.invariant.same c.in_ok-outcome.ensures.same
+    same_then c.args.worker.now c.loop-value.worker c.turn.new.worker c.loop-value.invariant.same c.in_ok-outcome.ensures.same
 
 pub turns-returns-in_default-clause-turns : goal.turns-returns-in_default-clause-turns
 turns-returns-in_default-clause-turns g t c = c.in_ok-outcome.ensures.turns ∙ c.loop-value.invariant.turns
@@ -303,16 +303,16 @@ turns-returns-in_default-clause-ended g t c =
     let high : SFits w64 c.args.values.end = search rules in
     let value = to_z w64 c.loop-value.value-bits in
     let below : value <ℤ bound = grind (arith, ints) in
-    turned_as c.args.scene.now.post.now c.in_ok-outcome.outcome c.args.block.statements.now first c.args.values.start bound c.args.values.end
-    c.args.station.now c.args.state.now c.turn.new.station c.turn.new.state
+    turned_as c.args.execution.now.task.now c.in_ok-outcome.outcome c.args.block.statements.now first c.args.values.start bound c.args.values.end
+    c.args.worker.now c.args.frame.now c.turn.new.worker c.turn.new.frame
     (to_z-of_z w64 c.args.values.start low) (to_z-of_z w64 c.args.values.end high)
-    (made_stop c.args.scene.now.post.now first value bound c.args.block.statements.now c.in_ok-outcome.outcome c.args.station.now c.args.state.now
-    c.loop-value.station c.loop-value.state
-    c.turn.new.station c.turn.new.state c.in_default.not-Done c.loop-value.invariant.turns below c.loop-value.invariant.made c.in_ok-outcome.ensures.ended)
+    (made_stop c.args.execution.now.task.now first value bound c.args.block.statements.now c.in_ok-outcome.outcome c.args.worker.now c.args.frame.now
+    c.loop-value.worker c.loop-value.frame
+    c.turn.new.worker c.turn.new.frame c.in_default.not-Done c.loop-value.invariant.turns below c.loop-value.invariant.made c.in_ok-outcome.ensures.ended)
 
 pub turns-returns-in_default-clause-within : goal.turns-returns-in_default-clause-within
 turns-returns-in_default-clause-within g t c =
-    waits_from c.args.scene.now.post.now c.args.station.now c.loop-value.station c.in_ok-outcome.outcome c.requires.manned c.loop-value.invariant.manned
+    waits_from c.args.execution.now.task.now c.args.worker.now c.loop-value.worker c.in_ok-outcome.outcome c.requires.consistent c.loop-value.invariant.consistent
     c.in_ok-outcome.ensures.within
 
 pub turns-returns-clause-ended : goal.turns-returns-clause-ended
@@ -323,8 +323,8 @@ turns-returns-clause-ended g t c =
     let high : SFits w64 c.args.values.end = search rules in
     let value = to_z w64 c.loop-value.value-bits in
     let above : bound ≤ℤ value = grind (arith, ints) in
-    turned_as c.args.scene.now.post.now outcome.Done c.args.block.statements.now first c.args.values.start bound c.args.values.end c.args.station.now
-    c.args.state.now c.loop-value.station c.loop-value.state
+    turned_as c.args.execution.now.task.now outcome.Done c.args.block.statements.now first c.args.values.start bound c.args.values.end c.args.worker.now
+    c.args.frame.now c.loop-value.worker c.loop-value.frame
     (to_z-of_z w64 c.args.values.start low) (to_z-of_z w64 c.args.values.end high)
-    (made_all c.args.scene.now.post.now first value bound c.args.block.statements.now c.args.station.now c.args.state.now c.loop-value.station
-    c.loop-value.state above c.loop-value.invariant.made)
+    (made_all c.args.execution.now.task.now first value bound c.args.block.statements.now c.args.worker.now c.args.frame.now c.loop-value.worker
+    c.loop-value.frame above c.loop-value.invariant.made)

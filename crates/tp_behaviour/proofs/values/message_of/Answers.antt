@@ -5,13 +5,13 @@ use Rattle.tp_play.specs.declared.body.Sent.{Sent}
 use Rattle.tp_play.specs.Fills.{filled}
 use Rattle.tp_behaviour.specs.declared.held.Held.TheVariants as held
 use Rattle.tp_behaviour.specs.Held.{Holds, IsSentAs}
-use Rattle.tp_behaviour.specs.Stations.{values_of}
+use Rattle.tp_behaviour.specs.Workers.{values_of}
 use Rattle.tp_behaviour.proofs.Variables.{sent_written}
 use Rattle.tp_behaviour.proofs.values.message_of.Goals as goal
 
 pub returns-in_ok-filled-in-Written : goal.returns-in_ok-filled-in-Written
 returns-in_ok-filled-in-Written c =
-    let vs = values_of c.args.state.now in
+    let vs = values_of c.args.frame.now in
     let x = c.in_ok-filled-in-Written in
     subst (λ (s : Sent). IsSentAs vs s x.filled) (sym c.in-Written.is)
     (sent_written vs c.in-Written.message x.filled x.ensures.ty
@@ -19,7 +19,7 @@ returns-in_ok-filled-in-Written c =
 
 pub returns-in_ok-copy-in-Some : goal.returns-in_ok-copy-in-Some
 returns-in_ok-copy-in-Some c =
-    let vs = values_of c.args.state.now in
+    let vs = values_of c.args.frame.now in
     let k = c.in-Variable.place in
     let copy = c.in_ok-copy-in-Some.copy in
     subst (λ (s : Sent). IsSentAs vs s copy) (sym c.in-Variable.is)

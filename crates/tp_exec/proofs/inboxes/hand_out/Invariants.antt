@@ -4,4 +4,4 @@ use Rattle.tp_exec.proofs.Dealing.{AreDealt}
 use Rattle.tp_exec.proofs.inboxes.hand_out.Given as goal
 
 abbrev pub invariant-loop-sender : goal.invariant-loop-sender
-invariant-loop-sender l = AreDealt l.fn.stations.items l.fn.senders.items (into_iter_items l.sender-iterator) l.manned.items
+invariant-loop-sender l = AreDealt l.fn.workers.items l.fn.senders.items (into_iter_items l.sender-iterator) l.equipped.items

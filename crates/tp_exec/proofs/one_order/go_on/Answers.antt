@@ -1,14 +1,14 @@
 -- Fewer things are left to do.
 use Rattle.std.proofs.Common.{length, ap, ◌∙◌, arith}
 use Rattle.std.proofs.lemmas.List.{length_push}
-use Rattle.tp_exec.proofs.Courses.{places_within}
+use Rattle.tp_exec.proofs.OrderProgress.{places_within}
 use Rattle.tp_exec.proofs.one_order.go_on.Goals as goal
 
 pub loop-c-smaller : goal.loop-c-smaller
 loop-c-smaller c =
-    let new = c.go_far.new.course in
+    let new = c.go_far.new.progress in
     let within = places_within c.args.components.now new.places.items new.came.items new.sent.items c.in_ok-go_far.ensures.size.places
-    c.in_ok-go_far.ensures.course in
+    c.in_ok-go_far.ensures.progress in
     let popped = ap length c.in-Some.ensures.items ∙ length_push c.pop.new.self.items c.in-Some.c in
     let most = c.in_ok-go_far.ensures.most in
     let grown = c.in_ok-go_far.ensures.grown in

@@ -2,14 +2,14 @@
 use Rattle.std.proofs.Common.{◌<◌, length, sym, ap, ◌∙◌, below_more, arith}
 use Rattle.std.proofs.lemmas.Bool.{false≢true}
 use Rattle.std.proofs.lemmas.Grind.{get_or_default_zero}
-use Rattle.tp_exec.proofs.Courses.{log_is}
+use Rattle.tp_exec.proofs.OrderProgress.{log_is}
 use Rattle.tp_exec.proofs.one_order.is_ended.Goals as goal
 
 pub returns-then-index-log : goal.returns-then-index-log
 returns-then-index-log c =
     let n = c.loop-c.c in
     let components = c.args.components.now in
-    let places = c.args.course.now.places.items in
+    let places = c.args.progress.now.places.items in
     let low : n < length components = omega arith in
     let there : n < length places = omega (arith, low, c.requires.places) in
     let is = c.index.ensures ∙ get_or_default_zero places n c.index.result.now there in
@@ -20,7 +20,7 @@ pub loop-c-preserved : goal.loop-c-preserved
 loop-c-preserved c =
     let n = c.loop-c.c in
     let components = c.args.components.now in
-    let places = c.args.course.now.places.items in
+    let places = c.args.progress.now.places.items in
     let low : n < length components = omega arith in
     let there : n < length places = omega (arith, low, c.requires.places) in
     let is = c.index.ensures ∙ get_or_default_zero places n c.index.result.now there in

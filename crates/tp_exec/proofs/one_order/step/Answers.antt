@@ -6,15 +6,15 @@ use Rattle.std.proofs.lemmas.List.{length-map}
 use Rattle.std.proofs.lemmas.Option.{slice_get_read}
 use Rattle.tp_report.specs.declared.report.CompReport.{CompReport}
 use Rattle.tp_exec.specs.OneOrder.{logs_of}
-use Rattle.tp_exec.specs.Courses.{sent_then}
-use Rattle.tp_exec.specs.Greedy.{IsCourseBy}
-use Rattle.tp_exec.proofs.Courses.{done, log_is}
+use Rattle.tp_exec.specs.OrderProgress.{sent_then}
+use Rattle.tp_exec.specs.Greedy.{IsProgressBy}
+use Rattle.tp_exec.proofs.OrderProgress.{done, log_is}
 use Rattle.tp_exec.proofs.one_order.step.Goals as goal
 
-pub returns-clause-course : goal.returns-clause-course
-returns-clause-course c =
+pub returns-clause-progress : goal.returns-clause-progress
+returns-clause-progress c =
     let logs = logs_of c.args.components.now in
-    let was = c.args.course.now in
+    let was = c.args.progress.now in
     let places = was.places.items in
     let known = was.came.items in
     let sent = was.sent.items in
@@ -29,13 +29,13 @@ returns-clause-course c =
     let at : slice_get c.log-log.result.now p ≡ Some e =
     subst (λ m. slice_get c.log-log.result.now m ≡ Some e) is
     (slice_get_read c.log-log.result.now (length c.log-log.result.now) c.index-place.result.now e refl c.if-place-log.false c.index-log-place.is) in
-    let can = (c.if-not-is_possible.ensures.can c.args.components.now c.requires.dues).0 refl in
+    let can = (c.if-not-is_possible.ensures.can c.args.components.now c.requires.all_awaited).0 refl in
     let count : length logs ≡ length c.args.components.now = length-map c.args.components.now (λ (x : CompReport). x.desk.log) in
     let low_known : n < length known = omega (arith, size.came, c.requires.within) in
     let r = done logs places known sent n e k (sym c.kind_of-kind.ensures) (ap (λ l. slice_get l p) log ∙ at) low low_known
-    (size.sent ∙ sym count) can c.requires.course in
+    (size.sent ∙ sym count) can c.requires.progress in
     let then = set places n (p + 1) in
-    let new = c.go_by.new.course in
-    subst (λ (s : List ℕ). IsCourseBy logs s new.came.items new.sent.items) (sym c.go_by.ensures.places)
-    (subst (λ (s : List ℕ). IsCourseBy logs then new.came.items s) (sym c.go_by.ensures.sent)
-    (subst (λ (s : List ℕ). IsCourseBy logs then s (sent_then k sent)) (sym c.go_by.ensures.came) r))
+    let new = c.go_by.new.progress in
+    subst (λ (s : List ℕ). IsProgressBy logs s new.came.items new.sent.items) (sym c.go_by.ensures.places)
+    (subst (λ (s : List ℕ). IsProgressBy logs then new.came.items s) (sym c.go_by.ensures.sent)
+    (subst (λ (s : List ℕ). IsProgressBy logs then s (sent_then k sent)) (sym c.go_by.ensures.came) r))

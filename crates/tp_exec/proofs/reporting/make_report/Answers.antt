@@ -4,7 +4,7 @@ use Rattle.std.specs.Prelude.{All, MatchOption, Option}
 use Rattle.std.specs.List.{AllZip}
 use Rattle.tp_config.specs.Setup.{Setup, IsComponent}
 use Rattle.tp_behaviour.specs.Outcomes.{WaitsWithin}
-use Rattle.tp_exec.specs.declared.ended.Ended.{Ended}
+use Rattle.tp_exec.specs.declared.ended.EndedComponent.{EndedComponent}
 use Rattle.tp_report.specs.declared.report.CompReport.{CompReport}
 use Rattle.tp_exec.specs.OneOrder.{HasOneOrder, logs_of}
 use Rattle.tp_exec.specs.Reporting.{IsAtRest, IsReportedAs, IsWithoutOrder}
@@ -12,18 +12,18 @@ use Rattle.tp_exec.proofs.Reported.{all_there, report_of, reportable, waits_with
 use Rattle.tp_exec.proofs.reporting.make_report.Goals as goal
 
 -- these are reported, and one order gives their histories; or none does
-abbrev IsInOrder : Setup → List Ended → Option (Vec CompReport Global) → Type 0
+abbrev IsInOrder : Setup → List EndedComponent → Option (Vec CompReport Global) → Type 0
 IsInOrder s ended made =
     MatchOption made (IsWithoutOrder ended) (λ xs. AllZip (IsReportedAs s) ended xs.items × HasOneOrder (logs_of xs.items))
 
 pub are_at_rest-requires : goal.are_at_rest-requires
 are_at_rest-requires c =
-    subst (All (λ (e : Ended). WaitsWithin e.desk.ports e.outcome)) (sym c.as_slice.ensures.value)
+    subst (All (λ (e : EndedComponent). WaitsWithin e.desk.ports e.outcome)) (sym c.as_slice.ensures.value)
     (waits_within c.args.test_case.now c.args.ended.items c.requires)
 
 pub report_in_order-requires : goal.report_in_order-requires
 report_in_order-requires c =
-    subst (λ (s : Setup). All (λ (e : Ended). IsComponent s e.desk.comp) c.args.ended.items) (sym c.config.ensures)
+    subst (λ (s : Setup). All (λ (e : EndedComponent). IsComponent s e.desk.comp) c.args.ended.items) (sym c.config.ensures)
     (all_there c.args.test_case.now c.args.ended.items c.requires)
 
 pub returns-clause-report : goal.returns-clause-report

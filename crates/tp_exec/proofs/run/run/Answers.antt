@@ -14,7 +14,7 @@ pub make_report-requires : goal.make_report-requires
 make_report-requires g c =
     let played = c.in_ok-played.played.items in
     let ended = c.in-Ok-settle_all.ended.items in
-    of_a_run c.args.test_case.now played ended c.in_ok-played.ensures.stations c.in_ok-played.ensures.played
+    of_a_run c.args.test_case.now played ended c.in_ok-played.ensures.workers c.in_ok-played.ensures.played
     (subst (λ (s : Setup). AreSettled s played ended) c.config-2.ensures c.in-Ok-settle_all.ensures)
 
 pub returns-clause-overtaking : goal.returns-clause-overtaking
@@ -33,6 +33,6 @@ returns-clause-fault g c =
     let made = c.args.test_case.now in
     let played = c.in_ok-played.played.items in
     let ended = c.in-Ok-settle_all.ended.items in
-    let run = of_a_run made played ended c.in_ok-played.ensures.stations c.in_ok-played.ensures.played
+    let run = of_a_run made played ended c.in_ok-played.ensures.workers c.in_ok-played.ensures.played
     (subst (λ (s : Setup). AreSettled s played ended) c.config-2.ensures c.in-Ok-settle_all.ensures) in
     no_report made ended run c.make_report.result c.make_report.ensures.refusal

@@ -1,13 +1,13 @@
--- The next component takes the senders on the next ways, and the rest has the others.
+-- The next component takes the senders on the next links, and the rest has the others.
 use Rattle.std.proofs.Common.{◌≡◌, ◌++◌, ◌∷◌, [], List, All, map, sym, ◌∙◌, subst}
 use Rattle.std.specs.List.{AllZip}
 use Rattle.std.specs.Vec.Iter.{into_iter_items}
 use Rattle.std.proofs.lemmas.List.{append-nil}
 use Rattle.std.proofs.lemmas.List.Elements.{All-head, All-tail}
 use Rattle.tp_inbox.proofs.Gathering.{move_one}
-use Rattle.tp_exec.specs.declared.ended.Ended.{Ended}
+use Rattle.tp_exec.specs.declared.ended.EndedComponent.{EndedComponent}
 use Rattle.tp_exec.specs.declared.idle.Idle.{Idle}
-use Rattle.tp_exec.specs.Held.{AreAtHand, IsDone, IsIdle, idle_of, log_at, ways_to}
+use Rattle.tp_exec.specs.Held.{AreAtHand, IsDone, IsIdle, idle_of, log_at, links_to}
 use Rattle.tp_exec.proofs.Holding.{no_rest}
 use Rattle.tp_exec.proofs.Parting.{all_held, all_idle}
 use Rattle.tp_exec.proofs.Settled.{all_settled}
@@ -21,10 +21,10 @@ loop-idle-init g c =
     ∙ c.in_ok-idles.ensures.idles in
     record {
       idle = subst (All (IsIdle s)) (sym idles) (all_idle s c.len.ensures.lawful played c.requires);
-      held = subst (λ (xs : List Idle). AreAtHand (log_at played) c.in_ok-idles.hands.items (ways_to xs)) (sym idles)
+      held = subst (λ (xs : List Idle). AreAtHand (log_at played) c.in_ok-idles.hands.items (links_to xs)) (sym idles)
           (all_held s c.len.ensures.lawful played c.requires c.in_ok-idles.hands.items c.in_ok-idles.ensures.hands);
       done = λ es z.
-          subst (λ (ys : List Ended). AllZip (IsDone (log_at played)) (map idle_of played) (ys ++ es)) (sym c.in_ok-all.ensures.items)
+          subst (λ (ys : List EndedComponent). AllZip (IsDone (log_at played)) (map idle_of played) (ys ++ es)) (sym c.in_ok-all.ensures.items)
           (subst (λ (xs : List Idle). AllZip (IsDone (log_at played)) xs es) idles z);
     }
 
@@ -41,12 +41,12 @@ loop-idle-preserved g c =
     let e = c.in_ok-ended.ended in
     let logs = log_at c.args.played.items in
     let steps : into_iter_items c.loop-idle.idle-iterator ≡ x ∷ rest = c.in-Some.ensures.steps.0 in
-    let held = subst (λ (xs : List Idle). AreAtHand logs c.loop-idle.hands.items (ways_to xs)) steps was.held in
+    let held = subst (λ (xs : List Idle). AreAtHand logs c.loop-idle.hands.items (links_to xs)) steps was.held in
     record {
       idle = All-tail (IsIdle c.args.config.now) x rest (subst (All (IsIdle c.args.config.now)) steps was.idle);
-      held = c.in_ok-ended.ensures.held logs (ways_to rest) held;
+      held = c.in_ok-ended.ensures.held logs (links_to rest) held;
       done = λ es z.
-          let here : IsDone logs x e = record { end = c.in_ok-ended.ensures.end; come = c.in_ok-ended.ensures.come logs (ways_to rest) held } in
+          let here : IsDone logs x e = record { end = c.in_ok-ended.ensures.end; come = c.in_ok-ended.ensures.come logs (links_to rest) held } in
           let all : List Idle = map idle_of c.args.played.items in
           let zipped : AllZip (IsDone logs) all (c.loop-idle.all.items ++ e ∷ es) =
           was.done (e ∷ es) (subst (λ (xs : List Idle). AllZip (IsDone logs) xs (e ∷ es)) (sym steps) (here, z)) in

@@ -2,8 +2,8 @@
 use Rattle.std.proofs.Common.{◌++◌, All, List, map}
 use Rattle.std.specs.List.{AllZip}
 use Rattle.std.specs.Vec.Iter.{into_iter_items}
-use Rattle.tp_exec.specs.declared.ended.Ended.{Ended}
-use Rattle.tp_exec.specs.Held.{AreAtHand, IsDone, IsIdle, idle_of, log_at, ways_to}
+use Rattle.tp_exec.specs.declared.ended.EndedComponent.{EndedComponent}
+use Rattle.tp_exec.specs.Held.{AreAtHand, IsDone, IsIdle, idle_of, log_at, links_to}
 use Rattle.tp_exec.proofs.settling.settle_all.Given as goal
 
 abbrev pub invariant-loop-idle : goal.invariant-loop-idle
@@ -12,6 +12,6 @@ invariant-loop-idle g l =
     let logs = log_at l.fn.played.items in
     record {
       idle : All (IsIdle l.fn.config) rest;
-      held : AreAtHand logs l.hands.items (ways_to rest);
-      done : (es : List Ended) → AllZip (IsDone logs) rest es → AllZip (IsDone logs) (map idle_of l.fn.played.items) (l.all.items ++ es);
+      held : AreAtHand logs l.hands.items (links_to rest);
+      done : (es : List EndedComponent) → AllZip (IsDone logs) rest es → AllZip (IsDone logs) (map idle_of l.fn.played.items) (l.all.items ++ es);
     }

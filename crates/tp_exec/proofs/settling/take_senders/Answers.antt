@@ -8,24 +8,24 @@ use Rattle.tp_config.specs.Routes.{routes_into}
 use Rattle.tp_inbox.specs.Ledgers.{AreSenders, Inbox, Sending}
 use Rattle.tp_inbox.specs.Routed.{sources_of}
 use Rattle.tp_behaviour.specs.Outboxes.{routes_of}
-use Rattle.tp_exec.specs.Held.{CanTake, Gives, Leaves, ShareNone, ways_by}
-use Rattle.tp_exec.specs.Rounds.{ways_in}
+use Rattle.tp_exec.specs.Held.{CanTake, Gives, Leaves, ShareNone, links_by}
+use Rattle.tp_exec.specs.Rounds.{links_in}
 use Rattle.tp_exec.proofs.Coming.{are_senders, have_all, share_none}
 use Rattle.tp_exec.proofs.settling.take_senders.Goals as goal
 
 -- where these are the components with routes into the inbox
 module _ (hands : List (IntoIter Sending Global)) (i : Inbox) (cs : List CompId) (these : cs ≡ sources_of i.routes) where
-  can_take : CanTake hands (ways_in i) → CanTake hands (ways_by i cs)
-  can_take h = subst (λ (ds : List CompId). CanTake hands (ways_by i ds)) (sym these) h
+  can_take : CanTake hands (links_in i) → CanTake hands (links_by i cs)
+  can_take h = subst (λ (ds : List CompId). CanTake hands (links_by i ds)) (sym these) h
 
-  leaves : (after : List (IntoIter Sending Global)) → Leaves hands (ways_by i cs) after → Leaves hands (ways_in i) after
-  leaves after h = subst (λ (ds : List CompId). Leaves hands (ways_by i ds) after) these h
+  leaves : (after : List (IntoIter Sending Global)) → Leaves hands (links_by i cs) after → Leaves hands (links_in i) after
+  leaves after h = subst (λ (ds : List CompId). Leaves hands (links_by i ds) after) these h
 
-  gives : (ss : List Sending) → Gives hands (ways_by i cs) ss → Gives hands (ways_in i) ss
-  gives ss h = subst (λ (ds : List CompId). Gives hands (ways_by i ds) ss) these h
+  gives : (ss : List Sending) → Gives hands (links_by i cs) ss → Gives hands (links_in i) ss
+  gives ss h = subst (λ (ds : List CompId). Gives hands (links_by i ds) ss) these h
 
   -- those that come back are the inbox's
-  are : (ss : List Sending) → CanTake hands (ways_in i) → Gives hands (ways_by i cs) ss → AreSenders i ss
+  are : (ss : List Sending) → CanTake hands (links_in i) → Gives hands (links_by i cs) ss → AreSenders i ss
   are ss can back = are_senders can.0 i ss (gives ss back can.0 can.1 can.2)
 
 pub take_back-requires : goal.take_back-requires

@@ -16,13 +16,13 @@ invariant-loop-sender g l =
     let rest = into_iter_items l.sender-iterator in
     let was = l.initial.pass.me.view.client in
     let ledgers = l.pass.me.view.client.known in
-    let sent = sent_by (arc_value l.hub).routes.items l.sources.items ledgers in
+    let sent = sent_by (arc_value l.channel).routes.items l.sources.items ledgers in
     record {
-      pass : IsSegPassOf (arc_value l.hub).line l.pass;
+      pass : IsSegPassOf (arc_value l.channel).queue l.pass;
       view : l.pass.me.view.client ≡ owner_pass was.made was.taken ledgers;
-      known : AllZip (IsPutOf (arc_value l.hub).routes.items) ledgers sent;
+      known : AllZip (IsPutOf (arc_value l.channel).routes.items) ledgers sent;
       as_many : length l.sources.items ≡ length ledgers;
-      inbox : All (IsSenderInto (inbox_of (arc_value l.hub))) rest;
+      inbox : All (IsSenderInto (inbox_of (arc_value l.channel))) rest;
       lists : sent ++ map put_by rest ≡ map put_by l.fn.senders.items;
       room : length l.sources.items + length rest ≤ vec_capacity l.sources;
     }

@@ -9,9 +9,9 @@ use Rattle.tp_inbox.proofs.making.begin_owner.Goals as goal
 
 pub places_of-requires : goal.places_of-requires
 places_of-requires c =
-    let hub = arc_value c.args.hub in
-    let same : c.as_slice.result.now ≡ hub.routes.items = search rules in
-    subst (AllPairs (λ (r q : RouteId). r ≢ q)) (sym same) hub.routed.apart
+    let channel = arc_value c.args.channel in
+    let same : c.as_slice.result.now ≡ channel.routes.items = search rules in
+    subst (AllPairs (λ (r q : RouteId). r ≢ q)) (sym same) channel.routed.apart
 
 pub invariant_of-result : goal.invariant_of-result
 invariant_of-result c = record {
@@ -23,7 +23,7 @@ invariant_of-result c = record {
   taken = search rules;
   counts = grind (arith, common_steps);
   places =
-      let same : c.as_slice.result.now ≡ (arc_value c.args.hub).routes.items = search rules in
+      let same : c.as_slice.result.now ≡ (arc_value c.args.channel).routes.items = search rules in
       subst (λ (l : List RouteId). AreFiled (length l) l c.in_ok-places.places) same c.in_ok-places.ensures;
   sources = search rules;
   sources_room = search rules;

@@ -13,4 +13,4 @@ with_rule-requires c = begins
 pub returns-clause-joins : goal.returns-clause-joins
 returns-clause-joins c =
     subst (λ (i : Inbox). AreSenders i c.in_ok-senders.senders.items) (sym c.in_ok-owner.ensures.inbox)
-    (new_are_senders (inbox_of (arc_value c.in_ok-hub.hub)) _ c.in_ok-senders.ensures.senders)
+    (new_are_senders (inbox_of (arc_value c.in_ok-channel.channel)) _ c.in_ok-senders.ensures.senders)

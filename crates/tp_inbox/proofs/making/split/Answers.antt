@@ -11,6 +11,6 @@ another-theirs-requires-clause-rule c = splits_as _ _ _ _ _ c.loop-place.invaria
 
 pub returns-clause-senders : goal.returns-clause-senders
 returns-clause-senders c =
-    let inbox = inbox_of (arc_value c.args.hub.now) in
+    let inbox = inbox_of (arc_value c.args.channel.now) in
     let all : c.loop-place.place ≡ length inbox.routes = omega (arith, c.loop-place.auto.place-end, c.loop-place-test.false, c.loop-place.invariant.count) in
     made_all inbox c.loop-place.place c.loop-place.senders.items all c.loop-place.invariant.senders

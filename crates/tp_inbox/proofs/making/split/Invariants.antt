@@ -9,10 +9,10 @@ use Rattle.tp_inbox.proofs.making.split.Given as goal
 
 abbrev pub invariant-loop-place : goal.invariant-loop-place
 invariant-loop-place l =
-    let hub = arc_value l.hub in
+    let channel = arc_value l.channel in
     record {
-      pass : IsSegPassOf hub.line l.pass;
+      pass : IsSegPassOf channel.queue l.pass;
       view : l.pass.me.view.client ≡ owner_pass l.place [] [];
-      senders : AreMade (inbox_of hub) l.place l.senders.items;
-      count : l.count ≡ length hub.routes.items;
+      senders : AreMade (inbox_of channel) l.place l.senders.items;
+      count : l.count ≡ length channel.routes.items;
     }

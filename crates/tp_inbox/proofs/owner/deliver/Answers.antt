@@ -9,11 +9,11 @@ use Rattle.tp_inbox.proofs.owner.deliver.Goals as goal
 
 pub arrive-requires : goal.arrive-requires
 arrive-requires c =
-    port_within c.args.hub.now c.args.desk.now c.args.envelope.place _ c.requires.ports c.requires.place c.addressed-port.ensures.port
+    port_within c.args.channel.now c.args.desk.now c.args.envelope.place _ c.requires.ports c.requires.place c.addressed-port.ensures.port
 
 pub returns-in-Ok-clause-ok : goal.returns-in-Ok-clause-ok
 returns-in-Ok-clause-ok c =
     let e = c.addressed-port.ensures in
     let is : entry.Arrive c.addressed-port.result.0 c.addressed-port.result.1 c.addressed-port.result.2
-    ≡ arrival_of c.args.hub.now.routes.items c.args.envelope = λ i. entry.Arrive (e.port i) (e.env i) (e.stamp i) in
+    ≡ arrival_of c.args.channel.now.routes.items c.args.envelope = λ i. entry.Arrive (e.port i) (e.env i) (e.stamp i) in
     (c.requires.hand, c.in-Ok.ensures.ok ∙ ap (λ (x : Entry). adding c.args.desk.now x) is)

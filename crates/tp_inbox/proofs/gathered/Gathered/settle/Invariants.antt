@@ -12,9 +12,9 @@ use Rattle.tp_inbox.proofs.gathered.Gathered.settle.Given as goal
 abbrev pub invariant-loop : goal.invariant-loop
 invariant-loop g l =
     let client = l.pass.me.view.client in
-    let routes = (arc_value l.hub).routes.items in
+    let routes = (arc_value l.channel).routes.items in
     record {
-      pass : IsSegPassOf (arc_value l.hub).line l.pass;
+      pass : IsSegPassOf (arc_value l.channel).queue l.pass;
       sound : Sound client;
       made : client.made ≡ length routes;
       same : client.known ≡ l.initial.pass.me.view.client.known;

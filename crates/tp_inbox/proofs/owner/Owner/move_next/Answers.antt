@@ -1,7 +1,7 @@
 -- The envelope that comes next arrives at a port that there is, and is counted for its route; or it is in hand again.
 use Rattle.std.proofs.Common.{◌≡◌, ◌<◌, ◌+◌, ◌∙◌, [], ◌∷◌, ◌++◌, length, length-append, ap, arith, refl, rules, subst, sym}
 use Rattle.std.specs.Arc.{arc_value}
-use Rattle.tp_inbox.specs.declared.hub.Hub.{Hub}
+use Rattle.tp_inbox.specs.declared.channel.Channel.{Channel}
 use Rattle.tp_inbox.specs.Desks.{Journal, adding}
 use Rattle.tp_inbox.specs.Envelopes.{AreCounts}
 use Rattle.tp_inbox.specs.Ledgers.{Draining}
@@ -15,11 +15,11 @@ pub deliver-requires-clause-place : goal.deliver-requires-clause-place
 deliver-requires-clause-place g c =
     let f = c.in-Some.ensures in
     let h = next_of_route c.self.inside _ c.in-Some.envelope c.self.invariant f.sound f.same f.found in
-    subst (λ (x : Hub). c.in-Some.envelope.place < length x.routes.items) (sym c.deref-2.ensures) h.0
+    subst (λ (x : Channel). c.in-Some.envelope.place < length x.routes.items) (sym c.deref-2.ensures) h.0
 
 pub deliver-requires-clause-ports : goal.deliver-requires-clause-ports
 deliver-requires-clause-ports g c =
-    c.requires.desk.1 ∙ ap (λ (d : Draining). d.inbox.ports) (sym c.self.view_is) ∙ ap (λ (x : Hub). x.ports) (sym c.deref-2.ensures)
+    c.requires.desk.1 ∙ ap (λ (d : Draining). d.inbox.ports) (sym c.self.view_is) ∙ ap (λ (x : Channel). x.ports) (sym c.deref-2.ensures)
 
 pub overflow_add-number : goal.overflow_add-number
 overflow_add-number g c =
@@ -44,7 +44,7 @@ returns-in_default-clause-ok g c =
     let f = c.in_default.ensures in (
       [],
       adding_nothing c.args.desk.now,
-      ap (arrivals_of (arc_value c.self.inside.hub).routes.items) (drained-none c.self.inside c.next_envelope-found.new.pass.me.view.client _ f.hand f.found)
+      ap (arrivals_of (arc_value c.self.inside.channel).routes.items) (drained-none c.self.inside c.next_envelope-found.new.pass.me.view.client _ f.hand f.found)
           ∙ ap (λ (d : Draining). d.drained) c.self.view_is
           ∙ sym (append_nil c.args.self.now.drained),
       arrivals_none,
@@ -53,7 +53,7 @@ returns-in_default-clause-ok g c =
 pub returns-in_default-clause-drained : goal.returns-in_default-clause-drained
 returns-in_default-clause-drained g c =
     let f = c.in_default.ensures in
-    let routes = (arc_value c.self.inside.hub).routes.items in
+    let routes = (arc_value c.self.inside.channel).routes.items in
     subst (λ l. AreArrivals routes (arrivals_of routes l)) (sym (drained-none c.self.inside c.next_envelope-found.new.pass.me.view.client _ f.hand f.found))
     (owner_arrivals c.self.inside _ c.self.invariant refl)
 
@@ -107,12 +107,12 @@ pub returns-clause-ok : goal.returns-clause-ok
 returns-clause-ok g c =
     let f = c.in-Some.ensures in
     let h = next_of_route c.self.inside _ c.in-Some.envelope c.self.invariant f.sound f.same f.found in
-    let routes = (arc_value c.self.inside.hub).routes.items in
+    let routes = (arc_value c.self.inside.channel).routes.items in
     let e = c.in-Some.envelope in
     let x = arrival_of routes e in
     let ok = c.in_ok-deliver.ensures.ok in (
       x ∷ [],
-      ok.1 ∙ ap (λ (y : Hub). adding c.args.desk.now (arrival_of y.routes.items e)) c.deref-2.ensures,
+      ok.1 ∙ ap (λ (y : Channel). adding c.args.desk.now (arrival_of y.routes.items e)) c.deref-2.ensures,
       drained-push routes _ _ e _ x ok.0 h.2 refl ∙ ap (λ (d : Draining). d.drained ++ x ∷ []) c.self.view_is,
       arrivals_one _ _ _,
     )

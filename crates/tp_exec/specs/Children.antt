@@ -1,0 +1,18 @@
+-- The components of a run that have begun, while their threads run.
+use Rattle.std.specs.Prelude.{◌≡◌, List}
+use Rattle.tp_play.specs.TestCases.{Made}
+use Rattle.tp_inbox.specs.Ledgers.{Inbox}
+use Rattle.tp_exec.specs.declared.threads.Child.{Child}
+use Rattle.tp_exec.specs.declared.threads.Child.TheVariants as child
+use Rattle.tp_exec.specs.Returns.{HasReturned, identity_of}
+use Rattle.tp_exec.specs.Rounds.{Link}
+
+-- whose inbox and whose senders have come back, or will
+abbrev pub identity_at : Child → Inbox × List Link
+identity_at (child.Running h) = identity_of h.promise.worker.value
+identity_at (child.Done p) = identity_of p.worker
+
+-- the component is at what it is there for, or has done it
+abbrev pub IsChild : Made → Child → Type 0
+IsChild made (child.Running h) = h.promise.test_case.value ≡ made
+IsChild made (child.Done p) = HasReturned made p

@@ -1,0 +1,170 @@
+//! The notifier of an inbox: how many pushes were announced, and whether the owner rests.
+//!
+//! An owner rests where nothing of its `alt` can be chosen yet (ES 201 873-1, 20.2). What sleeps
+//! and is woken stands with the inbox; here is who is to be woken, and why.
+ghost use Rattle.std.specs.Prelude.{◌≡◌, ◌<◌, ◌≤◌, ◌↔◌, ◌+◌, ◌%◌, ◌^◌, ℕ, true, false, None, Some};
+ghost use Rattle.std.specs.Prelude.{is_some, IfSome, IsSomeAnd, if◌then◌else◌};
+ghost use Rattle.crossbeam_utils.specs.Seq.{cell_view};
+
+use crate::floor::{Floor, FloorPlace};
+use crate::hook::RaceHook;
+use std::alloc::Global;
+use std::marker::Model;
+use std::sync::{Arc, Wait};
+
+/// What a wait found.
+#[derive(Clone, Copy, Debug, PartialEq, Eq)]
+pub enum Woken {
+    /// The inbox holds a message.
+    Arrived,
+    /// It holds none, and it was closed.
+    Closed,
+    /// It holds none, it is open, and no other living behaviour is awake.
+    Last,
+}
+
+/// The notifier of an inbox, which is kept under the inbox's lock, seen by contracts as how many
+/// pushes were announced, whether the inbox was closed, and for how many its owner rests. It has
+/// nothing of the messages.
+///
+/// Whoever announces a push or closes the inbox ends the rest of an owner for whom that is
+/// something, and is told to wake it: so nobody rests for whom there is something. Who rests has a
+/// place on the floor that counts, and who doesn't has one that doesn't count.
+///
+/// A call that changes the floor's counts calls the hook that it is given, between its load of them
+/// and its exchange. None takes memory.
+#[derive(Drop)]
+pub struct Notifier {
+    /// How many pushes were announced.
+    announced: u64,
+    /// Whether the inbox was closed.
+    closed: bool,
+    /// Where the owner rests: how many it has taken out. It is woken once more were announced.
+    awaits: Option<u64>,
+    /// The owner's place on the floor.
+    place: FloorPlace,
+}
+
+impl Model for Notifier {
+    ghost use Rattle.tp_floor.specs.NotifierState.{NotifierState};
+
+    ghost Value = { NotifierState };
+
+    ghost use Rattle.tp_floor.specs.Notifiers.{notifier_state, IsNotifier};
+
+    ghost view = { notifier_state };
+
+    ghost invariant = { IsNotifier };
+}
+
+impl Notifier {
+    /// The notifier of an open inbox, to which nothing was announced. Its owner is awake, and has a
+    /// place on this floor.
+    pub fn new(floor: Arc<Floor, Global>) -> Notifier
+        ensures announced { result.announced ≡ 0 }
+        ensures closed { result.closed ≡ false }
+        ensures awaits { result.awaits ≡ None }
+    {
+        Notifier {
+            announced: 0,
+            closed: false,
+            awaits: None,
+            place: FloorPlace::on(floor),
+        }
+    }
+
+    /// One more push was announced. True where the owner rested and has not taken so many out: then
+    /// it rests no more, and is to be woken.
+    pub fn announce<R: Wait, S: RaceHook>(&mut self, rt: &R, hook: &mut S) -> bool
+        ensures announced { self.new.announced ≡ (self.old.announced + 1) % 2 ^ 64 }
+        ensures closed { self.new.closed ≡ self.old.closed }
+        ensures wakes { result ≡ true
+            ↔ IsSomeAnd self.old.awaits (λ taken. taken < self.new.announced) }
+        ensures awaits { self.new.awaits ≡ (if result then None else self.old.awaits) }
+    {
+        // No run comes to 2^64 pushes, so that this needn't be shown.
+        let announced = self.announced.wrapping_add(1);
+        let wakes = match self.awaits {
+            Some(taken) => announced > taken,
+            None => false,
+        };
+        if wakes {
+            self.place.rise(rt, hook);
+            self.awaits = None;
+        }
+        self.announced = announced;
+        wakes
+    }
+
+    /// The inbox is closed from now on. True where the owner rested: then it rests no more, and is
+    /// to be woken.
+    pub fn close<R: Wait, S: RaceHook>(&mut self, rt: &R, hook: &mut S) -> bool
+        ensures announced { self.new.announced ≡ self.old.announced }
+        ensures closed { self.new.closed ≡ true }
+        ensures wakes { result ≡ is_some self.old.awaits }
+        ensures awaits { self.new.awaits ≡ None }
+    {
+        let wakes = self.awaits.is_some();
+        if wakes {
+            self.place.rise(rt, hook);
+        }
+        self.awaits = None;
+        self.closed = true;
+        wakes
+    }
+
+    /// What an owner that has taken so many out finds at once. Nothing where it may rest.
+    pub fn look(&self, taken: u64) -> Option<Woken>
+        ensures arrived { result ≡ Some Woken.Arrived ↔ taken < self.now.announced }
+        ensures closed { result ≡ Some Woken.Closed
+            ↔ (self.now.announced ≤ taken) × (self.now.closed ≡ true) }
+        ensures nothing { result ≡ None ↔ (self.now.announced ≤ taken) × (self.now.closed ≡ false) }
+    {
+        if self.announced > taken {
+            return Some(Woken::Arrived);
+        }
+        if self.closed {
+            return Some(Woken::Closed);
+        }
+        None
+    }
+
+    /// The owner, which has taken so many out, rests from now on, unless no other living behaviour
+    /// is awake: then it is told so. Where it rests already, it is not counted a second time. There
+    /// is nothing for it: no more were announced than it has taken out, and the inbox is open.
+    pub fn rest<R: Wait, S: RaceHook>(&mut self, rt: &R, hook: &mut S, taken: u64) -> Option<Woken>
+        requires { (self.old.announced ≤ taken) × (self.old.closed ≡ false) }
+        ensures announced { self.new.announced ≡ self.old.announced }
+        ensures closed { self.new.closed ≡ self.old.closed }
+        ensures told { result ≡ (if is_some self.new.awaits then None else Some Woken.Last) }
+        ensures awaits { IfSome self.new.awaits (λ most. most ≡ taken) }
+    {
+        if self.awaits.is_none() && !self.place.rest(rt, hook) {
+            return Some(Woken::Last);
+        }
+        self.awaits = Some(taken);
+        None
+    }
+
+    /// Whether the owner rests. It rests only while there is nothing for it: no more were announced
+    /// than it had taken out, and the inbox is open.
+    pub fn rests(&self) -> bool
+        ensures rests { result ≡ is_some self.now.awaits }
+        ensures asleep { IfSome self.now.awaits (λ taken.
+            (self.now.announced ≤ taken) × (self.now.closed ≡ false)) }
+    {
+        self.awaits.is_some()
+    }
+
+    /// What an owner that has taken so many out finds when it was woken.
+    pub fn woken(&self, taken: u64) -> Woken
+        ensures arrived { result ≡ Woken.Arrived ↔ taken < self.now.announced }
+        ensures closed { result ≡ Woken.Closed ↔ self.now.announced ≤ taken }
+    {
+        if self.announced > taken {
+            Woken::Arrived
+        } else {
+            Woken::Closed
+        }
+    }
+}

@@ -1,0 +1,134 @@
+//! What the ends of one inbox share.
+ghost use Rattle.std.specs.Prelude.{◌≡◌, ◌<◌, length};
+ghost use Rattle.tp_inbox.specs.Routed.{AreRoutes, env_of, route_at};
+
+use crate::envelope::Envelope;
+use crate::rule::InboxQueue;
+use crate::stamped::Stamped;
+use std::alloc::Global;
+use std::sync::{Arc, Condvar, Mutex, MutexGuard, Wait};
+use tp_config::port_type::{CompId, RouteId};
+use tp_floor::floor::Floor;
+use tp_floor::hook::NoHook;
+use tp_floor::notifier::{Notifier, Woken};
+use tp_queue::event::Env;
+use tp_value::message::Message;
+
+/// What an owner and its senders share: the queue, the routes into the component, and the notifier.
+///
+/// A push comes before it is announced, and only what is announced wakes. An owner may so take out
+/// what isn't announced yet: it counts what it took, and waits for more than that, so that the
+/// announcement which comes later wakes nobody for what is gone. No waking is lost, since the owner
+/// looks and comes to rest under the one lock under which a push is announced: either it finds the
+/// announcement, or the announcement finds it at rest. Whoever ends a rest takes it from the floor
+/// under that same lock, and only then wakes: so a behaviour that is on its way back counts as
+/// awake. No notifier is taken while the floor is changed.
+pub(crate) struct Channel {
+    /// The queue. It has a rule, and no lock.
+    pub(crate) queue: InboxQueue,
+    /// Whose inbox it is.
+    pub(crate) comp: CompId,
+    /// How many ports that component has.
+    pub(crate) ports: usize,
+    /// The routes into the component. An envelope names its route by the place in this list.
+    pub(crate) routes: Vec<RouteId>,
+    notifier: Mutex<Notifier>,
+    waking: Condvar,
+    ghost routed: { AreRoutes comp ports routes.items },
+}
+
+impl Channel {
+    /// An open inbox over this queue, to which nothing was announced.
+    pub(crate) fn over(
+        queue: InboxQueue,
+        comp: CompId,
+        ports: usize,
+        routes: Vec<RouteId>,
+        floor: Arc<Floor, Global>,
+    ) -> Channel
+        requires { AreRoutes comp ports routes.items }
+        ensures queue { result.queue ≡ queue }
+        ensures comp { result.comp ≡ comp }
+        ensures ports { result.ports ≡ ports }
+        ensures routes { result.routes ≡ routes }
+    {
+        Channel {
+            queue,
+            comp,
+            ports,
+            routes,
+            notifier: Mutex::new(Notifier::new(floor)),
+            waking: Condvar::new(),
+        }
+    }
+
+    /// Announces a push, and wakes the owner where it rests and has not taken this one out yet.
+    pub(crate) fn announce<R: Wait>(&self, rt: &R) {
+        let mut notifier = self.notifier.lock(rt);
+        let wakes = notifier.announce(rt, &mut NoHook);
+        self.wake(notifier, wakes);
+    }
+
+    /// Closes the inbox, and wakes the owner where it rests.
+    pub(crate) fn close<R: Wait>(&self, rt: &R) {
+        let mut notifier = self.notifier.lock(rt);
+        let wakes = notifier.close(rt, &mut NoHook);
+        self.wake(notifier, wakes);
+    }
+
+    /// Gives the notifier back, and wakes the owner where it is to be woken. It wakes all that wait
+    /// at this inbox: a wait only borrows the owner, so nothing here rules out that there are two.
+    fn wake(&self, notifier: MutexGuard<Notifier>, wakes: bool) {
+        drop(notifier);
+        if wakes {
+            self.waking.notify_all();
+        }
+    }
+
+    /// Waits until more than `taken` pushes were announced or the inbox is closed, unless no other
+    /// living behaviour is awake.
+    pub(crate) fn wait_past<R: Wait>(&self, rt: &R, taken: u64) -> Woken {
+        let mut notifier = self.notifier.lock(rt);
+        if let Some(found) = notifier.look(taken) {
+            return found;
+        }
+        if let Some(last) = notifier.rest(rt, &mut NoHook, taken) {
+            return last;
+        }
+        let notifier = self
+            .waking
+            .wait_while(rt, notifier, |notifier| notifier.rests());
+        notifier.woken(taken)
+    }
+
+    /// The port to which an envelope goes, what arrives there, and its stamp.
+    pub(crate) fn addressed(&self, envelope: Envelope) -> (u32, Env<Message>, u64)
+        requires { envelope.place < length self.now.routes.items }
+        ensures port { result.0 ≡ (route_at self.now.routes.items envelope.place).to.port }
+        ensures env { result.1 ≡ env_of self.now.routes.items envelope }
+        ensures stamp { result.2 ≡ envelope.stamped.stamp }
+    {
+        let route = self.routes[envelope.place];
+        let Stamped { stamp, message } = envelope.stamped;
+        let env = Env {
+            sender: route.source.0,
+            number: envelope.number,
+            msg: message,
+        };
+        (route.to.port, env, stamp)
+    }
+}
+
+impl Drop for Channel {
+    fn drop(self) {
+        let Channel {
+            queue,
+            comp: _,
+            ports: _,
+            routes: _,
+            notifier: _,
+            waking: _,
+        } = self;
+        queue.destroy();
+    }
+}
