@@ -1,14 +1,18 @@
 //! Statements: variables, verdicts, `alt`, `for` and blocks.
-ghost use Rattle.std.specs.Prelude.{◌≡◌, ◌+◌, ◌<◌, ◌≤◌, ◌∷◌, IsTrue, length, map, IfErr, IfOk, OnOk, string_bytes};
+ghost use Rattle.std.specs.Prelude.{ℤ, ◌↔◌, ◌++◌, max, [], ◌≢◌, true, false, List, Option, Some, MatchResult, ◌≡◌, ◌+◌, ◌<◌, ◌≤◌, ◌∷◌, IsTrue, length, map, IfErr, IfOk, OnOk, string_bytes};
 ghost use Rattle.std.specs.Bool.{OnFalse};
-ghost use Rattle.tp_token.specs.Lexeme.{number, symbol, word};
-ghost use Rattle.tp_syntax.specs.Ahead.{ahead};
+ghost use Rattle.tp_queue.specs.declared.operation.PortOperation.{PortOperation};
+ghost use Rattle.tp_queue.specs.declared.operation.ReceiveKind.{ReceiveKind};
+ghost use Rattle.tp_token.specs.Lexeme.{Lexeme, number, symbol, word};
+ghost use Rattle.tp_token.specs.Fault.{IsMemory};
+ghost use Rattle.tp_syntax.specs.Ahead.{ahead, is_name_in, token_at};
 ghost use Rattle.tp_syntax.specs.Passing.{Passes};
 ghost use Rattle.tp_syntax.specs.Sequences.{braced};
 ghost use Rattle.tp_syntax.specs.Values.{int_lexemes};
-ghost use Rattle.tp_syntax.specs.Statements.{step_lexemes, turns_lexemes, verdict_lexeme, set_verdict_lexemes, variable_lexemes, variables_lexemes, action_lexemes, branch_lexemes, body_lexemes, counted_lexemes, otherwise_lexemes, statement_lexemes, statements_lexemes, branches_lexemes};
-ghost use Rattle.tp_syntax.specs.Grammar.{action_part, are_parts, body_part, branch_part, branches_parts, counted_part, otherwise_parts, statement_part, statements_parts, variable_part};
+ghost use Rattle.tp_syntax.specs.Statements.{port_operation_lexeme, step_lexemes, turns_lexemes, verdict_lexeme, set_verdict_lexemes, variable_lexemes, variables_lexemes, action_lexemes, branch_lexemes, body_lexemes, counted_lexemes, otherwise_lexemes, statement_lexemes, statements_lexemes, branches_lexemes};
+ghost use Rattle.tp_syntax.specs.Grammar.{action_part, are_parts, body_part, branch_part, branches_parts, counted_part, has_one, is_integer, otherwise_parts, statement_part, statements_parts, variable_part};
 ghost use Rattle.tp_syntax.specs.Nesting.{action_depth, body_depth, branch_depth, branches_depth, counted_depth, otherwise_depth, statement_depth, statements_depth};
+ghost use Rattle.tp_syntax.specs.Reading.{AllStand, IsEndOf, IsEndedOr, IsPlaced, Reads, Stops, first, is_branch_ahead, is_end_ahead, receive_word};
 ghost use Rattle.tp_syntax.specs.Refusals.{IsOfGrammar};
 ghost use Rattle.tp_syntax.specs.Standing.{GoesOn, GoesOver, HasPassed};
 
@@ -63,6 +67,8 @@ impl<'a, 't> Parser<'a, 't> {
         ensures tokens { IfOk result (λ v.
             ahead self.old.rest.now ≡ verdict_lexeme v ∷ ahead self.new.rest.now) }
         ensures shorter { OnOk result (length self.new.rest.now < length self.old.rest.now) }
+        ensures reads { (x : VerdictName) (more : List Lexeme) →
+            Reads self.old (verdict_lexeme x ∷ []) more result self.new }
         ensures fault { IfErr result IsOfGrammar }
     {
         let placed = self.take()?;
@@ -82,6 +88,9 @@ impl<'a, 't> Parser<'a, 't> {
         ensures tokens { IfOk result (λ v. Passes self.old (set_verdict_lexemes v) self.new) }
         ensures shorter { OnOk result (length self.new.rest.now < length self.old.rest.now) }
         ensures nested { OnOk result (1 ≤ left) }
+        ensures reads { (x : VerdictName) (more : List Lexeme) →
+            0 < left →
+            Reads self.old (set_verdict_lexemes x) more result self.new }
         ensures fault { IfErr result IsOfGrammar }
     {
         self.word(Word::Setverdict)?;
@@ -97,6 +106,9 @@ impl<'a, 't> Parser<'a, 't> {
         ensures tokens { IfOk result (λ v. Passes self.old (variable_lexemes v) self.new) }
         ensures shorter { OnOk result (length self.new.rest.now < length self.old.rest.now) }
         ensures grammatical { IfOk result (λ v. HasPassed (variable_part v) self.new) }
+        ensures reads { (x : Variable) (more : List Lexeme) →
+            IsPlaced (variable_part x) more →
+            Reads self.old (variable_lexemes x) more result self.new }
         ensures fault { IfErr result IsOfGrammar }
     {
         let line = self.line();
@@ -118,6 +130,10 @@ impl<'a, 't> Parser<'a, 't> {
         ensures shorter { OnOk result (length self.new.rest.now ≤ length self.old.rest.now) }
         ensures grammatical { IfOk result (λ v.
             GoesOver self.old (map variable_part v.items) self.new) }
+        ensures reads { (xs : List Variable) (more : List Lexeme) →
+            AllStand (map variable_part xs) more →
+            first more ≢ Some (word Word.Var) →
+            Reads self.old (variables_lexemes xs) more result self.new }
         ensures fault { IfErr result IsOfGrammar }
     {
         let mut variables = Vec::new(alloc);
@@ -136,6 +152,12 @@ impl<'a, 't> Parser<'a, 't> {
             ahead self.old.rest.now ≡ turns_lexemes x (ahead self.new.rest.now)) }
         ensures shorter { OnOk result (length self.new.rest.now < length self.old.rest.now) }
         ensures nested { OnOk result (1 ≤ left) }
+        ensures reads { (x : Turns) (more : List Lexeme) →
+            IsTrue (is_integer x.first) → IsTrue (is_integer x.bound) → 0 < left →
+            ahead self.old.rest.now ≡ turns_lexemes x more →
+            MatchResult result (λ _. ahead self.new.rest.now ≡ more) IsMemory }
+        ensures within { IfOk result (λ x.
+            IsTrue (is_integer x.first) × IsTrue (is_integer x.bound)) }
         ensures fault { IfErr result IsOfGrammar }
     {
         self.word(Word::For)?;
@@ -157,6 +179,12 @@ impl<'a, 't> Parser<'a, 't> {
             ahead self.old.rest.now
             ≡ step_lexemes (string_bytes variable.now) (int_lexemes z) (ahead self.new.rest.now)) }
         ensures shorter { OnOk result (length self.new.rest.now < length self.old.rest.now) }
+        ensures reads { (z : ℤ) (more : List Lexeme) →
+            IsTrue (is_integer z) →
+            ahead self.old.rest.now
+            ≡ step_lexemes (string_bytes variable.now) (int_lexemes z) more →
+            MatchResult result (λ _. ahead self.new.rest.now ≡ more) IsMemory }
+        ensures within { IfOk result (λ z. IsTrue (is_integer z)) }
         ensures fault { IfErr result IsOfGrammar }
     {
         self.symbol(Symbol::Semicolon)?;
@@ -178,6 +206,8 @@ impl<'a, 't> Parser<'a, 't> {
         ensures tokens { OnOk result
             (ahead self.old.rest.now ≡ number 1 ∷ ahead self.new.rest.now) }
         ensures shorter { OnOk result (length self.new.rest.now < length self.old.rest.now) }
+        ensures reads { (more : List Lexeme) →
+            Reads self.old (number 1 ∷ []) more result self.new }
         ensures fault { IfErr result IsOfGrammar }
     {
         let placed = self.take()?;
@@ -195,6 +225,11 @@ impl<'a, 't> Parser<'a, 't> {
             ∷ ahead self.new.rest.now) }
         ensures shorter { OnOk result (length self.new.rest.now < length self.old.rest.now) }
         ensures nested { OnOk result (1 ≤ left) }
+        ensures reads { (more : List Lexeme) →
+            0 < left →
+            Reads self.old
+            (symbol Symbol.LeftBracket ∷ word Word.Else ∷ symbol Symbol.RightBracket ∷ []) more result
+            self.new }
         ensures fault { IfErr result IsOfGrammar }
     {
         self.open(Symbol::LeftBracket, left)?;
@@ -205,7 +240,25 @@ impl<'a, 't> Parser<'a, 't> {
 
     /// What kind of statement comes next. What is none of them is taken for an operation on a port,
     /// which is then refused at the first token that can't stand.
-    fn beginning(&self) -> Beginning {
+    fn beginning(&self) -> Beginning
+        ensures alt { token_at self.now.rest.now 0 ≡ Some (word Word.Alt) →
+            result ≡ Beginning.Alt }
+        ensures for_loop { token_at self.now.rest.now 0 ≡ Some (word Word.For) →
+            result ≡ Beginning.For }
+        ensures set_verdict { token_at self.now.rest.now 0 ≡ Some (word Word.Setverdict) →
+            result ≡ Beginning.SetVerdict }
+        ensures all_ports { token_at self.now.rest.now 0 ≡ Some (word Word.All) →
+            result ≡ Beginning.AllPorts }
+        ensures send { is_name_in (token_at self.now.rest.now 0) ≡ true →
+            token_at self.now.rest.now 2 ≡ Some (word Word.Send) → result ≡ Beginning.Send }
+        ensures receive { (k : ReceiveKind) → is_name_in (token_at self.now.rest.now 0) ≡ true →
+            token_at self.now.rest.now 2 ≡ Some (word (receive_word k)) →
+            result ≡ Beginning.Receive }
+        ensures control { (o : PortOperation) →
+            is_name_in (token_at self.now.rest.now 0) ≡ true →
+            token_at self.now.rest.now 2 ≡ Some (port_operation_lexeme o) →
+            result ≡ Beginning.Control }
+    {
         match self.word_at(0) {
             Some(Word::Alt) => Beginning::Alt,
             Some(Word::For) => Beginning::For,
@@ -224,7 +277,8 @@ impl<'a, 't> Parser<'a, 't> {
     /// Whether no statement comes next: the end of a block, or, in the body of a test case, `all
     /// component`.
     fn is_end(&self, is_case: bool) -> bool
-        ensures { OnFalse result (GoesOn self.now) }
+        ensures goes_on { OnFalse result (GoesOn self.now) }
+        ensures end { IsTrue result ↔ IsEndOf is_case self.now.rest.now }
     {
         self.is_symbol_at(0, Symbol::RightBrace)
             || is_case && self.is_word_at(0, Word::All) && self.is_word_at(1, Word::Component)
@@ -238,6 +292,10 @@ impl<'a, 't> Parser<'a, 't> {
         ensures shorter { OnOk result (length self.new.rest.now < length self.old.rest.now) }
         ensures nested { IfOk result (λ s. statement_depth s ≤ left) }
         ensures grammatical { IfOk result (λ s. HasPassed (statement_part s) self.new) }
+        ensures reads { (x : Statement) (more : List Lexeme) →
+            IsPlaced (statement_part x) more →
+            statement_depth x ≤ left →
+            Reads self.old (statement_lexemes x) more result self.new }
         ensures fault { IfErr result IsOfGrammar }
     {
         let line = self.line();
@@ -258,6 +316,11 @@ impl<'a, 't> Parser<'a, 't> {
         ensures shorter { OnOk result (length self.new.rest.now < length self.old.rest.now) }
         ensures nested { IfOk result (λ a. action_depth a ≤ left) }
         ensures grammatical { IfOk result (λ a. IsTrue (action_part a).is_right) }
+        ensures reads { (x : Action) (more : List Lexeme) →
+            IsTrue (action_part x).is_right →
+            action_depth x ≤ left →
+            IsEndedOr (action_part x).is_ended (Stops more) →
+            Reads self.old (action_lexemes x) more result self.new }
         ensures fault { IfErr result IsOfGrammar }
     {
         match self.beginning() {
@@ -297,6 +360,12 @@ impl<'a, 't> Parser<'a, 't> {
         ensures shorter { OnOk result (length self.new.rest.now < length self.old.rest.now) }
         ensures nested { IfOk result (λ a. action_depth a ≤ left) }
         ensures grammatical { IfOk result (λ a. IsTrue (action_part a).is_right) }
+        ensures reads { (xs : List Branch) (x : Option ElseBranch) (more : List Lexeme) →
+            IsTrue (has_one (branches_parts xs ++ otherwise_parts x)) →
+            IsTrue (are_parts (branches_parts xs ++ otherwise_parts x)) →
+            max (branches_depth xs) (otherwise_depth x) + 1 ≤ left →
+            Reads self.old (word Word.Alt ∷ braced (branches_lexemes xs ++ otherwise_lexemes x))
+            more result self.new }
         ensures fault { IfErr result IsOfGrammar }
     {
         self.word(Word::Alt)?;
@@ -318,14 +387,28 @@ impl<'a, 't> Parser<'a, 't> {
         ensures nested { IfOk result (λ v. branches_depth v.items ≤ left) }
         ensures grammatical { IfOk result (λ v.
             GoesOver self.old (branches_parts v.items) self.new) }
+        ensures reads { (xs : List Branch) (more : List Lexeme) →
+            AllStand (branches_parts xs) more →
+            branches_depth xs ≤ left →
+            is_branch_ahead more ≡ false →
+            Reads self.old (branches_lexemes xs) more result self.new }
         ensures fault { IfErr result IsOfGrammar }
     {
         let mut branches = Vec::new(alloc);
-        'more: while self.is_symbol_at(0, Symbol::LeftBracket) && !self.is_word_at(1, Word::Else) {
+        'more: while self.is_branch() {
             let branch = self.branch(alloc, left)?;
             branches.push(branch)?;
         }
         Ok(branches)
+    }
+
+    /// Whether a branch comes next that isn't `[else]`.
+    fn is_branch(&self) -> bool
+        ensures { IsTrue result
+            ↔ ((token_at self.now.rest.now 0 ≡ Some (symbol Symbol.LeftBracket))
+            × (token_at self.now.rest.now 1 ≢ Some (word Word.Else))) }
+    {
+        self.is_symbol_at(0, Symbol::LeftBracket) && !self.is_word_at(1, Word::Else)
     }
 
     /// A branch behind a receiving operation.
@@ -336,6 +419,10 @@ impl<'a, 't> Parser<'a, 't> {
         ensures shorter { OnOk result (length self.new.rest.now < length self.old.rest.now) }
         ensures nested { IfOk result (λ b. branch_depth b ≤ left) }
         ensures grammatical { IfOk result (λ b. HasPassed (branch_part b) self.new) }
+        ensures reads { (x : Branch) (more : List Lexeme) →
+            IsPlaced (branch_part x) more →
+            branch_depth x ≤ left →
+            Reads self.old (branch_lexemes x) more result self.new }
         ensures fault { IfErr result IsOfGrammar }
     {
         let line = self.line();
@@ -360,6 +447,11 @@ impl<'a, 't> Parser<'a, 't> {
         ensures shorter { OnOk result (length self.new.rest.now ≤ length self.old.rest.now) }
         ensures nested { IfOk result (λ b. body_depth b ≤ left) }
         ensures grammatical { IfOk result (λ b. IsTrue (body_part b).is_right) }
+        ensures reads { (x : BranchBody) (more : List Lexeme) →
+            IsTrue (body_part x).is_right →
+            body_depth x ≤ left →
+            IsEndedOr (body_part x).is_ended (first more ≢ Some (symbol Symbol.LeftBrace)) →
+            Reads self.old (body_lexemes x) more result self.new }
         ensures fault { IfErr result IsOfGrammar }
     {
         if !self.is_symbol_at(0, Symbol::LeftBrace) {
@@ -377,6 +469,11 @@ impl<'a, 't> Parser<'a, 't> {
         ensures shorter { OnOk result (length self.new.rest.now ≤ length self.old.rest.now) }
         ensures nested { IfOk result (λ e. otherwise_depth e ≤ left) }
         ensures grammatical { IfOk result (λ e. GoesOver self.old (otherwise_parts e) self.new) }
+        ensures reads { (x : Option ElseBranch) (more : List Lexeme) →
+            AllStand (otherwise_parts x) more →
+            otherwise_depth x ≤ left →
+            first more ≡ Some (symbol Symbol.RightBrace) →
+            Reads self.old (otherwise_lexemes x) more result self.new }
         ensures fault { IfErr result IsOfGrammar }
     {
         if !self.is_symbol_at(0, Symbol::LeftBracket) {
@@ -401,6 +498,10 @@ impl<'a, 't> Parser<'a, 't> {
         ensures shorter { OnOk result (length self.new.rest.now < length self.old.rest.now) }
         ensures nested { IfOk result (λ f. counted_depth f ≤ left) }
         ensures grammatical { IfOk result (λ f. IsTrue (counted_part f).is_right) }
+        ensures reads { (x : Counted) (more : List Lexeme) →
+            IsTrue (counted_part x).is_right →
+            counted_depth x ≤ left →
+            Reads self.old (counted_lexemes x) more result self.new }
         ensures fault { IfErr result IsOfGrammar }
     {
         let turns = self.turns(alloc, left)?;
@@ -417,6 +518,10 @@ impl<'a, 't> Parser<'a, 't> {
         ensures shorter { OnOk result (length self.new.rest.now < length self.old.rest.now) }
         ensures nested { IfOk result (λ v. statements_depth v.items + 1 ≤ left) }
         ensures grammatical { IfOk result (λ v. IsTrue (are_parts (statements_parts v.items))) }
+        ensures reads { (xs : List Statement) (more : List Lexeme) →
+            IsTrue (are_parts (statements_parts xs)) →
+            statements_depth xs + 1 ≤ left →
+            Reads self.old (braced (statements_lexemes xs)) more result self.new }
         ensures fault { IfErr result IsOfGrammar }
     {
         let inner = self.open(Symbol::LeftBrace, left)?;
@@ -438,6 +543,11 @@ impl<'a, 't> Parser<'a, 't> {
         ensures nested { IfOk result (λ v. statements_depth v.items ≤ left) }
         ensures grammatical { IfOk result (λ v.
             GoesOver self.old (statements_parts v.items) self.new) }
+        ensures reads { (xs : List Statement) (more : List Lexeme) →
+            AllStand (statements_parts xs) more →
+            statements_depth xs ≤ left →
+            is_end_ahead is_case more ≡ true →
+            Reads self.old (statements_lexemes xs) more result self.new }
         ensures fault { IfErr result IsOfGrammar }
     {
         let mut statements = Vec::new(alloc);
