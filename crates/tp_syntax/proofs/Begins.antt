@@ -1,5 +1,5 @@
 -- With which tokens parts begin.
-use Rattle.std.proofs.Common.{inl, inr, ap, ◌≡◌, Bool, true, false, List, [], ◌∷◌, ◌++◌, Some, refl, string_bytes}
+use Rattle.std.proofs.Common.{inl, inr, ap, ◌≡◌, true, List, [], ◌∷◌, ◌++◌, Some, refl, string_bytes}
 use Rattle.tp_token.specs.declared.token.Symbol.TheVariants.{Assign, Dot, LeftParen, RightBrace, RightParen}
 use Rattle.tp_token.specs.declared.token.Placed.{Placed}
 use Rattle.tp_token.specs.declared.word.Word.TheVariants as w

@@ -1,5 +1,5 @@
 -- What stands in the braces of a function and of a test case: where it may stand, and what comes next behind it.
-use Rattle.std.proofs.Common.{◌≡◌, ◌≢◌, ℕ, ◌+◌, ◌≤◌, Bool, true, false, ◌&&◌, ◌||◌, List, [], ◌∷◌, ◌++◌, Option, Some, None, map, refl, ap, sym, subst, ◌∙◌, append_assoc, string_bytes}
+use Rattle.std.proofs.Common.{◌≡◌, ◌≢◌, ℕ, ◌≤◌, Bool, true, false, ◌&&◌, ◌||◌, List, [], ◌∷◌, ◌++◌, Option, Some, None, map, refl, ap, sym, subst, ◌∙◌, append_assoc, string_bytes}
 use Rattle.std.proofs.lemmas.Bool.{and_parts, false≢true}
 use Rattle.tp_token.specs.declared.token.Placed.{Placed}
 use Rattle.tp_token.specs.declared.word.Word.TheVariants as w
@@ -12,12 +12,9 @@ use Rattle.tp_queue.specs.declared.operation.ReceiveKind.TheVariants as receive_
 use Rattle.tp_tree.specs.declared.message.TypeName.{TypeName}
 use Rattle.tp_tree.specs.declared.message.TypeName.TheVariants as type_name
 use Rattle.tp_tree.specs.declared.tree.Receive.{Receive}
-use Rattle.tp_tree.specs.declared.tree.Control.{Control}
 use Rattle.tp_tree.specs.declared.tree.Action.{Action}
-use Rattle.tp_tree.specs.declared.tree.Action.TheVariants as a
 use Rattle.tp_tree.specs.declared.tree.Variable.{Variable}
 use Rattle.tp_tree.specs.declared.tree.Statement.{Statement, out-Statement}
-use Rattle.tp_tree.specs.declared.tree.SetupStatement.{SetupStatement}
 use Rattle.tp_tree.specs.declared.tree.ComponentStart.{ComponentStart}
 use Rattle.tp_tree.specs.declared.tree.AllDone.{AllDone}
 use Rattle.tp_tree.specs.declared.tree.Function.{Function}
@@ -25,19 +22,19 @@ use Rattle.tp_tree.specs.declared.tree.TestCase.{TestCase}
 use Rattle.tp_tree.specs.declared.tree.Defined.{Defined}
 use Rattle.tp_tree.specs.declared.tree.Defined.TheVariants as defined
 use Rattle.tp_syntax.specs.Ahead.{ahead, token_at}
-use Rattle.tp_syntax.specs.Sequences.{all_of, end_lexemes}
+use Rattle.tp_syntax.specs.Sequences.{end_lexemes}
 use Rattle.tp_syntax.specs.Values.{type_lexemes}
 use Rattle.tp_syntax.specs.Statements.{send_lexemes, receive_lexemes, received_lexemes, operation_lexemes, control_lexemes, all_ports_lexemes, set_verdict_lexemes, port_operation_lexeme, variable_lexemes, variables_lexemes, action_lexemes, statement_lexemes, statements_lexemes}
-use Rattle.tp_syntax.specs.Definitions.{record_type_lexemes, list_type_lexemes, port_type_lexemes, component_type_lexemes, function_lexemes, test_case_lexemes, defined_lexemes, setup_lexemes, setups_lexemes, start_lexemes, starts_lexemes, all_done_lexemes}
-use Rattle.tp_syntax.specs.Grammar.{Part, are_parts, action_part, variable_part, statement_part, statements_parts, setup_part, start_part, all_done_parts, behaviour_parts, defined_part}
-use Rattle.tp_syntax.specs.Nesting.{statements_depth, defined_depth}
-use Rattle.tp_syntax.specs.Reading.{AllStand, IsPlaced, Stands, first, is_end_ahead, is_setup_ahead, is_start_ahead, is_type, may_stand, may_all_stand}
+use Rattle.tp_syntax.specs.Definitions.{record_type_lexemes, list_type_lexemes, port_type_lexemes, component_type_lexemes, function_lexemes, test_case_lexemes, defined_lexemes, start_lexemes, starts_lexemes, all_done_lexemes}
+use Rattle.tp_syntax.specs.Grammar.{Part, action_part, variable_part, statement_part, statements_parts, setup_part, start_part, all_done_parts, behaviour_parts, defined_part}
+use Rattle.tp_syntax.specs.Nesting.{defined_depth}
+use Rattle.tp_syntax.specs.Reading.{AllStand, IsPlaced, first, is_end_ahead, is_setup_ahead, is_start_ahead, is_type, may_stand, may_all_stand}
 use Rattle.tp_syntax.proofs.StatementTokens as tokens
 use Rattle.tp_syntax.proofs.Grammar as grammar
 use Rattle.tp_syntax.proofs.Reading.{at_0}
 use Rattle.tp_syntax.proofs.Remaining.{Follows, begin_stands, follows_all, is_begin, parts_stand, stand_before, stand_behind}
 use Rattle.tp_syntax.proofs.Begins.{start_begins, variable_begins}
-use Rattle.tp_syntax.proofs.StatementReading.{Kind, sends, receives, controls, all_controls, sets, chooses, counts, kind_lexemes, Cases, action_cases, counted_opens, statement_begins, statement_kind}
+use Rattle.tp_syntax.proofs.StatementReading.{Kind, sends, receives, controls, all_controls, sets, chooses, counts, kind_lexemes, action_cases, counted_opens, statement_begins, statement_kind}
 
 kind_no_var : (k : Kind) (r : List Lexeme) → first (kind_lexemes k ++ r) ≢ Some (word w.Var)
 unfolding send_lexemes receive_lexemes control_lexemes all_ports_lexemes set_verdict_lexemes

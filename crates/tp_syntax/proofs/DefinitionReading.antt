@@ -1,27 +1,23 @@
 -- Definitions by the tokens that they begin with, and where their parts may stand.
-use Rattle.std.proofs.Common.{◌≡◌, ◌≢◌, ℕ, ℤ, pos, negsuc, zero, suc, ◌≤◌, Bool, true, false, ◌&&◌, List, [], ◌∷◌, ◌++◌, Option, Some, None, map, refl, ap, sym, subst, ◌∙◌, append_assoc, string_bytes}
+use Rattle.std.proofs.Common.{◌≡◌, ◌≢◌, ℤ, pos, negsuc, true, List, [], ◌∷◌, ◌++◌, Option, Some, None, map, refl, ap, sym, ◌∙◌, string_bytes}
 use Rattle.std.proofs.lemmas.Bool.{and_parts, false≢true}
 use Rattle.tp_token.specs.declared.token.Placed.{Placed}
 use Rattle.tp_token.specs.declared.word.Word.TheVariants as w
 use Rattle.tp_token.specs.declared.token.Symbol.TheVariants.{Dot, Minus, RightBrace}
-use Rattle.tp_token.specs.Lexeme.{Lexeme, name, word, number, symbol}
+use Rattle.tp_token.specs.Lexeme.{Lexeme, name, word, symbol}
 use Rattle.tp_tree.specs.declared.tree.RecordType.{RecordType}
 use Rattle.tp_tree.specs.declared.tree.ListType.{ListType}
 use Rattle.tp_tree.specs.declared.tree.PortType.{PortType}
 use Rattle.tp_tree.specs.declared.tree.ComponentType.{ComponentType}
-use Rattle.tp_tree.specs.declared.tree.Function.{Function}
-use Rattle.tp_tree.specs.declared.tree.TestCase.{TestCase}
 use Rattle.tp_tree.specs.declared.tree.AllDone.{AllDone}
 use Rattle.tp_tree.specs.declared.tree.Defined.{Defined}
 use Rattle.tp_tree.specs.declared.tree.Defined.TheVariants as defined
 use Rattle.tp_syntax.specs.Ahead.{ahead, token_at}
 use Rattle.tp_syntax.specs.Sequences.{end_lexemes}
-use Rattle.tp_syntax.specs.Statements.{variable_lexemes, variables_lexemes, statement_lexemes, statements_lexemes}
 use Rattle.tp_syntax.specs.Templates.{low_lexemes}
-use Rattle.tp_syntax.specs.Definitions.{record_type_lexemes, list_type_lexemes, port_type_lexemes, component_type_lexemes, function_lexemes, test_case_lexemes, defined_lexemes, setup_lexemes, setups_lexemes, start_lexemes, starts_lexemes, all_done_lexemes}
-use Rattle.tp_syntax.specs.Grammar.{Part, are_parts, has_one, direction_part, port_declaration_part, variable_part, statement_part, statements_parts, setup_part, start_part, all_done_parts, behaviour_parts, defined_part}
-use Rattle.tp_syntax.specs.Nesting.{statements_depth, defined_depth}
-use Rattle.tp_syntax.specs.Reading.{AllStand, IsPlaced, Stands, first, is_type, may_stand}
+use Rattle.tp_syntax.specs.Definitions.{record_type_lexemes, list_type_lexemes, port_type_lexemes, component_type_lexemes, defined_lexemes, all_done_lexemes}
+use Rattle.tp_syntax.specs.Grammar.{are_parts, has_one, direction_part, port_declaration_part, all_done_parts, defined_part}
+use Rattle.tp_syntax.specs.Reading.{AllStand, Stands, first, is_type}
 use Rattle.tp_syntax.proofs.Reading.{at_0, at_1, at_2, minus_then}
 use Rattle.tp_syntax.proofs.Remaining.{parts_stand}
 

@@ -1,10 +1,10 @@
 -- What stands in braces: fields, or no fields, by the first two tokens.
-use Rattle.std.proofs.Common.{◌≡◌, ◌≢◌, ℕ, ◌≤◌, Bool, true, false, List, [], ◌∷◌, ◌++◌, Option, Some, map, refl, ap, sym, subst, ◌∙◌, append_assoc, arith}
+use Rattle.std.proofs.Common.{◌≡◌, ℕ, ◌≤◌, Bool, true, List, [], ◌∷◌, ◌++◌, Some, map, refl, ap, sym, ◌∙◌, append_assoc, arith}
 use Rattle.std.proofs.lemmas.Bool.{false≢true}
 use Rattle.std.proofs.lemmas.Bool.Decides.{nat_tests}
-use Rattle.std.specs.Prelude.{nat_lt, pos}
+use Rattle.std.specs.Prelude.{pos}
 use Rattle.tp_token.specs.declared.token.Placed.{Placed}
-use Rattle.tp_token.specs.declared.token.Symbol.TheVariants.{Assign, Comma, RightBrace}
+use Rattle.tp_token.specs.declared.token.Symbol.TheVariants.{Assign, RightBrace}
 use Rattle.tp_token.specs.Lexeme.{Lexeme, name, symbol}
 use Rattle.tp_syntax.specs.Ahead.{ahead, is_name_in, token_at}
 use Rattle.tp_syntax.specs.Sequences.{by_commas, more_by_commas}

@@ -1,5 +1,5 @@
 -- Operations by the tokens that they begin with.
-use Rattle.std.proofs.Common.{◌≡◌, ◌≢◌, ℕ, ◌+◌, ◌≤◌, Bool, true, false, List, [], ◌∷◌, ◌++◌, Option, Some, None, map, length, refl, ap, sym, subst, ◌∙◌, append_assoc, arith, string_bytes}
+use Rattle.std.proofs.Common.{◌≡◌, ◌≢◌, ℕ, ◌+◌, ◌≤◌, true, List, [], ◌∷◌, ◌++◌, Option, Some, None, length, refl, ap, sym, ◌∙◌, append_assoc, arith, string_bytes}
 use Rattle.std.specs.declared.alloc.Global.{Global}
 use Rattle.std.specs.declared.string.String.{String}
 use Rattle.std.proofs.lemmas.Bool.{false≢true}
@@ -17,7 +17,6 @@ use Rattle.tp_tree.specs.declared.tree.Sent.{Sent}
 use Rattle.tp_tree.specs.declared.tree.Sent.TheVariants as sent
 use Rattle.tp_tree.specs.declared.tree.Direction.{Direction}
 use Rattle.tp_syntax.specs.Ahead.{ahead, is_name_in, token_at}
-use Rattle.tp_syntax.specs.Sequences.{all_of}
 use Rattle.tp_syntax.specs.Values.{type_lexemes, value_lexemes, message_lexemes}
 use Rattle.tp_syntax.specs.Templates.{message_template_lexemes}
 use Rattle.tp_syntax.specs.Statements.{operation_lexemes, sent_lexemes, template_part}

@@ -1,10 +1,10 @@
 -- A range and templates in parentheses, by the first three tokens.
-use Rattle.std.proofs.Common.{inl, inr, ◌⊎◌, ◌≡◌, ◌≢◌, ℕ, zero, suc, ◌≤◌, ℤ, pos, negsuc, Bool, true, false, List, [], ◌∷◌, ◌++◌, Option, Some, None, map, refl, ap, sym, subst, ◌∙◌, append_assoc, arith}
+use Rattle.std.proofs.Common.{inl, inr, ◌≡◌, ℕ, zero, suc, ◌≤◌, ℤ, pos, negsuc, Bool, true, false, List, [], ◌∷◌, ◌++◌, Option, Some, None, map, refl, ap, sym, subst, ◌∙◌, append_assoc, arith}
 use Rattle.std.proofs.lemmas.Bool.{and_parts, false≢true}
 use Rattle.tp_token.specs.declared.token.Placed.{Placed}
 use Rattle.tp_token.specs.declared.word.Word.TheVariants as w
-use Rattle.tp_token.specs.declared.token.Symbol.TheVariants.{Comma, DotDot, Minus, RightParen}
-use Rattle.tp_token.specs.Lexeme.{Lexeme, name, word, number, text, symbol, lexeme_of}
+use Rattle.tp_token.specs.declared.token.Symbol.TheVariants.{DotDot, Minus, RightParen}
+use Rattle.tp_token.specs.Lexeme.{Lexeme, word, number, symbol, lexeme_of}
 use Rattle.tp_tree.specs.declared.message.Template.{Template}
 use Rattle.tp_syntax.specs.Ahead.{ahead, is_number_in, is_zero, lexemes, starts_zero, token_at, token_before}
 use Rattle.tp_syntax.specs.Sequences.{by_commas, more_by_commas}

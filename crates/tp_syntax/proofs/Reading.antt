@@ -1,8 +1,6 @@
 -- What comes next, seen through the `-` that is left out before the number 0; and sequences, as a loop reads them.
-use Rattle.std.proofs.Common.{inl, inr, ◌⊎◌, ◌≡◌, ◌≢◌, ℕ, zero, suc, ◌≤◌, Bool, true, false, ◌&&◌, List, [], ◌∷◌, ◌++◌, Option, Some, None, Result, MatchResult, map, refl, ap, sym, subst, ◌∙◌, append_assoc, arith}
-use Rattle.std.specs.Prelude.{IsTrue}
-use Rattle.std.specs.List.{AllByRecursion}
-use Rattle.std.proofs.lemmas.Bool.{and_from, and_parts, false≢true}
+use Rattle.std.proofs.Common.{inl, inr, ◌⊎◌, ◌≡◌, ℕ, zero, Bool, true, false, List, [], ◌∷◌, Option, Some, Result, MatchResult, refl, ap, sym, subst, ◌∙◌}
+use Rattle.std.proofs.lemmas.Bool.{false≢true}
 use Rattle.std.specs.Result.{IsErrAnd}
 use Rattle.std.proofs.lemmas.Result.{err_from_is_err_and}
 use Rattle.tp_token.specs.declared.fault.ScriptFault.{ScriptFault}
@@ -11,14 +9,11 @@ use Rattle.tp_token.specs.declared.word.Word.{Word}
 use Rattle.tp_token.specs.declared.word.Word.TheVariants as w
 use Rattle.tp_token.specs.declared.token.Symbol.{Symbol}
 use Rattle.tp_token.specs.declared.token.Symbol.TheVariants.{Assign, Dot, LeftBracket, LeftParen, Minus, RightBrace, RightParen}
-use Rattle.tp_token.specs.Lexeme.{Lexeme, name, word, number, text, symbol, lexeme_of}
+use Rattle.tp_token.specs.Lexeme.{Lexeme, name, word, number, symbol, lexeme_of}
 use Rattle.tp_token.specs.Fault.{IsMemory}
 use Rattle.tp_syntax.specs.declared.cursor.Parser.{Parser}
-use Rattle.tp_syntax.specs.Ahead.{lexemes, is_zero, starts_zero, token_before, plain, ahead, is_name_in, token_at}
-use Rattle.tp_syntax.specs.Sequences.{more_by_commas, by_commas, all_of}
-use Rattle.tp_syntax.specs.Grammar.{Part, each, one_and_each, has_one, are_parts}
-use Rattle.tp_syntax.specs.Nesting.{deepest}
-use Rattle.tp_syntax.specs.Reading.{IsEndOf, IsSetup, IsStart, first, is_branch_ahead, is_end_ahead, is_setup_ahead, is_start_ahead, is_stop, Stops, may_stand, Stands, IsPlaced, may_all_stand, AllStand}
+use Rattle.tp_syntax.specs.Ahead.{lexemes, is_zero, starts_zero, token_before, ahead, is_name_in, token_at}
+use Rattle.tp_syntax.specs.Reading.{IsEndOf, IsSetup, IsStart, first, is_branch_ahead, is_end_ahead, is_setup_ahead, is_start_ahead}
 
 -- the token, with a `-` before it left out or not, is the first of these
 pub token_cases : (b : Bool) (t u : Lexeme) (ts us : List Lexeme) → token_before b t ts ≡ u ∷ us

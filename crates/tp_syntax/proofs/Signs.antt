@@ -1,9 +1,9 @@
 -- Which tokens integers and truth values begin with.
-use Rattle.std.proofs.Common.{◌≡◌, ℕ, zero, suc, ℤ, pos, negsuc, Bool, true, false, List, [], ◌∷◌, ◌++◌, Option, Some, refl, ap, sym, subst, ◌∙◌}
+use Rattle.std.proofs.Common.{◌≡◌, ℕ, ℤ, pos, negsuc, Bool, true, false, List, [], ◌∷◌, ◌++◌, Some, refl, subst}
 use Rattle.std.proofs.lemmas.Bool.{false≢true}
 use Rattle.tp_token.specs.declared.token.Placed.{Placed}
 use Rattle.tp_token.specs.declared.token.Symbol.TheVariants.{Minus, RightBrace}
-use Rattle.tp_token.specs.Lexeme.{Lexeme, name, word, number, text, symbol}
+use Rattle.tp_token.specs.Lexeme.{Lexeme, name, number, symbol}
 use Rattle.tp_syntax.specs.Ahead.{ahead, before, token_before, lexemes, starts_zero, is_zero}
 use Rattle.tp_syntax.specs.Values.{int_lexemes, bool_lexeme}
 use Rattle.tp_syntax.specs.Reading.{first}

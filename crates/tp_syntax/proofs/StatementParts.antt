@@ -1,13 +1,11 @@
 -- Where the parts of a statement may stand, and which of them come next.
-use Rattle.std.proofs.Common.{inl, inr, ◌⊎◌, ◌≡◌, ◌≢◌, ℕ, ◌+◌, ◌<◌, ◌≤◌, max, Bool, true, false, ◌&&◌, ◌||◌, List, [], ◌∷◌, ◌++◌, Option, Some, None, map, length, refl, ap, sym, subst, ◌∙◌, append_assoc, arith, string_bytes}
+use Rattle.std.proofs.Common.{inl, inr, ◌≡◌, ◌≢◌, ℕ, ◌+◌, ◌≤◌, Bool, true, false, ◌||◌, List, [], ◌∷◌, ◌++◌, Option, Some, None, length, refl, ap, sym, subst, ◌∙◌, append_assoc, arith, string_bytes}
 use Rattle.std.specs.Prelude.{◌==◌, is_some}
 use Rattle.std.proofs.lemmas.Bool.Decides.{nat_tests}
-use Rattle.std.specs.declared.vec.Vec.{Vec}
-use Rattle.std.specs.declared.alloc.Global.{Global}
 use Rattle.std.proofs.lemmas.Bool.{and_parts, false≢true}
 use Rattle.tp_token.specs.declared.token.Placed.{Placed}
 use Rattle.tp_token.specs.declared.word.Word.TheVariants as w
-use Rattle.tp_token.specs.declared.token.Symbol.TheVariants.{Dot, LeftBrace, LeftBracket, RightBrace, RightBracket, Semicolon}
+use Rattle.tp_token.specs.declared.token.Symbol.TheVariants.{Dot, LeftBrace, LeftBracket, RightBrace, RightBracket}
 use Rattle.tp_token.specs.Lexeme.{Lexeme, name, word, symbol}
 use Rattle.tp_queue.specs.declared.operation.PortOperation.{PortOperation}
 use Rattle.tp_queue.specs.declared.operation.PortOperation.TheVariants as port_operation
@@ -18,8 +16,7 @@ use Rattle.tp_tree.specs.declared.tree.Receive.{Receive}
 use Rattle.tp_tree.specs.declared.tree.Control.{Control}
 use Rattle.tp_tree.specs.declared.tree.VerdictName.{VerdictName}
 use Rattle.tp_tree.specs.declared.tree.BranchBody.{BranchBody}
-use Rattle.tp_tree.specs.declared.tree.BranchBody.TheVariants as b
-use Rattle.tp_tree.specs.declared.tree.Branch.{Branch, out-Branch}
+use Rattle.tp_tree.specs.declared.tree.Branch.{Branch}
 use Rattle.tp_tree.specs.declared.tree.ElseBranch.{ElseBranch, out-ElseBranch}
 use Rattle.tp_tree.specs.declared.tree.Counted.{Counted}
 use Rattle.tp_tree.specs.declared.tree.Statement.{Statement}
@@ -29,13 +26,13 @@ use Rattle.tp_syntax.specs.Ahead.{ahead, is_name_in, token_at}
 use Rattle.tp_syntax.specs.Sequences.{braced, end_lexemes}
 use Rattle.tp_syntax.specs.Statements.{send_lexemes, receive_lexemes, control_lexemes, all_ports_lexemes, set_verdict_lexemes, port_operation_lexeme, body_lexemes, branch_lexemes, counted_lexemes, else_branch_lexemes, statements_lexemes, branches_lexemes, otherwise_lexemes}
 use Rattle.tp_syntax.specs.Grammar.{Part, are_parts, has_one, body_part, else_branch_part, statements_parts, branches_parts, otherwise_parts}
-use Rattle.tp_syntax.specs.Nesting.{body_depth, else_branch_depth, statements_depth, otherwise_depth}
+use Rattle.tp_syntax.specs.Nesting.{body_depth, statements_depth, otherwise_depth}
 use Rattle.tp_syntax.specs.Reading.{AllStand, IsEndedOr, Stands, Stops, first, is_branch_ahead, is_stop, may_stand, receive_word}
 use Rattle.tp_syntax.proofs.StatementTokens as tokens
 use Rattle.tp_syntax.proofs.Grammar as grammar
 use Rattle.tp_syntax.proofs.Nesting as nesting
 use Rattle.tp_syntax.proofs.Reading.{at_0, at_1, at_2, brace_at}
-use Rattle.tp_syntax.proofs.Remaining.{Follows, is_begin, parts_stand, stand_behind, stand_before}
+use Rattle.tp_syntax.proofs.Remaining.{is_begin, parts_stand, stand_behind, stand_before}
 use Rattle.tp_syntax.proofs.StatementReading.{Kind, sends, receives, controls, all_controls, sets, chooses, counts, kind_lexemes, IsRightKind, body_cases, counted_opens}
 
 -- what isn't ended stands before a `}`

@@ -1,17 +1,14 @@
 -- A statement by the tokens that it begins with.
-use Rattle.std.proofs.Common.{inl, inr, ◌⊎◌, ◌≡◌, ◌≢◌, ℕ, ◌+◌, ◌≤◌, max, Bool, true, false, ◌&&◌, ◌||◌, List, [], ◌∷◌, ◌++◌, Option, Some, None, map, refl, ap, sym, subst, ◌∙◌, append_assoc, append-nil, arith, string_bytes}
+use Rattle.std.proofs.Common.{inl, inr, ◌≡◌, ℕ, ◌+◌, ◌≤◌, max, Bool, true, false, List, [], ◌∷◌, ◌++◌, Option, Some, refl, ap, sym, subst, ◌∙◌, append_assoc}
 use Rattle.std.specs.declared.vec.Vec.{Vec}
 use Rattle.std.specs.declared.alloc.Global.{Global}
 use Rattle.std.proofs.lemmas.Bool.{and_parts, false≢true}
 use Rattle.std.proofs.lemmas.List.{append_cancel_right}
 use Rattle.tp_token.specs.declared.token.Placed.{Placed}
 use Rattle.tp_token.specs.declared.word.Word.TheVariants as w
-use Rattle.tp_token.specs.declared.token.Symbol.TheVariants.{Dot, LeftBrace, LeftBracket, RightBrace, Semicolon}
-use Rattle.tp_token.specs.Lexeme.{Lexeme, name, word, symbol}
+use Rattle.tp_token.specs.declared.token.Symbol.TheVariants.{LeftBrace}
+use Rattle.tp_token.specs.Lexeme.{Lexeme, word, symbol}
 use Rattle.tp_queue.specs.declared.operation.PortOperation.{PortOperation}
-use Rattle.tp_queue.specs.declared.operation.PortOperation.TheVariants as port_operation
-use Rattle.tp_queue.specs.declared.operation.ReceiveKind.{ReceiveKind}
-use Rattle.tp_queue.specs.declared.operation.ReceiveKind.TheVariants as receive_kind
 use Rattle.tp_tree.specs.declared.tree.Send.{Send}
 use Rattle.tp_tree.specs.declared.tree.Receive.{Receive}
 use Rattle.tp_tree.specs.declared.tree.Control.{Control}
@@ -22,21 +19,21 @@ use Rattle.tp_tree.specs.declared.tree.Action.TheOpen as o
 use Rattle.tp_tree.specs.declared.tree.Action.TheViews.{roll-Action, out-Action, roll-out-Action, roll-BranchBody, out-BranchBody, roll-out-BranchBody}
 use Rattle.tp_tree.specs.declared.tree.BranchBody.{BranchBody}
 use Rattle.tp_tree.specs.declared.tree.BranchBody.TheVariants as b
-use Rattle.tp_tree.specs.declared.tree.Branch.{Branch, out-Branch}
-use Rattle.tp_tree.specs.declared.tree.ElseBranch.{ElseBranch, out-ElseBranch}
-use Rattle.tp_tree.specs.declared.tree.Counted.{Counted, out-Counted}
+use Rattle.tp_tree.specs.declared.tree.Branch.{Branch}
+use Rattle.tp_tree.specs.declared.tree.ElseBranch.{ElseBranch}
+use Rattle.tp_tree.specs.declared.tree.Counted.{Counted}
 use Rattle.tp_tree.specs.declared.tree.Statement.{Statement, out-Statement}
-use Rattle.tp_syntax.specs.Ahead.{ahead, is_name_in, token_at}
+use Rattle.tp_syntax.specs.Ahead.{ahead}
 use Rattle.tp_syntax.specs.Sequences.{braced, end_lexemes}
-use Rattle.tp_syntax.specs.Statements.{send_lexemes, receive_lexemes, received_lexemes, operation_lexemes, control_lexemes, all_ports_lexemes, set_verdict_lexemes, port_operation_lexeme, for_lexemes, turns_lexemes, action_lexemes, body_lexemes, branch_lexemes, counted_lexemes, else_branch_lexemes, statement_lexemes, statements_lexemes, branches_lexemes, otherwise_lexemes}
-use Rattle.tp_syntax.specs.Grammar.{Part, are_parts, has_one, is_integer, is_sent, is_template_part, action_part, body_part, branch_part, counted_part, else_branch_part, statement_part, statements_parts, branches_parts, otherwise_parts}
-use Rattle.tp_syntax.specs.Nesting.{sent_depth, receive_depth, action_depth, body_depth, counted_depth, statements_depth, branches_depth, otherwise_depth}
-use Rattle.tp_syntax.specs.Reading.{IsEndOf, IsEndedOr, IsPlaced, Stands, Stops, first, is_branch_ahead, is_end_ahead, is_stop, may_stand, receive_word}
+use Rattle.tp_syntax.specs.Statements.{send_lexemes, receive_lexemes, control_lexemes, all_ports_lexemes, set_verdict_lexemes, for_lexemes, action_lexemes, body_lexemes, branch_lexemes, counted_lexemes, statement_lexemes, branches_lexemes, otherwise_lexemes}
+use Rattle.tp_syntax.specs.Grammar.{Part, are_parts, has_one, is_sent, is_template_part, action_part, body_part, counted_part, branches_parts, otherwise_parts}
+use Rattle.tp_syntax.specs.Nesting.{sent_depth, receive_depth, action_depth, counted_depth, branches_depth, otherwise_depth}
+use Rattle.tp_syntax.specs.Reading.{IsEndOf, IsEndedOr, Stops, first, is_end_ahead}
 use Rattle.tp_syntax.proofs.StatementTokens as tokens
 use Rattle.tp_syntax.proofs.Grammar as grammar
 use Rattle.tp_syntax.proofs.Nesting as nesting
-use Rattle.tp_syntax.proofs.Reading.{at_0, at_1, at_2, end_first}
-use Rattle.tp_syntax.proofs.Remaining.{Follows, is_begin}
+use Rattle.tp_syntax.proofs.Reading.{end_first}
+use Rattle.tp_syntax.proofs.Remaining.{is_begin}
 
 -- a fact of what each statement does, variant by variant
 pub record Cases (Q : Action → Type 0) : Type 0 where

@@ -1,20 +1,20 @@
 -- A value by the token that it begins with.
-use Rattle.std.proofs.Common.{inl, inr, ◌⊎◌, ◌≡◌, ℕ, zero, suc, ◌+◌, ◌-◌, ◌<◌, ◌≤◌, ℤ, pos, negsuc, Bool, true, false, ◌&&◌, List, [], ◌∷◌, ◌++◌, Option, Some, None, map, refl, ap, sym, subst, ◌∙◌, append_assoc, arith, string_bytes}
+use Rattle.std.proofs.Common.{inl, inr, ◌⊎◌, ◌≡◌, ℕ, suc, ◌+◌, ◌-◌, ◌≤◌, ℤ, pos, negsuc, Bool, true, false, List, [], ◌∷◌, ◌++◌, Some, map, refl, ap, sym, subst, ◌∙◌, arith, string_bytes}
 use Rattle.std.specs.declared.vec.Vec.{Vec}
 use Rattle.std.specs.declared.alloc.Global.{Global}
 use Rattle.std.specs.declared.string.String.{String}
 use Rattle.std.proofs.lemmas.Bool.{false≢true}
 use Rattle.tp_token.specs.declared.token.Placed.{Placed}
 use Rattle.tp_token.specs.declared.word.Word.TheVariants as w
-use Rattle.tp_token.specs.declared.token.Symbol.TheVariants.{Assign, Comma, LeftBrace, Minus, RightBrace}
-use Rattle.tp_token.specs.Lexeme.{Lexeme, name, word, number, text, symbol, lexeme_of}
+use Rattle.tp_token.specs.declared.token.Symbol.TheVariants.{Assign, LeftBrace, Minus, RightBrace}
+use Rattle.tp_token.specs.Lexeme.{Lexeme, name, word, number, text, symbol}
 use Rattle.tp_tree.specs.declared.message.Value.{Value}
 use Rattle.tp_tree.specs.declared.message.Value.TheVariants as v
 use Rattle.tp_tree.specs.declared.message.Value.TheOpen as o
 use Rattle.tp_tree.specs.declared.message.Value.TheViews.{roll-Value, out-Value, roll-out-Value}
 use Rattle.tp_tree.specs.declared.message.ValueField.{ValueField, out-ValueField}
-use Rattle.tp_syntax.specs.Ahead.{ahead, before, lexemes, starts_zero, is_zero}
-use Rattle.tp_syntax.specs.Sequences.{by_commas, more_by_commas, braced}
+use Rattle.tp_syntax.specs.Ahead.{ahead, before}
+use Rattle.tp_syntax.specs.Sequences.{by_commas, braced}
 use Rattle.tp_syntax.specs.Values.{int_lexemes, bool_lexeme, value_lexemes, value_field_lexemes}
 use Rattle.tp_syntax.specs.Grammar.{each, one_and_each, is_integer, is_value, is_value_field}
 use Rattle.tp_syntax.specs.Nesting.{deepest, value_depth, value_field_depth}

@@ -44,7 +44,8 @@ impl<'a, 't> Parser<'a, 't> {
         ensures shorter { OnOk result (length self.new.rest.now + 1 ≡ length self.old.rest.now) }
         ensures reads { (z : ℤ) (more : List Lexeme) →
             int_lexemes z ++ more ≡ before (symbol Symbol.Minus) self.old.rest.now →
-            IsTrue (is_integer z) → MatchResult result (λ _. ahead self.new.rest.now ≡ more) IsMemory }
+            IsTrue (is_integer z) →
+            MatchResult result (λ _. ahead self.new.rest.now ≡ more) IsMemory }
         ensures within { IfOk result (λ z. IsTrue (is_integer z)) }
         ensures fault { IfErr result IsOfGrammar }
     {

@@ -1,5 +1,5 @@
 -- One more statement or branch is read behind the others; a `for` and an `[else]` have their block.
-use Rattle.std.proofs.Common.{◌<◌, ◌&&◌, not, length, inl, refl, List, ◌∷◌, ◌++◌, append_assoc, ap, sym, ◌∙◌, arith, subst, rules, ◌≤◌, ◌||◌, ◌≡◌, ◌+◌, max, [], string_bytes, true, None}
+use Rattle.std.proofs.Common.{◌<◌, ◌&&◌, not, length, inl, refl, List, ◌∷◌, ◌++◌, append_assoc, ap, sym, ◌∙◌, arith, subst, rules, ◌≤◌, ◌||◌, ◌+◌, max, [], string_bytes, true}
 use Rattle.tp_token.specs.declared.word.Word.TheVariants as w
 use Rattle.tp_token.specs.declared.token.Symbol.TheVariants.{LeftBracket, RightBracket, LeftBrace, RightBrace}
 use Rattle.tp_token.specs.Lexeme.{Lexeme, word, symbol}
@@ -18,7 +18,7 @@ use Rattle.tp_syntax.proofs.Standing.{between_one, between_parts, between_push, 
 use Rattle.tp_syntax.proofs.Branches.{alt_of_branches, alt_of_else}
 use Rattle.std.proofs.lemmas.Grind.{common_steps}
 use Rattle.tp_syntax.proofs.Reading.{handed, end_at, branch_first, first_is}
-use Rattle.tp_syntax.proofs.Remaining.{RemainAll, all_next, all_last, no_brace, all_deep, parts_stand}
+use Rattle.tp_syntax.proofs.Remaining.{RemainAll, all_next, all_last, all_deep, parts_stand}
 use Rattle.tp_syntax.specs.Reading.{is_branch_ahead, IsPlaced, Stands, may_stand}
 use Rattle.tp_syntax.proofs.StatementParts.{branch_at, ends_or, ends_blockless, body_stops, body_next, body_none, no_otherwise, otherwise_next, branches_stand, otherwise_stands, otherwise_no_branch, alt_read, zero_length, Says, Begun, kind_begun, begun}
 use Rattle.tp_syntax.proofs.StatementReading.{statement_begins, statement_goes, branch_begins, action_kind, same_ended, same_braced}

@@ -1,5 +1,5 @@
 -- One more template or field of a template is read behind its comma.
-use Rattle.std.proofs.Common.{◌∙◌, map, refl, arith, length-append, sym, subst, rules, ◌≡◌, ◌≤◌, true, inl, inr, ap, append_assoc, List, [], ◌∷◌, ◌++◌}
+use Rattle.std.proofs.Common.{◌∙◌, map, refl, arith, length-append, sym, subst, rules, ◌≡◌, ◌≤◌, true, inl, inr, ap, append_assoc, [], ◌∷◌}
 use Rattle.std.proofs.lemmas.Bool.{and_from, iff_false}
 use Rattle.tp_syntax.proofs.Ranges.{list_no_range, range_at}
 use Rattle.tp_syntax.specs.Templates.{template_lexemes, template_field_lexemes}
@@ -14,9 +14,9 @@ use Rattle.tp_syntax.proofs.Reading.{handed, same_ahead}
 use Rattle.tp_syntax.proofs.Remaining.{Remain, comma_first, comma_next, comma_last, one_right, one_of, none_of, some_of}
 use Rattle.tp_token.specs.declared.token.Token.TheVariants as token
 use Rattle.tp_token.specs.declared.word.Word.TheVariants as w
-use Rattle.tp_token.specs.Lexeme.{Lexeme, name, word, number, text, symbol, lexeme_of}
+use Rattle.tp_token.specs.Lexeme.{name, word, number, text, symbol, lexeme_of}
 use Rattle.tp_token.specs.declared.token.Token.{Token}
-use Rattle.tp_token.specs.declared.token.Symbol.TheVariants.{Minus, LeftBrace, RightBrace, LeftParen, RightParen, Question, Star, DotDot}
+use Rattle.tp_token.specs.declared.token.Symbol.TheVariants.{Minus, LeftBrace, RightBrace, LeftParen, RightParen, Question, Star}
 use Rattle.tp_syntax.specs.declared.cursor.Parser.{Parser}
 use Rattle.tp_syntax.specs.Ahead.{ahead, before}
 use Rattle.tp_syntax.specs.Sequences.{by_commas}

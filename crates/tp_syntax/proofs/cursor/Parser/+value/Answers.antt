@@ -1,5 +1,5 @@
 -- One more value or field of a value is read behind its comma.
-use Rattle.std.proofs.Common.{◌∙◌, map, refl, arith, length-append, sym, subst, rules, ◌≡◌, ◌≤◌, true, inl, inr, ap, append_assoc, List, [], ◌∷◌, ◌++◌}
+use Rattle.std.proofs.Common.{◌∙◌, map, refl, arith, length-append, sym, subst, rules, ◌≡◌, ◌≤◌, true, inl, inr, ap, append_assoc, [], ◌∷◌}
 use Rattle.tp_syntax.specs.Values.{value_lexemes, value_field_lexemes}
 use Rattle.tp_syntax.proofs.Commas.{push_read}
 use Rattle.tp_syntax.specs.Nesting.{value_depth, value_field_depth}
@@ -13,7 +13,7 @@ use Rattle.tp_syntax.proofs.Remaining.{Remain, comma_first, comma_next, comma_la
 use Rattle.std.proofs.lemmas.Bool.{iff_false}
 use Rattle.tp_token.specs.declared.token.Token.TheVariants as token
 use Rattle.tp_token.specs.declared.word.Word.TheVariants as w
-use Rattle.tp_token.specs.Lexeme.{Lexeme, name, word, number, text, symbol, lexeme_of}
+use Rattle.tp_token.specs.Lexeme.{name, word, number, text, symbol, lexeme_of}
 use Rattle.tp_token.specs.declared.token.Token.{Token}
 use Rattle.tp_token.specs.declared.token.Symbol.TheVariants.{Minus, LeftBrace, RightBrace}
 use Rattle.tp_syntax.specs.declared.cursor.Parser.{Parser}

@@ -1,5 +1,5 @@
 -- A definition, and whether it needs its `;`.
-use Rattle.std.proofs.Common.{◌≡◌, ◌++◌, ◌||◌, List, ap, sym, subst, ◌∙◌, append_assoc}
+use Rattle.std.proofs.Common.{◌++◌, ◌||◌, List, ap, sym, subst, ◌∙◌, append_assoc}
 use Rattle.tp_token.specs.Lexeme.{Lexeme}
 use Rattle.tp_syntax.specs.Sequences.{end_lexemes}
 use Rattle.tp_syntax.specs.Definitions.{defined_lexemes}

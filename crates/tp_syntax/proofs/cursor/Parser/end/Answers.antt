@@ -1,5 +1,5 @@
 -- A `;` that is missing is missing before a `}`, or where it may.
-use Rattle.std.proofs.Common.{◌≡◌, ◌≢◌, Bool, true, false, ◌||◌, List, ◌∷◌, ◌++◌, Option, Some, refl, ap, sym, ◌∙◌}
+use Rattle.std.proofs.Common.{◌≡◌, ◌≢◌, Bool, true, false, ◌||◌, List, ◌++◌, Option, Some, refl, ap, sym, ◌∙◌}
 use Rattle.std.proofs.lemmas.Bool.{iff_false, false≢true}
 use Rattle.tp_token.specs.declared.token.Placed.{Placed}
 use Rattle.tp_token.specs.declared.token.Symbol.TheVariants.{Semicolon, RightBrace}

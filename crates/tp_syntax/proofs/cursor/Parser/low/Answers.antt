@@ -1,8 +1,6 @@
 -- The lower bound of a range is `-infinity`, or a number.
-use Rattle.std.proofs.Common.{◌≡◌, true, List, ◌++◌, Some, sym, ap, subst, ◌∙◌}
-use Rattle.std.specs.Prelude.{IsTrue}
+use Rattle.std.proofs.Common.{◌++◌, sym, ap, ◌∙◌}
 use Rattle.std.proofs.lemmas.Bool.{iff_false}
-use Rattle.tp_token.specs.Lexeme.{Lexeme}
 use Rattle.tp_syntax.specs.Grammar.{is_bound}
 use Rattle.tp_syntax.specs.Templates.{low_lexemes}
 use Rattle.tp_syntax.proofs.DefinitionReading.{low_none, low_some}

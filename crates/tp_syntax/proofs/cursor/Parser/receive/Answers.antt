@@ -1,5 +1,5 @@
 -- The `)` of a `check`.
-use Rattle.std.proofs.Common.{◌∷◌, ◌<◌, ◌≤◌, ◌+◌, ap, sym, subst, ◌∙◌, append_assoc, refl, arith}
+use Rattle.std.proofs.Common.{◌∷◌, ◌<◌, ◌≤◌, ◌+◌, sym, subst, ◌∙◌, refl, arith}
 use Rattle.tp_token.specs.declared.token.Symbol.TheVariants.{RightParen}
 use Rattle.tp_token.specs.Lexeme.{symbol}
 use Rattle.tp_queue.specs.declared.operation.ReceiveKind.{ReceiveKind}

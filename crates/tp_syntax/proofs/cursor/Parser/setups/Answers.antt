@@ -6,7 +6,7 @@ use Rattle.tp_syntax.proofs.Commas.{push_read_all}
 use Rattle.tp_syntax.proofs.Standing.{between_push, between_none}
 use Rattle.std.proofs.lemmas.Grind.{common_steps}
 use Rattle.tp_syntax.proofs.Reading.{handed, setup_first}
-use Rattle.tp_syntax.proofs.Remaining.{RemainAll, all_next, all_last, no_brace, all_any}
+use Rattle.tp_syntax.proofs.Remaining.{RemainAll, all_next, all_last, all_any}
 use Rattle.tp_syntax.proofs.Begins.{setup_begins, setup_at}
 use Rattle.tp_syntax.specs.Reading.{is_setup_ahead}
 use Rattle.std.proofs.lemmas.Bool.{false≢true}

@@ -1,12 +1,10 @@
 -- Each part of a test case but the last has its `;`, or ends in a `}`.
-use Rattle.std.proofs.Common.{◌++◌, map, append_assoc, append_assoc, refl, ◌∷◌, arith}
+use Rattle.std.proofs.Common.{◌++◌, map, append_assoc, append_assoc, refl, arith}
 use Rattle.tp_syntax.specs.Grammar.{all_done_parts, setup_part, start_part, statements_parts, variable_part}
 use Rattle.tp_syntax.proofs.Standing.{between_parts, between_then}
 use Rattle.tp_syntax.proofs.Reading.{handed}
 use Rattle.tp_syntax.specs.Definitions.{test_case_lexemes, behaviour_lexemes}
 use Rattle.tp_syntax.proofs.CaseReading.{case_stands, case_no_setup, case_no_start, case_no_var, case_ends, behind_setups, behind_starts, behind_variables, behind_statements}
-use Rattle.tp_token.specs.Lexeme.{symbol}
-use Rattle.tp_token.specs.declared.token.Symbol.TheVariants.{RightBrace}
 use Rattle.tp_syntax.proofs.cursor.Parser.test_case.Goals as goal
 
 pub returns-clause-grammatical : goal.returns-clause-grammatical

@@ -7,7 +7,7 @@ use Rattle.tp_syntax.proofs.Commas.{push_read_all}
 use Rattle.tp_syntax.proofs.Standing.{between_push, word_goes_on, between_none}
 use Rattle.std.proofs.lemmas.Grind.{common_steps}
 use Rattle.tp_syntax.proofs.Reading.{handed, word_first, at_0}
-use Rattle.tp_syntax.proofs.Remaining.{RemainAll, all_next, all_last, no_brace, all_any}
+use Rattle.tp_syntax.proofs.Remaining.{RemainAll, all_next, all_last, all_any}
 use Rattle.tp_syntax.proofs.Begins.{variable_begins}
 use Rattle.tp_token.specs.Lexeme.{word}
 use Rattle.tp_syntax.specs.Reading.{first}
