@@ -1,16 +1,14 @@
 //! Statements: `alt`, `for`, blocks, and what stands in them.
-ghost use Rattle.std.specs.Prelude.{ℤ, ◌↔◌, ◌++◌, max, [], ◌≢◌, true, false, List, Option, Some, MatchResult, ◌≡◌, ◌+◌, ◌<◌, ◌≤◌, ◌∷◌, IsTrue, length, map, IfErr, IfOk, OnOk, string_bytes};
+ghost use Rattle.std.specs.Prelude.{◌↔◌, ◌++◌, max, ◌≢◌, true, false, List, Option, Some, ◌≡◌, ◌+◌, ◌<◌, ◌≤◌, ◌∷◌, IsTrue, length, IfErr, IfOk, OnOk};
 ghost use Rattle.std.specs.Bool.{OnFalse};
 ghost use Rattle.tp_queue.specs.declared.operation.PortOperation.{PortOperation};
 ghost use Rattle.tp_queue.specs.declared.operation.ReceiveKind.{ReceiveKind};
-ghost use Rattle.tp_token.specs.Lexeme.{Lexeme, number, symbol, word};
-ghost use Rattle.tp_token.specs.Fault.{IsMemory};
-ghost use Rattle.tp_syntax.specs.Ahead.{ahead, is_name_in, token_at};
+ghost use Rattle.tp_token.specs.Lexeme.{Lexeme, symbol, word};
+ghost use Rattle.tp_syntax.specs.Ahead.{is_name_in, token_at};
 ghost use Rattle.tp_syntax.specs.Passing.{Passes};
 ghost use Rattle.tp_syntax.specs.Sequences.{braced};
-ghost use Rattle.tp_syntax.specs.Values.{int_lexemes};
-ghost use Rattle.tp_syntax.specs.Statements.{port_operation_lexeme, step_lexemes, turns_lexemes, verdict_lexeme, set_verdict_lexemes, variable_lexemes, variables_lexemes, action_lexemes, branch_lexemes, body_lexemes, counted_lexemes, otherwise_lexemes, statement_lexemes, statements_lexemes, branches_lexemes};
-ghost use Rattle.tp_syntax.specs.Grammar.{action_part, are_parts, body_part, branch_part, branches_parts, counted_part, has_one, is_integer, otherwise_parts, statement_part, statements_parts, variable_part};
+ghost use Rattle.tp_syntax.specs.Statements.{port_operation_lexeme, action_lexemes, branch_lexemes, body_lexemes, counted_lexemes, otherwise_lexemes, statement_lexemes, statements_lexemes, branches_lexemes};
+ghost use Rattle.tp_syntax.specs.Grammar.{action_part, are_parts, body_part, branch_part, branches_parts, counted_part, has_one, otherwise_parts, statement_part, statements_parts};
 ghost use Rattle.tp_syntax.specs.Nesting.{action_depth, body_depth, branch_depth, branches_depth, counted_depth, otherwise_depth, statement_depth, statements_depth};
 ghost use Rattle.tp_syntax.specs.Reading.{AllStand, IsEndOf, IsEndedOr, IsPlaced, Reads, Stops, first, is_branch_ahead, is_end_ahead, receive_word};
 ghost use Rattle.tp_syntax.specs.Refusals.{IsOfGrammar};
