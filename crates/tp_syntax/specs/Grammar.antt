@@ -1,6 +1,6 @@
 -- What the grammar asks of a tree beside its tokens: what may not be empty, which characters a pattern has, and where a
 -- `;` may be missing. That an `[else]` is the last branch, and that a `for` has one name, the tree can't say otherwise.
-use Rattle.std.specs.Prelude.{ℕ, Bool, true, false, not, ◌&&◌, ◌||◌, ◌==◌, IsTrue, List, [], ◌∷◌, ◌++◌, map, Option, Some, None, option_to_list}
+use Rattle.std.specs.Prelude.{ℕ, ℤ, pos, negsuc, nat_lt, Bool, true, false, not, ◌&&◌, ◌||◌, ◌==◌, IsTrue, List, [], ◌∷◌, ◌++◌, map, Option, Some, None, option_to_list}
 use Rattle.std.specs.List.{list_all, list_any}
 use Rattle.tp_tree.specs.declared.message.Value.{Value}
 use Rattle.tp_tree.specs.declared.message.Value.TheOpen as v
@@ -60,9 +60,19 @@ are_parts [] = true
 are_parts (p ∷ []) = p.is_right
 are_parts (p ∷ q ∷ qs) = p.is_right && (p.is_ended && are_parts (q ∷ qs))
 
+-- an integer is from -9223372036854775808 to 9223372036854775807
+abbrev pub is_integer : ℤ → Bool
+is_integer (pos n) = nat_lt n 9223372036854775808
+is_integer (negsuc n) = nat_lt n 9223372036854775808
+
+-- a bound of a range, if it is a number
+abbrev pub is_bound : Option ℤ → Bool
+is_bound None = true
+is_bound (Some z) = is_integer z
+
 -- a field in braces has a name, so what has none is a list, and a record has one at least
 abbrev pub is_value_step : v.Value-F Bool Bool → Bool
-is_value_step (v.Int z) = true
+is_value_step (v.Int z) = is_integer z
 is_value_step (v.Bool b) = true
 is_value_step (v.Text bs) = true
 is_value_step (v.Name n) = true
@@ -91,7 +101,7 @@ is_plain c = not (list_any (λ m. c == m) meta_characters)
 
 -- alternatives, those of `complement`, and the fields of a record are one at least; a pattern has plain characters
 abbrev pub is_template_step : t.Template-F Bool Bool → Bool
-is_template_step (t.Int z) = true
+is_template_step (t.Int z) = is_integer z
 is_template_step (t.Bool b) = true
 is_template_step (t.Text bs) = true
 is_template_step (t.Name n) = true
@@ -99,7 +109,7 @@ is_template_step t.Any = true
 is_template_step t.AnyOrNone = true
 is_template_step (t.OneOf ts) = one_and_each ts.items
 is_template_step (t.Complement ts) = one_and_each ts.items
-is_template_step (t.Range low high) = true
+is_template_step (t.Range low high) = is_bound low && is_bound high
 is_template_step (t.Pattern bs) = list_all is_plain bs.items
 is_template_step (t.List ts) = each ts.items
 is_template_step (t.Record fs) = one_and_each fs.items
@@ -155,7 +165,11 @@ branch_part_step b =
 
 -- a counted `for` ends in a block
 abbrev pub counted_part_step : s.Counted-F Part Part Part Part Part Part → Part
-counted_part_step f = record { is_right = are_parts f.block.items; is_ended = true }
+counted_part_step f =
+    record {
+      is_right = is_integer f.turns.first && (is_integer f.turns.bound && are_parts f.block.items);
+      is_ended = true;
+    }
 
 -- an `[else]` branch ends in a block
 abbrev pub else_part_step : s.ElseBranch-F Part Part Part Part Part Part → Part

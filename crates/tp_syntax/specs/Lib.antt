@@ -3,6 +3,7 @@ pub mod Definitions
 pub mod Grammar
 pub mod Nesting
 pub mod Passing
+pub mod Reading
 pub mod Refusals
 pub mod Sequences
 pub mod Standing

@@ -1,10 +1,11 @@
 //! What is left to read, and its first tokens.
-ghost use Rattle.std.specs.Prelude.{◌≡◌, ◌+◌, ◌≤◌, ◌∷◌, ◌||◌, ◌↔◌, IsTrue, length, IfErr, IfOk, OnErr, OnOk, Some, string_bytes};
+ghost use Rattle.std.specs.Prelude.{[], ℕ, ◌<◌, ◌≢◌, Bool, true, List, ◌≡◌, ◌+◌, ◌≤◌, ◌∷◌, ◌||◌, ◌↔◌, IsTrue, length, IfErr, IfOk, OnErr, OnOk, Some, string_bytes};
 ghost use Rattle.std.specs.Bool.{OnTrue, OnFalse};
 ghost use Rattle.tp_token.specs.declared.fault.TextRule.TheVariants.{Limit};
-ghost use Rattle.tp_token.specs.Lexeme.{name, symbol, word, lexeme_of};
+ghost use Rattle.tp_token.specs.Lexeme.{Lexeme, name, symbol, word, lexeme_of};
 ghost use Rattle.tp_syntax.specs.Ahead.{ahead, before, is_name_in, is_number_in, symbol_in, token_at, word_in};
 ghost use Rattle.tp_syntax.specs.Passing.{Passes};
+ghost use Rattle.tp_syntax.specs.Reading.{Reads, Stands, first};
 ghost use Rattle.tp_syntax.specs.Sequences.{end_lexemes};
 ghost use Rattle.tp_syntax.specs.Refusals.{IsOfGrammar};
 ghost use Rattle.tp_syntax.specs.Standing.{IsEnd};
@@ -41,6 +42,7 @@ impl<'a, 't> Parser<'a, 't> {
             ahead self.old.rest.now ≡ before (lexeme_of p.now.token) self.new.rest.now) }
         ensures next { IfOk result (λ p. self.old.rest.now ≡ p.now ∷ self.new.rest.now) }
         ensures shorter { OnOk result (length self.new.rest.now + 1 ≡ length self.old.rest.now) }
+        ensures last { OnErr result (self.old.rest.now ≡ []) }
         ensures fault { IfErr result IsOfGrammar }
     {
         let tokens = self.rest;
@@ -56,6 +58,8 @@ impl<'a, 't> Parser<'a, 't> {
         ensures tokens { OnOk result
             (ahead self.old.rest.now ≡ before (symbol want) self.new.rest.now) }
         ensures shorter { OnOk result (length self.new.rest.now + 1 ≡ length self.old.rest.now) }
+        ensures reads { (more : List Lexeme) →
+            Reads self.old (symbol want ∷ []) more result self.new }
         ensures fault { IfErr result IsOfGrammar }
     {
         let placed = self.take()?;
@@ -72,6 +76,9 @@ impl<'a, 't> Parser<'a, 't> {
             (ahead self.old.rest.now ≡ before (symbol want) self.new.rest.now) }
         ensures shorter { OnOk result (length self.new.rest.now + 1 ≡ length self.old.rest.now) }
         ensures inner { IfOk result (λ inner. inner + 1 ≡ left) }
+        ensures reads { (more : List Lexeme) →
+            0 < left →
+            Reads self.old (symbol want ∷ []) more result self.new }
         ensures fault { IfErr result IsOfGrammar }
     {
         let line = self.line();
@@ -84,6 +91,8 @@ impl<'a, 't> Parser<'a, 't> {
         ensures tokens { OnOk result
             (ahead self.old.rest.now ≡ word want ∷ ahead self.new.rest.now) }
         ensures shorter { OnOk result (length self.new.rest.now + 1 ≡ length self.old.rest.now) }
+        ensures reads { (more : List Lexeme) →
+            Reads self.old (word want ∷ []) more result self.new }
         ensures fault { IfErr result IsOfGrammar }
     {
         let placed = self.take()?;
@@ -98,6 +107,8 @@ impl<'a, 't> Parser<'a, 't> {
         ensures tokens { IfOk result (λ n.
             ahead self.old.rest.now ≡ name (string_bytes n) ∷ ahead self.new.rest.now) }
         ensures shorter { OnOk result (length self.new.rest.now + 1 ≡ length self.old.rest.now) }
+        ensures reads { (spelling : List ℕ) (more : List Lexeme) →
+            Reads self.old (name spelling ∷ []) more result self.new }
         ensures fault { IfErr result IsOfGrammar }
     {
         let placed = self.take()?;
@@ -112,6 +123,8 @@ impl<'a, 't> Parser<'a, 't> {
         ensures tokens { OnOk result
             (ahead self.old.rest.now ≡ name (string_bytes want.now) ∷ ahead self.new.rest.now) }
         ensures shorter { OnOk result (length self.new.rest.now + 1 ≡ length self.old.rest.now) }
+        ensures reads { (more : List Lexeme) →
+            Reads self.old (name (string_bytes want.now) ∷ []) more result self.new }
         ensures fault { IfErr result IsOfGrammar }
     {
         let placed = self.take()?;
@@ -127,6 +140,7 @@ impl<'a, 't> Parser<'a, 't> {
             (ahead self.old.rest.now ≡ before (symbol want) self.new.rest.now) }
         ensures shorter { OnTrue result (length self.new.rest.now + 1 ≡ length self.old.rest.now) }
         ensures no { OnFalse result (self.new ≡ self.old) }
+        ensures other { OnFalse result (first (ahead self.old.rest.now) ≢ Some (symbol want)) }
     {
         let tokens = self.rest;
         if tokens.is_empty() {
@@ -147,6 +161,7 @@ impl<'a, 't> Parser<'a, 't> {
             (ahead self.old.rest.now ≡ word want ∷ ahead self.new.rest.now) }
         ensures shorter { OnTrue result (length self.new.rest.now + 1 ≡ length self.old.rest.now) }
         ensures no { OnFalse result (self.new ≡ self.old) }
+        ensures other { OnFalse result (first (ahead self.old.rest.now) ≢ Some (word want)) }
     {
         let tokens = self.rest;
         if tokens.is_empty() {
@@ -237,12 +252,23 @@ impl<'a, 't> Parser<'a, 't> {
         }
     }
 
+    /// Whether a field comes next: a name and `:=`.
+    pub fn is_field(&self) -> bool
+        ensures { IsTrue result ↔ ((is_name_in (token_at self.now.rest.now 0) ≡ true)
+            × (token_at self.now.rest.now 1 ≡ Some (symbol Symbol.Assign))) }
+    {
+        self.is_name_at(0) && self.is_symbol_at(1, Symbol::Assign)
+    }
+
     /// Passes a `;`, which may be missing directly before a `}`, and behind what itself ends in one
     /// before any token. 10 `Syntax`: it is missing elsewhere.
     pub fn end(&mut self, is_closed: bool) -> Result<bool, ScriptFault>
         ensures tokens { IfOk result (λ e. Passes self.old (end_lexemes e) self.new) }
         ensures grammatical { IfOk result (λ e. IsEnd (is_closed || e) self.new) }
         ensures shorter { OnOk result (length self.new.rest.now ≤ length self.old.rest.now) }
+        ensures reads { (e : Bool) (more : List Lexeme) →
+            Stands (is_closed || e) more →
+            Reads self.old (end_lexemes e) more result self.new }
         ensures fault { IfErr result IsOfGrammar }
     {
         if self.has_symbol(Symbol::Semicolon) {

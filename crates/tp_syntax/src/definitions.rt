@@ -1,9 +1,11 @@
 //! Functions, definitions and the module.
-ghost use Rattle.std.specs.Prelude.{◌≡◌, ◌<◌, ◌≤◌, IsTrue, length, map, IfErr, IfOk, OnOk};
+ghost use Rattle.std.specs.Prelude.{◌≢◌, List, Some, ◌≡◌, ◌<◌, ◌≤◌, IsTrue, length, map, IfErr, IfOk, OnOk};
+ghost use Rattle.tp_token.specs.Lexeme.{Lexeme, symbol};
 ghost use Rattle.tp_syntax.specs.Definitions.{parameter_lexemes, parameters_lexemes, function_lexemes, defined_lexemes, definition_lexemes, definitions_lexemes, module_lexemes};
 ghost use Rattle.tp_syntax.specs.Grammar.{defined_part, definition_part, IsGrammatical};
 ghost use Rattle.tp_syntax.specs.Nesting.{defined_depth, definitions_depth, module_depth};
 ghost use Rattle.tp_syntax.specs.Passing.{Passes};
+ghost use Rattle.tp_syntax.specs.Reading.{AllStand, IsPlaced, Reads, first};
 ghost use Rattle.tp_syntax.specs.Refusals.{IsOfGrammar};
 ghost use Rattle.tp_syntax.specs.Standing.{GoesOver, HasPassed};
 
@@ -27,6 +29,8 @@ impl<'a, 't> Parser<'a, 't> {
     fn parameter(&mut self, alloc: Global) -> Result<Parameter, ScriptFault>
         ensures tokens { IfOk result (λ x. Passes self.old (parameter_lexemes x) self.new) }
         ensures shorter { OnOk result (length self.new.rest.now < length self.old.rest.now) }
+        ensures reads { (x : Parameter) (more : List Lexeme) →
+            Reads self.old (parameter_lexemes x) more result self.new }
         ensures fault { IfErr result IsOfGrammar }
     {
         let type_name = self.name(alloc)?;
@@ -38,6 +42,9 @@ impl<'a, 't> Parser<'a, 't> {
     fn parameters(&mut self, alloc: Global) -> Result<Vec<Parameter>, ScriptFault>
         ensures tokens { IfOk result (λ x. Passes self.old (parameters_lexemes x.items) self.new) }
         ensures shorter { OnOk result (length self.new.rest.now ≤ length self.old.rest.now) }
+        ensures reads { (xs : List Parameter) (more : List Lexeme) →
+            first more ≡ Some (symbol Symbol.RightParen) →
+            Reads self.old (parameters_lexemes xs) more result self.new }
         ensures fault { IfErr result IsOfGrammar }
     {
         let mut parameters = Vec::new(alloc);
@@ -61,6 +68,10 @@ impl<'a, 't> Parser<'a, 't> {
         ensures nested { IfOk result (λ x. defined_depth (Defined.Function x) ≤ left) }
         ensures grammatical { IfOk result (λ x.
             IsTrue (defined_part (Defined.Function x)).is_right) }
+        ensures reads { (x : Function) (more : List Lexeme) →
+            IsTrue (defined_part (Defined.Function x)).is_right →
+            defined_depth (Defined.Function x) ≤ left →
+            Reads self.old (function_lexemes x) more result self.new }
         ensures fault { IfErr result IsOfGrammar }
     {
         self.word(Word::Function)?;
@@ -91,19 +102,21 @@ impl<'a, 't> Parser<'a, 't> {
         ensures shorter { OnOk result (length self.new.rest.now < length self.old.rest.now) }
         ensures nested { IfOk result (λ x. defined_depth x ≤ left) }
         ensures grammatical { IfOk result (λ x. IsTrue (defined_part x).is_right) }
+        ensures reads { (x : Defined) (more : List Lexeme) →
+            IsTrue (defined_part x).is_right →
+            defined_depth x ≤ left →
+            Reads self.old (defined_lexemes x) more result self.new }
         ensures fault { IfErr result IsOfGrammar }
     {
-        match self.word_at(0) {
-            Some(Word::Function) => {
-                let function = self.function(alloc, left)?;
-                Ok(Defined::Function(function))
-            }
-            Some(Word::Testcase) => {
-                let test_case = self.test_case(alloc, left)?;
-                Ok(Defined::TestCase(test_case))
-            }
-            _ => self.defined_type(alloc),
+        if self.is_word_at(0, Word::Function) {
+            let function = self.function(alloc, left)?;
+            return Ok(Defined::Function(function));
         }
+        if self.is_word_at(0, Word::Testcase) {
+            let test_case = self.test_case(alloc, left)?;
+            return Ok(Defined::TestCase(test_case));
+        }
+        self.defined_type(alloc)
     }
 
     /// A definition.
@@ -113,6 +126,10 @@ impl<'a, 't> Parser<'a, 't> {
         ensures shorter { OnOk result (length self.new.rest.now < length self.old.rest.now) }
         ensures nested { IfOk result (λ x. defined_depth x.defined ≤ left) }
         ensures grammatical { IfOk result (λ x. HasPassed (definition_part x) self.new) }
+        ensures reads { (x : Definition) (more : List Lexeme) →
+            IsPlaced (definition_part x) more →
+            defined_depth x.defined ≤ left →
+            Reads self.old (definition_lexemes x) more result self.new }
         ensures fault { IfErr result IsOfGrammar }
     {
         let line = self.line();
@@ -133,6 +150,11 @@ impl<'a, 't> Parser<'a, 't> {
         ensures nested { IfOk result (λ x. definitions_depth x.items ≤ left) }
         ensures grammatical { IfOk result (λ x.
             GoesOver self.old (map definition_part x.items) self.new) }
+        ensures reads { (xs : List Definition) (more : List Lexeme) →
+            AllStand (map definition_part xs) more →
+            definitions_depth xs ≤ left →
+            first more ≡ Some (symbol Symbol.RightBrace) →
+            Reads self.old (definitions_lexemes xs) more result self.new }
         ensures fault { IfErr result IsOfGrammar }
     {
         let mut definitions = Vec::new(alloc);
@@ -150,6 +172,11 @@ impl<'a, 't> Parser<'a, 't> {
         ensures shorter { OnOk result (length self.new.rest.now < length self.old.rest.now) }
         ensures nested { IfOk result (λ x. module_depth x ≤ left) }
         ensures grammatical { IfOk result IsGrammatical }
+        ensures reads { (x : Module) (more : List Lexeme) →
+            IsGrammatical x →
+            module_depth x ≤ left →
+            first more ≢ Some (symbol Symbol.Semicolon) →
+            Reads self.old (module_lexemes x) more result self.new }
         ensures fault { IfErr result IsOfGrammar }
     {
         let line = self.line();

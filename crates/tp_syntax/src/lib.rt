@@ -5,6 +5,7 @@ mod cursor;
 mod definitions;
 mod operations;
 pub mod parser;
+mod parts;
 mod statements;
 mod templates;
 mod test_cases;

@@ -1,10 +1,12 @@
 //! Operations on ports: sends, receiving operations, and those that start or stop a port.
-ghost use Rattle.std.specs.Prelude.{◌≡◌, ◌+◌, ◌<◌, ◌≤◌, ◌∷◌, ◌++◌, IsTrue, length, IfErr, IfOk, OnOk};
-ghost use Rattle.tp_syntax.specs.Ahead.{ahead};
+ghost use Rattle.std.specs.Prelude.{[], true, ◌↔◌, ◌≢◌, List, Option, Some, ◌≡◌, ◌+◌, ◌<◌, ◌≤◌, ◌∷◌, ◌++◌, IsTrue, length, IfErr, IfOk, OnOk};
+ghost use Rattle.tp_token.specs.Lexeme.{Lexeme, symbol, word};
+ghost use Rattle.tp_syntax.specs.Ahead.{ahead, is_name_in, token_at};
 ghost use Rattle.tp_syntax.specs.Passing.{Passes};
 ghost use Rattle.tp_syntax.specs.Statements.{component_lexemes, sent_lexemes, to_lexemes, send_lexemes, template_part, from_lexemes, named_part, redirect_lexemes, receive_lexemes, port_operation_lexeme, control_lexemes, all_ports_lexemes};
 ghost use Rattle.tp_syntax.specs.Grammar.{is_sent, is_template_part};
 ghost use Rattle.tp_syntax.specs.Nesting.{part_depth, receive_depth, sent_depth};
+ghost use Rattle.tp_syntax.specs.Reading.{MaybeName, Reads, Stops, first};
 ghost use Rattle.tp_syntax.specs.Refusals.{IsOfGrammar};
 
 use crate::cursor::Parser;
@@ -29,6 +31,8 @@ impl<'a, 't> Parser<'a, 't> {
     pub fn component(&mut self, alloc: Global) -> Result<ComponentName, ScriptFault>
         ensures tokens { IfOk result (λ c. Passes self.old (component_lexemes c) self.new) }
         ensures shorter { OnOk result (length self.new.rest.now < length self.old.rest.now) }
+        ensures reads { (x : ComponentName) (more : List Lexeme) →
+            Reads self.old (component_lexemes x) more result self.new }
         ensures fault { IfErr result IsOfGrammar }
     {
         let placed = self.take()?;
@@ -43,15 +47,28 @@ impl<'a, 't> Parser<'a, 't> {
         }
     }
 
+    /// Whether a variable stands alone in parentheses: a name and `)`.
+    fn is_variable(&self) -> bool
+        ensures { IsTrue result ↔ ((is_name_in (token_at self.now.rest.now 0) ≡ true)
+            × (token_at self.now.rest.now 1 ≡ Some (symbol Symbol.RightParen))) }
+    {
+        self.is_name_at(0) && self.is_symbol_at(1, Symbol::RightParen)
+    }
+
     /// What is sent.
     fn sent(&mut self, alloc: Global, left: u32) -> Result<Sent, ScriptFault>
         ensures tokens { IfOk result (λ s. Passes self.old (sent_lexemes s) self.new) }
         ensures shorter { OnOk result (length self.new.rest.now < length self.old.rest.now) }
         ensures nested { IfOk result (λ s. sent_depth s ≤ left) }
         ensures grammatical { IfOk result (λ s. IsTrue (is_sent s)) }
+        ensures reads { (x : Sent) (more : List Lexeme) →
+            IsTrue (is_sent x) →
+            sent_depth x ≤ left →
+            first more ≡ Some (symbol Symbol.RightParen) →
+            Reads self.old (sent_lexemes x) more result self.new }
         ensures fault { IfErr result IsOfGrammar }
     {
-        if self.is_name_at(0) && self.is_symbol_at(1, Symbol::RightParen) {
+        if self.is_variable() {
             let name = self.name(alloc)?;
             return Ok(Sent::Variable(name));
         }
@@ -63,6 +80,9 @@ impl<'a, 't> Parser<'a, 't> {
     fn to_part(&mut self, alloc: Global) -> Result<Option<Destination>, ScriptFault>
         ensures tokens { IfOk result (λ d. Passes self.old (to_lexemes d) self.new) }
         ensures shorter { OnOk result (length self.new.rest.now ≤ length self.old.rest.now) }
+        ensures reads { (x : Option Destination) (more : List Lexeme) →
+            Stops more →
+            Reads self.old (to_lexemes x) more result self.new }
         ensures fault { IfErr result IsOfGrammar }
     {
         if !self.has_word(Word::To) {
@@ -83,6 +103,11 @@ impl<'a, 't> Parser<'a, 't> {
         ensures shorter { OnOk result (length self.new.rest.now < length self.old.rest.now) }
         ensures nested { IfOk result (λ s. sent_depth s.sent + 1 ≤ left) }
         ensures grammatical { IfOk result (λ s. IsTrue (is_sent s.sent)) }
+        ensures reads { (x : Send) (more : List Lexeme) →
+            IsTrue (is_sent x.sent) →
+            sent_depth x.sent + 1 ≤ left →
+            Stops more →
+            Reads self.old (send_lexemes x) more result self.new }
         ensures fault { IfErr result IsOfGrammar }
     {
         let port = self.name(alloc)?;
@@ -106,6 +131,11 @@ impl<'a, 't> Parser<'a, 't> {
         ensures shorter { OnOk result (length self.new.rest.now ≤ length self.old.rest.now) }
         ensures nested { IfOk result (λ t. part_depth t ≤ left) }
         ensures grammatical { IfOk result (λ t. IsTrue (is_template_part t)) }
+        ensures reads { (x : Option MessageTemplate) (more : List Lexeme) →
+            IsTrue (is_template_part x) →
+            part_depth x ≤ left →
+            first more ≢ Some (symbol Symbol.LeftParen) →
+            Reads self.old (template_part x) more result self.new }
         ensures fault { IfErr result IsOfGrammar }
     {
         if !self.is_symbol_at(0, Symbol::LeftParen) {
@@ -121,6 +151,9 @@ impl<'a, 't> Parser<'a, 't> {
     fn from_part(&mut self, alloc: Global) -> Result<Option<ComponentName>, ScriptFault>
         ensures tokens { IfOk result (λ c. Passes self.old (from_lexemes c) self.new) }
         ensures shorter { OnOk result (length self.new.rest.now ≤ length self.old.rest.now) }
+        ensures reads { (x : Option ComponentName) (more : List Lexeme) →
+            first more ≢ Some (word Word.From) →
+            Reads self.old (from_lexemes x) more result self.new }
         ensures fault { IfErr result IsOfGrammar }
     {
         if !self.has_word(Word::From) {
@@ -134,6 +167,9 @@ impl<'a, 't> Parser<'a, 't> {
     fn named_part(&mut self, alloc: Global, want: Word) -> Result<Option<String>, ScriptFault>
         ensures tokens { IfOk result (λ n. Passes self.old (named_part want n) self.new) }
         ensures shorter { OnOk result (length self.new.rest.now ≤ length self.old.rest.now) }
+        ensures reads { (x : MaybeName) (more : List Lexeme) →
+            first more ≢ Some (word want) →
+            Reads self.old (named_part want x) more result self.new }
         ensures fault { IfErr result IsOfGrammar }
     {
         if !self.has_word(want) {
@@ -148,6 +184,9 @@ impl<'a, 't> Parser<'a, 't> {
     fn redirect(&mut self, alloc: Global) -> Result<Redirect, ScriptFault>
         ensures tokens { IfOk result (λ r. Passes self.old (redirect_lexemes r) self.new) }
         ensures shorter { OnOk result (length self.new.rest.now ≤ length self.old.rest.now) }
+        ensures reads { (x : Redirect) (more : List Lexeme) →
+            Stops more →
+            Reads self.old (redirect_lexemes x) more result self.new }
         ensures fault { IfErr result IsOfGrammar }
     {
         if !self.has_symbol(Symbol::Arrow) {
@@ -182,6 +221,13 @@ impl<'a, 't> Parser<'a, 't> {
         ensures shorter { OnOk result (length self.new.rest.now ≤ length self.old.rest.now) }
         ensures nested { IfOk result (λ r. part_depth r.template ≤ left) }
         ensures grammatical { IfOk result (λ r. IsTrue (is_template_part r.template)) }
+        ensures reads { (t : Option MessageTemplate) (s : Option ComponentName) (d : Redirect)
+            (more : List Lexeme) →
+            IsTrue (is_template_part t) →
+            part_depth t ≤ left →
+            Stops more →
+            Reads self.old (template_part t ++ (from_lexemes s ++ redirect_lexemes d)) more result
+            self.new }
         ensures fault { IfErr result IsOfGrammar }
     {
         let template = self.template_part(alloc, left)?;
@@ -201,6 +247,11 @@ impl<'a, 't> Parser<'a, 't> {
         ensures shorter { OnOk result (length self.new.rest.now < length self.old.rest.now) }
         ensures nested { IfOk result (λ r. receive_depth r ≤ left) }
         ensures grammatical { IfOk result (λ r. IsTrue (is_template_part r.template)) }
+        ensures reads { (x : Receive) (more : List Lexeme) →
+            IsTrue (is_template_part x.template) →
+            receive_depth x ≤ left →
+            Stops more →
+            Reads self.old (receive_lexemes x) more result self.new }
         ensures fault { IfErr result IsOfGrammar }
     {
         let port = self.name(alloc)?;
@@ -244,6 +295,8 @@ impl<'a, 't> Parser<'a, 't> {
         ensures tokens { IfOk result (λ o.
             ahead self.old.rest.now ≡ port_operation_lexeme o ∷ ahead self.new.rest.now) }
         ensures shorter { OnOk result (length self.new.rest.now < length self.old.rest.now) }
+        ensures reads { (x : PortOperation) (more : List Lexeme) →
+            Reads self.old (port_operation_lexeme x ∷ []) more result self.new }
         ensures fault { IfErr result IsOfGrammar }
     {
         let placed = self.take()?;
@@ -261,6 +314,8 @@ impl<'a, 't> Parser<'a, 't> {
     pub fn control(&mut self, alloc: Global) -> Result<Control, ScriptFault>
         ensures tokens { IfOk result (λ c. Passes self.old (control_lexemes c) self.new) }
         ensures shorter { OnOk result (length self.new.rest.now < length self.old.rest.now) }
+        ensures reads { (x : Control) (more : List Lexeme) →
+            Reads self.old (control_lexemes x) more result self.new }
         ensures fault { IfErr result IsOfGrammar }
     {
         let port = self.name(alloc)?;
@@ -274,6 +329,8 @@ impl<'a, 't> Parser<'a, 't> {
     pub fn all_ports(&mut self) -> Result<PortOperation, ScriptFault>
         ensures tokens { IfOk result (λ o. Passes self.old (all_ports_lexemes o) self.new) }
         ensures shorter { OnOk result (length self.new.rest.now < length self.old.rest.now) }
+        ensures reads { (x : PortOperation) (more : List Lexeme) →
+            Reads self.old (all_ports_lexemes x) more result self.new }
         ensures fault { IfErr result IsOfGrammar }
     {
         self.word(Word::All)?;

@@ -28,6 +28,9 @@ const BRACKETS: u32 = 32;
 /// - 15 `Limit` at the line of the number 9223372036854775808 without a `-` before it, or of a
 ///   bracket that would be the 33rd open one;
 /// - 50 where memory was refused.
+///
+/// It refuses no text that is right: where its tokens are within the limits, and are those of a
+/// module of the grammar whose brackets nest at most 32 deep, it is read, or 50 is answered.
 pub fn parse(alloc: Global, text: &[u8]) -> Result<Module, ScriptFault>
     ensures read { IfOk result (IsReadAs text.now) }
     ensures within { OnOk result (HasTokens text.now) }

@@ -1,25 +1,25 @@
-//! Statements: variables, verdicts, `alt`, `for` and blocks.
-ghost use Rattle.std.specs.Prelude.{◌≡◌, ◌+◌, ◌<◌, ◌≤◌, ◌∷◌, IsTrue, length, map, IfErr, IfOk, OnOk, string_bytes};
+//! Statements: `alt`, `for`, blocks, and what stands in them.
+ghost use Rattle.std.specs.Prelude.{◌↔◌, ◌++◌, max, ◌≢◌, true, false, List, Option, Some, ◌≡◌, ◌+◌, ◌<◌, ◌≤◌, ◌∷◌, IsTrue, length, IfErr, IfOk, OnOk};
 ghost use Rattle.std.specs.Bool.{OnFalse};
-ghost use Rattle.tp_token.specs.Lexeme.{number, symbol, word};
-ghost use Rattle.tp_syntax.specs.Ahead.{ahead};
+ghost use Rattle.tp_queue.specs.declared.operation.PortOperation.{PortOperation};
+ghost use Rattle.tp_queue.specs.declared.operation.ReceiveKind.{ReceiveKind};
+ghost use Rattle.tp_token.specs.Lexeme.{Lexeme, symbol, word};
+ghost use Rattle.tp_syntax.specs.Ahead.{is_name_in, token_at};
 ghost use Rattle.tp_syntax.specs.Passing.{Passes};
 ghost use Rattle.tp_syntax.specs.Sequences.{braced};
-ghost use Rattle.tp_syntax.specs.Values.{int_lexemes};
-ghost use Rattle.tp_syntax.specs.Statements.{step_lexemes, turns_lexemes, verdict_lexeme, set_verdict_lexemes, variable_lexemes, variables_lexemes, action_lexemes, branch_lexemes, body_lexemes, counted_lexemes, otherwise_lexemes, statement_lexemes, statements_lexemes, branches_lexemes};
-ghost use Rattle.tp_syntax.specs.Grammar.{action_part, are_parts, body_part, branch_part, branches_parts, counted_part, otherwise_parts, statement_part, statements_parts, variable_part};
+ghost use Rattle.tp_syntax.specs.Statements.{port_operation_lexeme, action_lexemes, branch_lexemes, body_lexemes, counted_lexemes, otherwise_lexemes, statement_lexemes, statements_lexemes, branches_lexemes};
+ghost use Rattle.tp_syntax.specs.Grammar.{action_part, are_parts, body_part, branch_part, branches_parts, counted_part, has_one, otherwise_parts, statement_part, statements_parts};
 ghost use Rattle.tp_syntax.specs.Nesting.{action_depth, body_depth, branch_depth, branches_depth, counted_depth, otherwise_depth, statement_depth, statements_depth};
+ghost use Rattle.tp_syntax.specs.Reading.{AllStand, IsEndOf, IsEndedOr, IsPlaced, Reads, Stops, first, is_branch_ahead, is_end_ahead, receive_word};
 ghost use Rattle.tp_syntax.specs.Refusals.{IsOfGrammar};
 ghost use Rattle.tp_syntax.specs.Standing.{GoesOn, GoesOver, HasPassed};
 
 use crate::cursor::Parser;
 use std::alloc::Global;
 use tp_token::fault::ScriptFault;
-use tp_token::token::{Symbol, Token};
+use tp_token::token::Symbol;
 use tp_token::word::Word;
-use tp_tree::tree::{
-    Action, Branch, BranchBody, Counted, ElseBranch, Statement, Turns, Variable, VerdictName,
-};
+use tp_tree::tree::{Action, Branch, BranchBody, Counted, ElseBranch, Statement};
 
 /// What kind of statement comes next, as far as its first tokens tell.
 enum Beginning {
@@ -58,154 +58,27 @@ fn is_block(body: &BranchBody) -> bool
 }
 
 impl<'a, 't> Parser<'a, 't> {
-    /// A verdict.
-    fn verdict(&mut self) -> Result<VerdictName, ScriptFault>
-        ensures tokens { IfOk result (λ v.
-            ahead self.old.rest.now ≡ verdict_lexeme v ∷ ahead self.new.rest.now) }
-        ensures shorter { OnOk result (length self.new.rest.now < length self.old.rest.now) }
-        ensures fault { IfErr result IsOfGrammar }
-    {
-        let placed = self.take()?;
-        match &placed.token {
-            Token::Word(Word::NoneWord) => Ok(VerdictName::NoVerdict),
-            Token::Word(Word::Pass) => Ok(VerdictName::Pass),
-            Token::Word(Word::Inconc) => Ok(VerdictName::Inconc),
-            Token::Word(Word::Fail) => Ok(VerdictName::Fail),
-            Token::Word(Word::Error) => Ok(VerdictName::Error),
-            _ => Err(ScriptFault::syntax(placed.line)),
-        }
-    }
-
-    /// A `setverdict`.
-    #[tactic(auto, unfolding(crate::specs::Statements::set_verdict_lexemes))]
-    fn set_verdict(&mut self, left: u32) -> Result<VerdictName, ScriptFault>
-        ensures tokens { IfOk result (λ v. Passes self.old (set_verdict_lexemes v) self.new) }
-        ensures shorter { OnOk result (length self.new.rest.now < length self.old.rest.now) }
-        ensures nested { OnOk result (1 ≤ left) }
-        ensures fault { IfErr result IsOfGrammar }
-    {
-        self.word(Word::Setverdict)?;
-        self.open(Symbol::LeftParen, left)?;
-        let verdict = self.verdict()?;
-        self.symbol(Symbol::RightParen)?;
-        Ok(verdict)
-    }
-
-    /// A `var` statement.
-    #[tactic(auto, using(std::proofs::lemmas::List::append_assoc))]
-    fn variable(&mut self, alloc: Global) -> Result<Variable, ScriptFault>
-        ensures tokens { IfOk result (λ v. Passes self.old (variable_lexemes v) self.new) }
-        ensures shorter { OnOk result (length self.new.rest.now < length self.old.rest.now) }
-        ensures grammatical { IfOk result (λ v. HasPassed (variable_part v) self.new) }
-        ensures fault { IfErr result IsOfGrammar }
-    {
-        let line = self.line();
-        self.word(Word::Var)?;
-        let type_name = self.type_name(alloc)?;
-        let name = self.name(alloc)?;
-        let has_semicolon = self.end(false)?;
-        Ok(Variable {
-            line,
-            type_name,
-            name,
-            has_semicolon,
-        })
-    }
-
-    /// The `var` statements that come next.
-    pub fn variables(&mut self, alloc: Global) -> Result<Vec<Variable>, ScriptFault>
-        ensures tokens { IfOk result (λ v. Passes self.old (variables_lexemes v.items) self.new) }
-        ensures shorter { OnOk result (length self.new.rest.now ≤ length self.old.rest.now) }
-        ensures grammatical { IfOk result (λ v.
-            GoesOver self.old (map variable_part v.items) self.new) }
-        ensures fault { IfErr result IsOfGrammar }
-    {
-        let mut variables = Vec::new(alloc);
-        'more: while self.is_word_at(0, Word::Var) {
-            let variable = self.variable(alloc)?;
-            variables.push(variable)?;
-        }
-        Ok(variables)
-    }
-
-    /// A counted `for` without its block. 10 `Syntax` also: its four names aren't one name (the
-    /// line of the first that differs).
-    #[tactic(auto, using(std::proofs::lemmas::List::append_assoc), unfolding(crate::specs::Statements::for_lexemes))]
-    fn turns(&mut self, alloc: Global, left: u32) -> Result<Turns, ScriptFault>
-        ensures tokens { IfOk result (λ x.
-            ahead self.old.rest.now ≡ turns_lexemes x (ahead self.new.rest.now)) }
-        ensures shorter { OnOk result (length self.new.rest.now < length self.old.rest.now) }
-        ensures nested { OnOk result (1 ≤ left) }
-        ensures fault { IfErr result IsOfGrammar }
-    {
-        self.word(Word::For)?;
-        self.open(Symbol::LeftParen, left)?;
-        self.word(Word::Var)?;
-        self.word(Word::Integer)?;
-        let name = self.name(alloc)?;
-        self.symbol(Symbol::Assign)?;
-        let first = self.integer()?;
-        let bound = self.step(&name)?;
-        Ok(Turns { name, first, bound })
-    }
-
-    /// What stands behind the first value of a `for`, up to its `)`: what its variable stays below,
-    /// and the step.
-    #[tactic(auto, using(std::proofs::lemmas::List::append_assoc))]
-    fn step(&mut self, variable: &String) -> Result<i64, ScriptFault>
-        ensures tokens { IfOk result (λ z.
-            ahead self.old.rest.now
-            ≡ step_lexemes (string_bytes variable.now) (int_lexemes z) (ahead self.new.rest.now)) }
-        ensures shorter { OnOk result (length self.new.rest.now < length self.old.rest.now) }
-        ensures fault { IfErr result IsOfGrammar }
-    {
-        self.symbol(Symbol::Semicolon)?;
-        self.same_name(variable)?;
-        self.symbol(Symbol::Less)?;
-        let bound = self.integer()?;
-        self.symbol(Symbol::Semicolon)?;
-        self.same_name(variable)?;
-        self.symbol(Symbol::Assign)?;
-        self.same_name(variable)?;
-        self.symbol(Symbol::Plus)?;
-        self.one()?;
-        self.symbol(Symbol::RightParen)?;
-        Ok(bound)
-    }
-
-    /// The number 1.
-    fn one(&mut self) -> Result<(), ScriptFault>
-        ensures tokens { OnOk result
-            (ahead self.old.rest.now ≡ number 1 ∷ ahead self.new.rest.now) }
-        ensures shorter { OnOk result (length self.new.rest.now < length self.old.rest.now) }
-        ensures fault { IfErr result IsOfGrammar }
-    {
-        let placed = self.take()?;
-        match placed.token {
-            Token::Number(1) => Ok(()),
-            _ => Err(ScriptFault::syntax(placed.line)),
-        }
-    }
-
-    /// `[else]`
-    fn else_mark(&mut self, left: u32) -> Result<(), ScriptFault>
-        ensures tokens { OnOk result
-            (ahead self.old.rest.now
-            ≡ symbol Symbol.LeftBracket ∷ word Word.Else ∷ symbol Symbol.RightBracket
-            ∷ ahead self.new.rest.now) }
-        ensures shorter { OnOk result (length self.new.rest.now < length self.old.rest.now) }
-        ensures nested { OnOk result (1 ≤ left) }
-        ensures fault { IfErr result IsOfGrammar }
-    {
-        self.open(Symbol::LeftBracket, left)?;
-        self.word(Word::Else)?;
-        self.symbol(Symbol::RightBracket)?;
-        Ok(())
-    }
-
     /// What kind of statement comes next. What is none of them is taken for an operation on a port,
     /// which is then refused at the first token that can't stand.
-    fn beginning(&self) -> Beginning {
+    fn beginning(&self) -> Beginning
+        ensures alt { token_at self.now.rest.now 0 ≡ Some (word Word.Alt) →
+            result ≡ Beginning.Alt }
+        ensures for_loop { token_at self.now.rest.now 0 ≡ Some (word Word.For) →
+            result ≡ Beginning.For }
+        ensures set_verdict { token_at self.now.rest.now 0 ≡ Some (word Word.Setverdict) →
+            result ≡ Beginning.SetVerdict }
+        ensures all_ports { token_at self.now.rest.now 0 ≡ Some (word Word.All) →
+            result ≡ Beginning.AllPorts }
+        ensures send { is_name_in (token_at self.now.rest.now 0) ≡ true →
+            token_at self.now.rest.now 2 ≡ Some (word Word.Send) → result ≡ Beginning.Send }
+        ensures receive { (k : ReceiveKind) → is_name_in (token_at self.now.rest.now 0) ≡ true →
+            token_at self.now.rest.now 2 ≡ Some (word (receive_word k)) →
+            result ≡ Beginning.Receive }
+        ensures control { (o : PortOperation) →
+            is_name_in (token_at self.now.rest.now 0) ≡ true →
+            token_at self.now.rest.now 2 ≡ Some (port_operation_lexeme o) →
+            result ≡ Beginning.Control }
+    {
         match self.word_at(0) {
             Some(Word::Alt) => Beginning::Alt,
             Some(Word::For) => Beginning::For,
@@ -224,7 +97,8 @@ impl<'a, 't> Parser<'a, 't> {
     /// Whether no statement comes next: the end of a block, or, in the body of a test case, `all
     /// component`.
     fn is_end(&self, is_case: bool) -> bool
-        ensures { OnFalse result (GoesOn self.now) }
+        ensures goes_on { OnFalse result (GoesOn self.now) }
+        ensures end { IsTrue result ↔ IsEndOf is_case self.now.rest.now }
     {
         self.is_symbol_at(0, Symbol::RightBrace)
             || is_case && self.is_word_at(0, Word::All) && self.is_word_at(1, Word::Component)
@@ -238,6 +112,10 @@ impl<'a, 't> Parser<'a, 't> {
         ensures shorter { OnOk result (length self.new.rest.now < length self.old.rest.now) }
         ensures nested { IfOk result (λ s. statement_depth s ≤ left) }
         ensures grammatical { IfOk result (λ s. HasPassed (statement_part s) self.new) }
+        ensures reads { (x : Statement) (more : List Lexeme) →
+            IsPlaced (statement_part x) more →
+            statement_depth x ≤ left →
+            Reads self.old (statement_lexemes x) more result self.new }
         ensures fault { IfErr result IsOfGrammar }
     {
         let line = self.line();
@@ -258,6 +136,11 @@ impl<'a, 't> Parser<'a, 't> {
         ensures shorter { OnOk result (length self.new.rest.now < length self.old.rest.now) }
         ensures nested { IfOk result (λ a. action_depth a ≤ left) }
         ensures grammatical { IfOk result (λ a. IsTrue (action_part a).is_right) }
+        ensures reads { (x : Action) (more : List Lexeme) →
+            IsTrue (action_part x).is_right →
+            action_depth x ≤ left →
+            IsEndedOr (action_part x).is_ended (Stops more) →
+            Reads self.old (action_lexemes x) more result self.new }
         ensures fault { IfErr result IsOfGrammar }
     {
         match self.beginning() {
@@ -297,6 +180,12 @@ impl<'a, 't> Parser<'a, 't> {
         ensures shorter { OnOk result (length self.new.rest.now < length self.old.rest.now) }
         ensures nested { IfOk result (λ a. action_depth a ≤ left) }
         ensures grammatical { IfOk result (λ a. IsTrue (action_part a).is_right) }
+        ensures reads { (xs : List Branch) (x : Option ElseBranch) (more : List Lexeme) →
+            IsTrue (has_one (branches_parts xs ++ otherwise_parts x)) →
+            IsTrue (are_parts (branches_parts xs ++ otherwise_parts x)) →
+            max (branches_depth xs) (otherwise_depth x) + 1 ≤ left →
+            Reads self.old (word Word.Alt ∷ braced (branches_lexemes xs ++ otherwise_lexemes x))
+            more result self.new }
         ensures fault { IfErr result IsOfGrammar }
     {
         self.word(Word::Alt)?;
@@ -318,14 +207,28 @@ impl<'a, 't> Parser<'a, 't> {
         ensures nested { IfOk result (λ v. branches_depth v.items ≤ left) }
         ensures grammatical { IfOk result (λ v.
             GoesOver self.old (branches_parts v.items) self.new) }
+        ensures reads { (xs : List Branch) (more : List Lexeme) →
+            AllStand (branches_parts xs) more →
+            branches_depth xs ≤ left →
+            is_branch_ahead more ≡ false →
+            Reads self.old (branches_lexemes xs) more result self.new }
         ensures fault { IfErr result IsOfGrammar }
     {
         let mut branches = Vec::new(alloc);
-        'more: while self.is_symbol_at(0, Symbol::LeftBracket) && !self.is_word_at(1, Word::Else) {
+        'more: while self.is_branch() {
             let branch = self.branch(alloc, left)?;
             branches.push(branch)?;
         }
         Ok(branches)
+    }
+
+    /// Whether a branch comes next that isn't `[else]`.
+    fn is_branch(&self) -> bool
+        ensures { IsTrue result
+            ↔ ((token_at self.now.rest.now 0 ≡ Some (symbol Symbol.LeftBracket))
+            × (token_at self.now.rest.now 1 ≢ Some (word Word.Else))) }
+    {
+        self.is_symbol_at(0, Symbol::LeftBracket) && !self.is_word_at(1, Word::Else)
     }
 
     /// A branch behind a receiving operation.
@@ -336,6 +239,10 @@ impl<'a, 't> Parser<'a, 't> {
         ensures shorter { OnOk result (length self.new.rest.now < length self.old.rest.now) }
         ensures nested { IfOk result (λ b. branch_depth b ≤ left) }
         ensures grammatical { IfOk result (λ b. HasPassed (branch_part b) self.new) }
+        ensures reads { (x : Branch) (more : List Lexeme) →
+            IsPlaced (branch_part x) more →
+            branch_depth x ≤ left →
+            Reads self.old (branch_lexemes x) more result self.new }
         ensures fault { IfErr result IsOfGrammar }
     {
         let line = self.line();
@@ -360,6 +267,11 @@ impl<'a, 't> Parser<'a, 't> {
         ensures shorter { OnOk result (length self.new.rest.now ≤ length self.old.rest.now) }
         ensures nested { IfOk result (λ b. body_depth b ≤ left) }
         ensures grammatical { IfOk result (λ b. IsTrue (body_part b).is_right) }
+        ensures reads { (x : BranchBody) (more : List Lexeme) →
+            IsTrue (body_part x).is_right →
+            body_depth x ≤ left →
+            IsEndedOr (body_part x).is_ended (first more ≢ Some (symbol Symbol.LeftBrace)) →
+            Reads self.old (body_lexemes x) more result self.new }
         ensures fault { IfErr result IsOfGrammar }
     {
         if !self.is_symbol_at(0, Symbol::LeftBrace) {
@@ -377,6 +289,11 @@ impl<'a, 't> Parser<'a, 't> {
         ensures shorter { OnOk result (length self.new.rest.now ≤ length self.old.rest.now) }
         ensures nested { IfOk result (λ e. otherwise_depth e ≤ left) }
         ensures grammatical { IfOk result (λ e. GoesOver self.old (otherwise_parts e) self.new) }
+        ensures reads { (x : Option ElseBranch) (more : List Lexeme) →
+            AllStand (otherwise_parts x) more →
+            otherwise_depth x ≤ left →
+            first more ≡ Some (symbol Symbol.RightBrace) →
+            Reads self.old (otherwise_lexemes x) more result self.new }
         ensures fault { IfErr result IsOfGrammar }
     {
         if !self.is_symbol_at(0, Symbol::LeftBracket) {
@@ -401,6 +318,10 @@ impl<'a, 't> Parser<'a, 't> {
         ensures shorter { OnOk result (length self.new.rest.now < length self.old.rest.now) }
         ensures nested { IfOk result (λ f. counted_depth f ≤ left) }
         ensures grammatical { IfOk result (λ f. IsTrue (counted_part f).is_right) }
+        ensures reads { (x : Counted) (more : List Lexeme) →
+            IsTrue (counted_part x).is_right →
+            counted_depth x ≤ left →
+            Reads self.old (counted_lexemes x) more result self.new }
         ensures fault { IfErr result IsOfGrammar }
     {
         let turns = self.turns(alloc, left)?;
@@ -417,6 +338,10 @@ impl<'a, 't> Parser<'a, 't> {
         ensures shorter { OnOk result (length self.new.rest.now < length self.old.rest.now) }
         ensures nested { IfOk result (λ v. statements_depth v.items + 1 ≤ left) }
         ensures grammatical { IfOk result (λ v. IsTrue (are_parts (statements_parts v.items))) }
+        ensures reads { (xs : List Statement) (more : List Lexeme) →
+            IsTrue (are_parts (statements_parts xs)) →
+            statements_depth xs + 1 ≤ left →
+            Reads self.old (braced (statements_lexemes xs)) more result self.new }
         ensures fault { IfErr result IsOfGrammar }
     {
         let inner = self.open(Symbol::LeftBrace, left)?;
@@ -438,6 +363,11 @@ impl<'a, 't> Parser<'a, 't> {
         ensures nested { IfOk result (λ v. statements_depth v.items ≤ left) }
         ensures grammatical { IfOk result (λ v.
             GoesOver self.old (statements_parts v.items) self.new) }
+        ensures reads { (xs : List Statement) (more : List Lexeme) →
+            AllStand (statements_parts xs) more →
+            statements_depth xs ≤ left →
+            is_end_ahead is_case more ≡ true →
+            Reads self.old (statements_lexemes xs) more result self.new }
         ensures fault { IfErr result IsOfGrammar }
     {
         let mut statements = Vec::new(alloc);

@@ -1,13 +1,14 @@
 //! Templates.
-ghost use Rattle.std.specs.Prelude.{◌≡◌, ◌+◌, ◌<◌, ◌≤◌, ◌∷◌, ◌++◌, IsTrue, length, map, IfErr, IfOk, OnOk};
+ghost use Rattle.std.specs.Prelude.{ℕ, ℤ, ◌↔◌, [], List, Option, Some, ◌≡◌, ◌+◌, ◌<◌, ◌≤◌, ◌∷◌, ◌++◌, IsTrue, length, map, IfErr, IfOk, OnOk};
 ghost use Rattle.std.specs.List.{list_all};
-ghost use Rattle.tp_token.specs.Lexeme.{symbol, word};
-ghost use Rattle.tp_syntax.specs.Ahead.{ahead};
+ghost use Rattle.tp_token.specs.Lexeme.{Lexeme, symbol, text, word};
+ghost use Rattle.tp_syntax.specs.Ahead.{ahead, token_at};
 ghost use Rattle.tp_syntax.specs.Passing.{Passes};
-ghost use Rattle.tp_syntax.specs.Sequences.{by_commas};
+ghost use Rattle.tp_syntax.specs.Sequences.{by_commas, parenthesised};
 ghost use Rattle.tp_syntax.specs.Templates.{low_lexemes, high_lexemes, template_lexemes, template_field_lexemes, message_template_lexemes};
-ghost use Rattle.tp_syntax.specs.Grammar.{is_plain, is_template, is_template_field, one_and_each};
+ghost use Rattle.tp_syntax.specs.Grammar.{each, is_bound, is_plain, is_template, is_template_field, one_and_each};
 ghost use Rattle.tp_syntax.specs.Nesting.{deepest, template_depth, template_field_depth};
+ghost use Rattle.tp_syntax.specs.Reading.{Reads, Stops, IsRange};
 ghost use Rattle.tp_syntax.specs.Refusals.{IsOfGrammar};
 
 use crate::cursor::{Parser, below};
@@ -48,6 +49,10 @@ impl<'a, 't> Parser<'a, 't> {
         ensures shorter { OnOk result (length self.new.rest.now < length self.old.rest.now) }
         ensures nested { IfOk result (λ m. template_depth m.template ≤ left) }
         ensures grammatical { IfOk result (λ m. IsTrue (is_template m.template)) }
+        ensures reads { (x : MessageTemplate) (more : List Lexeme) →
+            IsTrue (is_template x.template) →
+            template_depth x.template ≤ left →
+            Reads self.old (message_template_lexemes x) more result self.new }
         ensures fault { IfErr result IsOfGrammar }
     {
         let type_name = self.type_name(alloc)?;
@@ -59,13 +64,25 @@ impl<'a, 't> Parser<'a, 't> {
         })
     }
 
+    /// Whether `-infinity` comes next.
+    fn is_minus_infinity(&self) -> bool
+        ensures { IsTrue result ↔ ((token_at self.now.rest.now 0 ≡ Some (symbol Symbol.Minus))
+            × (token_at self.now.rest.now 1 ≡ Some (word Word.Infinity))) }
+    {
+        self.is_symbol_at(0, Symbol::Minus) && self.is_word_at(1, Word::Infinity)
+    }
+
     /// The lower bound of a range.
     fn low(&mut self) -> Result<Option<i64>, ScriptFault>
         ensures tokens { IfOk result (λ b. Passes self.old (low_lexemes b) self.new) }
         ensures shorter { OnOk result (length self.new.rest.now < length self.old.rest.now) }
+        ensures reads { (x : Option ℤ) (more : List Lexeme) →
+            IsTrue (is_bound x) →
+            Reads self.old (low_lexemes x) more result self.new }
+        ensures within { IfOk result (λ b. IsTrue (is_bound b)) }
         ensures fault { IfErr result IsOfGrammar }
     {
-        if self.is_symbol_at(0, Symbol::Minus) && self.is_word_at(1, Word::Infinity) {
+        if self.is_minus_infinity() {
             self.symbol(Symbol::Minus)?;
             self.word(Word::Infinity)?;
             return Ok(None);
@@ -78,6 +95,10 @@ impl<'a, 't> Parser<'a, 't> {
     fn high(&mut self) -> Result<Option<i64>, ScriptFault>
         ensures tokens { IfOk result (λ b. Passes self.old (high_lexemes b) self.new) }
         ensures shorter { OnOk result (length self.new.rest.now < length self.old.rest.now) }
+        ensures reads { (x : Option ℤ) (more : List Lexeme) →
+            IsTrue (is_bound x) →
+            Reads self.old (high_lexemes x) more result self.new }
+        ensures within { IfOk result (λ b. IsTrue (is_bound b)) }
         ensures fault { IfErr result IsOfGrammar }
     {
         if self.has_word(Word::Infinity) {
@@ -88,7 +109,9 @@ impl<'a, 't> Parser<'a, 't> {
     }
 
     /// Whether a range comes next, behind its `(`: its first tokens tell.
-    fn is_range(&self) -> bool {
+    fn is_range(&self) -> bool
+        ensures { IsTrue result ↔ IsRange self.now.rest.now }
+    {
         if self.is_symbol_at(0, Symbol::Minus) {
             return self.is_word_at(1, Word::Infinity)
                 || self.is_number_at(1) && self.is_symbol_at(2, Symbol::DotDot);
@@ -106,6 +129,9 @@ impl<'a, 't> Parser<'a, 't> {
         ensures shorter { OnOk result (length self.new.rest.now < length self.old.rest.now) }
         ensures nested { IfOk result (λ t. template_depth t ≡ 0) }
         ensures grammatical { IfOk result (λ t. IsTrue (is_template t)) }
+        ensures reads { (cs : List ℕ) (more : List Lexeme) →
+            IsTrue (list_all is_plain cs) →
+            Reads self.old (text cs ∷ []) more result self.new }
         ensures fault { IfErr result IsOfGrammar }
     {
         let placed = self.take()?;
@@ -126,6 +152,10 @@ impl<'a, 't> Parser<'a, 't> {
         ensures shorter { OnOk result (length self.new.rest.now < length self.old.rest.now) }
         ensures nested { IfOk result (λ t. template_depth t ≤ left) }
         ensures grammatical { IfOk result (λ t. IsTrue (is_template t)) }
+        ensures reads { (x : Template) (more : List Lexeme) →
+            IsTrue (is_template x) →
+            template_depth x ≤ left →
+            Reads self.old (template_lexemes x) more result self.new }
         ensures fault { IfErr result IsOfGrammar }
     {
         let placed = self.take()?;
@@ -174,6 +204,16 @@ impl<'a, 't> Parser<'a, 't> {
         ensures shorter { OnOk result (length self.new.rest.now < length self.old.rest.now) }
         ensures nested { IfOk result (λ t. template_depth t ≤ left + 1) }
         ensures grammatical { IfOk result (λ t. IsTrue (is_template t)) }
+        ensures reads_range { (low : Option ℤ) (high : Option ℤ) (more : List Lexeme) →
+            IsTrue (is_bound low) →
+            IsTrue (is_bound high) →
+            Reads self.old ((low_lexemes low ++ symbol Symbol.DotDot ∷ high_lexemes high)
+            ++ symbol Symbol.RightParen ∷ []) more result self.new }
+        ensures reads_list { (xs : List Template) (more : List Lexeme) →
+            IsTrue (one_and_each (map is_template xs)) →
+            deepest (map template_depth xs) ≤ left →
+            Reads self.old (by_commas (map template_lexemes xs) ++ symbol Symbol.RightParen ∷ [])
+            more result self.new }
         ensures fault { IfErr result IsOfGrammar }
     {
         if self.is_range() {
@@ -198,6 +238,11 @@ impl<'a, 't> Parser<'a, 't> {
         ensures shorter { OnOk result (length self.new.rest.now < length self.old.rest.now) }
         ensures nested { IfOk result (λ t. template_depth t ≤ left) }
         ensures grammatical { IfOk result (λ t. IsTrue (is_template t)) }
+        ensures reads { (xs : List Template) (more : List Lexeme) →
+            IsTrue (one_and_each (map is_template xs)) →
+            deepest (map template_depth xs) + 1 ≤ left →
+            Reads self.old (parenthesised (by_commas (map template_lexemes xs))) more result
+            self.new }
         ensures fault { IfErr result IsOfGrammar }
     {
         let inner = self.open(Symbol::LeftParen, left)?;
@@ -216,12 +261,23 @@ impl<'a, 't> Parser<'a, 't> {
         ensures shorter { OnOk result (length self.new.rest.now < length self.old.rest.now) }
         ensures nested { IfOk result (λ t. template_depth t ≤ left + 1) }
         ensures grammatical { IfOk result (λ t. IsTrue (is_template t)) }
+        ensures reads_list { (xs : List Template) (more : List Lexeme) →
+            IsTrue (each (map is_template xs)) →
+            deepest (map template_depth xs) ≤ left →
+            Reads self.old (by_commas (map template_lexemes xs) ++ symbol Symbol.RightBrace ∷ [])
+            more result self.new }
+        ensures reads_record { (xs : List TemplateField) (more : List Lexeme) →
+            IsTrue (one_and_each (map is_template_field xs)) →
+            deepest (map template_field_depth xs) ≤ left →
+            Reads self.old
+            (by_commas (map template_field_lexemes xs) ++ symbol Symbol.RightBrace ∷ []) more result
+            self.new }
         ensures fault { IfErr result IsOfGrammar }
     {
         if self.has_symbol(Symbol::RightBrace) {
             return Ok(Template::List(Vec::new(alloc)));
         }
-        if self.is_name_at(0) && self.is_symbol_at(1, Symbol::Assign) {
+        if self.is_field() {
             let fields = self.template_fields(alloc, left)?;
             self.symbol(Symbol::RightBrace)?;
             return Ok(Template::Record(fields));
@@ -239,6 +295,11 @@ impl<'a, 't> Parser<'a, 't> {
         ensures shorter { OnOk result (length self.new.rest.now < length self.old.rest.now) }
         ensures nested { IfOk result (λ v. deepest (map template_depth v.items) ≤ left) }
         ensures grammatical { IfOk result (λ v. IsTrue (one_and_each (map is_template v.items))) }
+        ensures reads { (xs : List Template) (more : List Lexeme) →
+            IsTrue (one_and_each (map is_template xs)) →
+            deepest (map template_depth xs) ≤ left →
+            Stops more →
+            Reads self.old (by_commas (map template_lexemes xs)) more result self.new }
         ensures fault { IfErr result IsOfGrammar }
     {
         let mut templates = Vec::new(alloc);
@@ -264,6 +325,11 @@ impl<'a, 't> Parser<'a, 't> {
         ensures nested { IfOk result (λ v. deepest (map template_field_depth v.items) ≤ left) }
         ensures grammatical { IfOk result (λ v.
             IsTrue (one_and_each (map is_template_field v.items))) }
+        ensures reads { (xs : List TemplateField) (more : List Lexeme) →
+            IsTrue (one_and_each (map is_template_field xs)) →
+            deepest (map template_field_depth xs) ≤ left →
+            Stops more →
+            Reads self.old (by_commas (map template_field_lexemes xs)) more result self.new }
         ensures fault { IfErr result IsOfGrammar }
     {
         let mut fields = Vec::new(alloc);
@@ -284,6 +350,10 @@ impl<'a, 't> Parser<'a, 't> {
         ensures shorter { OnOk result (length self.new.rest.now < length self.old.rest.now) }
         ensures nested { IfOk result (λ f. template_field_depth f ≤ left) }
         ensures grammatical { IfOk result (λ f. IsTrue (is_template_field f)) }
+        ensures reads { (x : TemplateField) (more : List Lexeme) →
+            IsTrue (is_template_field x) →
+            template_field_depth x ≤ left →
+            Reads self.old (template_field_lexemes x) more result self.new }
         ensures fault { IfErr result IsOfGrammar }
     {
         let name = self.name(alloc)?;

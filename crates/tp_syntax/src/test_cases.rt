@@ -1,11 +1,13 @@
 //! Test cases, with their setup statements and starts.
-ghost use Rattle.std.specs.Prelude.{◌≡◌, ◌<◌, ◌≤◌, ◌∷◌, IsTrue, length, map, IfErr, IfOk, OnOk};
+ghost use Rattle.std.specs.Prelude.{[], ◌≢◌, ◌↔◌, false, List, Option, Some, ◌≡◌, ◌<◌, ◌≤◌, ◌∷◌, IsTrue, length, map, IfErr, IfOk, OnOk};
 ghost use Rattle.std.specs.Bool.{OnTrue};
+ghost use Rattle.tp_token.specs.Lexeme.{Lexeme, symbol, word};
 ghost use Rattle.tp_syntax.specs.Ahead.{ahead};
 ghost use Rattle.tp_syntax.specs.Definitions.{end_component_lexeme, end_point_lexemes, ends_lexemes, setup_action_lexemes, setup_lexemes, setups_lexemes, arguments_lexemes, start_lexemes, starts_lexemes, all_done_lexemes, system_lexemes, test_case_lexemes};
 ghost use Rattle.tp_syntax.specs.Grammar.{all_done_parts, defined_part, setup_part, start_part};
 ghost use Rattle.tp_syntax.specs.Nesting.{defined_depth};
 ghost use Rattle.tp_syntax.specs.Passing.{Passes};
+ghost use Rattle.tp_syntax.specs.Reading.{AllStand, IsPlaced, IsSetup, IsStart, MaybeName, Reads, first, is_setup_ahead, is_start_ahead};
 ghost use Rattle.tp_syntax.specs.Refusals.{IsOfGrammar};
 ghost use Rattle.tp_syntax.specs.Standing.{GoesOn, GoesOver, HasPassed};
 
@@ -25,6 +27,8 @@ impl<'a, 't> Parser<'a, 't> {
         ensures tokens { IfOk result (λ x.
             ahead self.old.rest.now ≡ end_component_lexeme x ∷ ahead self.new.rest.now) }
         ensures shorter { OnOk result (length self.new.rest.now < length self.old.rest.now) }
+        ensures reads { (x : EndComponent) (more : List Lexeme) →
+            Reads self.old (end_component_lexeme x ∷ []) more result self.new }
         ensures fault { IfErr result IsOfGrammar }
     {
         let placed = self.take()?;
@@ -45,6 +49,8 @@ impl<'a, 't> Parser<'a, 't> {
     fn end_point(&mut self, alloc: Global) -> Result<PairEnd, ScriptFault>
         ensures tokens { IfOk result (λ x. Passes self.old (end_point_lexemes x) self.new) }
         ensures shorter { OnOk result (length self.new.rest.now < length self.old.rest.now) }
+        ensures reads { (x : PairEnd) (more : List Lexeme) →
+            Reads self.old (end_point_lexemes x) more result self.new }
         ensures fault { IfErr result IsOfGrammar }
     {
         let component = self.end_component(alloc)?;
@@ -58,6 +64,8 @@ impl<'a, 't> Parser<'a, 't> {
     fn ends(&mut self, alloc: Global) -> Result<(PairEnd, PairEnd), ScriptFault>
         ensures tokens { IfOk result (λ x. Passes self.old (ends_lexemes x.0 x.1) self.new) }
         ensures shorter { OnOk result (length self.new.rest.now < length self.old.rest.now) }
+        ensures reads { (x : PairEnd) (y : PairEnd) (more : List Lexeme) →
+            Reads self.old (ends_lexemes x y) more result self.new }
         ensures fault { IfErr result IsOfGrammar }
     {
         self.symbol(Symbol::LeftParen)?;
@@ -73,6 +81,8 @@ impl<'a, 't> Parser<'a, 't> {
     fn creation(&mut self, alloc: Global) -> Result<SetupAction, ScriptFault>
         ensures tokens { IfOk result (λ x. Passes self.old (setup_action_lexemes x) self.new) }
         ensures shorter { OnOk result (length self.new.rest.now < length self.old.rest.now) }
+        ensures reads { (x : Creation) (more : List Lexeme) →
+            Reads self.old (setup_action_lexemes (SetupAction.Create x)) more result self.new }
         ensures fault { IfErr result IsOfGrammar }
     {
         self.word(Word::Var)?;
@@ -94,6 +104,8 @@ impl<'a, 't> Parser<'a, 't> {
     fn setup_action(&mut self, alloc: Global) -> Result<SetupAction, ScriptFault>
         ensures tokens { IfOk result (λ x. Passes self.old (setup_action_lexemes x) self.new) }
         ensures shorter { OnOk result (length self.new.rest.now < length self.old.rest.now) }
+        ensures reads { (x : SetupAction) (more : List Lexeme) →
+            Reads self.old (setup_action_lexemes x) more result self.new }
         ensures fault { IfErr result IsOfGrammar }
     {
         if self.has_word(Word::Connect) {
@@ -113,6 +125,9 @@ impl<'a, 't> Parser<'a, 't> {
         ensures tokens { IfOk result (λ x. Passes self.old (setup_lexemes x) self.new) }
         ensures shorter { OnOk result (length self.new.rest.now < length self.old.rest.now) }
         ensures grammatical { IfOk result (λ x. HasPassed (setup_part x) self.new) }
+        ensures reads { (x : SetupStatement) (more : List Lexeme) →
+            IsPlaced (setup_part x) more →
+            Reads self.old (setup_lexemes x) more result self.new }
         ensures fault { IfErr result IsOfGrammar }
     {
         let line = self.line();
@@ -127,16 +142,15 @@ impl<'a, 't> Parser<'a, 't> {
 
     /// Whether a setup statement comes next. A `var` without `:=` declares a variable.
     fn is_setup(&self) -> bool
-        ensures { OnTrue result (GoesOn self.now) }
+        ensures goes_on { OnTrue result (GoesOn self.now) }
+        ensures setup { IsTrue result ↔ IsSetup self.now.rest.now }
     {
-        match self.word_at(0) {
-            Some(Word::Connect) => true,
-            Some(Word::Map) => true,
-            Some(Word::Var) => {
-                self.is_name_at(1) && self.is_name_at(2) && self.is_symbol_at(3, Symbol::Assign)
-            }
-            _ => false,
-        }
+        self.is_word_at(0, Word::Connect)
+            || self.is_word_at(0, Word::Map)
+            || self.is_word_at(0, Word::Var)
+                && self.is_name_at(1)
+                && self.is_name_at(2)
+                && self.is_symbol_at(3, Symbol::Assign)
     }
 
     /// The setup statements that come next.
@@ -145,6 +159,10 @@ impl<'a, 't> Parser<'a, 't> {
         ensures shorter { OnOk result (length self.new.rest.now ≤ length self.old.rest.now) }
         ensures grammatical { IfOk result (λ x.
             GoesOver self.old (map setup_part x.items) self.new) }
+        ensures reads { (xs : List SetupStatement) (more : List Lexeme) →
+            AllStand (map setup_part xs) more →
+            is_setup_ahead more ≡ false →
+            Reads self.old (setups_lexemes xs) more result self.new }
         ensures fault { IfErr result IsOfGrammar }
     {
         let mut setups = Vec::new(alloc);
@@ -159,6 +177,9 @@ impl<'a, 't> Parser<'a, 't> {
     fn arguments(&mut self, alloc: Global) -> Result<Vec<ComponentName>, ScriptFault>
         ensures tokens { IfOk result (λ x. Passes self.old (arguments_lexemes x.items) self.new) }
         ensures shorter { OnOk result (length self.new.rest.now ≤ length self.old.rest.now) }
+        ensures reads { (xs : List ComponentName) (more : List Lexeme) →
+            first more ≡ Some (symbol Symbol.RightParen) →
+            Reads self.old (arguments_lexemes xs) more result self.new }
         ensures fault { IfErr result IsOfGrammar }
     {
         let mut arguments = Vec::new(alloc);
@@ -180,6 +201,9 @@ impl<'a, 't> Parser<'a, 't> {
         ensures tokens { IfOk result (λ x. Passes self.old (start_lexemes x) self.new) }
         ensures shorter { OnOk result (length self.new.rest.now < length self.old.rest.now) }
         ensures grammatical { IfOk result (λ x. HasPassed (start_part x) self.new) }
+        ensures reads { (x : ComponentStart) (more : List Lexeme) →
+            IsPlaced (start_part x) more →
+            Reads self.old (start_lexemes x) more result self.new }
         ensures fault { IfErr result IsOfGrammar }
     {
         let line = self.line();
@@ -204,7 +228,8 @@ impl<'a, 't> Parser<'a, 't> {
 
     /// Whether the start of a component comes next: without the `(` it is an operation on a port.
     fn is_start(&self) -> bool
-        ensures { OnTrue result (GoesOn self.now) }
+        ensures goes_on { OnTrue result (GoesOn self.now) }
+        ensures start { IsTrue result ↔ IsStart self.now.rest.now }
     {
         self.is_name_at(0)
             && self.is_symbol_at(1, Symbol::Dot)
@@ -218,6 +243,10 @@ impl<'a, 't> Parser<'a, 't> {
         ensures shorter { OnOk result (length self.new.rest.now ≤ length self.old.rest.now) }
         ensures grammatical { IfOk result (λ x.
             GoesOver self.old (map start_part x.items) self.new) }
+        ensures reads { (xs : List ComponentStart) (more : List Lexeme) →
+            AllStand (map start_part xs) more →
+            is_start_ahead more ≡ false →
+            Reads self.old (starts_lexemes xs) more result self.new }
         ensures fault { IfErr result IsOfGrammar }
     {
         let mut starts = Vec::new(alloc);
@@ -233,6 +262,10 @@ impl<'a, 't> Parser<'a, 't> {
         ensures tokens { IfOk result (λ x. Passes self.old (all_done_lexemes x) self.new) }
         ensures shorter { OnOk result (length self.new.rest.now ≤ length self.old.rest.now) }
         ensures grammatical { IfOk result (λ x. GoesOver self.old (all_done_parts x) self.new) }
+        ensures reads { (x : Option AllDone) (more : List Lexeme) →
+            AllStand (all_done_parts x) more →
+            first more ≡ Some (symbol Symbol.RightBrace) →
+            Reads self.old (all_done_lexemes x) more result self.new }
         ensures fault { IfErr result IsOfGrammar }
     {
         if !self.is_word_at(0, Word::All) {
@@ -250,6 +283,9 @@ impl<'a, 't> Parser<'a, 't> {
     fn system(&mut self, alloc: Global) -> Result<Option<String>, ScriptFault>
         ensures tokens { IfOk result (λ x. Passes self.old (system_lexemes x) self.new) }
         ensures shorter { OnOk result (length self.new.rest.now ≤ length self.old.rest.now) }
+        ensures reads { (x : MaybeName) (more : List Lexeme) →
+            first more ≢ Some (word Word.System) →
+            Reads self.old (system_lexemes x) more result self.new }
         ensures fault { IfErr result IsOfGrammar }
     {
         if !self.has_word(Word::System) {
@@ -267,6 +303,10 @@ impl<'a, 't> Parser<'a, 't> {
         ensures nested { IfOk result (λ x. defined_depth (Defined.TestCase x) ≤ left) }
         ensures grammatical { IfOk result (λ x.
             IsTrue (defined_part (Defined.TestCase x)).is_right) }
+        ensures reads { (x : TestCase) (more : List Lexeme) →
+            IsTrue (defined_part (Defined.TestCase x)).is_right →
+            defined_depth (Defined.TestCase x) ≤ left →
+            Reads self.old (test_case_lexemes x) more result self.new }
         ensures fault { IfErr result IsOfGrammar }
     {
         self.word(Word::Testcase)?;

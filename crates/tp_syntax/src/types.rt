@@ -1,10 +1,12 @@
 //! Types: of records and lists, of ports, of components.
-ghost use Rattle.std.specs.Prelude.{◌≡◌, ◌<◌, ◌≤◌, ◌∷◌, IsTrue, length, map, IfErr, IfOk, OnOk};
+ghost use Rattle.std.specs.Prelude.{ℕ, List, Some, [], ◌≡◌, ◌<◌, ◌≤◌, ◌∷◌, IsTrue, length, map, IfErr, IfOk, OnOk};
+ghost use Rattle.tp_token.specs.Lexeme.{Lexeme, name, symbol};
 ghost use Rattle.tp_syntax.specs.Ahead.{ahead};
 ghost use Rattle.tp_syntax.specs.Definitions.{field_type_lexemes, field_types_lexemes, record_type_lexemes, list_type_lexemes, way_lexeme, types_lexemes, direction_lexemes, directions_lexemes, port_type_lexemes, declared_name_lexemes, declared_names_lexemes, port_declaration_lexemes, port_declarations_lexemes, component_type_lexemes, defined_lexemes};
 ghost use Rattle.tp_syntax.specs.Grammar.{defined_part, direction_part, has_one, port_declaration_part};
 ghost use Rattle.tp_syntax.specs.Nesting.{defined_depth};
 ghost use Rattle.tp_syntax.specs.Passing.{Passes};
+ghost use Rattle.tp_syntax.specs.Reading.{AllStand, IsPlaced, Reads, Stops, first, is_type};
 ghost use Rattle.tp_syntax.specs.Refusals.{IsOfGrammar};
 ghost use Rattle.tp_syntax.specs.Standing.{GoesOver, HasPassed};
 
@@ -24,6 +26,8 @@ impl<'a, 't> Parser<'a, 't> {
     pub fn declared_name(&mut self, alloc: Global) -> Result<DeclaredName, ScriptFault>
         ensures tokens { IfOk result (λ x. Passes self.old (declared_name_lexemes x) self.new) }
         ensures shorter { OnOk result (length self.new.rest.now < length self.old.rest.now) }
+        ensures reads { (spelling : List ℕ) (more : List Lexeme) →
+            Reads self.old (name spelling ∷ []) more result self.new }
         ensures fault { IfErr result IsOfGrammar }
     {
         let line = self.line();
@@ -36,6 +40,8 @@ impl<'a, 't> Parser<'a, 't> {
     fn field_type(&mut self, alloc: Global) -> Result<FieldType, ScriptFault>
         ensures tokens { IfOk result (λ x. Passes self.old (field_type_lexemes x) self.new) }
         ensures shorter { OnOk result (length self.new.rest.now < length self.old.rest.now) }
+        ensures reads { (x : FieldType) (more : List Lexeme) →
+            Reads self.old (field_type_lexemes x) more result self.new }
         ensures fault { IfErr result IsOfGrammar }
     {
         let type_name = self.type_name(alloc)?;
@@ -47,6 +53,9 @@ impl<'a, 't> Parser<'a, 't> {
     fn fields(&mut self, alloc: Global) -> Result<Vec<FieldType>, ScriptFault>
         ensures tokens { IfOk result (λ x. Passes self.old (field_types_lexemes x.items) self.new) }
         ensures shorter { OnOk result (length self.new.rest.now ≤ length self.old.rest.now) }
+        ensures reads { (xs : List FieldType) (more : List Lexeme) →
+            first more ≡ Some (symbol Symbol.RightBrace) →
+            Reads self.old (field_types_lexemes xs) more result self.new }
         ensures fault { IfErr result IsOfGrammar }
     {
         let mut fields = Vec::new(alloc);
@@ -67,6 +76,8 @@ impl<'a, 't> Parser<'a, 't> {
     fn record_type(&mut self, alloc: Global) -> Result<RecordType, ScriptFault>
         ensures tokens { IfOk result (λ x. Passes self.old (record_type_lexemes x) self.new) }
         ensures shorter { OnOk result (length self.new.rest.now < length self.old.rest.now) }
+        ensures reads { (x : RecordType) (more : List Lexeme) →
+            Reads self.old (record_type_lexemes x) more result self.new }
         ensures fault { IfErr result IsOfGrammar }
     {
         self.word(Word::Type)?;
@@ -83,6 +94,8 @@ impl<'a, 't> Parser<'a, 't> {
     fn list_type(&mut self, alloc: Global) -> Result<ListType, ScriptFault>
         ensures tokens { IfOk result (λ x. Passes self.old (list_type_lexemes x) self.new) }
         ensures shorter { OnOk result (length self.new.rest.now < length self.old.rest.now) }
+        ensures reads { (x : ListType) (more : List Lexeme) →
+            Reads self.old (list_type_lexemes x) more result self.new }
         ensures fault { IfErr result IsOfGrammar }
     {
         self.word(Word::Type)?;
@@ -98,6 +111,8 @@ impl<'a, 't> Parser<'a, 't> {
         ensures tokens { IfOk result (λ x.
             ahead self.old.rest.now ≡ way_lexeme x ∷ ahead self.new.rest.now) }
         ensures shorter { OnOk result (length self.new.rest.now < length self.old.rest.now) }
+        ensures reads { (x : Way) (more : List Lexeme) →
+            Reads self.old (way_lexeme x ∷ []) more result self.new }
         ensures fault { IfErr result IsOfGrammar }
     {
         let placed = self.take()?;
@@ -114,6 +129,10 @@ impl<'a, 't> Parser<'a, 't> {
         ensures tokens { IfOk result (λ x. Passes self.old (types_lexemes x.items) self.new) }
         ensures shorter { OnOk result (length self.new.rest.now < length self.old.rest.now) }
         ensures grammatical { IfOk result (λ x. IsTrue (has_one x.items)) }
+        ensures reads { (xs : List TypeName) (more : List Lexeme) →
+            IsTrue (has_one xs) →
+            Stops more →
+            Reads self.old (types_lexemes xs) more result self.new }
         ensures fault { IfErr result IsOfGrammar }
     {
         let mut types = Vec::new(alloc);
@@ -132,6 +151,9 @@ impl<'a, 't> Parser<'a, 't> {
         ensures tokens { IfOk result (λ x. Passes self.old (direction_lexemes x) self.new) }
         ensures shorter { OnOk result (length self.new.rest.now < length self.old.rest.now) }
         ensures grammatical { IfOk result (λ x. HasPassed (direction_part x) self.new) }
+        ensures reads { (x : Direction) (more : List Lexeme) →
+            IsPlaced (direction_part x) more →
+            Reads self.old (direction_lexemes x) more result self.new }
         ensures fault { IfErr result IsOfGrammar }
     {
         let way = self.way()?;
@@ -150,6 +172,10 @@ impl<'a, 't> Parser<'a, 't> {
         ensures shorter { OnOk result (length self.new.rest.now ≤ length self.old.rest.now) }
         ensures grammatical { IfOk result (λ x.
             GoesOver self.old (map direction_part x.items) self.new) }
+        ensures reads { (xs : List Direction) (more : List Lexeme) →
+            AllStand (map direction_part xs) more →
+            first more ≡ Some (symbol Symbol.RightBrace) →
+            Reads self.old (directions_lexemes xs) more result self.new }
         ensures fault { IfErr result IsOfGrammar }
     {
         let mut directions = Vec::new(alloc);
@@ -166,6 +192,9 @@ impl<'a, 't> Parser<'a, 't> {
         ensures tokens { IfOk result (λ x. Passes self.old (port_type_lexemes x) self.new) }
         ensures shorter { OnOk result (length self.new.rest.now < length self.old.rest.now) }
         ensures grammatical { IfOk result (λ x. IsTrue (defined_part (Defined.Port x)).is_right) }
+        ensures reads { (x : PortType) (more : List Lexeme) →
+            IsTrue (defined_part (Defined.Port x)).is_right →
+            Reads self.old (port_type_lexemes x) more result self.new }
         ensures fault { IfErr result IsOfGrammar }
     {
         self.word(Word::Type)?;
@@ -187,6 +216,10 @@ impl<'a, 't> Parser<'a, 't> {
             Passes self.old (declared_names_lexemes x.items) self.new) }
         ensures shorter { OnOk result (length self.new.rest.now < length self.old.rest.now) }
         ensures grammatical { IfOk result (λ x. IsTrue (has_one x.items)) }
+        ensures reads { (xs : List DeclaredName) (more : List Lexeme) →
+            IsTrue (has_one xs) →
+            Stops more →
+            Reads self.old (declared_names_lexemes xs) more result self.new }
         ensures fault { IfErr result IsOfGrammar }
     {
         let mut names = Vec::new(alloc);
@@ -205,6 +238,9 @@ impl<'a, 't> Parser<'a, 't> {
         ensures tokens { IfOk result (λ x. Passes self.old (port_declaration_lexemes x) self.new) }
         ensures shorter { OnOk result (length self.new.rest.now < length self.old.rest.now) }
         ensures grammatical { IfOk result (λ x. HasPassed (port_declaration_part x) self.new) }
+        ensures reads { (x : PortDeclaration) (more : List Lexeme) →
+            IsPlaced (port_declaration_part x) more →
+            Reads self.old (port_declaration_lexemes x) more result self.new }
         ensures fault { IfErr result IsOfGrammar }
     {
         self.word(Word::Port)?;
@@ -225,6 +261,10 @@ impl<'a, 't> Parser<'a, 't> {
         ensures shorter { OnOk result (length self.new.rest.now ≤ length self.old.rest.now) }
         ensures grammatical { IfOk result (λ x.
             GoesOver self.old (map port_declaration_part x.items) self.new) }
+        ensures reads { (xs : List PortDeclaration) (more : List Lexeme) →
+            AllStand (map port_declaration_part xs) more →
+            first more ≡ Some (symbol Symbol.RightBrace) →
+            Reads self.old (port_declarations_lexemes xs) more result self.new }
         ensures fault { IfErr result IsOfGrammar }
     {
         let mut ports = Vec::new(alloc);
@@ -242,6 +282,9 @@ impl<'a, 't> Parser<'a, 't> {
         ensures shorter { OnOk result (length self.new.rest.now < length self.old.rest.now) }
         ensures grammatical { IfOk result (λ x.
             IsTrue (defined_part (Defined.Component x)).is_right) }
+        ensures reads { (x : ComponentType) (more : List Lexeme) →
+            IsTrue (defined_part (Defined.Component x)).is_right →
+            Reads self.old (component_type_lexemes x) more result self.new }
         ensures fault { IfErr result IsOfGrammar }
     {
         self.word(Word::Type)?;
@@ -260,25 +303,25 @@ impl<'a, 't> Parser<'a, 't> {
         ensures shorter { OnOk result (length self.new.rest.now < length self.old.rest.now) }
         ensures nested { IfOk result (λ x. defined_depth x ≡ 0) }
         ensures grammatical { IfOk result (λ x. IsTrue (defined_part x).is_right) }
+        ensures reads { (x : Defined) (more : List Lexeme) →
+            IsTrue (is_type x) →
+            IsTrue (defined_part x).is_right →
+            Reads self.old (defined_lexemes x) more result self.new }
         ensures fault { IfErr result IsOfGrammar }
     {
-        match self.word_at(1) {
-            Some(Word::Port) => {
-                let port = self.port_type(alloc)?;
-                Ok(Defined::Port(port))
-            }
-            Some(Word::Component) => {
-                let component = self.component_type(alloc)?;
-                Ok(Defined::Component(component))
-            }
-            _ if self.is_word_at(2, Word::Of) => {
-                let list = self.list_type(alloc)?;
-                Ok(Defined::List(list))
-            }
-            _ => {
-                let record = self.record_type(alloc)?;
-                Ok(Defined::Record(record))
-            }
+        if self.is_word_at(1, Word::Port) {
+            let port = self.port_type(alloc)?;
+            return Ok(Defined::Port(port));
         }
+        if self.is_word_at(1, Word::Component) {
+            let component = self.component_type(alloc)?;
+            return Ok(Defined::Component(component));
+        }
+        if self.is_word_at(2, Word::Of) {
+            let list = self.list_type(alloc)?;
+            return Ok(Defined::List(list));
+        }
+        let record = self.record_type(alloc)?;
+        Ok(Defined::Record(record))
     }
 }

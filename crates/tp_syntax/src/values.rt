@@ -1,12 +1,14 @@
 //! Values, types and messages.
-ghost use Rattle.std.specs.Prelude.{◌≡◌, ◌+◌, ◌<◌, ◌≤◌, ◌∷◌, ◌++◌, IsTrue, length, map, pos, IfErr, IfOk, OnOk};
-ghost use Rattle.tp_token.specs.Lexeme.{symbol};
+ghost use Rattle.std.specs.Prelude.{ℤ, List, MatchResult, [], OnErr, ◌≡◌, ◌+◌, ◌<◌, ◌≤◌, ◌∷◌, ◌++◌, IsTrue, length, map, pos, IfErr, IfOk, OnOk};
+ghost use Rattle.tp_token.specs.Lexeme.{Lexeme, name, symbol};
+ghost use Rattle.tp_token.specs.Fault.{IsMemory};
 ghost use Rattle.tp_syntax.specs.Ahead.{ahead, before};
 ghost use Rattle.tp_syntax.specs.Passing.{Passes};
 ghost use Rattle.tp_syntax.specs.Sequences.{by_commas};
 ghost use Rattle.tp_syntax.specs.Values.{int_lexemes, type_lexemes, value_lexemes, value_field_lexemes, message_lexemes};
-ghost use Rattle.tp_syntax.specs.Grammar.{is_value, is_value_field, one_and_each};
+ghost use Rattle.tp_syntax.specs.Grammar.{each, is_integer, is_value, is_value_field, one_and_each};
 ghost use Rattle.tp_syntax.specs.Nesting.{deepest, value_depth, value_field_depth};
+ghost use Rattle.tp_syntax.specs.Reading.{Reads, Stops};
 ghost use Rattle.tp_syntax.specs.Refusals.{IsOfGrammar};
 
 use crate::cursor::{Parser, below};
@@ -23,6 +25,8 @@ const GREATEST: u64 = 9_223_372_036_854_775_807;
 /// `-` before it.
 pub(crate) fn positive(number: u64, line: u32) -> Result<i64, ScriptFault>
     ensures value { IfOk result (λ z. z ≡ pos number) }
+    ensures within { IfOk result (λ z. IsTrue (is_integer z)) }
+    ensures greatest { OnErr result (9223372036854775808 ≤ number) }
     ensures fault { IfErr result IsOfGrammar }
 {
     if number > GREATEST {
@@ -38,6 +42,11 @@ impl<'a, 't> Parser<'a, 't> {
             before (symbol Symbol.Minus) self.old.rest.now
             ≡ int_lexemes z ++ ahead self.new.rest.now) }
         ensures shorter { OnOk result (length self.new.rest.now + 1 ≡ length self.old.rest.now) }
+        ensures reads { (z : ℤ) (more : List Lexeme) →
+            int_lexemes z ++ more ≡ before (symbol Symbol.Minus) self.old.rest.now →
+            IsTrue (is_integer z) →
+            MatchResult result (λ _. ahead self.new.rest.now ≡ more) IsMemory }
+        ensures within { IfOk result (λ z. IsTrue (is_integer z)) }
         ensures fault { IfErr result IsOfGrammar }
     {
         let placed = self.take()?;
@@ -53,6 +62,10 @@ impl<'a, 't> Parser<'a, 't> {
     pub fn integer(&mut self) -> Result<i64, ScriptFault>
         ensures tokens { IfOk result (λ z. Passes self.old (int_lexemes z) self.new) }
         ensures shorter { OnOk result (length self.new.rest.now < length self.old.rest.now) }
+        ensures reads { (z : ℤ) (more : List Lexeme) →
+            IsTrue (is_integer z) →
+            Reads self.old (int_lexemes z) more result self.new }
+        ensures within { IfOk result (λ z. IsTrue (is_integer z)) }
         ensures fault { IfErr result IsOfGrammar }
     {
         let placed = self.take()?;
@@ -67,6 +80,8 @@ impl<'a, 't> Parser<'a, 't> {
     pub fn type_name(&mut self, alloc: Global) -> Result<TypeName, ScriptFault>
         ensures tokens { IfOk result (λ t. Passes self.old (type_lexemes t) self.new) }
         ensures shorter { OnOk result (length self.new.rest.now < length self.old.rest.now) }
+        ensures reads { (x : TypeName) (more : List Lexeme) →
+            Reads self.old (type_lexemes x) more result self.new }
         ensures fault { IfErr result IsOfGrammar }
     {
         let placed = self.take()?;
@@ -89,6 +104,10 @@ impl<'a, 't> Parser<'a, 't> {
         ensures shorter { OnOk result (length self.new.rest.now < length self.old.rest.now) }
         ensures nested { IfOk result (λ m. value_depth m.value ≤ left) }
         ensures grammatical { IfOk result (λ m. IsTrue (is_value m.value)) }
+        ensures reads { (x : Message) (more : List Lexeme) →
+            IsTrue (is_value x.value) →
+            value_depth x.value ≤ left →
+            Reads self.old (message_lexemes x) more result self.new }
         ensures fault { IfErr result IsOfGrammar }
     {
         let type_name = self.type_name(alloc)?;
@@ -105,6 +124,10 @@ impl<'a, 't> Parser<'a, 't> {
         ensures shorter { OnOk result (length self.new.rest.now < length self.old.rest.now) }
         ensures nested { IfOk result (λ v. value_depth v ≤ left) }
         ensures grammatical { IfOk result (λ v. IsTrue (is_value v)) }
+        ensures reads { (x : Value) (more : List Lexeme) →
+            IsTrue (is_value x) →
+            value_depth x ≤ left →
+            Reads self.old (value_lexemes x) more result self.new }
         ensures fault { IfErr result IsOfGrammar }
     {
         let placed = self.take()?;
@@ -145,12 +168,22 @@ impl<'a, 't> Parser<'a, 't> {
         ensures shorter { OnOk result (length self.new.rest.now < length self.old.rest.now) }
         ensures nested { IfOk result (λ v. value_depth v ≤ left + 1) }
         ensures grammatical { IfOk result (λ v. IsTrue (is_value v)) }
+        ensures reads_list { (xs : List Value) (more : List Lexeme) →
+            IsTrue (each (map is_value xs)) →
+            deepest (map value_depth xs) ≤ left →
+            Reads self.old (by_commas (map value_lexemes xs) ++ symbol Symbol.RightBrace ∷ [])
+            more result self.new }
+        ensures reads_record { (xs : List ValueField) (more : List Lexeme) →
+            IsTrue (one_and_each (map is_value_field xs)) →
+            deepest (map value_field_depth xs) ≤ left →
+            Reads self.old (by_commas (map value_field_lexemes xs) ++ symbol Symbol.RightBrace ∷ [])
+            more result self.new }
         ensures fault { IfErr result IsOfGrammar }
     {
         if self.has_symbol(Symbol::RightBrace) {
             return Ok(Value::List(Vec::new(alloc)));
         }
-        if self.is_name_at(0) && self.is_symbol_at(1, Symbol::Assign) {
+        if self.is_field() {
             let fields = self.value_fields(alloc, left)?;
             self.symbol(Symbol::RightBrace)?;
             return Ok(Value::Record(fields));
@@ -168,6 +201,11 @@ impl<'a, 't> Parser<'a, 't> {
         ensures shorter { OnOk result (length self.new.rest.now < length self.old.rest.now) }
         ensures nested { IfOk result (λ v. deepest (map value_depth v.items) ≤ left) }
         ensures grammatical { IfOk result (λ v. IsTrue (one_and_each (map is_value v.items))) }
+        ensures reads { (xs : List Value) (more : List Lexeme) →
+            IsTrue (one_and_each (map is_value xs)) →
+            deepest (map value_depth xs) ≤ left →
+            Stops more →
+            Reads self.old (by_commas (map value_lexemes xs)) more result self.new }
         ensures fault { IfErr result IsOfGrammar }
     {
         let mut values = Vec::new(alloc);
@@ -189,6 +227,11 @@ impl<'a, 't> Parser<'a, 't> {
         ensures nested { IfOk result (λ v. deepest (map value_field_depth v.items) ≤ left) }
         ensures grammatical { IfOk result (λ v.
             IsTrue (one_and_each (map is_value_field v.items))) }
+        ensures reads { (xs : List ValueField) (more : List Lexeme) →
+            IsTrue (one_and_each (map is_value_field xs)) →
+            deepest (map value_field_depth xs) ≤ left →
+            Stops more →
+            Reads self.old (by_commas (map value_field_lexemes xs)) more result self.new }
         ensures fault { IfErr result IsOfGrammar }
     {
         let mut fields = Vec::new(alloc);
@@ -209,6 +252,10 @@ impl<'a, 't> Parser<'a, 't> {
         ensures shorter { OnOk result (length self.new.rest.now < length self.old.rest.now) }
         ensures nested { IfOk result (λ f. value_field_depth f ≤ left) }
         ensures grammatical { IfOk result (λ f. IsTrue (is_value_field f)) }
+        ensures reads { (x : ValueField) (more : List Lexeme) →
+            IsTrue (is_value_field x) →
+            value_field_depth x ≤ left →
+            Reads self.old (value_field_lexemes x) more result self.new }
         ensures fault { IfErr result IsOfGrammar }
     {
         let name = self.name(alloc)?;

@@ -1,42 +1,60 @@
 -- One more statement or branch is read behind the others; a `for` and an `[else]` have their block.
-use Rattle.std.proofs.Common.{◌<◌, not, length, inl, refl, List, ◌∷◌, ◌++◌, append_assoc, ap, sym, ◌∙◌, arith}
+use Rattle.std.proofs.Common.{◌<◌, ◌&&◌, not, length, inl, refl, List, ◌∷◌, ◌++◌, append_assoc, ap, sym, ◌∙◌, arith, subst, rules, ◌≤◌, ◌||◌, ◌+◌, max, [], string_bytes, true}
 use Rattle.tp_token.specs.declared.word.Word.TheVariants as w
-use Rattle.tp_token.specs.declared.token.Symbol.TheVariants.{LeftBracket, RightBracket}
+use Rattle.tp_token.specs.declared.token.Symbol.TheVariants.{LeftBracket, RightBracket, LeftBrace, RightBrace}
 use Rattle.tp_token.specs.Lexeme.{Lexeme, word, symbol}
 use Rattle.tp_syntax.specs.Sequences.{braced, end_lexemes}
-use Rattle.tp_syntax.specs.Statements.{statement_lexemes, branch_lexemes, statements_lexemes, turns_lexemes}
+use Rattle.tp_syntax.specs.Statements.{statement_lexemes, branch_lexemes, statements_lexemes, turns_lexemes, action_lexemes, body_lexemes, receive_lexemes, branches_lexemes, otherwise_lexemes}
 use Rattle.tp_syntax.proofs.StatementTokens.{counted_made, else_branch_made, for_append}
 use Rattle.tp_syntax.proofs.Commas.{push_read_all}
-use Rattle.tp_syntax.specs.Nesting.{branch_depth, statement_depth}
+use Rattle.tp_syntax.specs.Nesting.{branch_depth, statement_depth, action_depth, body_depth, receive_depth, statements_depth, branches_depth, otherwise_depth}
 use Rattle.tp_syntax.proofs.Nesting.{counted_depth_made, else_branch_depth_made, push_nests}
-use Rattle.std.proofs.lemmas.Bool.{and_from}
-use Rattle.tp_syntax.specs.Grammar.{are_parts, body_part, branch_part, branches_parts, has_one, is_template_part, otherwise_parts, statement_part, statements_parts}
+use Rattle.std.proofs.lemmas.Bool.{and_from, false≢true, iff_false, and_parts}
+use Rattle.tp_syntax.specs.Grammar.{are_parts, body_part, branch_part, branches_parts, has_one, is_integer, is_template_part, otherwise_parts, statement_part, statements_parts, Part, action_part}
+use Rattle.tp_syntax.proofs.StatementTokens as tokens
+use Rattle.tp_syntax.proofs.Nesting as nesting
 use Rattle.tp_syntax.proofs.Grammar as grammar
-use Rattle.tp_syntax.proofs.Standing.{between_one, between_parts, between_push, between_then, bracket_goes_on}
+use Rattle.tp_syntax.proofs.Standing.{between_one, between_parts, between_push, between_then, bracket_goes_on, between_none}
 use Rattle.tp_syntax.proofs.Branches.{alt_of_branches, alt_of_else}
+use Rattle.std.proofs.lemmas.Grind.{common_steps}
+use Rattle.tp_syntax.proofs.Reading.{handed, end_at, branch_first, first_is}
+use Rattle.tp_syntax.proofs.Remaining.{RemainAll, all_next, all_last, all_deep, parts_stand}
+use Rattle.tp_syntax.specs.Reading.{is_branch_ahead, IsPlaced, Stands, may_stand}
+use Rattle.tp_syntax.proofs.StatementParts.{branch_at, ends_or, ends_blockless, body_stops, body_next, body_none, no_otherwise, otherwise_next, branches_stand, otherwise_stands, otherwise_no_branch, alt_read, zero_length, Says, Begun, kind_begun, begun}
+use Rattle.tp_syntax.proofs.StatementReading.{statement_begins, statement_goes, branch_begins, action_kind, same_ended, same_braced}
+use Rattle.tp_tree.specs.declared.tree.Statement.{out-Statement}
+use Rattle.tp_tree.specs.declared.tree.Branch.{out-Branch}
+use Rattle.tp_tree.specs.declared.tree.Counted.{out-Counted}
+use Rattle.tp_syntax.specs.Values.{int_lexemes}
 use Rattle.tp_syntax.proofs.cursor.Parser.+statement.Goals as goal
 use Rattle.tp_syntax.proofs.cursor.Parser.+statement.Goals.{alt-else-is_empty-via-then-is_empty+else-is_none, alt-else-is_empty-via-else-is_empty}
 
 pub statements-more-preserved : goal.statements-more-preserved
 statements-more-preserved t c = record {
+  reads = λ xs more stand deep ends e.
+      let n = all_next statement_lexemes statement_part (λ x. statement_depth x ≤ c.args.left) more _ (c.more.invariant.reads xs more stand deep ends e) statement_begins (λ same. false≢true (c.more-test.ensures.end.1 (end_at _ more _ same ends))) in
+      subst (RemainAll statement_lexemes statement_part (λ x. statement_depth x ≤ c.args.left) more) (sym (c.in_ok-statement.ensures.reads n.0 n.2 n.3 n.1 n.4)) n.5;
   nested = rw c.in_ok-push.ensures.items
       (push_nests statement_depth c.more.statements.items c.in_ok-statement.statement c.args.left c.more.invariant.nested c.in_ok-statement.ensures.nested);
   tokens = rw c.in_ok-push.ensures.items
       (push_read_all statement_lexemes c.more.statements.items c.in_ok-statement.statement _ _ _ c.more.invariant.tokens c.in_ok-statement.ensures.tokens);
   grammatical = rw c.in_ok-push.ensures.items
-      (between_push statement_part c.more.statements.items c.in_ok-statement.statement _ _ _ c.more.invariant.grammatical c.more-test.ensures c.in_ok-statement.ensures.grammatical);
+      (between_push statement_part c.more.statements.items c.in_ok-statement.statement _ _ _ c.more.invariant.grammatical c.more-test.ensures.goes_on c.in_ok-statement.ensures.grammatical);
   shorter = omega (arith, c.more.invariant.shorter, c.in_ok-statement.ensures.shorter);
 }
 
 pub branches-more-preserved : goal.branches-more-preserved
 branches-more-preserved t c = record {
+  reads = λ xs more stand deep other e.
+      let n = all_next branch_lexemes branch_part (λ x. branch_depth x ≤ c.args.left) more _ (c.more.invariant.reads xs more stand deep other e) branch_begins (λ same. let both = c.more-test.ensures.0 refl in false≢true (sym other ∙ ap is_branch_ahead (sym same) ∙ branch_first _ both.0 both.1)) in
+      subst (RemainAll branch_lexemes branch_part (λ x. branch_depth x ≤ c.args.left) more) (sym (c.in_ok-branch.ensures.reads n.0 n.2 n.3 n.1 n.4)) n.5;
   nested = rw c.in_ok-push.ensures.items
       (push_nests branch_depth c.more.branches.items c.in_ok-branch.branch c.args.left c.more.invariant.nested c.in_ok-branch.ensures.nested);
   tokens = rw c.in_ok-push.ensures.items
       (push_read_all branch_lexemes c.more.branches.items c.in_ok-branch.branch _ _ _ c.more.invariant.tokens c.in_ok-branch.ensures.tokens);
   grammatical = rw c.in_ok-push.ensures.items
       (between_push branch_part c.more.branches.items c.in_ok-branch.branch _ _ _ c.more.invariant.grammatical
-      (bracket_goes_on _ (c.is_symbol_at.ensures.0 c.more-test.true)) c.in_ok-branch.ensures.grammatical);
+      (bracket_goes_on _ (c.more-test.ensures.0 refl).0) c.in_ok-branch.ensures.grammatical);
   shorter = omega (arith, c.more.invariant.shorter, c.in_ok-branch.ensures.shorter);
 }
 
@@ -71,7 +89,11 @@ branch-returns-clause-grammatical t c =
     )
 
 pub counted-returns-clause-grammatical : goal.counted-returns-clause-grammatical
-counted-returns-clause-grammatical t c = rw grammar.counted_made c.in_ok-block.ensures.grammatical
+counted-returns-clause-grammatical t c =
+    let turns = c.in_ok-turns.turns in
+    rw grammar.counted_made
+    (and_from (is_integer turns.first) (is_integer turns.bound && are_parts (statements_parts c.in_ok-block.block.items)) c.in_ok-turns.ensures.within.0
+    (and_from (is_integer turns.bound) (are_parts (statements_parts c.in_ok-block.block.items)) c.in_ok-turns.ensures.within.1 c.in_ok-block.ensures.grammatical))
 
 pub otherwise-returns-clause-grammatical : goal.otherwise-returns-clause-grammatical
 otherwise-returns-clause-grammatical t c =
@@ -119,3 +141,515 @@ alt-returns-clause-grammatical t c =
     (between_parts (branches_parts branches ++ otherwise_parts otherwise) _ _
     (between_then (branches_parts branches) (otherwise_parts otherwise) _ _ _
     c.in_ok-branches.ensures.grammatical c.in_ok-otherwise.ensures.grammatical)))
+
+pub statements-more-init : goal.statements-more-init
+statements-more-init t c = record {
+  tokens = first_of (search rules, grind (arith, common_steps));
+  nested = first_of (search rules, grind (arith, common_steps));
+  grammatical = rw c.new-statements.ensures.items (between_none _);
+  reads = λ xs more stand deep ends e. (xs, all_deep statement_depth c.args.left xs deep, stand, e);
+  shorter = first_of (search rules, grind (arith, common_steps));
+}
+
+pub statements-returns-in_err-statement-clause-reads : goal.statements-returns-in_err-statement-clause-reads
+statements-returns-in_err-statement-clause-reads t c =
+    λ xs more stand deep ends e.
+    let n = all_next statement_lexemes statement_part (λ x. statement_depth x ≤ c.args.left) more _ (c.more.invariant.reads xs more stand deep ends e) statement_begins (λ same. false≢true (c.more-test.ensures.end.1 (end_at _ more _ same ends))) in
+    handed c.from_residual.result _ _ c.from_residual.ensures.1 (c.in_err-statement.ensures.reads n.0 n.2 n.3 n.1 n.4)
+
+pub statements-returns-clause-reads : goal.statements-returns-clause-reads
+statements-returns-clause-reads t c =
+    λ xs more stand deep ends e. all_last statement_lexemes statement_part (λ x. statement_depth x ≤ c.args.left) more _ (c.more.invariant.reads xs more stand deep ends e) (λ y r same. statement_goes _ y r _ same (c.more-test.ensures.end.0 refl))
+
+pub branches-more-init : goal.branches-more-init
+branches-more-init t c = record {
+  tokens = first_of (search rules, grind (arith, common_steps));
+  nested = first_of (search rules, grind (arith, common_steps));
+  grammatical = rw c.new-branches.ensures.items (between_none _);
+  reads = λ xs more stand deep other e. (xs, all_deep branch_depth c.args.left xs deep, stand, e);
+  shorter = first_of (search rules, grind (arith, common_steps));
+}
+
+pub branches-returns-in_err-branch-clause-reads : goal.branches-returns-in_err-branch-clause-reads
+branches-returns-in_err-branch-clause-reads t c =
+    λ xs more stand deep other e.
+    let n = all_next branch_lexemes branch_part (λ x. branch_depth x ≤ c.args.left) more _ (c.more.invariant.reads xs more stand deep other e) branch_begins (λ same. let both = c.more-test.ensures.0 refl in false≢true (sym other ∙ ap is_branch_ahead (sym same) ∙ branch_first _ both.0 both.1)) in
+    handed c.from_residual.result _ _ c.from_residual.ensures.1 (c.in_err-branch.ensures.reads n.0 n.2 n.3 n.1 n.4)
+
+pub branches-returns-clause-reads : goal.branches-returns-clause-reads
+branches-returns-clause-reads t c =
+    λ xs more stand deep other e. all_last branch_lexemes branch_part (λ x. branch_depth x ≤ c.args.left) more _ (c.more.invariant.reads xs more stand deep other e) (λ y r same. false≢true (c.more-test.ensures.1 (branch_at y r _ same)))
+
+pub statement-returns-in_err-action-clause-reads : goal.statement-returns-in_err-action-clause-reads
+statement-returns-in_err-action-clause-reads t c =
+    λ x more placed deep e.
+    let s = out-Statement x in
+    let stands : IsPlaced (record { is_right = (action_part s.action).is_right; is_ended = (action_part s.action).is_ended || s.has_semicolon }) more =
+    subst (λ (p : Part). IsPlaced p more) (grammar.statement_out x) placed in
+    let e0 = e ∙ ap (λ (l : List Lexeme). l ++ more) (tokens.statement_out x) ∙ append_assoc (action_lexemes s.action) (end_lexemes s.has_semicolon) more in
+    let fits : action_depth s.action ≤ c.args.left = rw nesting.statement_depth_out at deep in
+    handed c.from_residual.result _ _ c.from_residual.ensures.1 (c.in_err-action.ensures.reads s.action (end_lexemes s.has_semicolon ++ more) stands.0 fits (ends_or (action_part s.action).is_ended s.has_semicolon more stands.1) e0)
+
+pub statement-returns-in_err-has_semicolon-clause-reads : goal.statement-returns-in_err-has_semicolon-clause-reads
+statement-returns-in_err-has_semicolon-clause-reads t c =
+    λ x more placed deep e.
+    let s = out-Statement x in
+    let stands : IsPlaced (record { is_right = (action_part s.action).is_right; is_ended = (action_part s.action).is_ended || s.has_semicolon }) more =
+    subst (λ (p : Part). IsPlaced p more) (grammar.statement_out x) placed in
+    let e0 = e ∙ ap (λ (l : List Lexeme). l ++ more) (tokens.statement_out x) ∙ append_assoc (action_lexemes s.action) (end_lexemes s.has_semicolon) more in
+    let fits : action_depth s.action ≤ c.args.left = rw nesting.statement_depth_out at deep in
+    let e1 = c.in_ok-action.ensures.reads s.action (end_lexemes s.has_semicolon ++ more) stands.0 fits (ends_or (action_part s.action).is_ended s.has_semicolon more stands.1) e0 in
+    let same = same_ended c.in_ok-action.action s.action (end_lexemes s.has_semicolon ++ more)
+    (sym (c.in_ok-action.ensures.tokens ∙ ap (λ (l : List Lexeme). action_lexemes c.in_ok-action.action ++ l) e1) ∙ e0) in
+    let ended = subst (λ b. Stands (b || s.has_semicolon) more) (sym (c.ends_in_block.ensures ∙ same)) stands.1 in
+    handed c.from_residual-in_err-has_semicolon.result _ _ c.from_residual-in_err-has_semicolon.ensures.1 (c.in_err-has_semicolon.ensures.reads s.has_semicolon more ended e1)
+
+pub statement-returns-clause-reads : goal.statement-returns-clause-reads
+statement-returns-clause-reads t c =
+    λ x more placed deep e.
+    let s = out-Statement x in
+    let stands : IsPlaced (record { is_right = (action_part s.action).is_right; is_ended = (action_part s.action).is_ended || s.has_semicolon }) more =
+    subst (λ (p : Part). IsPlaced p more) (grammar.statement_out x) placed in
+    let e0 = e ∙ ap (λ (l : List Lexeme). l ++ more) (tokens.statement_out x) ∙ append_assoc (action_lexemes s.action) (end_lexemes s.has_semicolon) more in
+    let fits : action_depth s.action ≤ c.args.left = rw nesting.statement_depth_out at deep in
+    let e1 = c.in_ok-action.ensures.reads s.action (end_lexemes s.has_semicolon ++ more) stands.0 fits (ends_or (action_part s.action).is_ended s.has_semicolon more stands.1) e0 in
+    let same = same_ended c.in_ok-action.action s.action (end_lexemes s.has_semicolon ++ more)
+    (sym (c.in_ok-action.ensures.tokens ∙ ap (λ (l : List Lexeme). action_lexemes c.in_ok-action.action ++ l) e1) ∙ e0) in
+    let ended = subst (λ b. Stands (b || s.has_semicolon) more) (sym (c.ends_in_block.ensures ∙ same)) stands.1 in
+    c.in_ok-has_semicolon.ensures.reads s.has_semicolon more ended e1
+
+pub branch-returns-in_err-open-clause-reads : goal.branch-returns-in_err-open-clause-reads
+branch-returns-in_err-open-clause-reads t c =
+    λ x more placed deep e.
+    let s = out-Branch x in
+    let stands : IsPlaced (record { is_right = is_template_part s.receive.template && (body_part s.body).is_right; is_ended = (body_part s.body).is_ended || s.has_semicolon }) more =
+    subst (λ (p : Part). IsPlaced p more) (grammar.branch_out x) placed in
+    let both = and_parts (is_template_part s.receive.template) (body_part s.body).is_right stands.0 in
+    let fits : max 1 (max (receive_depth s.receive) (body_depth s.body)) ≤ c.args.left = rw nesting.branch_depth_out at deep in
+    let room : 0 < c.args.left = omega arith in
+    let receive_fits : receive_depth s.receive ≤ c.args.left = omega arith in
+    let body_fits : body_depth s.body ≤ c.args.left = omega arith in
+    let rest = end_lexemes s.has_semicolon ++ more in
+    let e0 = e ∙ ap (λ (l : List Lexeme). l ++ more) (tokens.branch_out x)
+    ∙ ap (λ (l : List Lexeme). symbol LeftBracket ∷ symbol RightBracket ∷ l) (append_assoc (receive_lexemes s.receive) (body_lexemes s.body ++ end_lexemes s.has_semicolon) more
+    ∙ ap (λ (l : List Lexeme). receive_lexemes s.receive ++ l) (append_assoc (body_lexemes s.body) (end_lexemes s.has_semicolon) more)) in
+    handed c.from_residual.result _ _ c.from_residual.ensures.1 (c.in_err-open.ensures.reads _ room e0)
+
+pub branch-returns-in_err-symbol-clause-reads : goal.branch-returns-in_err-symbol-clause-reads
+branch-returns-in_err-symbol-clause-reads t c =
+    λ x more placed deep e.
+    let s = out-Branch x in
+    let stands : IsPlaced (record { is_right = is_template_part s.receive.template && (body_part s.body).is_right; is_ended = (body_part s.body).is_ended || s.has_semicolon }) more =
+    subst (λ (p : Part). IsPlaced p more) (grammar.branch_out x) placed in
+    let both = and_parts (is_template_part s.receive.template) (body_part s.body).is_right stands.0 in
+    let fits : max 1 (max (receive_depth s.receive) (body_depth s.body)) ≤ c.args.left = rw nesting.branch_depth_out at deep in
+    let room : 0 < c.args.left = omega arith in
+    let receive_fits : receive_depth s.receive ≤ c.args.left = omega arith in
+    let body_fits : body_depth s.body ≤ c.args.left = omega arith in
+    let rest = end_lexemes s.has_semicolon ++ more in
+    let e0 = e ∙ ap (λ (l : List Lexeme). l ++ more) (tokens.branch_out x)
+    ∙ ap (λ (l : List Lexeme). symbol LeftBracket ∷ symbol RightBracket ∷ l) (append_assoc (receive_lexemes s.receive) (body_lexemes s.body ++ end_lexemes s.has_semicolon) more
+    ∙ ap (λ (l : List Lexeme). receive_lexemes s.receive ++ l) (append_assoc (body_lexemes s.body) (end_lexemes s.has_semicolon) more)) in
+    let e1 = c.in_ok-open.ensures.reads _ room e0 in
+    handed c.from_residual-in_err-symbol.result _ _ c.from_residual-in_err-symbol.ensures.1 (c.in_err-symbol.ensures.reads _ e1)
+
+pub branch-returns-in_err-receive-clause-reads : goal.branch-returns-in_err-receive-clause-reads
+branch-returns-in_err-receive-clause-reads t c =
+    λ x more placed deep e.
+    let s = out-Branch x in
+    let stands : IsPlaced (record { is_right = is_template_part s.receive.template && (body_part s.body).is_right; is_ended = (body_part s.body).is_ended || s.has_semicolon }) more =
+    subst (λ (p : Part). IsPlaced p more) (grammar.branch_out x) placed in
+    let both = and_parts (is_template_part s.receive.template) (body_part s.body).is_right stands.0 in
+    let fits : max 1 (max (receive_depth s.receive) (body_depth s.body)) ≤ c.args.left = rw nesting.branch_depth_out at deep in
+    let room : 0 < c.args.left = omega arith in
+    let receive_fits : receive_depth s.receive ≤ c.args.left = omega arith in
+    let body_fits : body_depth s.body ≤ c.args.left = omega arith in
+    let rest = end_lexemes s.has_semicolon ++ more in
+    let e0 = e ∙ ap (λ (l : List Lexeme). l ++ more) (tokens.branch_out x)
+    ∙ ap (λ (l : List Lexeme). symbol LeftBracket ∷ symbol RightBracket ∷ l) (append_assoc (receive_lexemes s.receive) (body_lexemes s.body ++ end_lexemes s.has_semicolon) more
+    ∙ ap (λ (l : List Lexeme). receive_lexemes s.receive ++ l) (append_assoc (body_lexemes s.body) (end_lexemes s.has_semicolon) more)) in
+    let e1 = c.in_ok-open.ensures.reads _ room e0 in
+    let e2 = c.in_ok-symbol.ensures.reads _ e1 in
+    handed c.from_residual-in_err-receive.result _ _ c.from_residual-in_err-receive.ensures.1 (c.in_err-receive.ensures.reads s.receive (body_lexemes s.body ++ rest) both.0 receive_fits (body_stops s.body s.has_semicolon more stands.1) e2)
+
+pub branch-returns-in_err-body-clause-reads : goal.branch-returns-in_err-body-clause-reads
+branch-returns-in_err-body-clause-reads t c =
+    λ x more placed deep e.
+    let s = out-Branch x in
+    let stands : IsPlaced (record { is_right = is_template_part s.receive.template && (body_part s.body).is_right; is_ended = (body_part s.body).is_ended || s.has_semicolon }) more =
+    subst (λ (p : Part). IsPlaced p more) (grammar.branch_out x) placed in
+    let both = and_parts (is_template_part s.receive.template) (body_part s.body).is_right stands.0 in
+    let fits : max 1 (max (receive_depth s.receive) (body_depth s.body)) ≤ c.args.left = rw nesting.branch_depth_out at deep in
+    let room : 0 < c.args.left = omega arith in
+    let receive_fits : receive_depth s.receive ≤ c.args.left = omega arith in
+    let body_fits : body_depth s.body ≤ c.args.left = omega arith in
+    let rest = end_lexemes s.has_semicolon ++ more in
+    let e0 = e ∙ ap (λ (l : List Lexeme). l ++ more) (tokens.branch_out x)
+    ∙ ap (λ (l : List Lexeme). symbol LeftBracket ∷ symbol RightBracket ∷ l) (append_assoc (receive_lexemes s.receive) (body_lexemes s.body ++ end_lexemes s.has_semicolon) more
+    ∙ ap (λ (l : List Lexeme). receive_lexemes s.receive ++ l) (append_assoc (body_lexemes s.body) (end_lexemes s.has_semicolon) more)) in
+    let e1 = c.in_ok-open.ensures.reads _ room e0 in
+    let e2 = c.in_ok-symbol.ensures.reads _ e1 in
+    let e3 = c.in_ok-receive.ensures.reads s.receive (body_lexemes s.body ++ rest) both.0 receive_fits (body_stops s.body s.has_semicolon more stands.1) e2 in
+    handed c.from_residual-in_err-body.result _ _ c.from_residual-in_err-body.ensures.1 (c.in_err-body.ensures.reads s.body rest both.1 body_fits (ends_blockless (body_part s.body).is_ended s.has_semicolon more stands.1) e3)
+
+pub branch-returns-in_err-has_semicolon-clause-reads : goal.branch-returns-in_err-has_semicolon-clause-reads
+branch-returns-in_err-has_semicolon-clause-reads t c =
+    λ x more placed deep e.
+    let s = out-Branch x in
+    let stands : IsPlaced (record { is_right = is_template_part s.receive.template && (body_part s.body).is_right; is_ended = (body_part s.body).is_ended || s.has_semicolon }) more =
+    subst (λ (p : Part). IsPlaced p more) (grammar.branch_out x) placed in
+    let both = and_parts (is_template_part s.receive.template) (body_part s.body).is_right stands.0 in
+    let fits : max 1 (max (receive_depth s.receive) (body_depth s.body)) ≤ c.args.left = rw nesting.branch_depth_out at deep in
+    let room : 0 < c.args.left = omega arith in
+    let receive_fits : receive_depth s.receive ≤ c.args.left = omega arith in
+    let body_fits : body_depth s.body ≤ c.args.left = omega arith in
+    let rest = end_lexemes s.has_semicolon ++ more in
+    let e0 = e ∙ ap (λ (l : List Lexeme). l ++ more) (tokens.branch_out x)
+    ∙ ap (λ (l : List Lexeme). symbol LeftBracket ∷ symbol RightBracket ∷ l) (append_assoc (receive_lexemes s.receive) (body_lexemes s.body ++ end_lexemes s.has_semicolon) more
+    ∙ ap (λ (l : List Lexeme). receive_lexemes s.receive ++ l) (append_assoc (body_lexemes s.body) (end_lexemes s.has_semicolon) more)) in
+    let e1 = c.in_ok-open.ensures.reads _ room e0 in
+    let e2 = c.in_ok-symbol.ensures.reads _ e1 in
+    let e3 = c.in_ok-receive.ensures.reads s.receive (body_lexemes s.body ++ rest) both.0 receive_fits (body_stops s.body s.has_semicolon more stands.1) e2 in
+    let e4 = c.in_ok-body.ensures.reads s.body rest both.1 body_fits (ends_blockless (body_part s.body).is_ended s.has_semicolon more stands.1) e3 in
+    let same = same_braced c.in_ok-body.body s.body rest (sym (c.in_ok-body.ensures.tokens ∙ ap (λ (l : List Lexeme). body_lexemes c.in_ok-body.body ++ l) e4) ∙ e3) in
+    let ended = subst (λ b. Stands (b || s.has_semicolon) more) (sym (c.is_block.ensures ∙ same)) stands.1 in
+    handed c.from_residual-in_err-has_semicolon.result _ _ c.from_residual-in_err-has_semicolon.ensures.1 (c.in_err-has_semicolon.ensures.reads s.has_semicolon more ended e4)
+
+pub branch-returns-clause-reads : goal.branch-returns-clause-reads
+branch-returns-clause-reads t c =
+    λ x more placed deep e.
+    let s = out-Branch x in
+    let stands : IsPlaced (record { is_right = is_template_part s.receive.template && (body_part s.body).is_right; is_ended = (body_part s.body).is_ended || s.has_semicolon }) more =
+    subst (λ (p : Part). IsPlaced p more) (grammar.branch_out x) placed in
+    let both = and_parts (is_template_part s.receive.template) (body_part s.body).is_right stands.0 in
+    let fits : max 1 (max (receive_depth s.receive) (body_depth s.body)) ≤ c.args.left = rw nesting.branch_depth_out at deep in
+    let room : 0 < c.args.left = omega arith in
+    let receive_fits : receive_depth s.receive ≤ c.args.left = omega arith in
+    let body_fits : body_depth s.body ≤ c.args.left = omega arith in
+    let rest = end_lexemes s.has_semicolon ++ more in
+    let e0 = e ∙ ap (λ (l : List Lexeme). l ++ more) (tokens.branch_out x)
+    ∙ ap (λ (l : List Lexeme). symbol LeftBracket ∷ symbol RightBracket ∷ l) (append_assoc (receive_lexemes s.receive) (body_lexemes s.body ++ end_lexemes s.has_semicolon) more
+    ∙ ap (λ (l : List Lexeme). receive_lexemes s.receive ++ l) (append_assoc (body_lexemes s.body) (end_lexemes s.has_semicolon) more)) in
+    let e1 = c.in_ok-open.ensures.reads _ room e0 in
+    let e2 = c.in_ok-symbol.ensures.reads _ e1 in
+    let e3 = c.in_ok-receive.ensures.reads s.receive (body_lexemes s.body ++ rest) both.0 receive_fits (body_stops s.body s.has_semicolon more stands.1) e2 in
+    let e4 = c.in_ok-body.ensures.reads s.body rest both.1 body_fits (ends_blockless (body_part s.body).is_ended s.has_semicolon more stands.1) e3 in
+    let same = same_braced c.in_ok-body.body s.body rest (sym (c.in_ok-body.ensures.tokens ∙ ap (λ (l : List Lexeme). body_lexemes c.in_ok-body.body ++ l) e4) ∙ e3) in
+    let ended = subst (λ b. Stands (b || s.has_semicolon) more) (sym (c.is_block.ensures ∙ same)) stands.1 in
+    c.in_ok-has_semicolon.ensures.reads s.has_semicolon more ended e4
+
+pub body-returns-then-not-is_symbol_at-clause-reads : goal.body-returns-then-not-is_symbol_at-clause-reads
+body-returns-then-not-is_symbol_at-clause-reads t c =
+    λ x more right deep ends e.
+    body_none x more _ e (iff_false c.is_symbol_at.ensures c.if-not-is_symbol_at.true)
+
+pub body-returns-in_err-block-clause-reads : goal.body-returns-in_err-block-clause-reads
+body-returns-in_err-block-clause-reads t c =
+    λ x more right deep ends e.
+    let at = c.is_symbol_at.ensures.0 c.if-not-is_symbol_at.false in
+    let b = body_next c.args.left x more _ right deep ends e at (first_is _ (symbol LeftBrace) at refl) in
+    handed c.from_residual.result _ _ c.from_residual.ensures.1 (c.in_err-block.ensures.reads b.0 more b.1 b.2 b.3)
+
+pub body-returns-clause-reads : goal.body-returns-clause-reads
+body-returns-clause-reads t c =
+    λ x more right deep ends e.
+    let at = c.is_symbol_at.ensures.0 c.if-not-is_symbol_at.false in
+    let b = body_next c.args.left x more _ right deep ends e at (first_is _ (symbol LeftBrace) at refl) in
+    c.in_ok-block.ensures.reads b.0 more b.1 b.2 b.3
+
+pub block-returns-in_err-inner-clause-reads : goal.block-returns-in_err-inner-clause-reads
+block-returns-in_err-inner-clause-reads t c =
+    λ xs more right deep e.
+    let room : 0 < c.args.left = omega arith in
+    handed c.from_residual.result _ _ c.from_residual.ensures.1 (c.in_err-inner.ensures.reads _ room e)
+
+pub block-returns-in_err-statements-clause-reads : goal.block-returns-in_err-statements-clause-reads
+block-returns-in_err-statements-clause-reads t c =
+    λ xs more right deep e.
+    let room : 0 < c.args.left = omega arith in
+    let e1 = c.in_ok-inner.ensures.reads _ room e ∙ append_assoc (statements_lexemes xs) (symbol RightBrace ∷ []) more in
+    let fits : statements_depth xs ≤ c.in_ok-inner.inner = omega (arith, c.in_ok-inner.ensures.inner) in
+    handed c.from_residual-in_err-statements.result _ _ c.from_residual-in_err-statements.ensures.1 (c.in_err-statements.ensures.reads xs (symbol RightBrace ∷ more) (parts_stand (statements_parts xs) (symbol RightBrace ∷ more) right refl) fits refl e1)
+
+pub block-returns-in_err-symbol-clause-reads : goal.block-returns-in_err-symbol-clause-reads
+block-returns-in_err-symbol-clause-reads t c =
+    λ xs more right deep e.
+    let room : 0 < c.args.left = omega arith in
+    let e1 = c.in_ok-inner.ensures.reads _ room e ∙ append_assoc (statements_lexemes xs) (symbol RightBrace ∷ []) more in
+    let fits : statements_depth xs ≤ c.in_ok-inner.inner = omega (arith, c.in_ok-inner.ensures.inner) in
+    let e2 = c.in_ok-statements.ensures.reads xs (symbol RightBrace ∷ more) (parts_stand (statements_parts xs) (symbol RightBrace ∷ more) right refl) fits refl e1 in
+    handed c.from_residual-in_err-symbol.result _ _ c.from_residual-in_err-symbol.ensures.1 (c.in_err-symbol.ensures.reads more e2)
+
+pub block-returns-clause-reads : goal.block-returns-clause-reads
+block-returns-clause-reads t c =
+    λ xs more right deep e.
+    let room : 0 < c.args.left = omega arith in
+    let e1 = c.in_ok-inner.ensures.reads _ room e ∙ append_assoc (statements_lexemes xs) (symbol RightBrace ∷ []) more in
+    let fits : statements_depth xs ≤ c.in_ok-inner.inner = omega (arith, c.in_ok-inner.ensures.inner) in
+    let e2 = c.in_ok-statements.ensures.reads xs (symbol RightBrace ∷ more) (parts_stand (statements_parts xs) (symbol RightBrace ∷ more) right refl) fits refl e1 in
+    c.in_ok-symbol.ensures.reads more e2
+
+pub otherwise-returns-then-not-is_symbol_at-clause-reads : goal.otherwise-returns-then-not-is_symbol_at-clause-reads
+otherwise-returns-then-not-is_symbol_at-clause-reads t c =
+    λ x more stand deep brace e.
+    no_otherwise x more _ e (iff_false c.is_symbol_at.ensures c.if-not-is_symbol_at.true)
+
+pub otherwise-returns-in_err-else_mark-clause-reads : goal.otherwise-returns-in_err-else_mark-clause-reads
+otherwise-returns-in_err-else_mark-clause-reads t c =
+    λ x more stand deep brace e.
+    let b = otherwise_next c.args.left x more _ stand deep brace e (c.is_symbol_at.ensures.0 c.if-not-is_symbol_at.false) in
+    let room : 0 < c.args.left = omega (arith, b.3) in
+    handed c.from_residual.result _ _ c.from_residual.ensures.1 (c.in_err-else_mark.ensures.reads _ room b.4)
+
+pub otherwise-returns-in_err-block-clause-reads : goal.otherwise-returns-in_err-block-clause-reads
+otherwise-returns-in_err-block-clause-reads t c =
+    λ x more stand deep brace e.
+    let b = otherwise_next c.args.left x more _ stand deep brace e (c.is_symbol_at.ensures.0 c.if-not-is_symbol_at.false) in
+    let room : 0 < c.args.left = omega (arith, b.3) in
+    let e1 = c.in_ok-else_mark.ensures.reads _ room b.4 in
+    handed c.from_residual-in_err-block.result _ _ c.from_residual-in_err-block.ensures.1 (c.in_err-block.ensures.reads b.0 _ b.2 b.3 e1)
+
+pub otherwise-returns-in_err-has_semicolon-clause-reads : goal.otherwise-returns-in_err-has_semicolon-clause-reads
+otherwise-returns-in_err-has_semicolon-clause-reads t c =
+    λ x more stand deep brace e.
+    let b = otherwise_next c.args.left x more _ stand deep brace e (c.is_symbol_at.ensures.0 c.if-not-is_symbol_at.false) in
+    let room : 0 < c.args.left = omega (arith, b.3) in
+    let e1 = c.in_ok-else_mark.ensures.reads _ room b.4 in
+    let e2 = c.in_ok-block.ensures.reads b.0 _ b.2 b.3 e1 in
+    let stands : Stands true more = ap (may_stand true) brace in
+    handed c.from_residual-in_err-has_semicolon.result _ _ c.from_residual-in_err-has_semicolon.ensures.1 (c.in_err-has_semicolon.ensures.reads b.1 more stands e2)
+
+pub otherwise-returns-clause-reads : goal.otherwise-returns-clause-reads
+otherwise-returns-clause-reads t c =
+    λ x more stand deep brace e.
+    let b = otherwise_next c.args.left x more _ stand deep brace e (c.is_symbol_at.ensures.0 c.if-not-is_symbol_at.false) in
+    let room : 0 < c.args.left = omega (arith, b.3) in
+    let e1 = c.in_ok-else_mark.ensures.reads _ room b.4 in
+    let e2 = c.in_ok-block.ensures.reads b.0 _ b.2 b.3 e1 in
+    let stands : Stands true more = ap (may_stand true) brace in
+    c.in_ok-has_semicolon.ensures.reads b.1 more stands e2
+
+pub counted-returns-in_err-turns-clause-reads : goal.counted-returns-in_err-turns-clause-reads
+counted-returns-in_err-turns-clause-reads t c =
+    λ x more right deep e.
+    let s = out-Counted x in
+    let parts = sym (ap (λ (p : Part). p.is_right) (grammar.counted_out x)) ∙ right in
+    let first_is_integer = and_parts (is_integer s.turns.first) (is_integer s.turns.bound && are_parts (statements_parts s.block.items)) parts in
+    let bound_is_integer = and_parts (is_integer s.turns.bound) (are_parts (statements_parts s.block.items)) first_is_integer.1 in
+    let fits : statements_depth s.block.items + 1 ≤ c.args.left = rw nesting.counted_depth_out at deep in
+    let room : 0 < c.args.left = omega arith in
+    let e0 = e ∙ ap (λ (l : List Lexeme). l ++ more) (tokens.counted_out x)
+    ∙ for_append (string_bytes s.turns.name) (int_lexemes s.turns.first) (int_lexemes s.turns.bound) (braced (statements_lexemes s.block.items)) more in
+    handed c.from_residual.result _ _ c.from_residual.ensures.1 (c.in_err-turns.ensures.reads s.turns (braced (statements_lexemes s.block.items) ++ more) first_is_integer.0 bound_is_integer.0 room e0)
+
+pub counted-returns-in_err-block-clause-reads : goal.counted-returns-in_err-block-clause-reads
+counted-returns-in_err-block-clause-reads t c =
+    λ x more right deep e.
+    let s = out-Counted x in
+    let parts = sym (ap (λ (p : Part). p.is_right) (grammar.counted_out x)) ∙ right in
+    let first_is_integer = and_parts (is_integer s.turns.first) (is_integer s.turns.bound && are_parts (statements_parts s.block.items)) parts in
+    let bound_is_integer = and_parts (is_integer s.turns.bound) (are_parts (statements_parts s.block.items)) first_is_integer.1 in
+    let fits : statements_depth s.block.items + 1 ≤ c.args.left = rw nesting.counted_depth_out at deep in
+    let room : 0 < c.args.left = omega arith in
+    let e0 = e ∙ ap (λ (l : List Lexeme). l ++ more) (tokens.counted_out x)
+    ∙ for_append (string_bytes s.turns.name) (int_lexemes s.turns.first) (int_lexemes s.turns.bound) (braced (statements_lexemes s.block.items)) more in
+    let e1 = c.in_ok-turns.ensures.reads s.turns (braced (statements_lexemes s.block.items) ++ more) first_is_integer.0 bound_is_integer.0 room e0 in
+    handed c.from_residual-in_err-block.result _ _ c.from_residual-in_err-block.ensures.1 (c.in_err-block.ensures.reads s.block.items more bound_is_integer.1 fits e1)
+
+pub counted-returns-clause-reads : goal.counted-returns-clause-reads
+counted-returns-clause-reads t c =
+    λ x more right deep e.
+    let s = out-Counted x in
+    let parts = sym (ap (λ (p : Part). p.is_right) (grammar.counted_out x)) ∙ right in
+    let first_is_integer = and_parts (is_integer s.turns.first) (is_integer s.turns.bound && are_parts (statements_parts s.block.items)) parts in
+    let bound_is_integer = and_parts (is_integer s.turns.bound) (are_parts (statements_parts s.block.items)) first_is_integer.1 in
+    let fits : statements_depth s.block.items + 1 ≤ c.args.left = rw nesting.counted_depth_out at deep in
+    let room : 0 < c.args.left = omega arith in
+    let e0 = e ∙ ap (λ (l : List Lexeme). l ++ more) (tokens.counted_out x)
+    ∙ for_append (string_bytes s.turns.name) (int_lexemes s.turns.first) (int_lexemes s.turns.bound) (braced (statements_lexemes s.block.items)) more in
+    let e1 = c.in_ok-turns.ensures.reads s.turns (braced (statements_lexemes s.block.items) ++ more) first_is_integer.0 bound_is_integer.0 room e0 in
+    c.in_ok-block.ensures.reads s.block.items more bound_is_integer.1 fits e1
+
+pub alt-returns-in_err-word-clause-reads : goal.alt-returns-in_err-word-clause-reads
+alt-returns-in_err-word-clause-reads t c =
+    λ xs x more some right deep e.
+    handed c.from_residual.result _ _ c.from_residual.ensures.1 (c.in_err-word.ensures.reads _ e)
+
+pub alt-returns-in_err-inner-clause-reads : goal.alt-returns-in_err-inner-clause-reads
+alt-returns-in_err-inner-clause-reads t c =
+    λ xs x more some right deep e.
+    let e1 = c.in_ok-word.ensures.reads _ e in
+    let room : 0 < c.args.left = omega arith in
+    handed c.from_residual-in_err-inner.result _ _ c.from_residual-in_err-inner.ensures.1 (c.in_err-inner.ensures.reads _ room e1)
+
+pub alt-returns-in_err-branches-clause-reads : goal.alt-returns-in_err-branches-clause-reads
+alt-returns-in_err-branches-clause-reads t c =
+    λ xs x more some right deep e.
+    let e1 = c.in_ok-word.ensures.reads _ e in
+    let room : 0 < c.args.left = omega arith in
+    let e2 = c.in_ok-inner.ensures.reads _ room e1
+    ∙ append_assoc (branches_lexemes xs ++ otherwise_lexemes x) (symbol RightBrace ∷ []) more
+    ∙ append_assoc (branches_lexemes xs) (otherwise_lexemes x) (symbol RightBrace ∷ more) in
+    let branches_fit : branches_depth xs ≤ c.in_ok-inner.inner = omega (arith, c.in_ok-inner.ensures.inner) in
+    let otherwise_fits : otherwise_depth x ≤ c.in_ok-inner.inner = omega (arith, c.in_ok-inner.ensures.inner) in
+    handed c.from_residual-in_err-branches.result _ _ c.from_residual-in_err-branches.ensures.1 (c.in_err-branches.ensures.reads xs (otherwise_lexemes x ++ symbol RightBrace ∷ more) (branches_stand xs x more right) branches_fit (otherwise_no_branch x more) e2)
+
+pub alt-returns-in_err-otherwise-clause-reads : goal.alt-returns-in_err-otherwise-clause-reads
+alt-returns-in_err-otherwise-clause-reads t c =
+    λ xs x more some right deep e.
+    let e1 = c.in_ok-word.ensures.reads _ e in
+    let room : 0 < c.args.left = omega arith in
+    let e2 = c.in_ok-inner.ensures.reads _ room e1
+    ∙ append_assoc (branches_lexemes xs ++ otherwise_lexemes x) (symbol RightBrace ∷ []) more
+    ∙ append_assoc (branches_lexemes xs) (otherwise_lexemes x) (symbol RightBrace ∷ more) in
+    let branches_fit : branches_depth xs ≤ c.in_ok-inner.inner = omega (arith, c.in_ok-inner.ensures.inner) in
+    let otherwise_fits : otherwise_depth x ≤ c.in_ok-inner.inner = omega (arith, c.in_ok-inner.ensures.inner) in
+    let e3 = c.in_ok-branches.ensures.reads xs (otherwise_lexemes x ++ symbol RightBrace ∷ more) (branches_stand xs x more right) branches_fit (otherwise_no_branch x more) e2 in
+    handed c.from_residual-in_err-otherwise.result _ _ c.from_residual-in_err-otherwise.ensures.1 (c.in_err-otherwise.ensures.reads x (symbol RightBrace ∷ more) (otherwise_stands xs x more right) otherwise_fits refl e3)
+
+pub alt-returns-then-is_none-clause-reads : goal.alt-returns-then-is_none-clause-reads
+alt-returns-then-is_none-clause-reads t c =
+    λ xs x more some right deep e.
+    let e1 = c.in_ok-word.ensures.reads _ e in
+    let room : 0 < c.args.left = omega arith in
+    let e2 = c.in_ok-inner.ensures.reads _ room e1
+    ∙ append_assoc (branches_lexemes xs ++ otherwise_lexemes x) (symbol RightBrace ∷ []) more
+    ∙ append_assoc (branches_lexemes xs) (otherwise_lexemes x) (symbol RightBrace ∷ more) in
+    let branches_fit : branches_depth xs ≤ c.in_ok-inner.inner = omega (arith, c.in_ok-inner.ensures.inner) in
+    let otherwise_fits : otherwise_depth x ≤ c.in_ok-inner.inner = omega (arith, c.in_ok-inner.ensures.inner) in
+    let e3 = c.in_ok-branches.ensures.reads xs (otherwise_lexemes x ++ symbol RightBrace ∷ more) (branches_stand xs x more right) branches_fit (otherwise_no_branch x more) e2 in
+    let e4 = c.in_ok-otherwise.ensures.reads x (symbol RightBrace ∷ more) (otherwise_stands xs x more right) otherwise_fits refl e3 in
+    absurd (alt_read xs x c.in_ok-branches.branches.items c.in_ok-otherwise.otherwise more _ _ _ some
+    (omega (arith, c.in_ok-branches.branches.ok.0, zero_length _ (sym c.is_empty.ensures ∙ c.if-is_empty.true))) (c.is_none.ensures ∙ ap not c.if-is_none.true) e2 c.in_ok-branches.ensures.tokens c.in_ok-otherwise.ensures.tokens e4)
+
+pub alt-returns-in_err-symbol-clause-reads : goal.alt-returns-in_err-symbol-clause-reads
+alt-returns-in_err-symbol-clause-reads t c =
+    λ xs x more some right deep e.
+    let e1 = c.in_ok-word.ensures.reads _ e in
+    let room : 0 < c.args.left = omega arith in
+    let e2 = c.in_ok-inner.ensures.reads _ room e1
+    ∙ append_assoc (branches_lexemes xs ++ otherwise_lexemes x) (symbol RightBrace ∷ []) more
+    ∙ append_assoc (branches_lexemes xs) (otherwise_lexemes x) (symbol RightBrace ∷ more) in
+    let branches_fit : branches_depth xs ≤ c.in_ok-inner.inner = omega (arith, c.in_ok-inner.ensures.inner) in
+    let otherwise_fits : otherwise_depth x ≤ c.in_ok-inner.inner = omega (arith, c.in_ok-inner.ensures.inner) in
+    let e3 = c.in_ok-branches.ensures.reads xs (otherwise_lexemes x ++ symbol RightBrace ∷ more) (branches_stand xs x more right) branches_fit (otherwise_no_branch x more) e2 in
+    let e4 = c.in_ok-otherwise.ensures.reads x (symbol RightBrace ∷ more) (otherwise_stands xs x more right) otherwise_fits refl e3 in
+    handed c.from_residual-in_err-symbol.result _ _ c.from_residual-in_err-symbol.ensures.1 (c.in_err-symbol.ensures.reads more e4)
+
+pub alt-returns-clause-reads : goal.alt-returns-clause-reads
+alt-returns-clause-reads t c =
+    λ xs x more some right deep e.
+    let e1 = c.in_ok-word.ensures.reads _ e in
+    let room : 0 < c.args.left = omega arith in
+    let e2 = c.in_ok-inner.ensures.reads _ room e1
+    ∙ append_assoc (branches_lexemes xs ++ otherwise_lexemes x) (symbol RightBrace ∷ []) more
+    ∙ append_assoc (branches_lexemes xs) (otherwise_lexemes x) (symbol RightBrace ∷ more) in
+    let branches_fit : branches_depth xs ≤ c.in_ok-inner.inner = omega (arith, c.in_ok-inner.ensures.inner) in
+    let otherwise_fits : otherwise_depth x ≤ c.in_ok-inner.inner = omega (arith, c.in_ok-inner.ensures.inner) in
+    let e3 = c.in_ok-branches.ensures.reads xs (otherwise_lexemes x ++ symbol RightBrace ∷ more) (branches_stand xs x more right) branches_fit (otherwise_no_branch x more) e2 in
+    let e4 = c.in_ok-otherwise.ensures.reads x (symbol RightBrace ∷ more) (otherwise_stands xs x more right) otherwise_fits refl e3 in
+    c.in_ok-symbol.ensures.reads more e4
+
+pub action-returns-in_err-send-in-Send-clause-reads : goal.action-returns-in_err-send-in-Send-clause-reads
+action-returns-in_err-send-in-Send-clause-reads t c =
+    λ x more right deep ends e.
+    let k = action_kind c.args.left x more _ right deep ends e in
+    let says : Says c.args.self.now.rest.now c.beginning.result = record { alt = c.beginning.ensures.alt; for_loop = c.beginning.ensures.for_loop; set_verdict = c.beginning.ensures.set_verdict; all_ports = c.beginning.ensures.all_ports; send = c.beginning.ensures.send; receive = c.beginning.ensures.receive; control = c.beginning.ensures.control } in
+    let b = subst (Begun c.args.left more _) (sym (kind_begun k.0 more _ c.beginning.result says k.2) ∙ c.in-Send.is) (begun c.args.left more _ k.0 k.1 k.2) in
+    handed c.from_residual.result _ _ c.from_residual.ensures.1 (c.in_err-send-in-Send.ensures.reads b.0 more b.1.0 b.1.1 b.1.2 b.2)
+
+pub action-returns-in_ok-send-in-Send-clause-reads : goal.action-returns-in_ok-send-in-Send-clause-reads
+action-returns-in_ok-send-in-Send-clause-reads t c =
+    λ x more right deep ends e.
+    let k = action_kind c.args.left x more _ right deep ends e in
+    let says : Says c.args.self.now.rest.now c.beginning.result = record { alt = c.beginning.ensures.alt; for_loop = c.beginning.ensures.for_loop; set_verdict = c.beginning.ensures.set_verdict; all_ports = c.beginning.ensures.all_ports; send = c.beginning.ensures.send; receive = c.beginning.ensures.receive; control = c.beginning.ensures.control } in
+    let b = subst (Begun c.args.left more _) (sym (kind_begun k.0 more _ c.beginning.result says k.2) ∙ c.in-Send.is) (begun c.args.left more _ k.0 k.1 k.2) in
+    c.in_ok-send-in-Send.ensures.reads b.0 more b.1.0 b.1.1 b.1.2 b.2
+
+pub action-returns-in_err-receive-in-Receive-clause-reads : goal.action-returns-in_err-receive-in-Receive-clause-reads
+action-returns-in_err-receive-in-Receive-clause-reads t c =
+    λ x more right deep ends e.
+    let k = action_kind c.args.left x more _ right deep ends e in
+    let says : Says c.args.self.now.rest.now c.beginning.result = record { alt = c.beginning.ensures.alt; for_loop = c.beginning.ensures.for_loop; set_verdict = c.beginning.ensures.set_verdict; all_ports = c.beginning.ensures.all_ports; send = c.beginning.ensures.send; receive = c.beginning.ensures.receive; control = c.beginning.ensures.control } in
+    let b = subst (Begun c.args.left more _) (sym (kind_begun k.0 more _ c.beginning.result says k.2) ∙ c.in-Receive.is) (begun c.args.left more _ k.0 k.1 k.2) in
+    handed c.from_residual-in_err-receive-in-Receive.result _ _ c.from_residual-in_err-receive-in-Receive.ensures.1 (c.in_err-receive-in-Receive.ensures.reads b.0 more b.1.0 b.1.1 b.1.2 b.2)
+
+pub action-returns-in_ok-receive-in-Receive-clause-reads : goal.action-returns-in_ok-receive-in-Receive-clause-reads
+action-returns-in_ok-receive-in-Receive-clause-reads t c =
+    λ x more right deep ends e.
+    let k = action_kind c.args.left x more _ right deep ends e in
+    let says : Says c.args.self.now.rest.now c.beginning.result = record { alt = c.beginning.ensures.alt; for_loop = c.beginning.ensures.for_loop; set_verdict = c.beginning.ensures.set_verdict; all_ports = c.beginning.ensures.all_ports; send = c.beginning.ensures.send; receive = c.beginning.ensures.receive; control = c.beginning.ensures.control } in
+    let b = subst (Begun c.args.left more _) (sym (kind_begun k.0 more _ c.beginning.result says k.2) ∙ c.in-Receive.is) (begun c.args.left more _ k.0 k.1 k.2) in
+    c.in_ok-receive-in-Receive.ensures.reads b.0 more b.1.0 b.1.1 b.1.2 b.2
+
+pub action-returns-in_err-control-in-Control-clause-reads : goal.action-returns-in_err-control-in-Control-clause-reads
+action-returns-in_err-control-in-Control-clause-reads t c =
+    λ x more right deep ends e.
+    let k = action_kind c.args.left x more _ right deep ends e in
+    let says : Says c.args.self.now.rest.now c.beginning.result = record { alt = c.beginning.ensures.alt; for_loop = c.beginning.ensures.for_loop; set_verdict = c.beginning.ensures.set_verdict; all_ports = c.beginning.ensures.all_ports; send = c.beginning.ensures.send; receive = c.beginning.ensures.receive; control = c.beginning.ensures.control } in
+    let b = subst (Begun c.args.left more _) (sym (kind_begun k.0 more _ c.beginning.result says k.2) ∙ c.in-Control.is) (begun c.args.left more _ k.0 k.1 k.2) in
+    handed c.from_residual-in_err-control-in-Control.result _ _ c.from_residual-in_err-control-in-Control.ensures.1 (c.in_err-control-in-Control.ensures.reads b.0 more b.1)
+
+pub action-returns-in_ok-control-in-Control-clause-reads : goal.action-returns-in_ok-control-in-Control-clause-reads
+action-returns-in_ok-control-in-Control-clause-reads t c =
+    λ x more right deep ends e.
+    let k = action_kind c.args.left x more _ right deep ends e in
+    let says : Says c.args.self.now.rest.now c.beginning.result = record { alt = c.beginning.ensures.alt; for_loop = c.beginning.ensures.for_loop; set_verdict = c.beginning.ensures.set_verdict; all_ports = c.beginning.ensures.all_ports; send = c.beginning.ensures.send; receive = c.beginning.ensures.receive; control = c.beginning.ensures.control } in
+    let b = subst (Begun c.args.left more _) (sym (kind_begun k.0 more _ c.beginning.result says k.2) ∙ c.in-Control.is) (begun c.args.left more _ k.0 k.1 k.2) in
+    c.in_ok-control-in-Control.ensures.reads b.0 more b.1
+
+pub action-returns-in_err-operation-in-AllPorts-clause-reads : goal.action-returns-in_err-operation-in-AllPorts-clause-reads
+action-returns-in_err-operation-in-AllPorts-clause-reads t c =
+    λ x more right deep ends e.
+    let k = action_kind c.args.left x more _ right deep ends e in
+    let says : Says c.args.self.now.rest.now c.beginning.result = record { alt = c.beginning.ensures.alt; for_loop = c.beginning.ensures.for_loop; set_verdict = c.beginning.ensures.set_verdict; all_ports = c.beginning.ensures.all_ports; send = c.beginning.ensures.send; receive = c.beginning.ensures.receive; control = c.beginning.ensures.control } in
+    let b = subst (Begun c.args.left more _) (sym (kind_begun k.0 more _ c.beginning.result says k.2) ∙ c.in-AllPorts.is) (begun c.args.left more _ k.0 k.1 k.2) in
+    handed c.from_residual-in_err-operation-in-AllPorts.result _ _ c.from_residual-in_err-operation-in-AllPorts.ensures.1 (c.in_err-operation-in-AllPorts.ensures.reads b.0 more b.1)
+
+pub action-returns-in_ok-operation-in-AllPorts-clause-reads : goal.action-returns-in_ok-operation-in-AllPorts-clause-reads
+action-returns-in_ok-operation-in-AllPorts-clause-reads t c =
+    λ x more right deep ends e.
+    let k = action_kind c.args.left x more _ right deep ends e in
+    let says : Says c.args.self.now.rest.now c.beginning.result = record { alt = c.beginning.ensures.alt; for_loop = c.beginning.ensures.for_loop; set_verdict = c.beginning.ensures.set_verdict; all_ports = c.beginning.ensures.all_ports; send = c.beginning.ensures.send; receive = c.beginning.ensures.receive; control = c.beginning.ensures.control } in
+    let b = subst (Begun c.args.left more _) (sym (kind_begun k.0 more _ c.beginning.result says k.2) ∙ c.in-AllPorts.is) (begun c.args.left more _ k.0 k.1 k.2) in
+    c.in_ok-operation-in-AllPorts.ensures.reads b.0 more b.1
+
+pub action-returns-in_err-verdict-in-SetVerdict-clause-reads : goal.action-returns-in_err-verdict-in-SetVerdict-clause-reads
+action-returns-in_err-verdict-in-SetVerdict-clause-reads t c =
+    λ x more right deep ends e.
+    let k = action_kind c.args.left x more _ right deep ends e in
+    let says : Says c.args.self.now.rest.now c.beginning.result = record { alt = c.beginning.ensures.alt; for_loop = c.beginning.ensures.for_loop; set_verdict = c.beginning.ensures.set_verdict; all_ports = c.beginning.ensures.all_ports; send = c.beginning.ensures.send; receive = c.beginning.ensures.receive; control = c.beginning.ensures.control } in
+    let b = subst (Begun c.args.left more _) (sym (kind_begun k.0 more _ c.beginning.result says k.2) ∙ c.in-SetVerdict.is) (begun c.args.left more _ k.0 k.1 k.2) in
+    handed c.from_residual-in_err-verdict-in-SetVerdict.result _ _ c.from_residual-in_err-verdict-in-SetVerdict.ensures.1 (c.in_err-verdict-in-SetVerdict.ensures.reads b.0 more b.1 b.2)
+
+pub action-returns-in_ok-verdict-in-SetVerdict-clause-reads : goal.action-returns-in_ok-verdict-in-SetVerdict-clause-reads
+action-returns-in_ok-verdict-in-SetVerdict-clause-reads t c =
+    λ x more right deep ends e.
+    let k = action_kind c.args.left x more _ right deep ends e in
+    let says : Says c.args.self.now.rest.now c.beginning.result = record { alt = c.beginning.ensures.alt; for_loop = c.beginning.ensures.for_loop; set_verdict = c.beginning.ensures.set_verdict; all_ports = c.beginning.ensures.all_ports; send = c.beginning.ensures.send; receive = c.beginning.ensures.receive; control = c.beginning.ensures.control } in
+    let b = subst (Begun c.args.left more _) (sym (kind_begun k.0 more _ c.beginning.result says k.2) ∙ c.in-SetVerdict.is) (begun c.args.left more _ k.0 k.1 k.2) in
+    c.in_ok-verdict-in-SetVerdict.ensures.reads b.0 more b.1 b.2
+
+pub action-returns-in_err-counted-in-For-clause-reads : goal.action-returns-in_err-counted-in-For-clause-reads
+action-returns-in_err-counted-in-For-clause-reads t c =
+    λ x more right deep ends e.
+    let k = action_kind c.args.left x more _ right deep ends e in
+    let says : Says c.args.self.now.rest.now c.beginning.result = record { alt = c.beginning.ensures.alt; for_loop = c.beginning.ensures.for_loop; set_verdict = c.beginning.ensures.set_verdict; all_ports = c.beginning.ensures.all_ports; send = c.beginning.ensures.send; receive = c.beginning.ensures.receive; control = c.beginning.ensures.control } in
+    let b = subst (Begun c.args.left more _) (sym (kind_begun k.0 more _ c.beginning.result says k.2) ∙ c.in-For.is) (begun c.args.left more _ k.0 k.1 k.2) in
+    handed c.from_residual-in_err-counted-in-For.result _ _ c.from_residual-in_err-counted-in-For.ensures.1 (c.in_err-counted-in-For.ensures.reads b.0 more b.1.0 b.1.1 b.2)
+
+pub action-returns-in_ok-counted-in-For-clause-reads : goal.action-returns-in_ok-counted-in-For-clause-reads
+action-returns-in_ok-counted-in-For-clause-reads t c =
+    λ x more right deep ends e.
+    let k = action_kind c.args.left x more _ right deep ends e in
+    let says : Says c.args.self.now.rest.now c.beginning.result = record { alt = c.beginning.ensures.alt; for_loop = c.beginning.ensures.for_loop; set_verdict = c.beginning.ensures.set_verdict; all_ports = c.beginning.ensures.all_ports; send = c.beginning.ensures.send; receive = c.beginning.ensures.receive; control = c.beginning.ensures.control } in
+    let b = subst (Begun c.args.left more _) (sym (kind_begun k.0 more _ c.beginning.result says k.2) ∙ c.in-For.is) (begun c.args.left more _ k.0 k.1 k.2) in
+    c.in_ok-counted-in-For.ensures.reads b.0 more b.1.0 b.1.1 b.2
+
+pub action-returns-in-Alt-clause-reads : goal.action-returns-in-Alt-clause-reads
+action-returns-in-Alt-clause-reads t c =
+    λ x more right deep ends e.
+    let k = action_kind c.args.left x more _ right deep ends e in
+    let says : Says c.args.self.now.rest.now c.beginning.result = record { alt = c.beginning.ensures.alt; for_loop = c.beginning.ensures.for_loop; set_verdict = c.beginning.ensures.set_verdict; all_ports = c.beginning.ensures.all_ports; send = c.beginning.ensures.send; receive = c.beginning.ensures.receive; control = c.beginning.ensures.control } in
+    let b = subst (Begun c.args.left more _) (sym (kind_begun k.0 more _ c.beginning.result says k.2) ∙ c.in-Alt.is) (begun c.args.left more _ k.0 k.1 k.2) in
+    c.alt.ensures.reads b.0 b.1 more b.2.0 b.2.1 b.2.2 b.3

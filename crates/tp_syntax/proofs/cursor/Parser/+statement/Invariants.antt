@@ -1,10 +1,15 @@
 -- The tokens passed are those read so far, no deeper than allowed; a bracket leaves one fewer.
-use Rattle.std.proofs.Common.{◌≡◌, ◌+◌, ◌*◌, ◌≤◌, ◌++◌, length}
+use Rattle.std.proofs.Common.{◌≡◌, ◌+◌, ◌*◌, ◌≤◌, ◌++◌, length, List, true, false}
 use Rattle.tp_syntax.specs.Ahead.{ahead}
-use Rattle.tp_syntax.specs.Statements.{statements_lexemes, branches_lexemes}
-use Rattle.tp_syntax.specs.Grammar.{branches_parts, statements_parts}
+use Rattle.tp_syntax.specs.Statements.{statements_lexemes, branches_lexemes, statement_lexemes, branch_lexemes}
+use Rattle.tp_syntax.specs.Grammar.{branches_parts, statements_parts, statement_part, branch_part}
 use Rattle.tp_syntax.specs.Standing.{GoesOver}
-use Rattle.tp_syntax.specs.Nesting.{branches_depth, statements_depth}
+use Rattle.tp_syntax.specs.Nesting.{branches_depth, statements_depth, statement_depth, branch_depth}
+use Rattle.tp_token.specs.Lexeme.{Lexeme}
+use Rattle.tp_syntax.specs.Reading.{AllStand, is_end_ahead, is_branch_ahead}
+use Rattle.tp_syntax.proofs.Remaining.{RemainAll}
+use Rattle.tp_tree.specs.declared.tree.Statement.{Statement}
+use Rattle.tp_tree.specs.declared.tree.Branch.{Branch}
 use Rattle.tp_syntax.proofs.cursor.Parser.+statement.Given as goal
 
 abbrev pub decreases-statements : goal.decreases-statements
@@ -42,6 +47,8 @@ invariant-statements-more l = record {
   tokens : ahead l.fn.self.rest.now ≡ statements_lexemes l.statements.items ++ ahead l.self.rest.now;
   nested : statements_depth l.statements.items ≤ l.left;
   grammatical : GoesOver l.fn.self (statements_parts l.statements.items) l.self;
+  reads : (xs : List Statement) (more : List Lexeme) → AllStand (statements_parts xs) more → statements_depth xs ≤ l.left → is_end_ahead l.is_case more ≡ true → ahead l.fn.self.rest.now ≡ statements_lexemes xs ++ more
+      → RemainAll statement_lexemes statement_part (λ x. statement_depth x ≤ l.left) more (ahead l.self.rest.now);
   shorter : length l.self.rest.now ≤ length l.fn.self.rest.now;
 }
 
@@ -53,6 +60,8 @@ invariant-branches-more l = record {
   tokens : ahead l.fn.self.rest.now ≡ branches_lexemes l.branches.items ++ ahead l.self.rest.now;
   nested : branches_depth l.branches.items ≤ l.left;
   grammatical : GoesOver l.fn.self (branches_parts l.branches.items) l.self;
+  reads : (xs : List Branch) (more : List Lexeme) → AllStand (branches_parts xs) more → branches_depth xs ≤ l.left → is_branch_ahead more ≡ false → ahead l.fn.self.rest.now ≡ branches_lexemes xs ++ more
+      → RemainAll branch_lexemes branch_part (λ x. branch_depth x ≤ l.left) more (ahead l.self.rest.now);
   shorter : length l.self.rest.now ≤ length l.fn.self.rest.now;
 }
 

@@ -1,10 +1,15 @@
 -- The tokens passed are those read so far, no deeper than allowed; a bracket leaves one fewer.
-use Rattle.std.proofs.Common.{◌≡◌, true, ◌+◌, ◌*◌, ◌<◌, ◌≤◌, ◌++◌, length, map}
+use Rattle.std.proofs.Common.{◌≡◌, true, ◌+◌, ◌*◌, ◌<◌, ◌≤◌, ◌++◌, length, map, List}
 use Rattle.tp_syntax.specs.Ahead.{ahead}
 use Rattle.tp_syntax.specs.Sequences.{by_commas}
 use Rattle.tp_syntax.specs.Values.{value_lexemes, value_field_lexemes}
 use Rattle.tp_syntax.specs.Grammar.{one_and_each, is_value, is_value_field}
 use Rattle.tp_syntax.specs.Nesting.{deepest, value_depth, value_field_depth}
+use Rattle.tp_token.specs.Lexeme.{Lexeme}
+use Rattle.tp_syntax.specs.Reading.{Stops}
+use Rattle.tp_syntax.proofs.Remaining.{Remain}
+use Rattle.tp_tree.specs.declared.message.Value.{Value}
+use Rattle.tp_tree.specs.declared.message.ValueField.{ValueField}
 use Rattle.tp_syntax.proofs.cursor.Parser.+value.Given as goal
 
 abbrev pub decreases-value : goal.decreases-value
@@ -28,6 +33,8 @@ invariant-values-more l = record {
   nested : deepest (map value_depth l.values.items) ≤ l.left;
   grammatical : one_and_each (map is_value l.values.items) ≡ true;
   some : 0 < length l.values.items;
+  reads : (xs : List Value) (more : List Lexeme) → one_and_each (map is_value xs) ≡ true → deepest (map value_depth xs) ≤ l.left → Stops more → ahead l.fn.self.rest.now ≡ by_commas (map value_lexemes xs) ++ more
+      → Remain value_lexemes (λ x. (is_value x ≡ true) × (value_depth x ≤ l.left)) more (ahead l.self.rest.now);
   shorter : length l.self.rest.now < length l.fn.self.rest.now;
 }
 
@@ -40,6 +47,8 @@ invariant-value_fields-more l = record {
   nested : deepest (map value_field_depth l.fields.items) ≤ l.left;
   grammatical : one_and_each (map is_value_field l.fields.items) ≡ true;
   some : 0 < length l.fields.items;
+  reads : (xs : List ValueField) (more : List Lexeme) → one_and_each (map is_value_field xs) ≡ true → deepest (map value_field_depth xs) ≤ l.left → Stops more → ahead l.fn.self.rest.now ≡ by_commas (map value_field_lexemes xs) ++ more
+      → Remain value_field_lexemes (λ x. (is_value_field x ≡ true) × (value_field_depth x ≤ l.left)) more (ahead l.self.rest.now);
   shorter : length l.self.rest.now < length l.fn.self.rest.now;
 }
 

@@ -1,17 +1,25 @@
 -- One more definition is read behind the others, and nests no deeper than allowed.
-use Rattle.std.proofs.Common.{arith}
+use Rattle.std.proofs.Common.{arith, sym, subst, ap, ◌∙◌, rules, ◌≤◌}
 use Rattle.tp_syntax.specs.Definitions.{definition_lexemes}
 use Rattle.tp_syntax.specs.Grammar.{definition_part}
 use Rattle.tp_syntax.proofs.Commas.{push_read_all}
 use Rattle.std.proofs.lemmas.Bool.{iff_false}
-use Rattle.tp_syntax.proofs.Standing.{between_push}
+use Rattle.tp_syntax.proofs.Standing.{between_push, between_none}
 use Rattle.tp_tree.specs.declared.tree.Definition.{Definition}
 use Rattle.tp_syntax.specs.Nesting.{defined_depth}
 use Rattle.tp_syntax.proofs.Nesting.{push_nests}
+use Rattle.std.proofs.lemmas.Grind.{common_steps}
+use Rattle.tp_syntax.proofs.Reading.{handed, brace_at, brace_first}
+use Rattle.tp_syntax.proofs.Remaining.{RemainAll, all_next, all_last, no_brace, all_deep}
+use Rattle.tp_syntax.proofs.Begins.{definition_begins}
+use Rattle.tp_syntax.specs.Reading.{first}
 use Rattle.tp_syntax.proofs.cursor.Parser.definitions.Goals as goal
 
 pub more-preserved : goal.more-preserved
 more-preserved c = record {
+  reads = λ xs more stand deep brace e.
+      let n = all_next definition_lexemes definition_part (λ x. defined_depth x.defined ≤ c.args.left) more _ (c.more.invariant.reads xs more stand deep brace e) definition_begins (λ same. iff_false c.is_symbol_at.ensures c.more-test.true (brace_at _ more same brace)) in
+      subst (RemainAll definition_lexemes definition_part (λ x. defined_depth x.defined ≤ c.args.left) more) (sym (c.in_ok-definition.ensures.reads n.0 n.2 n.3 n.1 n.4)) n.5;
   nested = rw c.in_ok-push.ensures.items
       (push_nests (λ (x : Definition). defined_depth x.defined) c.more.definitions.items c.in_ok-definition.definition c.args.left
       c.more.invariant.nested c.in_ok-definition.ensures.nested);
@@ -21,3 +29,22 @@ more-preserved c = record {
       (between_push definition_part c.more.definitions.items c.in_ok-definition.definition _ _ _ c.more.invariant.grammatical (iff_false c.is_symbol_at.ensures c.more-test.true) c.in_ok-definition.ensures.grammatical);
   shorter = omega (arith, c.more.invariant.shorter, c.in_ok-definition.ensures.shorter);
 }
+
+pub more-init : goal.more-init
+more-init c = record {
+  tokens = first_of (search rules, grind (arith, common_steps));
+  nested = first_of (search rules, grind (arith, common_steps));
+  grammatical = rw c.new-definitions.ensures.items (between_none _);
+  reads = λ xs more stand deep brace e. (xs, all_deep _ c.args.left xs deep, stand, e);
+  shorter = first_of (search rules, grind (arith, common_steps));
+}
+
+pub returns-in_err-definition-clause-reads : goal.returns-in_err-definition-clause-reads
+returns-in_err-definition-clause-reads c =
+    λ xs more stand deep brace e.
+    let n = all_next definition_lexemes definition_part (λ x. defined_depth x.defined ≤ c.args.left) more _ (c.more.invariant.reads xs more stand deep brace e) definition_begins (λ same. iff_false c.is_symbol_at.ensures c.more-test.true (brace_at _ more same brace)) in
+    handed c.from_residual.result _ _ c.from_residual.ensures.1 (c.in_err-definition.ensures.reads n.0 n.2 n.3 n.1 n.4)
+
+pub returns-clause-reads : goal.returns-clause-reads
+returns-clause-reads c =
+    λ xs more stand deep brace e. all_last definition_lexemes definition_part (λ x. defined_depth x.defined ≤ c.args.left) more _ (c.more.invariant.reads xs more stand deep brace e) (λ y r same. no_brace _ (definition_begins y r) (ap first (sym same) ∙ brace_first _ (c.is_symbol_at.ensures.0 c.more-test.false)))

@@ -1,10 +1,15 @@
 -- The tokens passed are those of the definitions so far, which nest no deeper than allowed.
-use Rattle.std.proofs.Common.{◌≡◌, ◌≤◌, ◌++◌, length, map}
+use Rattle.std.proofs.Common.{◌≡◌, ◌≤◌, ◌++◌, length, map, List, Some}
 use Rattle.tp_syntax.specs.Ahead.{ahead}
-use Rattle.tp_syntax.specs.Definitions.{definitions_lexemes}
-use Rattle.tp_syntax.specs.Nesting.{definitions_depth}
+use Rattle.tp_syntax.specs.Definitions.{definitions_lexemes, definition_lexemes}
+use Rattle.tp_syntax.specs.Nesting.{definitions_depth, defined_depth}
 use Rattle.tp_syntax.specs.Grammar.{definition_part}
 use Rattle.tp_syntax.specs.Standing.{GoesOver}
+use Rattle.tp_token.specs.Lexeme.{Lexeme, symbol}
+use Rattle.tp_syntax.specs.Reading.{AllStand, first}
+use Rattle.tp_syntax.proofs.Remaining.{RemainAll}
+use Rattle.tp_tree.specs.declared.tree.Definition.{Definition}
+use Rattle.tp_token.specs.declared.token.Symbol.TheVariants.{RightBrace}
 use Rattle.tp_syntax.proofs.cursor.Parser.definitions.Given as goal
 
 abbrev pub invariant-more : goal.invariant-more
@@ -12,6 +17,8 @@ invariant-more l = record {
   tokens : ahead l.fn.self.rest.now ≡ definitions_lexemes l.definitions.items ++ ahead l.self.rest.now;
   nested : definitions_depth l.definitions.items ≤ l.left;
   grammatical : GoesOver l.fn.self (map definition_part l.definitions.items) l.self;
+  reads : (xs : List Definition) (more : List Lexeme) → AllStand (map definition_part xs) more → definitions_depth xs ≤ l.left → first more ≡ Some (symbol RightBrace) → ahead l.fn.self.rest.now ≡ definitions_lexemes xs ++ more
+      → RemainAll definition_lexemes definition_part (λ x. defined_depth x.defined ≤ l.left) more (ahead l.self.rest.now);
   shorter : length l.self.rest.now ≤ length l.fn.self.rest.now;
 }
 

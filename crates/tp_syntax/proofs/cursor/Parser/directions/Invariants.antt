@@ -1,15 +1,22 @@
 -- The tokens passed are those of the ways through the port so far.
-use Rattle.std.proofs.Common.{◌≡◌, ◌≤◌, ◌++◌, length, map}
+use Rattle.std.proofs.Common.{◌≡◌, ◌≤◌, ◌++◌, length, map, List, Some}
 use Rattle.tp_syntax.specs.Ahead.{ahead}
-use Rattle.tp_syntax.specs.Definitions.{directions_lexemes}
+use Rattle.tp_syntax.specs.Definitions.{directions_lexemes, direction_lexemes}
 use Rattle.tp_syntax.specs.Grammar.{direction_part}
 use Rattle.tp_syntax.specs.Standing.{GoesOver}
+use Rattle.tp_token.specs.Lexeme.{Lexeme, symbol}
+use Rattle.tp_syntax.specs.Reading.{AllStand, first}
+use Rattle.tp_syntax.proofs.Remaining.{RemainAll}
+use Rattle.tp_tree.specs.declared.tree.Direction.{Direction}
+use Rattle.tp_token.specs.declared.token.Symbol.TheVariants.{RightBrace}
 use Rattle.tp_syntax.proofs.cursor.Parser.directions.Given as goal
 
 abbrev pub invariant-more : goal.invariant-more
 invariant-more l = record {
   tokens : ahead l.fn.self.rest.now ≡ directions_lexemes l.directions.items ++ ahead l.self.rest.now;
   grammatical : GoesOver l.fn.self (map direction_part l.directions.items) l.self;
+  reads : (xs : List Direction) (more : List Lexeme) → AllStand (map direction_part xs) more → first more ≡ Some (symbol RightBrace) → ahead l.fn.self.rest.now ≡ directions_lexemes xs ++ more
+      → RemainAll direction_lexemes direction_part (λ _. Unit {0}) more (ahead l.self.rest.now);
   shorter : length l.self.rest.now ≤ length l.fn.self.rest.now;
 }
 

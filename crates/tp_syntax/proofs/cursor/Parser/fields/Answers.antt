@@ -1,14 +1,55 @@
 -- One more field of a record type is read behind its comma.
-use Rattle.std.proofs.Common.{arith, length-append}
+use Rattle.std.proofs.Common.{arith, length-append, sym, subst, ap, ◌∙◌, rules}
 use Rattle.tp_syntax.specs.Definitions.{field_type_lexemes}
 use Rattle.tp_syntax.proofs.Commas.{push_read}
+use Rattle.std.proofs.lemmas.Grind.{common_steps}
+use Rattle.tp_syntax.proofs.Reading.{handed, same_ahead, brace_at, brace_first}
+use Rattle.tp_syntax.proofs.Remaining.{Remain, comma_first, comma_next, comma_last, all_any, none_of, some_of}
+use Rattle.tp_syntax.specs.Reading.{first, is_stop}
+use Rattle.tp_syntax.proofs.Begins.{field_no_brace}
+use Rattle.std.proofs.lemmas.Bool.{iff_false}
 use Rattle.tp_syntax.proofs.cursor.Parser.fields.Goals as goal
 
 pub more-preserved : goal.more-preserved
 more-preserved c = record {
+  reads = λ xs more close e.
+      let n = comma_next field_type_lexemes (λ _. Unit {0}) more _ _ (c.more.invariant.reads xs more close e) c.more-test.ensures.yes (ap is_stop close) in
+      subst (Remain field_type_lexemes (λ _. Unit {0}) more) (sym (c.in_ok-next.ensures.reads n.0 n.2 n.3)) n.4;
   tokens = rw c.in_ok-push-2.ensures.items
       (push_read field_type_lexemes c.more.fields.items c.in_ok-next.next _ _ _ _
       c.more.invariant.some c.more.invariant.tokens c.more-test.ensures.yes c.in_ok-next.ensures.tokens);
   some = rw c.in_ok-push-2.ensures.items (simp length-append (omega arith));
   shorter = omega (arith, c.more.invariant.shorter, c.more-test.ensures.shorter, c.in_ok-next.ensures.shorter);
 }
+
+pub more-init : goal.more-init
+more-init c = record {
+  tokens = first_of (search rules, grind (arith, common_steps));
+  some = first_of (search rules, grind (arith, common_steps));
+  reads = λ xs more close e.
+      let n = comma_first field_type_lexemes (λ _. Unit {0}) xs more _ (all_any xs) (some_of field_type_lexemes xs more _ e (λ same. iff_false c.is_symbol_at.ensures c.if-is_symbol_at.false (brace_at _ more same close))) e in
+      subst (Remain field_type_lexemes (λ _. Unit {0}) more) (sym (c.in_ok-first.ensures.reads n.0 n.2 n.3)) n.4;
+  shorter = first_of (search rules, grind (arith, common_steps));
+}
+
+pub returns-in_err-first-clause-reads : goal.returns-in_err-first-clause-reads
+returns-in_err-first-clause-reads c =
+    λ xs more close e.
+    let n = comma_first field_type_lexemes (λ _. Unit {0}) xs more _ (all_any xs) (some_of field_type_lexemes xs more _ e (λ same. iff_false c.is_symbol_at.ensures c.if-is_symbol_at.false (brace_at _ more same close))) e in
+    handed c.from_residual.result _ _ c.from_residual.ensures.1 (c.in_err-first.ensures.reads n.0 n.2 n.3)
+
+pub returns-in_err-next-clause-reads : goal.returns-in_err-next-clause-reads
+returns-in_err-next-clause-reads c =
+    λ xs more close e.
+    let n = comma_next field_type_lexemes (λ _. Unit {0}) more _ _ (c.more.invariant.reads xs more close e) c.more-test.ensures.yes (ap is_stop close) in
+    handed c.from_residual-in_err-next.result _ _ c.from_residual-in_err-next.ensures.1 (c.in_err-next.ensures.reads n.0 n.2 n.3)
+
+pub returns-clause-reads : goal.returns-clause-reads
+returns-clause-reads c =
+    λ xs more close e.
+    same_ahead c.more-test.ensures.no (comma_last field_type_lexemes (λ _. Unit {0}) more _ (c.more.invariant.reads xs more close e) c.more-test.ensures.other)
+
+pub returns-then-is_symbol_at-clause-reads : goal.returns-then-is_symbol_at-clause-reads
+returns-then-is_symbol_at-clause-reads c =
+    λ xs more close e.
+    none_of field_type_lexemes xs more _ e (λ y r same. field_no_brace y r (ap first (sym same) ∙ brace_first _ (c.is_symbol_at.ensures.0 c.if-is_symbol_at.true)))

@@ -1,13 +1,20 @@
 -- The tokens passed are those of the fields so far, of which there is one at least.
-use Rattle.std.proofs.Common.{◌≡◌, ◌<◌, ◌++◌, length}
+use Rattle.std.proofs.Common.{◌≡◌, ◌<◌, ◌++◌, length, List, Some}
 use Rattle.tp_syntax.specs.Ahead.{ahead}
-use Rattle.tp_syntax.specs.Definitions.{field_types_lexemes}
+use Rattle.tp_syntax.specs.Definitions.{field_types_lexemes, field_type_lexemes}
+use Rattle.tp_token.specs.Lexeme.{Lexeme, symbol}
+use Rattle.tp_syntax.specs.Reading.{first}
+use Rattle.tp_syntax.proofs.Remaining.{Remain}
+use Rattle.tp_tree.specs.declared.tree.FieldType.{FieldType}
+use Rattle.tp_token.specs.declared.token.Symbol.TheVariants.{RightBrace}
 use Rattle.tp_syntax.proofs.cursor.Parser.fields.Given as goal
 
 abbrev pub invariant-more : goal.invariant-more
 invariant-more l = record {
   tokens : ahead l.fn.self.rest.now ≡ field_types_lexemes l.fields.items ++ ahead l.self.rest.now;
   some : 0 < length l.fields.items;
+  reads : (xs : List FieldType) (more : List Lexeme) → first more ≡ Some (symbol RightBrace) → ahead l.fn.self.rest.now ≡ field_types_lexemes xs ++ more
+      → Remain field_type_lexemes (λ _. Unit {0}) more (ahead l.self.rest.now);
   shorter : length l.self.rest.now < length l.fn.self.rest.now;
 }
 

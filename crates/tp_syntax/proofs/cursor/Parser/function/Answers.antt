@@ -1,7 +1,12 @@
 -- Each variable and statement but the last of them has its `;`, or ends in a `}`.
-use Rattle.std.proofs.Common.{◌++◌, map}
+use Rattle.std.proofs.Common.{◌++◌, map, append_assoc, append_assoc, refl, ◌∷◌, arith}
 use Rattle.tp_syntax.specs.Grammar.{statements_parts, variable_part}
 use Rattle.tp_syntax.proofs.Standing.{between_parts, between_then}
+use Rattle.tp_syntax.proofs.Reading.{handed}
+use Rattle.tp_syntax.specs.Definitions.{function_lexemes}
+use Rattle.tp_syntax.proofs.CaseReading.{function_variables, function_statements, statements_no_var}
+use Rattle.tp_token.specs.Lexeme.{symbol}
+use Rattle.tp_token.specs.declared.token.Symbol.TheVariants.{RightBrace}
 use Rattle.tp_syntax.proofs.cursor.Parser.function.Goals as goal
 
 pub returns-clause-grammatical : goal.returns-clause-grammatical
@@ -10,3 +15,171 @@ returns-clause-grammatical c =
     let statements = statements_parts c.in_ok-statements.statements.items in
     between_parts (variables ++ statements) _ _
     (between_then variables statements _ _ _ c.in_ok-variables.ensures.grammatical c.in_ok-statements.ensures.grammatical)
+
+pub returns-in_err-word-clause-reads : goal.returns-in_err-word-clause-reads
+unfolding function_lexemes
+returns-in_err-word-clause-reads c =
+    λ x more right deep e.
+    let e0 = simp append_assoc at e in
+    handed c.from_residual.result _ _ c.from_residual.ensures.1 (c.in_err-word.ensures.reads _ e0)
+
+pub returns-in_err-name-clause-reads : goal.returns-in_err-name-clause-reads
+unfolding function_lexemes
+returns-in_err-name-clause-reads c =
+    λ x more right deep e.
+    let e0 = simp append_assoc at e in
+    let e1 = c.in_ok-word.ensures.reads _ e0 in
+    handed c.from_residual-in_err-name.result _ _ c.from_residual-in_err-name.ensures.1 (c.in_err-name.ensures.reads _ _ e1)
+
+pub returns-in_err-symbol-clause-reads : goal.returns-in_err-symbol-clause-reads
+unfolding function_lexemes
+returns-in_err-symbol-clause-reads c =
+    λ x more right deep e.
+    let e0 = simp append_assoc at e in
+    let e1 = c.in_ok-word.ensures.reads _ e0 in
+    let e2 = c.in_ok-name.ensures.reads _ _ e1 in
+    handed c.from_residual-in_err-symbol.result _ _ c.from_residual-in_err-symbol.ensures.1 (c.in_err-symbol.ensures.reads _ e2)
+
+pub returns-in_err-parameters-clause-reads : goal.returns-in_err-parameters-clause-reads
+unfolding function_lexemes
+returns-in_err-parameters-clause-reads c =
+    λ x more right deep e.
+    let e0 = simp append_assoc at e in
+    let e1 = c.in_ok-word.ensures.reads _ e0 in
+    let e2 = c.in_ok-name.ensures.reads _ _ e1 in
+    let e3 = c.in_ok-symbol.ensures.reads _ e2 in
+    handed c.from_residual-in_err-parameters.result _ _ c.from_residual-in_err-parameters.ensures.1 (c.in_err-parameters.ensures.reads x.parameters.items _ refl e3)
+
+pub returns-in_err-symbol-2-clause-reads : goal.returns-in_err-symbol-2-clause-reads
+unfolding function_lexemes
+returns-in_err-symbol-2-clause-reads c =
+    λ x more right deep e.
+    let e0 = simp append_assoc at e in
+    let e1 = c.in_ok-word.ensures.reads _ e0 in
+    let e2 = c.in_ok-name.ensures.reads _ _ e1 in
+    let e3 = c.in_ok-symbol.ensures.reads _ e2 in
+    let e4 = c.in_ok-parameters.ensures.reads x.parameters.items _ refl e3 in
+    handed c.from_residual-in_err-symbol-2.result _ _ c.from_residual-in_err-symbol-2.ensures.1 (c.in_err-symbol-2.ensures.reads _ e4)
+
+pub returns-in_err-word-2-clause-reads : goal.returns-in_err-word-2-clause-reads
+unfolding function_lexemes
+returns-in_err-word-2-clause-reads c =
+    λ x more right deep e.
+    let e0 = simp append_assoc at e in
+    let e1 = c.in_ok-word.ensures.reads _ e0 in
+    let e2 = c.in_ok-name.ensures.reads _ _ e1 in
+    let e3 = c.in_ok-symbol.ensures.reads _ e2 in
+    let e4 = c.in_ok-parameters.ensures.reads x.parameters.items _ refl e3 in
+    let e5 = c.in_ok-symbol-2.ensures.reads _ e4 in
+    handed c.from_residual-in_err-word-2.result _ _ c.from_residual-in_err-word-2.ensures.1 (c.in_err-word-2.ensures.reads _ e5)
+
+pub returns-in_err-word-3-clause-reads : goal.returns-in_err-word-3-clause-reads
+unfolding function_lexemes
+returns-in_err-word-3-clause-reads c =
+    λ x more right deep e.
+    let e0 = simp append_assoc at e in
+    let e1 = c.in_ok-word.ensures.reads _ e0 in
+    let e2 = c.in_ok-name.ensures.reads _ _ e1 in
+    let e3 = c.in_ok-symbol.ensures.reads _ e2 in
+    let e4 = c.in_ok-parameters.ensures.reads x.parameters.items _ refl e3 in
+    let e5 = c.in_ok-symbol-2.ensures.reads _ e4 in
+    let e6 = c.in_ok-word-2.ensures.reads _ e5 in
+    handed c.from_residual-in_err-word-3.result _ _ c.from_residual-in_err-word-3.ensures.1 (c.in_err-word-3.ensures.reads _ e6)
+
+pub returns-in_err-runs_on-clause-reads : goal.returns-in_err-runs_on-clause-reads
+unfolding function_lexemes
+returns-in_err-runs_on-clause-reads c =
+    λ x more right deep e.
+    let e0 = simp append_assoc at e in
+    let e1 = c.in_ok-word.ensures.reads _ e0 in
+    let e2 = c.in_ok-name.ensures.reads _ _ e1 in
+    let e3 = c.in_ok-symbol.ensures.reads _ e2 in
+    let e4 = c.in_ok-parameters.ensures.reads x.parameters.items _ refl e3 in
+    let e5 = c.in_ok-symbol-2.ensures.reads _ e4 in
+    let e6 = c.in_ok-word-2.ensures.reads _ e5 in
+    let e7 = c.in_ok-word-3.ensures.reads _ e6 in
+    handed c.from_residual-in_err-runs_on.result _ _ c.from_residual-in_err-runs_on.ensures.1 (c.in_err-runs_on.ensures.reads _ _ e7)
+
+pub returns-in_err-inner-clause-reads : goal.returns-in_err-inner-clause-reads
+unfolding function_lexemes
+returns-in_err-inner-clause-reads c =
+    λ x more right deep e.
+    let e0 = simp append_assoc at e in
+    let e1 = c.in_ok-word.ensures.reads _ e0 in
+    let e2 = c.in_ok-name.ensures.reads _ _ e1 in
+    let e3 = c.in_ok-symbol.ensures.reads _ e2 in
+    let e4 = c.in_ok-parameters.ensures.reads x.parameters.items _ refl e3 in
+    let e5 = c.in_ok-symbol-2.ensures.reads _ e4 in
+    let e6 = c.in_ok-word-2.ensures.reads _ e5 in
+    let e7 = c.in_ok-word-3.ensures.reads _ e6 in
+    let e8 = c.in_ok-runs_on.ensures.reads _ _ e7 in
+    handed c.from_residual-in_err-inner.result _ _ c.from_residual-in_err-inner.ensures.1 (c.in_err-inner.ensures.reads _ (omega arith) e8)
+
+pub returns-in_err-variables-clause-reads : goal.returns-in_err-variables-clause-reads
+unfolding function_lexemes
+returns-in_err-variables-clause-reads c =
+    λ x more right deep e.
+    let e0 = simp append_assoc at e in
+    let e1 = c.in_ok-word.ensures.reads _ e0 in
+    let e2 = c.in_ok-name.ensures.reads _ _ e1 in
+    let e3 = c.in_ok-symbol.ensures.reads _ e2 in
+    let e4 = c.in_ok-parameters.ensures.reads x.parameters.items _ refl e3 in
+    let e5 = c.in_ok-symbol-2.ensures.reads _ e4 in
+    let e6 = c.in_ok-word-2.ensures.reads _ e5 in
+    let e7 = c.in_ok-word-3.ensures.reads _ e6 in
+    let e8 = c.in_ok-runs_on.ensures.reads _ _ e7 in
+    let e9 = c.in_ok-inner.ensures.reads _ (omega arith) e8 in
+    handed c.from_residual-in_err-variables.result _ _ c.from_residual-in_err-variables.ensures.1 (c.in_err-variables.ensures.reads x.variables.items _ (function_variables x more right) (statements_no_var x.statements.items (symbol RightBrace ∷ more) (λ h. cc h)) e9)
+
+pub returns-in_err-statements-clause-reads : goal.returns-in_err-statements-clause-reads
+unfolding function_lexemes
+returns-in_err-statements-clause-reads c =
+    λ x more right deep e.
+    let e0 = simp append_assoc at e in
+    let e1 = c.in_ok-word.ensures.reads _ e0 in
+    let e2 = c.in_ok-name.ensures.reads _ _ e1 in
+    let e3 = c.in_ok-symbol.ensures.reads _ e2 in
+    let e4 = c.in_ok-parameters.ensures.reads x.parameters.items _ refl e3 in
+    let e5 = c.in_ok-symbol-2.ensures.reads _ e4 in
+    let e6 = c.in_ok-word-2.ensures.reads _ e5 in
+    let e7 = c.in_ok-word-3.ensures.reads _ e6 in
+    let e8 = c.in_ok-runs_on.ensures.reads _ _ e7 in
+    let e9 = c.in_ok-inner.ensures.reads _ (omega arith) e8 in
+    let e10 = c.in_ok-variables.ensures.reads x.variables.items _ (function_variables x more right) (statements_no_var x.statements.items (symbol RightBrace ∷ more) (λ h. cc h)) e9 in
+    handed c.from_residual-in_err-statements.result _ _ c.from_residual-in_err-statements.ensures.1 (c.in_err-statements.ensures.reads x.statements.items _ (function_statements x more right) (omega (arith, c.in_ok-inner.ensures.inner)) refl e10)
+
+pub returns-in_err-symbol-3-clause-reads : goal.returns-in_err-symbol-3-clause-reads
+unfolding function_lexemes
+returns-in_err-symbol-3-clause-reads c =
+    λ x more right deep e.
+    let e0 = simp append_assoc at e in
+    let e1 = c.in_ok-word.ensures.reads _ e0 in
+    let e2 = c.in_ok-name.ensures.reads _ _ e1 in
+    let e3 = c.in_ok-symbol.ensures.reads _ e2 in
+    let e4 = c.in_ok-parameters.ensures.reads x.parameters.items _ refl e3 in
+    let e5 = c.in_ok-symbol-2.ensures.reads _ e4 in
+    let e6 = c.in_ok-word-2.ensures.reads _ e5 in
+    let e7 = c.in_ok-word-3.ensures.reads _ e6 in
+    let e8 = c.in_ok-runs_on.ensures.reads _ _ e7 in
+    let e9 = c.in_ok-inner.ensures.reads _ (omega arith) e8 in
+    let e10 = c.in_ok-variables.ensures.reads x.variables.items _ (function_variables x more right) (statements_no_var x.statements.items (symbol RightBrace ∷ more) (λ h. cc h)) e9 in
+    let e11 = c.in_ok-statements.ensures.reads x.statements.items _ (function_statements x more right) (omega (arith, c.in_ok-inner.ensures.inner)) refl e10 in
+    handed c.from_residual-in_err-symbol-3.result _ _ c.from_residual-in_err-symbol-3.ensures.1 (c.in_err-symbol-3.ensures.reads more e11)
+
+pub returns-clause-reads : goal.returns-clause-reads
+unfolding function_lexemes
+returns-clause-reads c =
+    λ x more right deep e.
+    let e0 = simp append_assoc at e in
+    let e1 = c.in_ok-word.ensures.reads _ e0 in
+    let e2 = c.in_ok-name.ensures.reads _ _ e1 in
+    let e3 = c.in_ok-symbol.ensures.reads _ e2 in
+    let e4 = c.in_ok-parameters.ensures.reads x.parameters.items _ refl e3 in
+    let e5 = c.in_ok-symbol-2.ensures.reads _ e4 in
+    let e6 = c.in_ok-word-2.ensures.reads _ e5 in
+    let e7 = c.in_ok-word-3.ensures.reads _ e6 in
+    let e8 = c.in_ok-runs_on.ensures.reads _ _ e7 in
+    let e9 = c.in_ok-inner.ensures.reads _ (omega arith) e8 in
+    let e10 = c.in_ok-variables.ensures.reads x.variables.items _ (function_variables x more right) (statements_no_var x.statements.items (symbol RightBrace ∷ more) (λ h. cc h)) e9 in
+    let e11 = c.in_ok-statements.ensures.reads x.statements.items _ (function_statements x more right) (omega (arith, c.in_ok-inner.ensures.inner)) refl e10 in
+    c.in_ok-symbol-3.ensures.reads more e11

@@ -1,8 +1,77 @@
 -- Each definition but the last has its `;`, or ends in a `}`.
-use Rattle.std.proofs.Common.{map}
+use Rattle.std.proofs.Common.{map, append_assoc, append_assoc, refl, ◌∷◌, ◌++◌, arith}
 use Rattle.tp_syntax.specs.Grammar.{definition_part}
 use Rattle.tp_syntax.proofs.Standing.{between_parts}
+use Rattle.tp_syntax.proofs.Reading.{handed}
+use Rattle.tp_syntax.proofs.CaseReading.{ended_stands}
+use Rattle.tp_token.specs.Lexeme.{symbol}
+use Rattle.tp_token.specs.declared.token.Symbol.TheVariants.{RightBrace}
+use Rattle.tp_syntax.proofs.Remaining.{parts_stand}
+use Rattle.tp_syntax.specs.Sequences.{end_lexemes}
+use Rattle.tp_syntax.specs.Reading.{first}
 use Rattle.tp_syntax.proofs.cursor.Parser.module.Goals as goal
 
 pub returns-clause-grammatical : goal.returns-clause-grammatical
 returns-clause-grammatical c = between_parts (map definition_part c.in_ok-definitions.definitions.items) _ _ c.in_ok-definitions.ensures.grammatical
+
+pub returns-in_err-word-clause-reads : goal.returns-in_err-word-clause-reads
+returns-in_err-word-clause-reads c =
+    λ x more right deep other e.
+    let e0 = simp append_assoc at e in
+    handed c.from_residual.result _ _ c.from_residual.ensures.1 (c.in_err-word.ensures.reads _ e0)
+
+pub returns-in_err-name-clause-reads : goal.returns-in_err-name-clause-reads
+returns-in_err-name-clause-reads c =
+    λ x more right deep other e.
+    let e0 = simp append_assoc at e in
+    let e1 = c.in_ok-word.ensures.reads _ e0 in
+    handed c.from_residual-in_err-name.result _ _ c.from_residual-in_err-name.ensures.1 (c.in_err-name.ensures.reads _ _ e1)
+
+pub returns-in_err-inner-clause-reads : goal.returns-in_err-inner-clause-reads
+returns-in_err-inner-clause-reads c =
+    λ x more right deep other e.
+    let e0 = simp append_assoc at e in
+    let e1 = c.in_ok-word.ensures.reads _ e0 in
+    let e2 = c.in_ok-name.ensures.reads _ _ e1 in
+    handed c.from_residual-in_err-inner.result _ _ c.from_residual-in_err-inner.ensures.1 (c.in_err-inner.ensures.reads _ (omega arith) e2)
+
+pub returns-in_err-definitions-clause-reads : goal.returns-in_err-definitions-clause-reads
+returns-in_err-definitions-clause-reads c =
+    λ x more right deep other e.
+    let e0 = simp append_assoc at e in
+    let e1 = c.in_ok-word.ensures.reads _ e0 in
+    let e2 = c.in_ok-name.ensures.reads _ _ e1 in
+    let e3 = c.in_ok-inner.ensures.reads _ (omega arith) e2 in
+    handed c.from_residual-in_err-definitions.result _ _ c.from_residual-in_err-definitions.ensures.1 (c.in_err-definitions.ensures.reads x.definitions.items (symbol RightBrace ∷ (end_lexemes x.has_semicolon ++ more)) (parts_stand (map definition_part x.definitions.items) (symbol RightBrace ∷ (end_lexemes x.has_semicolon ++ more)) right refl) (omega (arith, c.in_ok-inner.ensures.inner)) refl e3)
+
+pub returns-in_err-symbol-clause-reads : goal.returns-in_err-symbol-clause-reads
+returns-in_err-symbol-clause-reads c =
+    λ x more right deep other e.
+    let e0 = simp append_assoc at e in
+    let e1 = c.in_ok-word.ensures.reads _ e0 in
+    let e2 = c.in_ok-name.ensures.reads _ _ e1 in
+    let e3 = c.in_ok-inner.ensures.reads _ (omega arith) e2 in
+    let e4 = c.in_ok-definitions.ensures.reads x.definitions.items (symbol RightBrace ∷ (end_lexemes x.has_semicolon ++ more)) (parts_stand (map definition_part x.definitions.items) (symbol RightBrace ∷ (end_lexemes x.has_semicolon ++ more)) right refl) (omega (arith, c.in_ok-inner.ensures.inner)) refl e3 in
+    handed c.from_residual-in_err-symbol.result _ _ c.from_residual-in_err-symbol.ensures.1 (c.in_err-symbol.ensures.reads _ e4)
+
+pub returns-in_err-has_semicolon-clause-reads : goal.returns-in_err-has_semicolon-clause-reads
+returns-in_err-has_semicolon-clause-reads c =
+    λ x more right deep other e.
+    let e0 = simp append_assoc at e in
+    let e1 = c.in_ok-word.ensures.reads _ e0 in
+    let e2 = c.in_ok-name.ensures.reads _ _ e1 in
+    let e3 = c.in_ok-inner.ensures.reads _ (omega arith) e2 in
+    let e4 = c.in_ok-definitions.ensures.reads x.definitions.items (symbol RightBrace ∷ (end_lexemes x.has_semicolon ++ more)) (parts_stand (map definition_part x.definitions.items) (symbol RightBrace ∷ (end_lexemes x.has_semicolon ++ more)) right refl) (omega (arith, c.in_ok-inner.ensures.inner)) refl e3 in
+    let e5 = c.in_ok-symbol.ensures.reads _ e4 in
+    handed c.from_residual-in_err-has_semicolon.result _ _ c.from_residual-in_err-has_semicolon.ensures.1 (c.in_err-has_semicolon.ensures.reads x.has_semicolon more (ended_stands (first more) other) e5)
+
+pub returns-clause-reads : goal.returns-clause-reads
+returns-clause-reads c =
+    λ x more right deep other e.
+    let e0 = simp append_assoc at e in
+    let e1 = c.in_ok-word.ensures.reads _ e0 in
+    let e2 = c.in_ok-name.ensures.reads _ _ e1 in
+    let e3 = c.in_ok-inner.ensures.reads _ (omega arith) e2 in
+    let e4 = c.in_ok-definitions.ensures.reads x.definitions.items (symbol RightBrace ∷ (end_lexemes x.has_semicolon ++ more)) (parts_stand (map definition_part x.definitions.items) (symbol RightBrace ∷ (end_lexemes x.has_semicolon ++ more)) right refl) (omega (arith, c.in_ok-inner.ensures.inner)) refl e3 in
+    let e5 = c.in_ok-symbol.ensures.reads _ e4 in
+    c.in_ok-has_semicolon.ensures.reads x.has_semicolon more (ended_stands (first more) other) e5

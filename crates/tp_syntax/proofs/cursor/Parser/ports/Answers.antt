@@ -1,14 +1,22 @@
 -- One more declaration of ports is read behind the others.
-use Rattle.std.proofs.Common.{arith}
+use Rattle.std.proofs.Common.{arith, sym, subst, ap, ◌∙◌, rules}
 use Rattle.tp_syntax.specs.Definitions.{port_declaration_lexemes}
 use Rattle.tp_syntax.specs.Grammar.{port_declaration_part}
 use Rattle.tp_syntax.proofs.Commas.{push_read_all}
 use Rattle.std.proofs.lemmas.Bool.{iff_false}
-use Rattle.tp_syntax.proofs.Standing.{between_push}
+use Rattle.tp_syntax.proofs.Standing.{between_push, between_none}
+use Rattle.std.proofs.lemmas.Grind.{common_steps}
+use Rattle.tp_syntax.proofs.Reading.{handed, brace_at, brace_first}
+use Rattle.tp_syntax.proofs.Remaining.{RemainAll, all_next, all_last, no_brace, all_any}
+use Rattle.tp_syntax.proofs.Begins.{port_declaration_begins}
+use Rattle.tp_syntax.specs.Reading.{first}
 use Rattle.tp_syntax.proofs.cursor.Parser.ports.Goals as goal
 
 pub more-preserved : goal.more-preserved
 more-preserved c = record {
+  reads = λ xs more stand brace e.
+      let n = all_next port_declaration_lexemes port_declaration_part (λ _. Unit {0}) more _ (c.more.invariant.reads xs more stand brace e) port_declaration_begins (λ same. iff_false c.is_symbol_at.ensures c.more-test.true (brace_at _ more same brace)) in
+      subst (RemainAll port_declaration_lexemes port_declaration_part (λ _. Unit {0}) more) (sym (c.in_ok-port_declaration.ensures.reads n.0 n.2 n.3 n.4)) n.5;
   tokens = rw c.in_ok-push.ensures.items
       (push_read_all port_declaration_lexemes c.more.ports.items c.in_ok-port_declaration.port_declaration _ _ _
       c.more.invariant.tokens c.in_ok-port_declaration.ensures.tokens);
@@ -16,3 +24,21 @@ more-preserved c = record {
       (between_push port_declaration_part c.more.ports.items c.in_ok-port_declaration.port_declaration _ _ _ c.more.invariant.grammatical (iff_false c.is_symbol_at.ensures c.more-test.true) c.in_ok-port_declaration.ensures.grammatical);
   shorter = omega (arith, c.more.invariant.shorter, c.in_ok-port_declaration.ensures.shorter);
 }
+
+pub more-init : goal.more-init
+more-init c = record {
+  tokens = first_of (search rules, grind (arith, common_steps));
+  grammatical = rw c.new-ports.ensures.items (between_none _);
+  reads = λ xs more stand brace e. (xs, all_any xs, stand, e);
+  shorter = first_of (search rules, grind (arith, common_steps));
+}
+
+pub returns-in_err-port_declaration-clause-reads : goal.returns-in_err-port_declaration-clause-reads
+returns-in_err-port_declaration-clause-reads c =
+    λ xs more stand brace e.
+    let n = all_next port_declaration_lexemes port_declaration_part (λ _. Unit {0}) more _ (c.more.invariant.reads xs more stand brace e) port_declaration_begins (λ same. iff_false c.is_symbol_at.ensures c.more-test.true (brace_at _ more same brace)) in
+    handed c.from_residual.result _ _ c.from_residual.ensures.1 (c.in_err-port_declaration.ensures.reads n.0 n.2 n.3 n.4)
+
+pub returns-clause-reads : goal.returns-clause-reads
+returns-clause-reads c =
+    λ xs more stand brace e. all_last port_declaration_lexemes port_declaration_part (λ _. Unit {0}) more _ (c.more.invariant.reads xs more stand brace e) (λ y r same. no_brace _ (port_declaration_begins y r) (ap first (sym same) ∙ brace_first _ (c.is_symbol_at.ensures.0 c.more-test.false)))

@@ -1,15 +1,22 @@
 -- The tokens passed are those of the declarations of ports so far.
-use Rattle.std.proofs.Common.{◌≡◌, ◌≤◌, ◌++◌, length, map}
+use Rattle.std.proofs.Common.{◌≡◌, ◌≤◌, ◌++◌, length, map, List, Some}
 use Rattle.tp_syntax.specs.Ahead.{ahead}
-use Rattle.tp_syntax.specs.Definitions.{port_declarations_lexemes}
+use Rattle.tp_syntax.specs.Definitions.{port_declarations_lexemes, port_declaration_lexemes}
 use Rattle.tp_syntax.specs.Grammar.{port_declaration_part}
 use Rattle.tp_syntax.specs.Standing.{GoesOver}
+use Rattle.tp_token.specs.Lexeme.{Lexeme, symbol}
+use Rattle.tp_syntax.specs.Reading.{AllStand, first}
+use Rattle.tp_syntax.proofs.Remaining.{RemainAll}
+use Rattle.tp_tree.specs.declared.tree.PortDeclaration.{PortDeclaration}
+use Rattle.tp_token.specs.declared.token.Symbol.TheVariants.{RightBrace}
 use Rattle.tp_syntax.proofs.cursor.Parser.ports.Given as goal
 
 abbrev pub invariant-more : goal.invariant-more
 invariant-more l = record {
   tokens : ahead l.fn.self.rest.now ≡ port_declarations_lexemes l.ports.items ++ ahead l.self.rest.now;
   grammatical : GoesOver l.fn.self (map port_declaration_part l.ports.items) l.self;
+  reads : (xs : List PortDeclaration) (more : List Lexeme) → AllStand (map port_declaration_part xs) more → first more ≡ Some (symbol RightBrace) → ahead l.fn.self.rest.now ≡ port_declarations_lexemes xs ++ more
+      → RemainAll port_declaration_lexemes port_declaration_part (λ _. Unit {0}) more (ahead l.self.rest.now);
   shorter : length l.self.rest.now ≤ length l.fn.self.rest.now;
 }
 

@@ -1,16 +1,43 @@
 -- One more setup statement is read behind the others.
-use Rattle.std.proofs.Common.{arith}
+use Rattle.std.proofs.Common.{arith, sym, subst, ap, ◌∙◌, rules, refl}
 use Rattle.tp_syntax.specs.Definitions.{setup_lexemes}
 use Rattle.tp_syntax.specs.Grammar.{setup_part}
 use Rattle.tp_syntax.proofs.Commas.{push_read_all}
-use Rattle.tp_syntax.proofs.Standing.{between_push}
+use Rattle.tp_syntax.proofs.Standing.{between_push, between_none}
+use Rattle.std.proofs.lemmas.Grind.{common_steps}
+use Rattle.tp_syntax.proofs.Reading.{handed, setup_first}
+use Rattle.tp_syntax.proofs.Remaining.{RemainAll, all_next, all_last, all_any}
+use Rattle.tp_syntax.proofs.Begins.{setup_begins, setup_at}
+use Rattle.tp_syntax.specs.Reading.{is_setup_ahead}
+use Rattle.std.proofs.lemmas.Bool.{false≢true}
 use Rattle.tp_syntax.proofs.cursor.Parser.setups.Goals as goal
 
 pub more-preserved : goal.more-preserved
 more-preserved c = record {
+  reads = λ xs more stand other e.
+      let n = all_next setup_lexemes setup_part (λ _. Unit {0}) more _ (c.more.invariant.reads xs more stand other e) setup_begins (λ same. false≢true (sym other ∙ ap is_setup_ahead (sym same) ∙ setup_first _ (c.more-test.ensures.setup.0 refl))) in
+      subst (RemainAll setup_lexemes setup_part (λ _. Unit {0}) more) (sym (c.in_ok-setup.ensures.reads n.0 n.2 n.3 n.4)) n.5;
   tokens = rw c.in_ok-push.ensures.items
       (push_read_all setup_lexemes c.more.setups.items c.in_ok-setup.setup _ _ _ c.more.invariant.tokens c.in_ok-setup.ensures.tokens);
   grammatical = rw c.in_ok-push.ensures.items
-      (between_push setup_part c.more.setups.items c.in_ok-setup.setup _ _ _ c.more.invariant.grammatical c.more-test.ensures c.in_ok-setup.ensures.grammatical);
+      (between_push setup_part c.more.setups.items c.in_ok-setup.setup _ _ _ c.more.invariant.grammatical c.more-test.ensures.goes_on c.in_ok-setup.ensures.grammatical);
   shorter = omega (arith, c.more.invariant.shorter, c.in_ok-setup.ensures.shorter);
 }
+
+pub more-init : goal.more-init
+more-init c = record {
+  tokens = first_of (search rules, grind (arith, common_steps));
+  grammatical = rw c.new-setups.ensures.items (between_none _);
+  reads = λ xs more stand other e. (xs, all_any xs, stand, e);
+  shorter = first_of (search rules, grind (arith, common_steps));
+}
+
+pub returns-in_err-setup-clause-reads : goal.returns-in_err-setup-clause-reads
+returns-in_err-setup-clause-reads c =
+    λ xs more stand other e.
+    let n = all_next setup_lexemes setup_part (λ _. Unit {0}) more _ (c.more.invariant.reads xs more stand other e) setup_begins (λ same. false≢true (sym other ∙ ap is_setup_ahead (sym same) ∙ setup_first _ (c.more-test.ensures.setup.0 refl))) in
+    handed c.from_residual.result _ _ c.from_residual.ensures.1 (c.in_err-setup.ensures.reads n.0 n.2 n.3 n.4)
+
+pub returns-clause-reads : goal.returns-clause-reads
+returns-clause-reads c =
+    λ xs more stand other e. all_last setup_lexemes setup_part (λ _. Unit {0}) more _ (c.more.invariant.reads xs more stand other e) (λ y r same. false≢true (c.more-test.ensures.setup.1 (setup_at y r _ same)))

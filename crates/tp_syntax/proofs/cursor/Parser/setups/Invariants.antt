@@ -1,15 +1,21 @@
 -- The tokens passed are those of the setup statements so far.
-use Rattle.std.proofs.Common.{◌≡◌, ◌≤◌, ◌++◌, length, map}
+use Rattle.std.proofs.Common.{◌≡◌, ◌≤◌, ◌++◌, length, map, List, false}
 use Rattle.tp_syntax.specs.Ahead.{ahead}
-use Rattle.tp_syntax.specs.Definitions.{setups_lexemes}
+use Rattle.tp_syntax.specs.Definitions.{setups_lexemes, setup_lexemes}
 use Rattle.tp_syntax.specs.Grammar.{setup_part}
 use Rattle.tp_syntax.specs.Standing.{GoesOver}
+use Rattle.tp_token.specs.Lexeme.{Lexeme}
+use Rattle.tp_syntax.specs.Reading.{AllStand, is_setup_ahead}
+use Rattle.tp_syntax.proofs.Remaining.{RemainAll}
+use Rattle.tp_tree.specs.declared.tree.SetupStatement.{SetupStatement}
 use Rattle.tp_syntax.proofs.cursor.Parser.setups.Given as goal
 
 abbrev pub invariant-more : goal.invariant-more
 invariant-more l = record {
   tokens : ahead l.fn.self.rest.now ≡ setups_lexemes l.setups.items ++ ahead l.self.rest.now;
   grammatical : GoesOver l.fn.self (map setup_part l.setups.items) l.self;
+  reads : (xs : List SetupStatement) (more : List Lexeme) → AllStand (map setup_part xs) more → is_setup_ahead more ≡ false → ahead l.fn.self.rest.now ≡ setups_lexemes xs ++ more
+      → RemainAll setup_lexemes setup_part (λ _. Unit {0}) more (ahead l.self.rest.now);
   shorter : length l.self.rest.now ≤ length l.fn.self.rest.now;
 }
 

@@ -1,15 +1,21 @@
 -- The tokens passed are those of the starts of components so far.
-use Rattle.std.proofs.Common.{◌≡◌, ◌≤◌, ◌++◌, length, map}
+use Rattle.std.proofs.Common.{◌≡◌, ◌≤◌, ◌++◌, length, map, List, false}
 use Rattle.tp_syntax.specs.Ahead.{ahead}
-use Rattle.tp_syntax.specs.Definitions.{starts_lexemes}
+use Rattle.tp_syntax.specs.Definitions.{starts_lexemes, start_lexemes}
 use Rattle.tp_syntax.specs.Grammar.{start_part}
 use Rattle.tp_syntax.specs.Standing.{GoesOver}
+use Rattle.tp_token.specs.Lexeme.{Lexeme}
+use Rattle.tp_syntax.specs.Reading.{AllStand, is_start_ahead}
+use Rattle.tp_syntax.proofs.Remaining.{RemainAll}
+use Rattle.tp_tree.specs.declared.tree.ComponentStart.{ComponentStart}
 use Rattle.tp_syntax.proofs.cursor.Parser.starts.Given as goal
 
 abbrev pub invariant-more : goal.invariant-more
 invariant-more l = record {
   tokens : ahead l.fn.self.rest.now ≡ starts_lexemes l.starts.items ++ ahead l.self.rest.now;
   grammatical : GoesOver l.fn.self (map start_part l.starts.items) l.self;
+  reads : (xs : List ComponentStart) (more : List Lexeme) → AllStand (map start_part xs) more → is_start_ahead more ≡ false → ahead l.fn.self.rest.now ≡ starts_lexemes xs ++ more
+      → RemainAll start_lexemes start_part (λ _. Unit {0}) more (ahead l.self.rest.now);
   shorter : length l.self.rest.now ≤ length l.fn.self.rest.now;
 }
 

@@ -1,7 +1,10 @@
 -- Each part of a test case but the last has its `;`, or ends in a `}`.
-use Rattle.std.proofs.Common.{◌++◌, map}
+use Rattle.std.proofs.Common.{◌++◌, map, append_assoc, append_assoc, refl, arith}
 use Rattle.tp_syntax.specs.Grammar.{all_done_parts, setup_part, start_part, statements_parts, variable_part}
 use Rattle.tp_syntax.proofs.Standing.{between_parts, between_then}
+use Rattle.tp_syntax.proofs.Reading.{handed}
+use Rattle.tp_syntax.specs.Definitions.{test_case_lexemes, behaviour_lexemes}
+use Rattle.tp_syntax.proofs.CaseReading.{case_stands, case_no_setup, case_no_start, case_no_var, case_ends, behind_setups, behind_starts, behind_variables, behind_statements}
 use Rattle.tp_syntax.proofs.cursor.Parser.test_case.Goals as goal
 
 pub returns-clause-grammatical : goal.returns-clause-grammatical
@@ -16,3 +19,250 @@ returns-clause-grammatical c =
     (between_then starts (variables ++ (statements ++ done)) _ _ _ c.in_ok-starts.ensures.grammatical
     (between_then variables (statements ++ done) _ _ _ c.in_ok-variables.ensures.grammatical
     (between_then statements done _ _ _ c.in_ok-statements.ensures.grammatical c.in_ok-all_done.ensures.grammatical))))
+
+pub returns-in_err-word-clause-reads : goal.returns-in_err-word-clause-reads
+unfolding test_case_lexemes behaviour_lexemes
+returns-in_err-word-clause-reads c =
+    λ x more right deep e.
+    let stands = case_stands x more right in
+    let e0 = simp append_assoc at e in
+    handed c.from_residual.result _ _ c.from_residual.ensures.1 (c.in_err-word.ensures.reads _ e0)
+
+pub returns-in_err-name-clause-reads : goal.returns-in_err-name-clause-reads
+unfolding test_case_lexemes behaviour_lexemes
+returns-in_err-name-clause-reads c =
+    λ x more right deep e.
+    let stands = case_stands x more right in
+    let e0 = simp append_assoc at e in
+    let e1 = c.in_ok-word.ensures.reads _ e0 in
+    handed c.from_residual-in_err-name.result _ _ c.from_residual-in_err-name.ensures.1 (c.in_err-name.ensures.reads _ _ e1)
+
+pub returns-in_err-symbol-clause-reads : goal.returns-in_err-symbol-clause-reads
+unfolding test_case_lexemes behaviour_lexemes
+returns-in_err-symbol-clause-reads c =
+    λ x more right deep e.
+    let stands = case_stands x more right in
+    let e0 = simp append_assoc at e in
+    let e1 = c.in_ok-word.ensures.reads _ e0 in
+    let e2 = c.in_ok-name.ensures.reads _ _ e1 in
+    handed c.from_residual-in_err-symbol.result _ _ c.from_residual-in_err-symbol.ensures.1 (c.in_err-symbol.ensures.reads _ e2)
+
+pub returns-in_err-symbol-2-clause-reads : goal.returns-in_err-symbol-2-clause-reads
+unfolding test_case_lexemes behaviour_lexemes
+returns-in_err-symbol-2-clause-reads c =
+    λ x more right deep e.
+    let stands = case_stands x more right in
+    let e0 = simp append_assoc at e in
+    let e1 = c.in_ok-word.ensures.reads _ e0 in
+    let e2 = c.in_ok-name.ensures.reads _ _ e1 in
+    let e3 = c.in_ok-symbol.ensures.reads _ e2 in
+    handed c.from_residual-in_err-symbol-2.result _ _ c.from_residual-in_err-symbol-2.ensures.1 (c.in_err-symbol-2.ensures.reads _ e3)
+
+pub returns-in_err-word-2-clause-reads : goal.returns-in_err-word-2-clause-reads
+unfolding test_case_lexemes behaviour_lexemes
+returns-in_err-word-2-clause-reads c =
+    λ x more right deep e.
+    let stands = case_stands x more right in
+    let e0 = simp append_assoc at e in
+    let e1 = c.in_ok-word.ensures.reads _ e0 in
+    let e2 = c.in_ok-name.ensures.reads _ _ e1 in
+    let e3 = c.in_ok-symbol.ensures.reads _ e2 in
+    let e4 = c.in_ok-symbol-2.ensures.reads _ e3 in
+    handed c.from_residual-in_err-word-2.result _ _ c.from_residual-in_err-word-2.ensures.1 (c.in_err-word-2.ensures.reads _ e4)
+
+pub returns-in_err-word-3-clause-reads : goal.returns-in_err-word-3-clause-reads
+unfolding test_case_lexemes behaviour_lexemes
+returns-in_err-word-3-clause-reads c =
+    λ x more right deep e.
+    let stands = case_stands x more right in
+    let e0 = simp append_assoc at e in
+    let e1 = c.in_ok-word.ensures.reads _ e0 in
+    let e2 = c.in_ok-name.ensures.reads _ _ e1 in
+    let e3 = c.in_ok-symbol.ensures.reads _ e2 in
+    let e4 = c.in_ok-symbol-2.ensures.reads _ e3 in
+    let e5 = c.in_ok-word-2.ensures.reads _ e4 in
+    handed c.from_residual-in_err-word-3.result _ _ c.from_residual-in_err-word-3.ensures.1 (c.in_err-word-3.ensures.reads _ e5)
+
+pub returns-in_err-runs_on-clause-reads : goal.returns-in_err-runs_on-clause-reads
+unfolding test_case_lexemes behaviour_lexemes
+returns-in_err-runs_on-clause-reads c =
+    λ x more right deep e.
+    let stands = case_stands x more right in
+    let e0 = simp append_assoc at e in
+    let e1 = c.in_ok-word.ensures.reads _ e0 in
+    let e2 = c.in_ok-name.ensures.reads _ _ e1 in
+    let e3 = c.in_ok-symbol.ensures.reads _ e2 in
+    let e4 = c.in_ok-symbol-2.ensures.reads _ e3 in
+    let e5 = c.in_ok-word-2.ensures.reads _ e4 in
+    let e6 = c.in_ok-word-3.ensures.reads _ e5 in
+    handed c.from_residual-in_err-runs_on.result _ _ c.from_residual-in_err-runs_on.ensures.1 (c.in_err-runs_on.ensures.reads _ _ e6)
+
+pub returns-in_err-system-clause-reads : goal.returns-in_err-system-clause-reads
+unfolding test_case_lexemes behaviour_lexemes
+returns-in_err-system-clause-reads c =
+    λ x more right deep e.
+    let stands = case_stands x more right in
+    let e0 = simp append_assoc at e in
+    let e1 = c.in_ok-word.ensures.reads _ e0 in
+    let e2 = c.in_ok-name.ensures.reads _ _ e1 in
+    let e3 = c.in_ok-symbol.ensures.reads _ e2 in
+    let e4 = c.in_ok-symbol-2.ensures.reads _ e3 in
+    let e5 = c.in_ok-word-2.ensures.reads _ e4 in
+    let e6 = c.in_ok-word-3.ensures.reads _ e5 in
+    let e7 = c.in_ok-runs_on.ensures.reads _ _ e6 in
+    handed c.from_residual-in_err-system.result _ _ c.from_residual-in_err-system.ensures.1 (c.in_err-system.ensures.reads x.system _ (λ h. cc h) e7)
+
+pub returns-in_err-inner-clause-reads : goal.returns-in_err-inner-clause-reads
+unfolding test_case_lexemes behaviour_lexemes
+returns-in_err-inner-clause-reads c =
+    λ x more right deep e.
+    let stands = case_stands x more right in
+    let e0 = simp append_assoc at e in
+    let e1 = c.in_ok-word.ensures.reads _ e0 in
+    let e2 = c.in_ok-name.ensures.reads _ _ e1 in
+    let e3 = c.in_ok-symbol.ensures.reads _ e2 in
+    let e4 = c.in_ok-symbol-2.ensures.reads _ e3 in
+    let e5 = c.in_ok-word-2.ensures.reads _ e4 in
+    let e6 = c.in_ok-word-3.ensures.reads _ e5 in
+    let e7 = c.in_ok-runs_on.ensures.reads _ _ e6 in
+    let e8 = c.in_ok-system.ensures.reads x.system _ (λ h. cc h) e7 in
+    handed c.from_residual-in_err-inner.result _ _ c.from_residual-in_err-inner.ensures.1 (c.in_err-inner.ensures.reads _ (omega arith) e8)
+
+pub returns-in_err-setups-clause-reads : goal.returns-in_err-setups-clause-reads
+unfolding test_case_lexemes behaviour_lexemes
+returns-in_err-setups-clause-reads c =
+    λ x more right deep e.
+    let stands = case_stands x more right in
+    let e0 = simp append_assoc at e in
+    let e1 = c.in_ok-word.ensures.reads _ e0 in
+    let e2 = c.in_ok-name.ensures.reads _ _ e1 in
+    let e3 = c.in_ok-symbol.ensures.reads _ e2 in
+    let e4 = c.in_ok-symbol-2.ensures.reads _ e3 in
+    let e5 = c.in_ok-word-2.ensures.reads _ e4 in
+    let e6 = c.in_ok-word-3.ensures.reads _ e5 in
+    let e7 = c.in_ok-runs_on.ensures.reads _ _ e6 in
+    let e8 = c.in_ok-system.ensures.reads x.system _ (λ h. cc h) e7 in
+    let e9 = c.in_ok-inner.ensures.reads _ (omega arith) e8 in
+    handed c.from_residual-in_err-setups.result _ _ c.from_residual-in_err-setups.ensures.1 (c.in_err-setups.ensures.reads x.setups.items (behind_setups x more) stands.setups (case_no_setup x more stands) e9)
+
+pub returns-in_err-starts-clause-reads : goal.returns-in_err-starts-clause-reads
+unfolding test_case_lexemes behaviour_lexemes
+returns-in_err-starts-clause-reads c =
+    λ x more right deep e.
+    let stands = case_stands x more right in
+    let e0 = simp append_assoc at e in
+    let e1 = c.in_ok-word.ensures.reads _ e0 in
+    let e2 = c.in_ok-name.ensures.reads _ _ e1 in
+    let e3 = c.in_ok-symbol.ensures.reads _ e2 in
+    let e4 = c.in_ok-symbol-2.ensures.reads _ e3 in
+    let e5 = c.in_ok-word-2.ensures.reads _ e4 in
+    let e6 = c.in_ok-word-3.ensures.reads _ e5 in
+    let e7 = c.in_ok-runs_on.ensures.reads _ _ e6 in
+    let e8 = c.in_ok-system.ensures.reads x.system _ (λ h. cc h) e7 in
+    let e9 = c.in_ok-inner.ensures.reads _ (omega arith) e8 in
+    let e10 = c.in_ok-setups.ensures.reads x.setups.items (behind_setups x more) stands.setups (case_no_setup x more stands) e9 in
+    handed c.from_residual-in_err-starts.result _ _ c.from_residual-in_err-starts.ensures.1 (c.in_err-starts.ensures.reads x.starts.items (behind_starts x more) stands.starts (case_no_start x more stands) e10)
+
+pub returns-in_err-variables-clause-reads : goal.returns-in_err-variables-clause-reads
+unfolding test_case_lexemes behaviour_lexemes
+returns-in_err-variables-clause-reads c =
+    λ x more right deep e.
+    let stands = case_stands x more right in
+    let e0 = simp append_assoc at e in
+    let e1 = c.in_ok-word.ensures.reads _ e0 in
+    let e2 = c.in_ok-name.ensures.reads _ _ e1 in
+    let e3 = c.in_ok-symbol.ensures.reads _ e2 in
+    let e4 = c.in_ok-symbol-2.ensures.reads _ e3 in
+    let e5 = c.in_ok-word-2.ensures.reads _ e4 in
+    let e6 = c.in_ok-word-3.ensures.reads _ e5 in
+    let e7 = c.in_ok-runs_on.ensures.reads _ _ e6 in
+    let e8 = c.in_ok-system.ensures.reads x.system _ (λ h. cc h) e7 in
+    let e9 = c.in_ok-inner.ensures.reads _ (omega arith) e8 in
+    let e10 = c.in_ok-setups.ensures.reads x.setups.items (behind_setups x more) stands.setups (case_no_setup x more stands) e9 in
+    let e11 = c.in_ok-starts.ensures.reads x.starts.items (behind_starts x more) stands.starts (case_no_start x more stands) e10 in
+    handed c.from_residual-in_err-variables.result _ _ c.from_residual-in_err-variables.ensures.1 (c.in_err-variables.ensures.reads x.variables.items (behind_variables x more) stands.variables (case_no_var x more) e11)
+
+pub returns-in_err-statements-clause-reads : goal.returns-in_err-statements-clause-reads
+unfolding test_case_lexemes behaviour_lexemes
+returns-in_err-statements-clause-reads c =
+    λ x more right deep e.
+    let stands = case_stands x more right in
+    let e0 = simp append_assoc at e in
+    let e1 = c.in_ok-word.ensures.reads _ e0 in
+    let e2 = c.in_ok-name.ensures.reads _ _ e1 in
+    let e3 = c.in_ok-symbol.ensures.reads _ e2 in
+    let e4 = c.in_ok-symbol-2.ensures.reads _ e3 in
+    let e5 = c.in_ok-word-2.ensures.reads _ e4 in
+    let e6 = c.in_ok-word-3.ensures.reads _ e5 in
+    let e7 = c.in_ok-runs_on.ensures.reads _ _ e6 in
+    let e8 = c.in_ok-system.ensures.reads x.system _ (λ h. cc h) e7 in
+    let e9 = c.in_ok-inner.ensures.reads _ (omega arith) e8 in
+    let e10 = c.in_ok-setups.ensures.reads x.setups.items (behind_setups x more) stands.setups (case_no_setup x more stands) e9 in
+    let e11 = c.in_ok-starts.ensures.reads x.starts.items (behind_starts x more) stands.starts (case_no_start x more stands) e10 in
+    let e12 = c.in_ok-variables.ensures.reads x.variables.items (behind_variables x more) stands.variables (case_no_var x more) e11 in
+    handed c.from_residual-in_err-statements.result _ _ c.from_residual-in_err-statements.ensures.1 (c.in_err-statements.ensures.reads x.statements.items (behind_statements x more) stands.statements (omega (arith, c.in_ok-inner.ensures.inner)) (case_ends x more) e12)
+
+pub returns-in_err-all_done-clause-reads : goal.returns-in_err-all_done-clause-reads
+unfolding test_case_lexemes behaviour_lexemes
+returns-in_err-all_done-clause-reads c =
+    λ x more right deep e.
+    let stands = case_stands x more right in
+    let e0 = simp append_assoc at e in
+    let e1 = c.in_ok-word.ensures.reads _ e0 in
+    let e2 = c.in_ok-name.ensures.reads _ _ e1 in
+    let e3 = c.in_ok-symbol.ensures.reads _ e2 in
+    let e4 = c.in_ok-symbol-2.ensures.reads _ e3 in
+    let e5 = c.in_ok-word-2.ensures.reads _ e4 in
+    let e6 = c.in_ok-word-3.ensures.reads _ e5 in
+    let e7 = c.in_ok-runs_on.ensures.reads _ _ e6 in
+    let e8 = c.in_ok-system.ensures.reads x.system _ (λ h. cc h) e7 in
+    let e9 = c.in_ok-inner.ensures.reads _ (omega arith) e8 in
+    let e10 = c.in_ok-setups.ensures.reads x.setups.items (behind_setups x more) stands.setups (case_no_setup x more stands) e9 in
+    let e11 = c.in_ok-starts.ensures.reads x.starts.items (behind_starts x more) stands.starts (case_no_start x more stands) e10 in
+    let e12 = c.in_ok-variables.ensures.reads x.variables.items (behind_variables x more) stands.variables (case_no_var x more) e11 in
+    let e13 = c.in_ok-statements.ensures.reads x.statements.items (behind_statements x more) stands.statements (omega (arith, c.in_ok-inner.ensures.inner)) (case_ends x more) e12 in
+    handed c.from_residual-in_err-all_done.result _ _ c.from_residual-in_err-all_done.ensures.1 (c.in_err-all_done.ensures.reads x.all_done _ stands.all_done refl e13)
+
+pub returns-in_err-symbol-3-clause-reads : goal.returns-in_err-symbol-3-clause-reads
+unfolding test_case_lexemes behaviour_lexemes
+returns-in_err-symbol-3-clause-reads c =
+    λ x more right deep e.
+    let stands = case_stands x more right in
+    let e0 = simp append_assoc at e in
+    let e1 = c.in_ok-word.ensures.reads _ e0 in
+    let e2 = c.in_ok-name.ensures.reads _ _ e1 in
+    let e3 = c.in_ok-symbol.ensures.reads _ e2 in
+    let e4 = c.in_ok-symbol-2.ensures.reads _ e3 in
+    let e5 = c.in_ok-word-2.ensures.reads _ e4 in
+    let e6 = c.in_ok-word-3.ensures.reads _ e5 in
+    let e7 = c.in_ok-runs_on.ensures.reads _ _ e6 in
+    let e8 = c.in_ok-system.ensures.reads x.system _ (λ h. cc h) e7 in
+    let e9 = c.in_ok-inner.ensures.reads _ (omega arith) e8 in
+    let e10 = c.in_ok-setups.ensures.reads x.setups.items (behind_setups x more) stands.setups (case_no_setup x more stands) e9 in
+    let e11 = c.in_ok-starts.ensures.reads x.starts.items (behind_starts x more) stands.starts (case_no_start x more stands) e10 in
+    let e12 = c.in_ok-variables.ensures.reads x.variables.items (behind_variables x more) stands.variables (case_no_var x more) e11 in
+    let e13 = c.in_ok-statements.ensures.reads x.statements.items (behind_statements x more) stands.statements (omega (arith, c.in_ok-inner.ensures.inner)) (case_ends x more) e12 in
+    let e14 = c.in_ok-all_done.ensures.reads x.all_done _ stands.all_done refl e13 in
+    handed c.from_residual-in_err-symbol-3.result _ _ c.from_residual-in_err-symbol-3.ensures.1 (c.in_err-symbol-3.ensures.reads more e14)
+
+pub returns-clause-reads : goal.returns-clause-reads
+unfolding test_case_lexemes behaviour_lexemes
+returns-clause-reads c =
+    λ x more right deep e.
+    let stands = case_stands x more right in
+    let e0 = simp append_assoc at e in
+    let e1 = c.in_ok-word.ensures.reads _ e0 in
+    let e2 = c.in_ok-name.ensures.reads _ _ e1 in
+    let e3 = c.in_ok-symbol.ensures.reads _ e2 in
+    let e4 = c.in_ok-symbol-2.ensures.reads _ e3 in
+    let e5 = c.in_ok-word-2.ensures.reads _ e4 in
+    let e6 = c.in_ok-word-3.ensures.reads _ e5 in
+    let e7 = c.in_ok-runs_on.ensures.reads _ _ e6 in
+    let e8 = c.in_ok-system.ensures.reads x.system _ (λ h. cc h) e7 in
+    let e9 = c.in_ok-inner.ensures.reads _ (omega arith) e8 in
+    let e10 = c.in_ok-setups.ensures.reads x.setups.items (behind_setups x more) stands.setups (case_no_setup x more stands) e9 in
+    let e11 = c.in_ok-starts.ensures.reads x.starts.items (behind_starts x more) stands.starts (case_no_start x more stands) e10 in
+    let e12 = c.in_ok-variables.ensures.reads x.variables.items (behind_variables x more) stands.variables (case_no_var x more) e11 in
+    let e13 = c.in_ok-statements.ensures.reads x.statements.items (behind_statements x more) stands.statements (omega (arith, c.in_ok-inner.ensures.inner)) (case_ends x more) e12 in
+    let e14 = c.in_ok-all_done.ensures.reads x.all_done _ stands.all_done refl e13 in
+    c.in_ok-symbol-3.ensures.reads more e14

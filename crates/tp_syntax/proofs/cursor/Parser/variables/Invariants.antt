@@ -1,15 +1,22 @@
 -- The tokens passed are those of the `var` statements so far.
-use Rattle.std.proofs.Common.{◌≡◌, ◌≤◌, ◌++◌, length, map}
+use Rattle.std.proofs.Common.{◌≡◌, ◌≤◌, ◌++◌, length, map, ◌≢◌, List, Some}
+use Rattle.tp_token.specs.declared.word.Word.TheVariants as w
 use Rattle.tp_syntax.specs.Ahead.{ahead}
-use Rattle.tp_syntax.specs.Statements.{variables_lexemes}
+use Rattle.tp_syntax.specs.Statements.{variables_lexemes, variable_lexemes}
 use Rattle.tp_syntax.specs.Grammar.{variable_part}
 use Rattle.tp_syntax.specs.Standing.{GoesOver}
+use Rattle.tp_token.specs.Lexeme.{Lexeme, word}
+use Rattle.tp_syntax.specs.Reading.{AllStand, first}
+use Rattle.tp_syntax.proofs.Remaining.{RemainAll}
+use Rattle.tp_tree.specs.declared.tree.Variable.{Variable}
 use Rattle.tp_syntax.proofs.cursor.Parser.variables.Given as goal
 
 abbrev pub invariant-more : goal.invariant-more
 invariant-more l = record {
   tokens : ahead l.fn.self.rest.now ≡ variables_lexemes l.variables.items ++ ahead l.self.rest.now;
   grammatical : GoesOver l.fn.self (map variable_part l.variables.items) l.self;
+  reads : (xs : List Variable) (more : List Lexeme) → AllStand (map variable_part xs) more → first more ≢ Some (word w.Var) → ahead l.fn.self.rest.now ≡ variables_lexemes xs ++ more
+      → RemainAll variable_lexemes variable_part (λ _. Unit {0}) more (ahead l.self.rest.now);
   shorter : length l.self.rest.now ≤ length l.fn.self.rest.now;
 }
 

@@ -1,0 +1,191 @@
+-- A value by the token that it begins with.
+use Rattle.std.proofs.Common.{inl, inr, ◌⊎◌, ◌≡◌, ℕ, suc, ◌+◌, ◌-◌, ◌≤◌, ℤ, pos, negsuc, Bool, true, false, List, [], ◌∷◌, ◌++◌, Some, map, refl, ap, sym, subst, ◌∙◌, arith, string_bytes}
+use Rattle.std.specs.declared.vec.Vec.{Vec}
+use Rattle.std.specs.declared.alloc.Global.{Global}
+use Rattle.std.specs.declared.string.String.{String}
+use Rattle.std.proofs.lemmas.Bool.{false≢true}
+use Rattle.tp_token.specs.declared.token.Placed.{Placed}
+use Rattle.tp_token.specs.declared.word.Word.TheVariants as w
+use Rattle.tp_token.specs.declared.token.Symbol.TheVariants.{Assign, LeftBrace, Minus, RightBrace}
+use Rattle.tp_token.specs.Lexeme.{Lexeme, name, word, number, text, symbol}
+use Rattle.tp_tree.specs.declared.message.Value.{Value}
+use Rattle.tp_tree.specs.declared.message.Value.TheVariants as v
+use Rattle.tp_tree.specs.declared.message.Value.TheOpen as o
+use Rattle.tp_tree.specs.declared.message.Value.TheViews.{roll-Value, out-Value, roll-out-Value}
+use Rattle.tp_tree.specs.declared.message.ValueField.{ValueField, out-ValueField}
+use Rattle.tp_syntax.specs.Ahead.{ahead, before}
+use Rattle.tp_syntax.specs.Sequences.{by_commas, braced}
+use Rattle.tp_syntax.specs.Values.{int_lexemes, bool_lexeme, value_lexemes, value_field_lexemes}
+use Rattle.tp_syntax.specs.Grammar.{each, one_and_each, is_integer, is_value, is_value_field}
+use Rattle.tp_syntax.specs.Nesting.{deepest, value_depth, value_field_depth}
+use Rattle.tp_syntax.specs.Reading.{first}
+use Rattle.tp_syntax.proofs.ValueTokens as tokens
+use Rattle.tp_syntax.proofs.Grammar as grammar
+use Rattle.tp_syntax.proofs.Nesting as nesting
+use Rattle.tp_syntax.proofs.Signs.{sign_first, no_bool, no_int, no_bool_brace, int_unnamed, bool_unnamed, some_int}
+
+layer : (Q : Value → Type 0) → ((z : ℤ) → Q (v.Int z)) → ((b : Bool) → Q (v.Bool b)) → ((t : Vec ℕ Global) → Q (v.Text t)) →
+    ((n : String Global) → Q (v.Name n)) → ((vs : Vec Value Global) → Q (v.List vs)) → ((fs : Vec ValueField Global) → Q (v.Record fs)) →
+    (y : o.Value-F Value ValueField) → Q (roll-Value y)
+layer Q i b t n l r (o.Int z) = subst Q (sym (v.rolls-Int z)) (i z)
+layer Q i b t n l r (o.Bool x) = subst Q (sym (v.rolls-Bool x)) (b x)
+layer Q i b t n l r (o.Text x) = subst Q (sym (v.rolls-Text x)) (t x)
+layer Q i b t n l r (o.Name x) = subst Q (sym (v.rolls-Name x)) (n x)
+layer Q i b t n l r (o.List x) = subst Q (sym (v.rolls-List x)) (l x)
+layer Q i b t n l r (o.Record x) = subst Q (sym (v.rolls-Record x)) (r x)
+
+-- a fact of each value, variant by variant
+value_cases : (Q : Value → Type 0) → ((z : ℤ) → Q (v.Int z)) → ((b : Bool) → Q (v.Bool b)) → ((t : Vec ℕ Global) → Q (v.Text t)) →
+    ((n : String Global) → Q (v.Name n)) → ((vs : Vec Value Global) → Q (v.List vs)) → ((fs : Vec ValueField Global) → Q (v.Record fs)) → (x : Value) → Q x
+value_cases Q i b t n l r x = subst Q (roll-out-Value x) (layer Q i b t n l r (out-Value x))
+
+-- several values in braces, or several fields, behind the `{`
+abbrev pub InBraces : ℕ → List Lexeme → List Lexeme → Type 0
+InBraces left more ts =
+    ((vs : List Value) × (each (map is_value vs) ≡ true) × (deepest (map value_depth vs) ≤ left)
+    × (ts ≡ (by_commas (map value_lexemes vs) ++ symbol RightBrace ∷ []) ++ more))
+    ⊎ ((fs : List ValueField) × (one_and_each (map is_value_field fs) ≡ true) × (deepest (map value_field_depth fs) ≤ left)
+    × (ts ≡ (by_commas (map value_field_lexemes fs) ++ symbol RightBrace ∷ []) ++ more))
+
+-- what stands behind the first token of a value, in which so many brackets may be opened
+abbrev pub Behind : ℕ → List Lexeme → Lexeme → List Lexeme → Type 0
+Behind left more (number n) ts = (is_integer (pos n) ≡ true) × (ts ≡ more)
+Behind left more (word w.True) ts = ts ≡ more
+Behind left more (word w.False) ts = ts ≡ more
+Behind left more (text cs) ts = ts ≡ more
+Behind left more (name n) ts = ts ≡ more
+Behind left more (symbol Minus) ts = Unit {0}
+Behind left more (symbol LeftBrace) ts = (m : ℕ) × (left ≡ m + 1) × InBraces m more ts
+Behind left more t ts = ⊥
+
+moved : (left : ℕ) (more : List Lexeme) (u t : Lexeme) (us ts : List Lexeme) → u ∷ us ≡ t ∷ ts → Behind left more u us → Behind left more t ts
+moved left more u t us ts e b =
+    let same : u ≡ t = cc in
+    let rest : us ≡ ts = cc in
+    subst (λ x. Behind left more x ts) same (subst (λ (x : List Lexeme). Behind left more u x) rest b)
+
+int_behind : (left : ℕ) (more : List Lexeme) (z : ℤ) (t : Lexeme) (ts : List Lexeme) → is_integer z ≡ true → int_lexemes z ++ more ≡ t ∷ ts → Behind left more t ts
+int_behind left more (pos n) t ts right e = moved left more (number n) t more ts e (right, refl)
+int_behind left more (negsuc n) t ts right e = moved left more (symbol Minus) t (number (suc n) ∷ more) ts e tt
+
+bool_behind : (left : ℕ) (more : List Lexeme) (b : Bool) (t : Lexeme) (ts : List Lexeme) → (bool_lexeme b ∷ []) ++ more ≡ t ∷ ts → Behind left more t ts
+bool_behind left more true t ts e = moved left more (word w.True) t more ts e refl
+bool_behind left more false t ts e = moved left more (word w.False) t more ts e refl
+
+brace_behind : (left n : ℕ) (more ls : List Lexeme) (t : Lexeme) (ts : List Lexeme) → n + 1 ≤ left → braced ls ++ more ≡ t ∷ ts →
+    ((m : ℕ) → n ≤ m → InBraces m more ((ls ++ symbol RightBrace ∷ []) ++ more)) → Behind left more t ts
+brace_behind left n more ls t ts deep e inside =
+    let room : left ≡ (left - 1) + 1 = omega arith in
+    let fits : n ≤ left - 1 = omega arith in
+    moved left more (symbol LeftBrace) t ((ls ++ symbol RightBrace ∷ []) ++ more) ts e (left - 1, room, inside (left - 1) fits)
+
+-- a value by its first token
+pub value_behind : (left : ℕ) (x : Value) (more : List Lexeme) (t : Lexeme) (ts : List Lexeme) →
+    is_value x ≡ true → value_depth x ≤ left → value_lexemes x ++ more ≡ t ∷ ts → Behind left more t ts
+value_behind left x more t ts =
+    value_cases (λ x. is_value x ≡ true → value_depth x ≤ left → value_lexemes x ++ more ≡ t ∷ ts → Behind left more t ts)
+    (λ z right deep e. int_behind left more z t ts (sym (grammar.value_int z) ∙ right) (ap (λ (l : List Lexeme). l ++ more) (sym (tokens.value_int z)) ∙ e))
+    (λ b right deep e. bool_behind left more b t ts (ap (λ (l : List Lexeme). l ++ more) (sym (tokens.value_bool b)) ∙ e))
+    (λ cs right deep e. moved left more (text cs.items) t more ts (ap (λ (l : List Lexeme). l ++ more) (sym (tokens.value_text cs)) ∙ e) refl)
+    (λ n right deep e. moved left more (name (string_bytes n)) t more ts (ap (λ (l : List Lexeme). l ++ more) (sym (tokens.value_name n)) ∙ e) refl)
+    (λ vs right deep e.
+    brace_behind left (deepest (map value_depth vs.items)) more (by_commas (map value_lexemes vs.items)) t ts
+    (rw nesting.value_depth_list at deep) (ap (λ (l : List Lexeme). l ++ more) (sym (tokens.value_list vs)) ∙ e)
+    (λ m fits. inl (vs.items, sym (grammar.value_list vs) ∙ right, fits, refl)))
+    (λ fs right deep e.
+    brace_behind left (deepest (map value_field_depth fs.items)) more (by_commas (map value_field_lexemes fs.items)) t ts
+    (rw nesting.value_depth_record at deep) (ap (λ (l : List Lexeme). l ++ more) (sym (tokens.value_record fs)) ∙ e)
+    (λ m fits. inr (fs.items, sym (grammar.value_record fs) ∙ right, fits, refl)))
+    x
+
+-- behind a `-` stands a number, without its sign
+pub value_minus : (x : Value) (more : List Lexeme) (ps : List Placed) → is_value x ≡ true → before (symbol Minus) ps ≡ value_lexemes x ++ more →
+    (z : ℤ) × (is_integer z ≡ true) × (int_lexemes z ++ more ≡ before (symbol Minus) ps)
+value_minus x more ps =
+    value_cases (λ x. is_value x ≡ true → before (symbol Minus) ps ≡ value_lexemes x ++ more → (z : ℤ) × (is_integer z ≡ true) × (int_lexemes z ++ more ≡ before (symbol Minus) ps))
+    (λ z right e. (z, sym (grammar.value_int z) ∙ right, sym (e ∙ ap (λ (l : List Lexeme). l ++ more) (tokens.value_int z))))
+    (λ b right e. absurd (no_bool b more ps (e ∙ ap (λ (l : List Lexeme). l ++ more) (tokens.value_bool b))))
+    (λ cs right e. absurd (false≢true (sign_first ps (text cs.items) more (e ∙ ap (λ (l : List Lexeme). l ++ more) (tokens.value_text cs)))))
+    (λ n right e. absurd (false≢true (sign_first ps (name (string_bytes n)) more (e ∙ ap (λ (l : List Lexeme). l ++ more) (tokens.value_name n)))))
+    (λ vs right e. absurd (false≢true (sign_first ps (symbol LeftBrace) _ (e ∙ ap (λ (l : List Lexeme). l ++ more) (tokens.value_list vs)))))
+    (λ fs right e. absurd (false≢true (sign_first ps (symbol LeftBrace) _ (e ∙ ap (λ (l : List Lexeme). l ++ more) (tokens.value_record fs)))))
+    x
+
+-- a value doesn't begin with a `}`
+pub value_no_brace : (x : Value) (r : List Lexeme) → first (value_lexemes x ++ r) ≡ Some (symbol RightBrace) → ⊥
+value_no_brace x r =
+    value_cases (λ x. first (value_lexemes x ++ r) ≡ Some (symbol RightBrace) → ⊥)
+    (λ z e. no_int z r (ap (λ (l : List Lexeme). first (l ++ r)) (sym (tokens.value_int z)) ∙ e))
+    (λ b e. no_bool_brace b r (ap (λ (l : List Lexeme). first (l ++ r)) (sym (tokens.value_bool b)) ∙ e))
+    (λ cs e. let h = ap (λ (l : List Lexeme). first (l ++ r)) (sym (tokens.value_text cs)) ∙ e in cc h)
+    (λ n e. let h = ap (λ (l : List Lexeme). first (l ++ r)) (sym (tokens.value_name n)) ∙ e in cc h)
+    (λ vs e. let h = ap (λ (l : List Lexeme). first (l ++ r)) (sym (tokens.value_list vs)) ∙ e in cc h)
+    (λ fs e. let h = ap (λ (l : List Lexeme). first (l ++ r)) (sym (tokens.value_record fs)) ∙ e in cc h)
+    x
+
+-- a value that begins with a name is one
+pub value_named : (x : Value) (r : List Lexeme) (n : List ℕ) (ts : List Lexeme) → value_lexemes x ++ r ≡ name n ∷ ts → ts ≡ r
+value_named x r n ts =
+    value_cases (λ x. value_lexemes x ++ r ≡ name n ∷ ts → ts ≡ r)
+    (λ z e. absurd (int_unnamed z r n ts (ap (λ (l : List Lexeme). l ++ r) (sym (tokens.value_int z)) ∙ e)))
+    (λ b e. absurd (bool_unnamed b r n ts (ap (λ (l : List Lexeme). l ++ r) (sym (tokens.value_bool b)) ∙ e)))
+    (λ cs e. let h = ap (λ (l : List Lexeme). l ++ r) (sym (tokens.value_text cs)) ∙ e in cc h)
+    (λ m e. let h = ap (λ (l : List Lexeme). l ++ r) (sym (tokens.value_name m)) ∙ e in cc h)
+    (λ vs e. let h = ap (λ (l : List Lexeme). l ++ r) (sym (tokens.value_list vs)) ∙ e in cc h)
+    (λ fs e. let h = ap (λ (l : List Lexeme). l ++ r) (sym (tokens.value_record fs)) ∙ e in cc h)
+    x
+
+pub value_field_opens : (f : ValueField) (r : List Lexeme) →
+    value_field_lexemes f ++ r ≡ name (string_bytes (out-ValueField f).name) ∷ symbol Assign ∷ (value_lexemes (out-ValueField f).value ++ r)
+value_field_opens f r = ap (λ (l : List Lexeme). l ++ r) (tokens.value_field_out f)
+
+pub value_field_starts : (y : ValueField) (r : List Lexeme) → (n : List ℕ) × (ts : List Lexeme) × (value_field_lexemes y ++ r ≡ name n ∷ symbol Assign ∷ ts)
+value_field_starts y r = (_, _, value_field_opens y r)
+
+-- a field doesn't begin with a `}`
+pub value_field_no_brace : (y : ValueField) (r : List Lexeme) → first (value_field_lexemes y ++ r) ≡ Some (symbol RightBrace) → ⊥
+value_field_no_brace y r e = cc (ap first (value_field_opens y r), e)
+
+-- whether it may be the first token of a value
+abbrev pub is_value_token : Lexeme → Bool
+is_value_token (number n) = true
+is_value_token (text cs) = true
+is_value_token (name n) = true
+is_value_token (word w.True) = true
+is_value_token (word w.False) = true
+is_value_token (symbol Minus) = true
+is_value_token (symbol LeftBrace) = true
+is_value_token t = false
+
+behind_token : (left : ℕ) (more : List Lexeme) (t : Lexeme) (ts : List Lexeme) → Behind left more t ts → is_value_token t ≡ true
+behind_token left more (number n) ts b = refl
+behind_token left more (text cs) ts b = refl
+behind_token left more (name n) ts b = refl
+behind_token left more (word w.True) ts b = refl
+behind_token left more (word w.False) ts b = refl
+behind_token left more (symbol Minus) ts b = refl
+behind_token left more (symbol LeftBrace) ts b = refl
+behind_token left more t ts b = absurd b
+
+token_of : (left : ℕ) (x : Value) (more : List Lexeme) (t : Lexeme) (ps : List Placed) → is_value x ≡ true → value_depth x ≤ left →
+    value_lexemes x ++ more ≡ before t ps → is_value_token t ≡ true
+token_of left x more (symbol Minus) ps right deep e = refl
+token_of left x more (symbol s) ps right deep e = behind_token left more (symbol s) (ahead ps) (value_behind left x more (symbol s) (ahead ps) right deep e)
+token_of left x more t ps right deep e = behind_token left more t (ahead ps) (value_behind left x more t (ahead ps) right deep e)
+
+-- the first token of a value is one that it may begin with
+pub value_token : (left : ℕ) (x : Value) (more : List Lexeme) (t : Lexeme) (ps : List Placed) → is_value x ≡ true → value_depth x ≤ left →
+    value_lexemes x ++ more ≡ before t ps → is_value_token t ≡ true
+value_token left x more t ps right deep e = token_of left x more t ps right deep e
+
+-- a value has a token
+pub value_some : (x : Value) (more : List Lexeme) → value_lexemes x ++ more ≡ [] → ⊥
+value_some x more =
+    value_cases (λ x. value_lexemes x ++ more ≡ [] → ⊥)
+    (λ z e. some_int z more (ap (λ (l : List Lexeme). l ++ more) (sym (tokens.value_int z)) ∙ e))
+    (λ b e. let h = ap (λ (l : List Lexeme). l ++ more) (sym (tokens.value_bool b)) ∙ e in cc h)
+    (λ cs e. let h = ap (λ (l : List Lexeme). l ++ more) (sym (tokens.value_text cs)) ∙ e in cc h)
+    (λ n e. let h = ap (λ (l : List Lexeme). l ++ more) (sym (tokens.value_name n)) ∙ e in cc h)
+    (λ vs e. let h = ap (λ (l : List Lexeme). l ++ more) (sym (tokens.value_list vs)) ∙ e in cc h)
+    (λ fs e. let h = ap (λ (l : List Lexeme). l ++ more) (sym (tokens.value_record fs)) ∙ e in cc h)
+    x

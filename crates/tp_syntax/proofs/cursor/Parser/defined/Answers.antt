@@ -1,0 +1,35 @@
+-- The first token tells what is defined.
+use Rattle.std.proofs.lemmas.Bool.{iff_false}
+use Rattle.tp_syntax.proofs.CaseReading.{function_of, test_case_of, type_of}
+use Rattle.tp_syntax.proofs.Reading.{handed}
+use Rattle.tp_syntax.proofs.cursor.Parser.defined.Goals as goal
+
+pub returns-in_err-function-clause-reads : goal.returns-in_err-function-clause-reads
+returns-in_err-function-clause-reads c =
+    λ x more right deep e.
+    let t = function_of c.args.left x more _ right deep e (c.is_word_at.ensures.0 c.if-is_word_at.true) in
+    handed c.from_residual.result _ _ c.from_residual.ensures.1 (c.in_err-function.ensures.reads t.0 more t.1 t.2 t.3)
+
+pub returns-then-is_word_at-clause-reads : goal.returns-then-is_word_at-clause-reads
+returns-then-is_word_at-clause-reads c =
+    λ x more right deep e.
+    let t = function_of c.args.left x more _ right deep e (c.is_word_at.ensures.0 c.if-is_word_at.true) in
+    c.in_ok-function.ensures.reads t.0 more t.1 t.2 t.3
+
+pub returns-in_err-test_case-clause-reads : goal.returns-in_err-test_case-clause-reads
+returns-in_err-test_case-clause-reads c =
+    λ x more right deep e.
+    let t = test_case_of c.args.left x more _ right deep e (c.is_word_at-2.ensures.0 c.if-is_word_at-2.true) in
+    handed c.from_residual-in_err-test_case.result _ _ c.from_residual-in_err-test_case.ensures.1 (c.in_err-test_case.ensures.reads t.0 more t.1 t.2 t.3)
+
+pub returns-then-is_word_at-2-clause-reads : goal.returns-then-is_word_at-2-clause-reads
+returns-then-is_word_at-2-clause-reads c =
+    λ x more right deep e.
+    let t = test_case_of c.args.left x more _ right deep e (c.is_word_at-2.ensures.0 c.if-is_word_at-2.true) in
+    c.in_ok-test_case.ensures.reads t.0 more t.1 t.2 t.3
+
+pub returns-clause-reads : goal.returns-clause-reads
+returns-clause-reads c =
+    λ x more right deep e.
+    let is = type_of x more _ e (iff_false c.is_word_at.ensures c.if-is_word_at.false) (iff_false c.is_word_at-2.ensures c.if-is_word_at-2.false) in
+    c.defined_type.ensures.reads x more is right e

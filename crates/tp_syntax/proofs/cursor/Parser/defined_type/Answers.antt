@@ -1,0 +1,53 @@
+-- The first three tokens tell which type is defined.
+use Rattle.std.proofs.lemmas.Bool.{iff_false}
+use Rattle.tp_syntax.proofs.DefinitionReading.{port_of, component_of, list_of, record_of}
+use Rattle.tp_syntax.proofs.Reading.{handed}
+use Rattle.tp_syntax.proofs.cursor.Parser.defined_type.Goals as goal
+
+pub returns-in_err-port-clause-reads : goal.returns-in_err-port-clause-reads
+returns-in_err-port-clause-reads c =
+    λ x more is right e.
+    let t = port_of x more _ is right e (c.is_word_at.ensures.0 c.if-is_word_at.true) in
+    handed c.from_residual.result _ _ c.from_residual.ensures.1 (c.in_err-port.ensures.reads t.0 more t.1 t.2)
+
+pub returns-then-is_word_at-clause-reads : goal.returns-then-is_word_at-clause-reads
+returns-then-is_word_at-clause-reads c =
+    λ x more is right e.
+    let t = port_of x more _ is right e (c.is_word_at.ensures.0 c.if-is_word_at.true) in
+    c.in_ok-port.ensures.reads t.0 more t.1 t.2
+
+pub returns-in_err-component-clause-reads : goal.returns-in_err-component-clause-reads
+returns-in_err-component-clause-reads c =
+    λ x more is right e.
+    let t = component_of x more _ is right e (c.is_word_at-2.ensures.0 c.if-is_word_at-2.true) in
+    handed c.from_residual-in_err-component.result _ _ c.from_residual-in_err-component.ensures.1 (c.in_err-component.ensures.reads t.0 more t.1 t.2)
+
+pub returns-then-is_word_at-2-clause-reads : goal.returns-then-is_word_at-2-clause-reads
+returns-then-is_word_at-2-clause-reads c =
+    λ x more is right e.
+    let t = component_of x more _ is right e (c.is_word_at-2.ensures.0 c.if-is_word_at-2.true) in
+    c.in_ok-component.ensures.reads t.0 more t.1 t.2
+
+pub returns-in_err-list-clause-reads : goal.returns-in_err-list-clause-reads
+returns-in_err-list-clause-reads c =
+    λ x more is right e.
+    let t = list_of x more _ is e (iff_false c.is_word_at.ensures c.if-is_word_at.false) (iff_false c.is_word_at-2.ensures c.if-is_word_at-2.false) (c.is_word_at-3.ensures.0 c.if-is_word_at-3.true) in
+    handed c.from_residual-in_err-list.result _ _ c.from_residual-in_err-list.ensures.1 (c.in_err-list.ensures.reads t.0 more t.1)
+
+pub returns-then-is_word_at-3-clause-reads : goal.returns-then-is_word_at-3-clause-reads
+returns-then-is_word_at-3-clause-reads c =
+    λ x more is right e.
+    let t = list_of x more _ is e (iff_false c.is_word_at.ensures c.if-is_word_at.false) (iff_false c.is_word_at-2.ensures c.if-is_word_at-2.false) (c.is_word_at-3.ensures.0 c.if-is_word_at-3.true) in
+    c.in_ok-list.ensures.reads t.0 more t.1
+
+pub returns-in_err-record-clause-reads : goal.returns-in_err-record-clause-reads
+returns-in_err-record-clause-reads c =
+    λ x more is right e.
+    let t = record_of x more _ is e (iff_false c.is_word_at.ensures c.if-is_word_at.false) (iff_false c.is_word_at-2.ensures c.if-is_word_at-2.false) (iff_false c.is_word_at-3.ensures c.if-is_word_at-3.false) in
+    handed c.from_residual-in_err-record.result _ _ c.from_residual-in_err-record.ensures.1 (c.in_err-record.ensures.reads t.0 more t.1)
+
+pub returns-clause-reads : goal.returns-clause-reads
+returns-clause-reads c =
+    λ x more is right e.
+    let t = record_of x more _ is e (iff_false c.is_word_at.ensures c.if-is_word_at.false) (iff_false c.is_word_at-2.ensures c.if-is_word_at-2.false) (iff_false c.is_word_at-3.ensures c.if-is_word_at-3.false) in
+    c.in_ok-record.ensures.reads t.0 more t.1

@@ -1,0 +1,136 @@
+-- That what is right is read: the tokens of a part are passed, whatever stands behind them, or memory was refused.
+use Rattle.std.specs.Prelude.{◌≡◌, Bool, true, false, ◌&&◌, ◌⊎◌, IsTrue, List, [], ◌∷◌, ◌++◌, Option, Some, None, Result, MatchResult}
+use Rattle.std.specs.declared.alloc.Global.{Global}
+use Rattle.std.specs.declared.string.String.{String}
+use Rattle.tp_token.specs.declared.fault.ScriptFault.{ScriptFault}
+use Rattle.tp_token.specs.Fault.{IsMemory}
+use Rattle.tp_token.specs.declared.word.Word.{Word}
+use Rattle.tp_token.specs.declared.word.Word.TheVariants as w
+use Rattle.tp_token.specs.declared.token.Placed.{Placed}
+use Rattle.tp_token.specs.declared.token.Symbol.TheVariants.{Assign, Dot, DotDot, Minus, LeftBrace, LeftBracket, LeftParen, RightBrace, RightParen, Semicolon}
+use Rattle.tp_token.specs.Lexeme.{Lexeme, name, word, symbol}
+use Rattle.tp_queue.specs.declared.operation.ReceiveKind.{ReceiveKind}
+use Rattle.tp_queue.specs.declared.operation.ReceiveKind.TheVariants as receive_kind
+use Rattle.tp_tree.specs.declared.tree.Defined.{Defined}
+use Rattle.tp_tree.specs.declared.tree.Defined.TheVariants as defined
+use Rattle.tp_syntax.specs.declared.cursor.Parser.{Parser}
+use Rattle.tp_syntax.specs.Ahead.{ahead, is_name_in, is_number_in, token_at}
+use Rattle.tp_syntax.specs.Grammar.{Part}
+
+-- where these tokens come next, they are passed, and what stands behind them comes next, or memory was refused
+abbrev pub Reads : {A : Type 0} → Parser → List Lexeme → List Lexeme → Result A ScriptFault → Parser → Type 0
+Reads p ts more result q = ahead p.rest.now ≡ ts ++ more → MatchResult result (λ _. ahead q.rest.now ≡ more) IsMemory
+
+-- the first of the tokens
+abbrev pub first : List Lexeme → Option Lexeme
+first [] = None
+first (t ∷ ts) = Some t
+
+-- whether an operation, or one of several with a comma between two, may stand before this token: `;`, `{`, `}` or `)`
+abbrev pub is_stop : Option Lexeme → Bool
+is_stop (Some (symbol Semicolon)) = true
+is_stop (Some (symbol LeftBrace)) = true
+is_stop (Some (symbol RightBrace)) = true
+is_stop (Some (symbol RightParen)) = true
+is_stop _ = false
+
+-- an operation, or several with a comma between two, may stand before these tokens
+abbrev pub Stops : List Lexeme → Type 0
+Stops ts = IsTrue (is_stop (first ts))
+
+-- whether a part may stand before this token: one that isn't ended before a `}` alone, and none before a `;`
+abbrev pub may_stand : Bool → Option Lexeme → Bool
+may_stand is_ended (Some (symbol Semicolon)) = false
+may_stand is_ended (Some (symbol RightBrace)) = true
+may_stand is_ended _ = is_ended
+
+-- the part may stand before these tokens
+abbrev pub Stands : Bool → List Lexeme → Type 0
+Stands is_ended ts = IsTrue (may_stand is_ended (first ts))
+
+-- whether the parts may stand before this token: each is right, and each but the last is ended
+abbrev pub may_all_stand : List Part → Option Lexeme → Bool
+may_all_stand [] t = true
+may_all_stand (p ∷ []) t = p.is_right && may_stand p.is_ended t
+may_all_stand (p ∷ q ∷ qs) t = p.is_right && (p.is_ended && may_all_stand (q ∷ qs) t)
+
+-- the parts may stand before these tokens
+abbrev pub AllStand : List Part → List Lexeme → Type 0
+AllStand parts ts = IsTrue (may_all_stand parts (first ts))
+
+-- the part is right, and may stand before these tokens
+abbrev pub IsPlaced : Part → List Lexeme → Type 0
+IsPlaced p ts = IsTrue p.is_right × Stands p.is_ended ts
+
+-- what a statement does is ended, or may stand before what comes next
+abbrev pub IsEndedOr : Bool → Type 0 → Type 0
+IsEndedOr is_ended before = IsTrue is_ended ⊎ before
+
+-- a name that may be missing
+abbrev pub MaybeName : Type 0
+MaybeName = Option (String Global)
+
+-- whether it is a type that is defined
+abbrev pub is_type : Defined → Bool
+is_type (defined.Record t) = true
+is_type (defined.List t) = true
+is_type (defined.Port t) = true
+is_type (defined.Component t) = true
+is_type (defined.Function t) = false
+is_type (defined.TestCase t) = false
+
+-- whether a setup statement comes next
+abbrev pub is_setup_ahead : List Lexeme → Bool
+is_setup_ahead (word w.Connect ∷ ts) = true
+is_setup_ahead (word w.Map ∷ ts) = true
+is_setup_ahead (word w.Var ∷ name t ∷ name n ∷ symbol Assign ∷ ts) = true
+is_setup_ahead _ = false
+
+-- whether the start of a component comes next
+abbrev pub is_start_ahead : List Lexeme → Bool
+is_start_ahead (name n ∷ symbol Dot ∷ word w.Start ∷ symbol LeftParen ∷ ts) = true
+is_start_ahead _ = false
+
+-- whether the end of a block comes next, or, in the body of a test case, `all component`
+abbrev pub is_end_ahead : Bool → List Lexeme → Bool
+is_end_ahead is_case (symbol RightBrace ∷ ts) = true
+is_end_ahead is_case (word w.All ∷ word w.Component ∷ ts) = is_case
+is_end_ahead is_case _ = false
+
+-- whether a branch that isn't `[else]` comes next
+abbrev pub is_branch_ahead : List Lexeme → Bool
+is_branch_ahead (symbol LeftBracket ∷ word w.Else ∷ ts) = false
+is_branch_ahead (symbol LeftBracket ∷ ts) = true
+is_branch_ahead _ = false
+
+-- the word of a receiving operation
+abbrev pub receive_word : ReceiveKind → Word
+receive_word receive_kind.Receive = w.Receive
+receive_word receive_kind.Trigger = w.Trigger
+receive_word receive_kind.Check = w.Check
+
+-- a setup statement begins with these tokens
+abbrev pub IsSetup : List Placed → Type 0
+IsSetup ps =
+    (token_at ps 0 ≡ Some (word w.Connect)) ⊎ ((token_at ps 0 ≡ Some (word w.Map))
+    ⊎ ((token_at ps 0 ≡ Some (word w.Var)) × (is_name_in (token_at ps 1) ≡ true) × (is_name_in (token_at ps 2) ≡ true)
+    × (token_at ps 3 ≡ Some (symbol Assign))))
+
+-- the start of a component begins with these tokens
+abbrev pub IsStart : List Placed → Type 0
+IsStart ps =
+    (is_name_in (token_at ps 0) ≡ true) × (token_at ps 1 ≡ Some (symbol Dot)) × (token_at ps 2 ≡ Some (word w.Start))
+    × (token_at ps 3 ≡ Some (symbol LeftParen))
+
+-- these tokens are the end of a block, or, in the body of a test case, `all component`
+abbrev pub IsEndOf : Bool → List Placed → Type 0
+IsEndOf is_case ps =
+    (token_at ps 0 ≡ Some (symbol RightBrace))
+    ⊎ ((is_case ≡ true) × (token_at ps 0 ≡ Some (word w.All)) × (token_at ps 1 ≡ Some (word w.Component)))
+
+-- a range begins with these tokens
+abbrev pub IsRange : List Placed → Type 0
+IsRange ps =
+    ((token_at ps 0 ≡ Some (symbol Minus)) × (token_at ps 1 ≡ Some (word w.Infinity)))
+    ⊎ (((token_at ps 0 ≡ Some (symbol Minus)) × (is_number_in (token_at ps 1) ≡ true) × (token_at ps 2 ≡ Some (symbol DotDot)))
+    ⊎ ((is_number_in (token_at ps 0) ≡ true) × (token_at ps 1 ≡ Some (symbol DotDot))))

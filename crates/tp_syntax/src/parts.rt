@@ -1,0 +1,197 @@
+//! Parts of statements: variables, verdicts, the turns of a `for` and the mark of `[else]`.
+ghost use Rattle.std.specs.Prelude.{ℤ, [], ◌≢◌, false, List, Some, MatchResult, ◌≡◌, ◌<◌, ◌≤◌, ◌∷◌, IsTrue, length, map, IfErr, IfOk, OnOk, string_bytes};
+ghost use Rattle.tp_token.specs.Lexeme.{Lexeme, number, symbol, word};
+ghost use Rattle.tp_token.specs.Fault.{IsMemory};
+ghost use Rattle.tp_syntax.specs.Ahead.{ahead};
+ghost use Rattle.tp_syntax.specs.Passing.{Passes};
+ghost use Rattle.tp_syntax.specs.Values.{int_lexemes};
+ghost use Rattle.tp_syntax.specs.Statements.{step_lexemes, turns_lexemes, verdict_lexeme, set_verdict_lexemes, variable_lexemes, variables_lexemes};
+ghost use Rattle.tp_syntax.specs.Grammar.{is_integer, variable_part};
+ghost use Rattle.tp_syntax.specs.Reading.{AllStand, IsPlaced, Reads, first};
+ghost use Rattle.tp_syntax.specs.Refusals.{IsOfGrammar};
+ghost use Rattle.tp_syntax.specs.Standing.{GoesOver, HasPassed};
+
+use crate::cursor::Parser;
+use std::alloc::Global;
+use tp_token::fault::ScriptFault;
+use tp_token::token::{Symbol, Token};
+use tp_token::word::Word;
+use tp_tree::tree::{Turns, Variable, VerdictName};
+
+impl<'a, 't> Parser<'a, 't> {
+    /// A verdict.
+    fn verdict(&mut self) -> Result<VerdictName, ScriptFault>
+        ensures tokens { IfOk result (λ v.
+            ahead self.old.rest.now ≡ verdict_lexeme v ∷ ahead self.new.rest.now) }
+        ensures shorter { OnOk result (length self.new.rest.now < length self.old.rest.now) }
+        ensures reads { (x : VerdictName) (more : List Lexeme) →
+            Reads self.old (verdict_lexeme x ∷ []) more result self.new }
+        ensures fault { IfErr result IsOfGrammar }
+    {
+        let placed = self.take()?;
+        match &placed.token {
+            Token::Word(Word::NoneWord) => Ok(VerdictName::NoVerdict),
+            Token::Word(Word::Pass) => Ok(VerdictName::Pass),
+            Token::Word(Word::Inconc) => Ok(VerdictName::Inconc),
+            Token::Word(Word::Fail) => Ok(VerdictName::Fail),
+            Token::Word(Word::Error) => Ok(VerdictName::Error),
+            _ => Err(ScriptFault::syntax(placed.line)),
+        }
+    }
+
+    /// A `setverdict`.
+    #[tactic(auto, unfolding(crate::specs::Statements::set_verdict_lexemes))]
+    pub fn set_verdict(&mut self, left: u32) -> Result<VerdictName, ScriptFault>
+        ensures tokens { IfOk result (λ v. Passes self.old (set_verdict_lexemes v) self.new) }
+        ensures shorter { OnOk result (length self.new.rest.now < length self.old.rest.now) }
+        ensures nested { OnOk result (1 ≤ left) }
+        ensures reads { (x : VerdictName) (more : List Lexeme) →
+            0 < left →
+            Reads self.old (set_verdict_lexemes x) more result self.new }
+        ensures fault { IfErr result IsOfGrammar }
+    {
+        self.word(Word::Setverdict)?;
+        self.open(Symbol::LeftParen, left)?;
+        let verdict = self.verdict()?;
+        self.symbol(Symbol::RightParen)?;
+        Ok(verdict)
+    }
+
+    /// A `var` statement.
+    #[tactic(auto, using(std::proofs::lemmas::List::append_assoc))]
+    fn variable(&mut self, alloc: Global) -> Result<Variable, ScriptFault>
+        ensures tokens { IfOk result (λ v. Passes self.old (variable_lexemes v) self.new) }
+        ensures shorter { OnOk result (length self.new.rest.now < length self.old.rest.now) }
+        ensures grammatical { IfOk result (λ v. HasPassed (variable_part v) self.new) }
+        ensures reads { (x : Variable) (more : List Lexeme) →
+            IsPlaced (variable_part x) more →
+            Reads self.old (variable_lexemes x) more result self.new }
+        ensures fault { IfErr result IsOfGrammar }
+    {
+        let line = self.line();
+        self.word(Word::Var)?;
+        let type_name = self.type_name(alloc)?;
+        let name = self.name(alloc)?;
+        let has_semicolon = self.end(false)?;
+        Ok(Variable {
+            line,
+            type_name,
+            name,
+            has_semicolon,
+        })
+    }
+
+    /// The `var` statements that come next.
+    pub fn variables(&mut self, alloc: Global) -> Result<Vec<Variable>, ScriptFault>
+        ensures tokens { IfOk result (λ v. Passes self.old (variables_lexemes v.items) self.new) }
+        ensures shorter { OnOk result (length self.new.rest.now ≤ length self.old.rest.now) }
+        ensures grammatical { IfOk result (λ v.
+            GoesOver self.old (map variable_part v.items) self.new) }
+        ensures reads { (xs : List Variable) (more : List Lexeme) →
+            AllStand (map variable_part xs) more →
+            first more ≢ Some (word Word.Var) →
+            Reads self.old (variables_lexemes xs) more result self.new }
+        ensures fault { IfErr result IsOfGrammar }
+    {
+        let mut variables = Vec::new(alloc);
+        'more: while self.is_word_at(0, Word::Var) {
+            let variable = self.variable(alloc)?;
+            variables.push(variable)?;
+        }
+        Ok(variables)
+    }
+
+    /// A counted `for` without its block. 10 `Syntax` also: its four names aren't one name (the
+    /// line of the first that differs).
+    #[tactic(auto, using(std::proofs::lemmas::List::append_assoc), unfolding(crate::specs::Statements::for_lexemes))]
+    pub fn turns(&mut self, alloc: Global, left: u32) -> Result<Turns, ScriptFault>
+        ensures tokens { IfOk result (λ x.
+            ahead self.old.rest.now ≡ turns_lexemes x (ahead self.new.rest.now)) }
+        ensures shorter { OnOk result (length self.new.rest.now < length self.old.rest.now) }
+        ensures nested { OnOk result (1 ≤ left) }
+        ensures reads { (x : Turns) (more : List Lexeme) →
+            IsTrue (is_integer x.first) → IsTrue (is_integer x.bound) → 0 < left →
+            ahead self.old.rest.now ≡ turns_lexemes x more →
+            MatchResult result (λ _. ahead self.new.rest.now ≡ more) IsMemory }
+        ensures within { IfOk result (λ x.
+            IsTrue (is_integer x.first) × IsTrue (is_integer x.bound)) }
+        ensures fault { IfErr result IsOfGrammar }
+    {
+        self.word(Word::For)?;
+        self.open(Symbol::LeftParen, left)?;
+        self.word(Word::Var)?;
+        self.word(Word::Integer)?;
+        let name = self.name(alloc)?;
+        self.symbol(Symbol::Assign)?;
+        let first = self.integer()?;
+        let bound = self.step(&name)?;
+        Ok(Turns { name, first, bound })
+    }
+
+    /// What stands behind the first value of a `for`, up to its `)`: what its variable stays below,
+    /// and the step.
+    #[tactic(auto, using(std::proofs::lemmas::List::append_assoc))]
+    fn step(&mut self, variable: &String) -> Result<i64, ScriptFault>
+        ensures tokens { IfOk result (λ z.
+            ahead self.old.rest.now
+            ≡ step_lexemes (string_bytes variable.now) (int_lexemes z) (ahead self.new.rest.now)) }
+        ensures shorter { OnOk result (length self.new.rest.now < length self.old.rest.now) }
+        ensures reads { (z : ℤ) (more : List Lexeme) →
+            IsTrue (is_integer z) →
+            ahead self.old.rest.now
+            ≡ step_lexemes (string_bytes variable.now) (int_lexemes z) more →
+            MatchResult result (λ _. ahead self.new.rest.now ≡ more) IsMemory }
+        ensures within { IfOk result (λ z. IsTrue (is_integer z)) }
+        ensures fault { IfErr result IsOfGrammar }
+    {
+        self.symbol(Symbol::Semicolon)?;
+        self.same_name(variable)?;
+        self.symbol(Symbol::Less)?;
+        let bound = self.integer()?;
+        self.symbol(Symbol::Semicolon)?;
+        self.same_name(variable)?;
+        self.symbol(Symbol::Assign)?;
+        self.same_name(variable)?;
+        self.symbol(Symbol::Plus)?;
+        self.one()?;
+        self.symbol(Symbol::RightParen)?;
+        Ok(bound)
+    }
+
+    /// The number 1.
+    fn one(&mut self) -> Result<(), ScriptFault>
+        ensures tokens { OnOk result
+            (ahead self.old.rest.now ≡ number 1 ∷ ahead self.new.rest.now) }
+        ensures shorter { OnOk result (length self.new.rest.now < length self.old.rest.now) }
+        ensures reads { (more : List Lexeme) →
+            Reads self.old (number 1 ∷ []) more result self.new }
+        ensures fault { IfErr result IsOfGrammar }
+    {
+        let placed = self.take()?;
+        match placed.token {
+            Token::Number(1) => Ok(()),
+            _ => Err(ScriptFault::syntax(placed.line)),
+        }
+    }
+
+    /// `[else]`
+    pub fn else_mark(&mut self, left: u32) -> Result<(), ScriptFault>
+        ensures tokens { OnOk result
+            (ahead self.old.rest.now
+            ≡ symbol Symbol.LeftBracket ∷ word Word.Else ∷ symbol Symbol.RightBracket
+            ∷ ahead self.new.rest.now) }
+        ensures shorter { OnOk result (length self.new.rest.now < length self.old.rest.now) }
+        ensures nested { OnOk result (1 ≤ left) }
+        ensures reads { (more : List Lexeme) →
+            0 < left →
+            Reads self.old
+            (symbol Symbol.LeftBracket ∷ word Word.Else ∷ symbol Symbol.RightBracket ∷ [])
+            more result self.new }
+        ensures fault { IfErr result IsOfGrammar }
+    {
+        self.open(Symbol::LeftBracket, left)?;
+        self.word(Word::Else)?;
+        self.symbol(Symbol::RightBracket)?;
+        Ok(())
+    }
+}
