@@ -14,6 +14,7 @@ listed 39
 rows 109
 faults 19
 PARTS
+    at_least 12 told "$room/rewrites_maps" tests/rewrites/map_rules.py "$tpr"
     observe env -u TPR "$root/tools/rewrite" --help
     tool_must "rewrite tells its words" 0 grep -q -- '--case NAME' "$room/printed"
     observe "$root/tools/rewrite" --tpr "$tpr" "$room/nothing.ttcn"

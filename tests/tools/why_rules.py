@@ -364,7 +364,7 @@ def discarded_rule(number):
         for report, discarded in discarded_in_runs(*lined_case(text)).items():
             ways = ways_of(text.encode(), report.encode())
             for message in ways.deliveries.messages:
-                lines = set(ways.lines_gone(message))
+                lines = {line.number for line in ways.lines_gone(message)}
                 route = message.route
                 wanted = discarded.get((route.receiver, route.port, route.sender, message.number), lines)
                 must(lines == wanted, f"{message.told()}: {lines} are told, and it was {wanted}\n{text}\n{report}")

@@ -73,15 +73,3 @@ def and_(things: Iterable[object]) -> str:
     """`a`, `a and b`, `a, b and c`."""
     *first, last = map(str, things)
     return f"{', '.join(first)} and {last}" if first else last
-
-
-def lines_told(lines: Iterable[int]) -> str:
-    """`line 7`, `lines 7, 9 and 12-15`."""
-    spans: list[list[int]] = []
-    for line in sorted(set(lines)):
-        if spans and spans[-1][-1] == line - 1:
-            spans[-1][1:] = [line]
-        else:
-            spans.append([line])
-    told = and_("-".join(map(str, span)) for span in spans)
-    return f"line {told}" if len(spans) == len(spans[0]) == 1 else f"lines {told}"

@@ -13,8 +13,8 @@ class LineMarks(Marks):
         self.ways = ways
 
     def at(self, place: Place) -> str:
-        return f" ({self.ways.line(place)})"
+        return f" ({self.ways.line(place).short()})"
 
     def at_end(self, component: int) -> str:
         line = self.ways.line_of_stop(component)
-        return "" if line is None else f" ({line})"
+        return "" if line is None else f" ({line.short()})"

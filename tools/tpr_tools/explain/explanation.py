@@ -53,6 +53,8 @@ class Explanation:
     clause: str = ""
     instead: str = ""
     rules: list[Rule] = field(default_factory=list)
+    # Where the line comes from, in a script that tools/rewrite wrote.
+    origin: str = ""
 
     def first_line(self) -> str:
         place = self.file
@@ -66,6 +68,8 @@ class Explanation:
 
     def text(self) -> str:
         lines = [self.first_line()]
+        if self.origin:
+            lines.append(f"  comes from {self.origin}")
         width = max((len(str(shown.position.line)) for shown in self.places), default=1)
         for shown in self.places:
             lines += _shown_lines(shown, max(width, 4))
@@ -90,6 +94,7 @@ class Explanation:
             "name": self.name or None,
             "line": self.line,
             "column": self.column,
+            "origin": self.origin or None,
             "sentence": self.sentence or None,
             "places": [_place(shown) for shown in self.places],
             "can_stand": self.can_stand,

@@ -3,6 +3,7 @@ from __future__ import annotations
 
 import shlex
 
+from ..origins import Origins, origins_of
 from ..words import counted
 from .exploration import Exploration, RunClass
 
@@ -25,7 +26,7 @@ def text_of(exploration: Exploration, script: str) -> str:
     pieces += [f"  {reason}" for reason in exploration.why_not_all()]
     pieces += ["", "\n".join(_lines_of_classes(exploration))]
     if len(found.verdicts()) > 1:
-        pieces += [_text_of_partings(exploration)]
+        pieces += [_text_of_partings(exploration, origins_of(script))]
         pieces += [_text_of_verdict(exploration, verdict, script) for verdict in found.verdicts()]
     return "\n".join(pieces) + "\n"
 
@@ -75,11 +76,11 @@ def _end_of(name: str, lines: list[str]) -> str:
     return f"{name} {verdict}{waits}"
 
 
-def _text_of_partings(exploration: Exploration) -> str:
-    pieces = []
+def _text_of_partings(exploration: Exploration, origins: Origins) -> str:
+    pieces = [f"\n{origins.heading()}"] if origins.files else []
     for better, worse, first, second, parting in exploration.partings():
         pieces.append(f"\nWhat parts {better} from {worse}:\n")
-        pieces.append("  nothing that a component did\n" if parting is None else _indented(parting.text()))
+        pieces.append("  nothing that a component did\n" if parting is None else _indented(parting.text(origins)))
         pieces += [f"  {word}: {exploration.line_of(it)}\n" for word, it in ((better, first), (worse, second))]
     return "".join(pieces)
 

@@ -8,6 +8,7 @@ from typing import Optional
 from ..model.bodies import Tried
 from ..model.run import Message, Run
 from ..model.tree import Control
+from ..origins import Line, Origins
 from .placed import PlacedCase
 from .touching import Name, Steps, components_of, name_of
 
@@ -51,18 +52,19 @@ class Parting:
     second: Deed
     unordered: Optional[tuple[int, int]]
 
-    def text(self) -> str:
-        where = "" if self.first.line is None else f"line {self.first.line}: "
-        other = "" if self.second.line in (None, self.first.line) else f", at line {self.second.line},"
+    def text(self, origins: Origins) -> str:
+        first, second = (None if deed.line is None else origins.line(deed.line) for deed in (self.first, self.second))
+        where = "" if first is None else f"line {first}: "
+        other = "" if second in (None, first) else f", at line {second},"
         told = f"{where}{self.component} {self.first.text};\n  in the other run{other} it {self.second.text}\n"
-        return told + ("" if self.unordered is None else f"{_unordered(*self.unordered)}\n")
+        return told + ("" if self.unordered is None else f"{_unordered(*map(origins.line, self.unordered))}\n")
 
     def as_json(self) -> dict[str, object]:
         told = {"component": self.component, "first": self.first.as_json(), "second": self.second.as_json()}
         return {**told, "unordered": None if self.unordered is None else list(self.unordered)}
 
 
-def _unordered(one: int, other: int) -> str:
+def _unordered(one: Line, other: Line) -> str:
     if one == other:
         return f"nothing says which component is first at line {one}"
     return f"nothing makes line {one} wait for line {other}, nor line {other} for line {one}"

@@ -199,7 +199,7 @@ class Writer:
         wanted = started.body.name if started else f"idle_{shape.name}"
         name = "sut" if is_system else self.names.free(wanted)
         at = started.at if started else part.at
-        self.lines.add(f"  function {name}() runs on {shape.type_name} {{", at)
+        self.lines.add(f"  function {name}() runs on {shape.type_name} {{", started.body.at if started else at)
         code = Block(self, shape)
         code.variables(part.code)
         if started and started.is_told:
@@ -238,7 +238,7 @@ class Writer:
         block.variables(shape.part.code)
         block.statements(shape.part.code, 2)
         if len(self.shapes) > 1:
-            self.lines.add("    all component.done;")
+            self.lines.add("    all component.done;", case.at)
         self.lines.add("  }")
 
     def _join(self, join: Joined) -> None:

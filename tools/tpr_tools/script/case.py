@@ -5,6 +5,7 @@ from dataclasses import dataclass
 from itertools import accumulate
 from typing import Optional
 
+from ..origins import Line, Origins
 from .checks import Checked
 from .forms import Forms
 from .names import SUT
@@ -38,8 +39,9 @@ class Player:
 class Case:
     """A script that obeys all rules: its components in the order of a report, and their connections."""
 
-    def __init__(self, text: Text, checked: Checked):
+    def __init__(self, text: Text, checked: Checked, origins: Optional[Origins] = None):
         self.text = text
+        self.origins = origins or Origins([])
         self.names = checked.names
         self.forms = Forms(checked.names)
         self.partners: dict[End, list[End]] = {}
@@ -53,13 +55,18 @@ class Case:
         offsets = [text.offset(place) for place in range(len(text.tokens))]
         between = [text.letters.count("\n", *cut) for cut in zip([0, *offsets], offsets)]
         self._lines = [count + 1 for count in accumulate(between)]
+        self._told = {line: self.origins.line(line) for line in set(self._lines)}
 
     def word(self, place: int) -> str:
         return self.names.word(place)
 
-    def line(self, place: int) -> int:
+    def own_line(self, place: int) -> int:
         """The line at which a token stands."""
         return self._lines[place]
+
+    def line(self, place: int) -> Line:
+        """The line that it comes from: of a script that tools/rewrite wrote, one of what that was given."""
+        return self._told[self._lines[place]]
 
     def bodies(self) -> list[Body]:
         """All that is written, the functions that nothing is started with too."""

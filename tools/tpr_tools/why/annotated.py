@@ -5,10 +5,11 @@ from collections import Counter
 from dataclasses import dataclass, field
 from typing import Iterable, Iterator
 
+from ..origins import Line, lines_told
 from ..report.report import Entry, Failed, Operation, Otherwise, Received, Sent, VerdictSet
 from ..script.case import Case
 from ..script.tree import Alt, Statement
-from ..words import counted, lines_told
+from ..words import counted
 from .standing import statements_in
 from .walk import StopKind, Walk
 
@@ -52,20 +53,20 @@ class Done:
         self.lines: dict[int, LineDone] = {}
         for body in case.bodies():
             for token in tokens_in(body.statements):
-                self.lines.setdefault(case.line(token), LineDone()).tokens.add(token)
+                self.lines.setdefault(case.own_line(token), LineDone()).tokens.add(token)
         for walk in walks:
             self._add(walk)
 
     def _add(self, walk: Walk) -> None:
         for token, times in walk.visits.items():
-            self.lines[self.case.line(token)].times[token] += times
+            self.lines[self.case.own_line(token)].times[token] += times
         for entry, origin in zip(walk.component.entries, walk.origins):
-            line = self.lines[self.case.line(origin.start)]
+            line = self.lines[self.case.own_line(origin.start)]
             if origin.start not in line.times:
                 line.times[origin.start] = 0  # a branch that discards, and isn't chosen
             line.did.setdefault(walk.player.name, Counter())[_word(entry)] += 1
         if walk.stop is not None and walk.stop.kind is StopKind.WAITS:
-            line = self.lines[self.case.line(walk.stop.start)]
+            line = self.lines[self.case.own_line(walk.stop.start)]
             line.did.setdefault(walk.player.name, Counter())["waits for good"] += 1
 
     def statements(self) -> int:
@@ -96,7 +97,8 @@ class Done:
             return "no statements"
         if not never:
             return f"{of}, all of them reached"
-        return f"{of}, {never} never reached: {lines_told(lines)}"
+        told = lines_told(Line("", line) for line in lines)
+        return f"{of}, {never} never reached: {told}"
 
 
 def tokens_in(statements: Iterable[Statement]) -> Iterator[int]:

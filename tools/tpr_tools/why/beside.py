@@ -5,13 +5,14 @@ from typing import Optional
 
 from ..command import REFUSED, Stop, read_bytes, refusal_of
 from ..explain.explaining import Fault, line_of
+from ..origins import lines_told, origins_of
 from ..report.report import NotAReport, Report
 from ..script.case import Case
 from ..script.checks import check_script
 from ..script.cursor import GrammarFault
 from ..script.faults import RuleFault
 from ..script.tokens import MOST_BYTES, Text
-from ..words import lines_told, shown
+from ..words import shown
 from .walk import DoesNotFit
 from .ways import Ways
 
@@ -26,7 +27,7 @@ def case_of(script: str) -> Case:
     fault: Optional[Fault] = text.fault()
     try:
         if fault is None:
-            return Case(text, check_script(text))
+            return Case(text, check_script(text), origins_of(script))
     except (GrammarFault, RuleFault) as found:
         fault = found
     told = f"{script}, line {line_of(text, fault)}: the script is refused; tools/explain says what is wrong"

@@ -3,6 +3,7 @@ from __future__ import annotations
 
 from typing import NamedTuple, Optional
 
+from ..origins import Line
 from ..report.deliveries import Place
 from ..report.report import Received, Sent
 from .ways import Ways
@@ -11,7 +12,7 @@ from .ways import Ways
 class Row(NamedTuple):
     """A line of the report: the line of the script, and for a message that of its other end."""
 
-    line: Optional[int]
+    line: Optional[Line]
     arrow: str
     other: str
     text: str
@@ -40,7 +41,7 @@ def _row_of(ways: Ways, place: Place) -> Row:
     if isinstance(entry, Sent):
         message = ways.deliveries.message(place)
         assert message is not None
-        other = " or ".join(map(str, ways.lines_gone(message))) or "left"
+        other = " or ".join(line.short() for line in ways.lines_gone(message)) or "left"
         return Row(line, "->", other, entry.line.text)
     if isinstance(entry, Received):
         name = ways.report.components[place.component].name
@@ -49,12 +50,12 @@ def _row_of(ways: Ways, place: Place) -> Row:
 
 
 def _sent_at(ways: Ways, entry: Received, receiver: str) -> str:
-    return str(ways.line(ways.sending_of(entry, receiver).sent))
+    return ways.line(ways.sending_of(entry, receiver).sent).short()
 
 
 def _aligned(rows: list[Row]) -> str:
     """The numbers of lines to the left, in columns, with a head above them."""
-    lines = [str(row.line or "") for row in rows]
+    lines = [row.line.short() if row.line else "" for row in rows]
     lines[0] = "line"
     first, second = max(map(len, lines)), max(len(row.other) for row in rows)
     told = [

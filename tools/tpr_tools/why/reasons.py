@@ -3,11 +3,12 @@ from __future__ import annotations
 
 from typing import Callable, Iterable
 
+from ..origins import lines_told
 from ..refusals import Refusal
 from ..report.deliveries import Place
 from ..report.report import Received
 from ..script.tree import Alt, Receive, Send, SetVerdict, Statement
-from ..words import and_, lines_told
+from ..words import and_
 from .standing import Standing, statements_in
 from .walk import Chosen, Stop, StopKind, Turns, Walk
 from .ways import Ways, first_of_verdict

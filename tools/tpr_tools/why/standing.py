@@ -3,6 +3,7 @@ from __future__ import annotations
 
 from typing import Iterable, Iterator, Optional
 
+from ..origins import Line
 from ..report.deliveries import Message, Route
 from ..report.report import Received
 from ..script.tree import Alt, Loop, Receive, Send, Statement
@@ -63,7 +64,7 @@ class Standing:
     def left_at(self, name: str) -> list[Received]:
         return [it for it in self.component.left if it.port == name]
 
-    def line_of_own(self, entry: Optional[int]) -> int:
+    def line_of_own(self, entry: Optional[int]) -> Line:
         assert entry is not None
         return self.case.line(self.walk.origins[entry].start)
 
@@ -170,7 +171,7 @@ class Standing:
         word = _GOT.get(message.fate, message.fate)
         return f"{word} at line {' or '.join(map(str, lines))}"
 
-    def unsent(self, receive: Receive, name: str) -> Optional[tuple[str, int]]:
+    def unsent(self, receive: Receive, name: str) -> Optional[tuple[str, Line]]:
         """A send of such a message that its component never came to, by the component and the line."""
         for walk in self.ways.walks:
             walker = Walker(self.case, walk.player, walk.component)

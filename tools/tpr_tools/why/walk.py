@@ -12,6 +12,7 @@ from dataclasses import dataclass, field
 from enum import Enum
 from typing import NamedTuple, Optional
 
+from ..origins import Line
 from ..refusals import Refusal
 from ..report.report import Component, Entry, Failed, Operation, Otherwise, Received, Sent, VerdictSet
 from ..script.case import Case, End, Player
@@ -28,7 +29,7 @@ _WORDS = {"receive": "took", "trigger": "took", "check": "found"}
 class DoesNotFit(Exception):
     """The script can't have this report: from which line on, and which lines of the script were next."""
 
-    def __init__(self, line: int, component: str, text: str, possible: list[int], reason: str):
+    def __init__(self, line: int, component: str, text: str, possible: list[Line], reason: str):
         super().__init__(reason)
         self.line = line
         self.component = component

@@ -4,6 +4,7 @@ from __future__ import annotations
 from bisect import bisect_left
 from typing import Optional
 
+from ..origins import Line
 from ..report.deliveries import Deliveries, Message, Place, Route, deliveries_of
 from ..report.report import Component, Received, Report, VerdictSet
 from ..script.case import Case
@@ -23,7 +24,7 @@ class Ways:
         self.walks = [Walker(case, player, component).whole() for player, component in pairs]
         self.emptied = Emptied(self.deliveries)
         self.of_route = self.emptied.of_route
-        self._emptying_lines: dict[tuple[str, str], dict[int, list[int]]] = {}
+        self._emptying_lines: dict[tuple[str, str], dict[Line, list[int]]] = {}
 
     def _check_names(self) -> None:
         names, played = self.report.names(), [player.name for player in self.case.players]
@@ -38,20 +39,20 @@ class Ways:
 
     # Lines of the script
 
-    def line(self, place: Place) -> int:
+    def line(self, place: Place) -> Line:
         """The line that an entry comes from."""
         return self.case.line(self.walks[place.component].origins[place.entry].start)
 
-    def line_of_body(self, component: int) -> Optional[int]:
+    def line_of_body(self, component: int) -> Optional[Line]:
         body = self.walks[component].player.body
         return self.case.line(body.start) if body else None
 
-    def line_of_stop(self, component: int) -> Optional[int]:
+    def line_of_stop(self, component: int) -> Optional[Line]:
         """The send by which the behaviour ended, or its last wait."""
         stop = self.walks[component].stop
         return self.case.line(stop.start) if stop else None
 
-    def line_of_verdict(self, component: int) -> Optional[int]:
+    def line_of_verdict(self, component: int) -> Optional[Line]:
         """The `setverdict` by which the local verdict came to be what it is, or the send that failed."""
         walk, verdict = self.walks[component], self.report.components[component].verdict
         if verdict == "error":
@@ -64,7 +65,7 @@ class Ways:
     def sending_of(self, entry: Received, receiver: str) -> Message:
         return self.of_route[Route(entry.sender, receiver, entry.port)][entry.number]
 
-    def lines_gone(self, message: Message) -> list[int]:
+    def lines_gone(self, message: Message) -> list[Line]:
         """The line by which the message was taken or discarded, or all of which one discarded it, where
         that is open; none where it is left."""
         if message.gone is not None or message.fate != "discarded":
@@ -75,7 +76,7 @@ class Ways:
         of_lines = self._lines_of(message.route[1:], places).items()
         return sorted(line for line, at in of_lines if bisect_left(at, first) < bisect_left(at, behind))
 
-    def _lines_of(self, port: tuple[str, str], places: list[Place]) -> dict[int, list[int]]:
+    def _lines_of(self, port: tuple[str, str], places: list[Place]) -> dict[Line, list[int]]:
         """Which of the emptyings of a port each line is. There may be many more of these than lines."""
         if port not in self._emptying_lines:
             of_lines = self._emptying_lines.setdefault(port, {})

@@ -1,0 +1,116 @@
+"""The places that a script's lines come from, by the map that tools/rewrite writes beside it (SCRIPT.map)."""
+from __future__ import annotations
+
+import os
+import re
+from bisect import bisect_right
+from typing import Iterable, NamedTuple, Optional
+
+from .command import REFUSED, Stop, read_bytes
+from .words import and_, shown
+
+_ROW = re.compile(r"([0-9]{1,9}) ([0-9]{1,9}):([0-9]{1,9}) (.+)")
+
+
+class Line(NamedTuple):
+    """A line as it is told: with its file where there are several."""
+
+    file: str
+    number: int
+
+    def __str__(self) -> str:
+        return f"{self.number} of {shown(self.file)}" if self.file else str(self.number)
+
+    def short(self) -> str:
+        """As it stands in a column."""
+        return f"{shown(self.file)}:{self.number}" if self.file else str(self.number)
+
+
+class Row(NamedTuple):
+    """A line of the script, and the place that it comes from."""
+
+    own: int
+    line: int
+    column: int
+    file: str
+
+
+class Origins:
+    """Without rows each line comes from itself."""
+
+    def __init__(self, rows: list[Row]):
+        self.rows = rows
+        self._own = [row.own for row in rows]
+        self.files = list(dict.fromkeys(row.file for row in rows))
+
+    def row(self, own: int) -> Optional[Row]:
+        """That of the line, or of the nearest one above it that has any."""
+        if not self.rows:
+            return None
+        return self.rows[max(0, bisect_right(self._own, own) - 1)]
+
+    def line(self, own: int) -> Line:
+        row = self.row(own)
+        if row is None:
+            return Line("", own)
+        return Line(row.file if len(self.files) > 1 else "", row.line)
+
+    def heading(self) -> str:
+        """Whose lines are told, where they aren't the script's own."""
+        return f"lines of {and_(map(shown, self.files))}\n" if self.files else ""
+
+
+def origins_of(script: str) -> Origins:
+    """The map beside a script. One that isn't of the script as it stands ends the tool."""
+    file = f"{script}.map"
+    if not os.path.isfile(file):
+        return Origins([])
+    texts = read_bytes(script).decode("utf-8", "replace").split("\n")
+    rows = []
+    for number, text in enumerate(read_bytes(file).decode("utf-8", "replace").splitlines(), 1):
+        row = _row_of(text)
+        if row is None or not _is_told(texts, row):
+            told = f"{file}, line {number}: it isn't the map of {script}; tools/rewrite writes both"
+            raise Stop(REFUSED, told)
+        rows.append(row)
+    return Origins(sorted(rows))
+
+
+def origin_told(script: str, own: Optional[int]) -> str:
+    """`login.ttcn:9:5`; nothing where no map of the script as it stands lies beside it."""
+    try:
+        row = None if own is None else origins_of(script).row(own)
+    except Stop:
+        return ""
+    return f"{shown(row.file)}:{row.line}:{row.column}" if row else ""
+
+
+def _row_of(text: str) -> Optional[Row]:
+    found = _ROW.fullmatch(text)
+    return Row(int(found[1]), int(found[2]), int(found[3]), found[4]) if found else None
+
+
+def _is_told(texts: list[str], row: Row) -> bool:
+    """Whether the line ends with the number that the map gives it."""
+    text = texts[row.own - 1] if 0 < row.own <= len(texts) else ""
+    return re.search(rf"// ([^/]*:)?{row.line}$", text) is not None
+
+
+def lines_told(lines: Iterable[Line]) -> str:
+    """`line 7`, `lines 7, 9 and 12-15`; of several files `line 7 of a.ttcn and lines 1-2 of b.ttcn`."""
+    by_file: dict[str, list[int]] = {}
+    for line in sorted(set(lines)):
+        by_file.setdefault(line.file, []).append(line.number)
+    told = [_numbers_told(numbers) + (f" of {shown(file)}" if file else "") for file, numbers in by_file.items()]
+    return and_(told)
+
+
+def _numbers_told(numbers: list[int]) -> str:
+    spans: list[list[int]] = []
+    for number in numbers:
+        if spans and spans[-1][-1] == number - 1:
+            spans[-1][1:] = [number]
+        else:
+            spans.append([number])
+    told = and_("-".join(map(str, span)) for span in spans)
+    return f"line {told}" if len(spans) == len(spans[0]) == 1 else f"lines {told}"
