@@ -67,12 +67,12 @@ def run(*words: str, data: bytes = b"") -> Ended:
     return Ended(done.returncode, printed, said)
 
 
-def carried(program: str, name: str, text: str) -> Ended:
+def carried(program: str, name: str, text: str, encodes: bool = False) -> Ended:
     """What tools/rewrite would end with, asked in this process: a process for each script takes long."""
     from tpr_tools.rewrite.rewriting import rewrite
     from tpr_tools.rewrite.tokens import Source
 
-    found = rewrite([Source(name, text.encode())])
+    found = rewrite([Source(name, text.encode())], encodes=encodes)
     if found.refused:
         return Ended(2, "", "".join(f"{one.text()}\n" for one in found.refused))
     said = run(program, "check", data=found.text.encode()).printed
@@ -105,7 +105,8 @@ def table(program: str) -> None:
             with open(file, "w", encoding="utf-8") as opened:
                 opened.write(case.script)
             is_of_tool = case.kind == "checked"
-            tool = run(REWRITE, "--tpr", program, file) if is_of_tool else carried(program, file, case.script)
+            encodes = case.kind in ("encoded", "not encoded")
+            tool = run(REWRITE, "--tpr", program, file) if is_of_tool else carried(program, file, case.script, encodes)
             look_at(case, file, tool)
 
 
@@ -113,7 +114,10 @@ def look_at(case: Case, file: str, ended: Ended) -> None:
     if case.kind == "becomes":
         found = body_of(ended.printed)
         judged(case.name, ended.status == 0 and found == case.wanted, f"{ended.said}{found}")
-    elif case.kind == "refused":
+    elif case.kind == "encoded":
+        found = [*types_of(ended.printed), *body_of(ended.printed)]
+        judged(case.name, ended.status == 0 and found == case.wanted, f"{ended.said}{found}")
+    elif case.kind in ("refused", "not encoded"):
         found = [line.removeprefix(f"{file}:").replace(": ", " ", 1) for line in ended.said.splitlines()]
         is_so = (ended.status, ended.printed, found) == (2, "", case.wanted)
         judged(case.name, is_so, f"status {ended.status}: {found}")
@@ -129,15 +133,22 @@ def body_of(text: str) -> list[str]:
     return lines[begin:-1]
 
 
+def types_of(text: str) -> list[str]:
+    """The types of messages that aren't the prelude's."""
+    lines = [re.sub(r" *// [0-9]+$", "", line).strip() for line in text.splitlines()]
+    return [line for line in lines if line.startswith("type record") and line.split()[2] != "Order" and line[-2:] != "L;"]
+
+
 def natural(program: str) -> None:
     """Scripts as engineers write them: each is carried over, accepted, and comes to `pass`, as its author means."""
-    for script in sorted(glob.glob(f"{FOLDER}/natural/*.ttcn")):
+    for script in sorted(glob.glob(f"{FOLDER}/natural/*.ttcn") + glob.glob(f"{FOLDER}/encoded/*.ttcn")):
         name = os.path.basename(script)
+        option = ["--encode"] if script.startswith(f"{FOLDER}/encoded/") else []
         refused = run(program, "check", script)
         judged(f"{name} isn't one of the profile", refused.status == 2, refused.printed)
         with tempfile.TemporaryDirectory() as folder:
             output = f"{folder}/{name}"
-            ended = run(REWRITE, "--tpr", program, script, "-o", output)
+            ended = run(REWRITE, "--tpr", program, script, "-o", output, *option)
             if ended.status != 0:
                 failed(name, ended.said)
                 continue
@@ -295,6 +306,8 @@ def rows(program: str) -> None:
     for name, script in scripts.items():
         ended = carried(program, "row", row_script(script))
         found = {0: "yes", 2: "no"}[ended.status]
+        if found == "no" and carried(program, "row", row_script(script), encodes=True).status == 0:
+            found = "`--encode`"
         judged(f"row {name}", found == told.get(name), f"{found}: {ended.said}")
 
 

@@ -6,13 +6,13 @@ rewrites() {
     while read -r part least; do
         at_least "$least" told "$room/rewrites_$part" tests/rewrites/rewrite_rules.py "$tpr" "$part"
     done <<'PARTS'
-table 54
-natural 44
+table 69
+natural 50
 same 59
 broken 6
 listed 39
 rows 109
-faults 19
+faults 27
 PARTS
     at_least 12 told "$room/rewrites_maps" tests/rewrites/map_rules.py "$tpr"
     observe env -u TPR "$root/tools/rewrite" --help

@@ -5,7 +5,7 @@ from typing import Callable, Optional
 
 from .refusing import refuse
 from .tokens import Token
-from .values import Elements, Form, Mark, same
+from .values import Digits, Elements, Form, Mark, same
 
 _NUMBERS = ("+", "-", "*", "/", "mod", "rem")
 _ORDERED = ("<", ">", "<=", ">=")
@@ -19,6 +19,8 @@ def computed(sign: str, left: Form, right: Form, at: Token) -> Form:
         return {"and": left and right, "or": left or right, "xor": left is not right}[sign]
     if sign == "&" and isinstance(left, str) and isinstance(right, str):
         return left + right
+    if sign == "&" and isinstance(left, Digits) and isinstance(right, Digits) and left.letter == right.letter:
+        return Digits(left.digits + right.digits, left.letter)
     if sign == "&" and isinstance(left, Elements) and isinstance(right, Elements):
         return Elements(left.items + right.items)
     if _is_number(left) and _is_number(right):
@@ -69,11 +71,17 @@ def inverted(sign: str, value: Form, at: Token) -> Form:
     refuse(at, f"`{sign}` isn't computed of this")
 
 
-def _length(values: list[Form]) -> Optional[Form]:
-    value = values[0]
+def length_of(value: Form) -> Optional[int]:
+    """Of a string or a list; that of octets is half of their digits'."""
     if isinstance(value, str):
         return len(value)
+    if isinstance(value, Digits):
+        return len(value.digits) // 2 if value.letter == "O" else len(value.digits)
     return len(value.items) if isinstance(value, Elements) and Mark.UNSET not in value.items else None
+
+
+def _length(values: list[Form]) -> Optional[Form]:
+    return length_of(values[0])
 
 
 def _text_of_number(values: list[Form]) -> Optional[Form]:

@@ -7,6 +7,7 @@ from . import tree
 from .lists import Plan
 from .emitted import Code, Got, GotDone, Message, Way, Ways, Who
 from .evaluating import SENDER
+from .fitting import opened
 from .guards import Expander, Guard, is_repeat_alone, may_repeat
 from .paths import Exit, Fork, Path, Scope
 from .refusing import refuse
@@ -14,7 +15,7 @@ from .tokens import Token
 from .tree import Receiving
 from .types import Kind, Type
 from .values import (
-    ComponentValue, Elements, Excluded, Fields, Form, Mark, Options, Received, Symbol, Wild, is_value, narrowed,
+    Chosen, ComponentValue, Elements, Excluded, Fields, Form, Mark, Options, Received, Symbol, Wild, is_value, narrowed,
 )
 
 MOST_TURNS = 30
@@ -293,6 +294,8 @@ class Chooser(Expander):
         number = type.field_number(part.word)
         if number is None:
             refuse(part.at, f"there is no field `{part.word}`")
+        if type.root.fields[number].is_optional:
+            refuse(part.at, f"whether `{part.word}` was received is open here")
         return (*steps, number), type.root.fields[number].type
 
     def _store_message(
@@ -339,9 +342,11 @@ def _narrowed_at(form: Form, type: Optional[Type], steps: tuple[int, ...], asked
         return narrowed(form, asked)
     if type is None:
         return None
+    if isinstance(form, Chosen):
+        return _narrowed_choice(form, type, steps, asked)
+    if form is Wild.ANY and type.kind is Kind.RECORD:
+        form = opened(type)
     items: Optional[list[Form]] = list(form.items) if isinstance(form, (Fields, Elements)) else None
-    if items is None and form is Wild.ANY and type.kind is Kind.RECORD:
-        items = [Wild.ANY for _ in type.root.fields]
     if items is None or steps[0] >= len(items):
         return None
     inner = type.root.fields[steps[0]].type if type.kind is Kind.RECORD else type.root.element
@@ -352,3 +357,9 @@ def _narrowed_at(form: Form, type: Optional[Type], steps: tuple[int, ...], asked
         return found
     items[steps[0]] = found
     return Fields(tuple(items)) if type.kind is Kind.RECORD else Elements(tuple(items))
+
+
+def _narrowed_choice(form: Chosen, type: Type, steps: tuple[int, ...], asked: Form) -> Optional[Form]:
+    field = type.root.fields[steps[0]]
+    found = _narrowed_at(form.value, field.type, steps[1:], asked) if field.name == form.name else None
+    return found if found is None or found == Options(()) else Chosen(form.name, found)

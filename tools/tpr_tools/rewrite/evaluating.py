@@ -5,23 +5,24 @@ from typing import Optional, Union
 
 from . import tree
 from .arithmetic import ASKING, PREDEFINED, computed, inverted, predefined
+from .braces import BracesReader
+from .fitting import opened, template_at
 from .paths import Key, Path, Scope, Slot, Split
 from .program import Program
 from .refusing import refuse, Refusal
-from .templates import Shaper
 from .tokens import Token
 from .tree import Expression, Sign
 from .types import Kind, Type
 from .values import (
-    Bounds, Chosen, ComponentValue, Digits, Elements, Enumerated, Excluded, Fields, Form, Mark, Options, Received,
-    Reference, VerdictValue, Wild, at_steps, decided, has_received, is_template, is_value, matches, same,
+    Bounds, Chosen, ComponentValue, Digits, DigitsPattern, Elements, Enumerated, Excluded, Fields, Form, Mark, Options,
+    Received, Reference, VerdictValue, Wild, decided, has_received, is_template, is_value, matches, may_be_left_out,
 )
 
 _MOST_NESTED = 60
 SENDER = (-1,)
 
 
-class Evaluator(Shaper):
+class Evaluator(BracesReader):
     """The expressions of one behaviour. `own` is the number of its component."""
 
     def __init__(self, program: Program, own: int):
@@ -61,8 +62,14 @@ class Evaluator(Shaper):
 
     def part_of_received(self, form: Received, step: int) -> Form:
         steps = (*form.steps, step)
-        known = at_steps(form.symbol.template, steps)
-        return known if is_value(known) else Received(form.symbol, steps)
+        part = Received(form.symbol, steps)
+        known = self.said_of(part)
+        return known if is_value(known) else part
+
+    def said_of(self, form: Received) -> Form:
+        """What the template says of a part of what was received."""
+        type = form.symbol.type
+        return template_at(form.symbol.template, type if isinstance(type, Type) else None, form.steps)
 
     # Expressions
 
@@ -88,7 +95,7 @@ class Evaluator(Shaper):
         if isinstance(node, tree.Typed):
             return self.evaluate(node.value, path, scope, self.types.named(node.type.word, node.type.at))
         if isinstance(node, tree.Braces):
-            return self._braces(node, path, scope, type)
+            return self.braces(node, path, scope, type)
         if isinstance(node, tree.Binary):
             return self._binary(node, path, scope)
         if isinstance(node, tree.Unary):
@@ -118,7 +125,8 @@ class Evaluator(Shaper):
         if isinstance(node, tree.VerdictWord):
             return VerdictValue(node.word)
         if isinstance(node, tree.Bits):
-            return Digits(node.digits, node.letter)
+            is_open = bool(set(node.digits) & {"?", "*"})
+            return DigitsPattern(node.digits, node.letter) if is_open else Digits(node.digits, node.letter)
         if isinstance(node, tree.Create):
             return self.create(node, path, scope)
         if isinstance(node, tree.Activate):
@@ -185,14 +193,27 @@ class Evaluator(Shaper):
             refuse(node.at, f"`{sign.value}` can't stand here")
         return simple[sign]
 
-    def _part(self, node: Union[tree.FieldOf, tree.IndexOf], path: Path, scope: Optional[Scope]) -> Form:
+    def _asked(
+        self, node: Expression, path: Path, scope: Optional[Scope], type: Optional[Type], may_be_open: bool
+    ) -> Form:
+        """What may be left out where it is only asked whether it is there, or whether it is the same."""
+        if may_be_open and isinstance(node, tree.FieldOf):
+            return self._part(node, path, scope, may_be_open)
+        return self.evaluate(node, path, scope, type)
+
+    def _part(
+        self, node: Union[tree.FieldOf, tree.IndexOf], path: Path, scope: Optional[Scope], may_be_open: bool = False
+    ) -> Form:
         of = self.type_of(node.value, path, scope)
         inner = node.value
         if isinstance(node, tree.FieldOf) and isinstance(inner, tree.Name) and self._is_module(inner, path, scope):
             return self._name(tree.Name(node.at, node.word), path, scope, None)
         whole = self.evaluate(node.value, path, scope)
         if isinstance(node, tree.FieldOf):
-            return self._field(node, whole, of)
+            found = self._field(node, whole, of)
+            if isinstance(found, Received) and not may_be_open and may_be_left_out(self.said_of(found)):
+                refuse(node.at, f"whether `{node.word}` was received is open here: ask `ispresent` before")
+            return found
         index = self.evaluate(node.index, path, scope)
         if isinstance(index, bool) or not isinstance(index, int) or index < 0:
             refuse(node.at, "the index isn't known here")
@@ -207,7 +228,7 @@ class Evaluator(Shaper):
 
     def _look_at_length(self, whole: Received, index: int, at: Token) -> None:
         """An element that was received is one for sure only where the template names all before it."""
-        template = at_steps(whole.symbol.template, whole.steps)
+        template = self.said_of(whole)
         items = template.items if isinstance(template, Elements) else ()
         if index >= len(items) or Wild.ANY_OR_NONE in items[: index + 1]:
             refuse(at, "whether what was received has this element is open")
@@ -221,9 +242,15 @@ class Evaluator(Shaper):
             if whole.name != node.word:
                 refuse(node.at, f"the alternative `{node.word}` isn't the chosen one")
             return whole.value
-        number = of.field_number(node.word) if of and of.kind is Kind.RECORD else None
-        if number is None:
+        number = of.field_number(node.word) if of and of.kind in (Kind.RECORD, Kind.UNION) else None
+        if of is None or number is None:
             refuse(node.at, f"the field `{node.word}` isn't known here")
+        if of.kind is Kind.UNION:
+            template = self.said_of(whole) if isinstance(whole, Received) else None
+            if not isinstance(template, Chosen):
+                refuse(node.at, "which alternative it has isn't known here: ask `ischosen` before")
+            if template.name != node.word:
+                refuse(node.at, f"the alternative `{node.word}` isn't the chosen one")
         return self.part(whole, (number,))
 
     def _range(self, node: tree.RangeOf, path: Path, scope: Optional[Scope]) -> Form:
@@ -244,7 +271,8 @@ class Evaluator(Shaper):
     # Operators
 
     def _binary(self, node: tree.Binary, path: Path, scope: Optional[Scope]) -> Form:
-        left = self.evaluate(node.left, path, scope)
+        is_asked = node.sign in ("==", "!=")
+        left = self._asked(node.left, path, scope, None, is_asked)
         if node.sign in ("and", "or"):
             first = self.truth(left, node.left.at)
             if first is (node.sign == "or"):
@@ -253,7 +281,7 @@ class Evaluator(Shaper):
         type = self.type_of(node.left, path, scope) or self.type_of(node.right, path, scope)
         if isinstance(node.left, (tree.Name, tree.Braces)):
             left = self.evaluate(node.left, path, scope, type)
-        right = self.evaluate(node.right, path, scope, type)
+        right = self._asked(node.right, path, scope, type, is_asked)
         if isinstance(left, Received) or isinstance(right, Received):
             return self._compared(node, left, right)
         for value, side in ((left, node.left), (right, node.right)):
@@ -299,7 +327,7 @@ class Evaluator(Shaper):
                 return template is Wild.ANY
             refuse(at, "what a sender is compared with isn't known here")
         if steps != SENDER:
-            known = decided(at_steps(symbol.template, steps), template)
+            known = decided(self.said_of(received), template)
             if known is not None:
                 return known
         fact = symbol.facts.get((steps, template))
@@ -354,7 +382,7 @@ class Evaluator(Shaper):
         type = self.type_of(first, path, scope)
         if word == "match" and type is None:
             type = self.type_of(node.arguments[1].value, path, scope)
-        value = self.evaluate(first, path, scope, type)
+        value = self._asked(first, path, scope, type, word == "ispresent")
         if word == "match":
             template = self.evaluate(node.arguments[1].value, path, scope, type)
             return self._match(value, template, node.at)
@@ -364,6 +392,8 @@ class Evaluator(Shaper):
             self.look_at_value(value, node.at)
             return value
         if isinstance(value, Received):
+            if word == "ispresent" and value.steps != SENDER:
+                return self.fits(value, Wild.ANY, node.at)
             return True if len(value.steps) == 0 else refuse(node.at, "this is computed from what was received")
         if word == "isbound":
             return value is not Mark.UNSET
@@ -375,6 +405,8 @@ class Evaluator(Shaper):
         if not isinstance(node, tree.FieldOf):
             refuse(node.at, "`ischosen` asks for an alternative")
         whole = self.evaluate(node.value, path, scope)
+        if isinstance(whole, Received) and whole.steps != SENDER:
+            return self.fits(whole, Chosen(node.word, Wild.ANY), node.at)
         if not isinstance(whole, Chosen):
             refuse(node.at, "which alternative it has isn't known here")
         return whole.name == node.word
@@ -425,7 +457,7 @@ class Evaluator(Shaper):
         """The base, with those fields that the body has in place of its own."""
         if not isinstance(body, tree.Braces) or not isinstance(base, (Fields, Chosen)):
             if isinstance(body, tree.Braces) and type is not None and type.kind is Kind.RECORD and base is Wild.ANY:
-                base = Fields(tuple(Wild.ANY for _ in type.root.fields))
+                base = opened(type)
             else:
                 return self.evaluate(body, path, scope, type)
         if isinstance(base, Chosen) or type is None or body.items and not body.named:
@@ -447,50 +479,3 @@ class Evaluator(Shaper):
             pairs = zip(base.items, form.items)
             return Fields(tuple(old if new in (Mark.NOT_USED, Mark.UNSET) else new for old, new in pairs))
         return form
-
-    # What is written in braces
-
-    def _braces(self, node: tree.Braces, path: Path, scope: Optional[Scope], type: Optional[Type]) -> Form:
-        kind = type.kind if type is not None else None
-        if type is not None and kind is Kind.RECORD:
-            return self._record(node, path, scope, type)
-        if type is not None and kind is Kind.LIST:
-            return self._list(node, path, scope, type)
-        if type is not None and kind is Kind.UNION and len(node.named) == 1:
-            name, value = node.named[0]
-            number = type.field_number(name) if isinstance(name, str) else None
-            if number is not None and isinstance(name, str):
-                return Chosen(name, self.evaluate(value, path, scope, type.root.fields[number].type))
-        refuse(node.at, "the type of what is in these braces isn't known here")
-
-    def _record(self, node: tree.Braces, path: Path, scope: Optional[Scope], type: Type) -> Form:
-        fields = type.root.fields
-        forms: list[Form] = [Mark.UNSET] * len(fields)
-        if len(node.items) > len(fields):
-            refuse(node.at, f"`{type.name}` has {len(fields)} fields")
-        for number, item in enumerate(node.items):
-            forms[number] = self.evaluate(item, path, scope, fields[number].type)
-        for name, item in node.named:
-            found = type.field_number(name) if isinstance(name, str) else None
-            if found is None:
-                refuse(node.at, f"`{type.name}` has no such field")
-            forms[found] = self.evaluate(item, path, scope, fields[found].type)
-        return Fields(tuple(forms))
-
-    def _element(self, node: Expression, path: Path, scope: Optional[Scope], type: Optional[Type]) -> Form:
-        if isinstance(node, tree.OtherMatching) and node.word == "permutation":
-            return Elements(tuple(self.evaluate(item, path, scope, type) for item in node.items))
-        return self.evaluate(node, path, scope, type)
-
-    def _list(self, node: tree.Braces, path: Path, scope: Optional[Scope], type: Type) -> Form:
-        element = type.root.element
-        if not node.named:
-            return self.with_permutations(node, [self._element(item, path, scope, element) for item in node.items])
-        forms: list[Form] = []
-        for index, item in node.named:
-            number = self.evaluate(index, path, scope) if not isinstance(index, str) else None
-            if isinstance(number, bool) or not isinstance(number, int) or not 0 <= number < 10_000:
-                refuse(node.at, "the index isn't known here")
-            forms += [Mark.UNSET] * (number + 1 - len(forms))
-            forms[number] = self.evaluate(item, path, scope, element)
-        return Elements(tuple(forms))

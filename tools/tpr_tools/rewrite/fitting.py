@@ -1,9 +1,12 @@
 """Whether a value or a template is one of a type, as the profile has it (ES 201 873-1, 6 and Annex B)."""
 from __future__ import annotations
 
-from .types import Kind, Type
+from typing import Iterable, Optional
+
+from .types import FieldOfType, Kind, Type
 from .values import (
-    Bounds, Chosen, Digits, Elements, Enumerated, Excluded, Fields, Form, IfPresent, Mark, Options, TextPattern, Wild,
+    Bounds, Chosen, Digits, DigitsPattern, Elements, Enumerated, Excluded, Fields, Form, IfPresent, Mark, Options,
+    TextPattern, Wild,
 )
 
 LEAST, MOST = -(2**63), 2**63 - 1
@@ -37,7 +40,8 @@ def _fits_simple(form: Form, type: Type) -> bool:
         return isinstance(text, str) and set(text) <= _SIGNS
     if type.kind is Kind.ENUM:
         return isinstance(form, Enumerated) and form.word in type.root.names
-    return type.kind is Kind.BITS and isinstance(form, Digits)
+    is_of_digits = isinstance(form, (Digits, DigitsPattern)) and form.letter == type.root.name[0].upper()
+    return type.kind is Kind.BITS and is_of_digits
 
 
 def _fits_fields(form: Fields, root: Type) -> bool:
@@ -66,3 +70,35 @@ def _has_other_length(form: Elements, size: int) -> bool:
 def _fits_chosen(form: Chosen, root: Type) -> bool:
     number = root.field_number(form.name)
     return number is not None and fits_type(form.value, root.fields[number].type)
+
+
+def nothing_said(field: FieldOfType) -> Form:
+    """What a template that says nothing of a record says of its field."""
+    return Wild.ANY_OR_NONE if field.is_optional else Wild.ANY
+
+
+def opened(type: Type) -> Fields:
+    """`?` of a record, field by field."""
+    return Fields(tuple(map(nothing_said, type.root.fields)))
+
+
+def template_at(form: Form, type: Optional[Type], steps: Iterable[int]) -> Form:
+    """What a template of the type says of a part of what it matches, as far as it says anything."""
+    for step in steps:
+        if type is None:
+            return Wild.ANY
+        form, type = _part_of(form, type, step)
+    return form
+
+
+def _part_of(form: Form, type: Type, step: int) -> tuple[Form, Optional[Type]]:
+    root = type.root
+    if type.kind is Kind.RECORD:
+        field = root.fields[step]
+        return form.items[step] if isinstance(form, Fields) else nothing_said(field), field.type
+    if type.kind is Kind.UNION:
+        field = root.fields[step]
+        is_chosen = isinstance(form, Chosen) and form.name == field.name
+        return form.value if isinstance(form, Chosen) and is_chosen else Wild.ANY, field.type
+    is_listed = isinstance(form, Elements) and step < len(form.items)
+    return form.items[step] if isinstance(form, Elements) and is_listed else Wild.ANY, root.element or type.element

@@ -4,6 +4,7 @@ from __future__ import annotations
 from typing import Optional
 
 from . import tree
+from .arithmetic import length_of
 from .behaviours import Follower
 from .emitted import Message, Who
 from .fitting import fits_type
@@ -11,9 +12,9 @@ from .paths import Path, Scope
 from .refusing import Refusal, refuse
 from .tokens import Token
 from .tree import Expression
-from .types import MESSAGES, Kind, Type
+from .types import MESSAGES, FieldOfType, Kind, Type
 from .values import (
-    ComponentValue, Elements, Fields, Form, Mark, Options, PortValue, Received, Wild, has_received, is_template,
+    Chosen, ComponentValue, Elements, Fields, Form, Mark, Options, PortValue, Received, Wild, has_received, is_template,
     is_value, matches,
 )
 
@@ -121,12 +122,21 @@ class Messages(Follower):
         root = type.root
         if isinstance(form, Fields):
             for item, of in zip(form.items, root.fields):
-                self._look_at_restrictions(item, of.type, at)
-                if of.restriction is not None:
-                    self._look_at_restriction(item, of.restriction, of.type.root, at)
+                self._look_at_field(item, of, at)
+        if isinstance(form, Chosen):
+            for of in root.fields:
+                if of.name == form.name:
+                    self._look_at_field(form.value, of, at)
         if isinstance(form, Elements) and root.element is not None:
             for item in form.items:
                 self._look_at_restrictions(item, root.element, at)
+
+    def _look_at_field(self, form: Form, field: FieldOfType, at: Token) -> None:
+        if form is Mark.OMIT:
+            return
+        self._look_at_restrictions(form, field.type, at)
+        if field.restriction is not None:
+            self._look_at_restriction(form, field.restriction, field.type.root, at)
 
     def _look_at_restriction(
         self, form: Form, restriction: tree.Restriction, root: Type, at: Token
@@ -136,7 +146,7 @@ class Messages(Follower):
             refuse(at, "this value isn't one that its subtype allows")
         if restriction.lengths:
             bounds = [self._length(item) for item in restriction.lengths]
-            length = len(form.items) if isinstance(form, Elements) else len(form) if isinstance(form, str) else None
+            length = length_of(form)
             low, high = bounds[0], bounds[-1]
             if length is None or low is None or length < low or (high is not None and length > high):
                 refuse(at, "this value hasn't a length that its subtype allows")

@@ -32,7 +32,10 @@ class Rewritten:
 
 
 def rewrite(
-    sources: list[Source], case: Optional[str] = None, parameters: Optional[dict[str, str]] = None
+    sources: list[Source],
+    case: Optional[str] = None,
+    parameters: Optional[dict[str, str]] = None,
+    encodes: bool = False,
 ) -> Rewritten:
     program = Program(sources)
     nowhere = sources[0].tokens[0]
@@ -44,13 +47,15 @@ def rewrite(
     values, wrong = expressions_of(parameters or {}, program)
     if wrong:
         return Rewritten(Lines(), wrong)
-    run = Run(program, values)
+    run = Run(program, values, encodes)
     try:
         followed = follow(run, chosen)
         if not run.refused and run.lost is None:
             look_at_ends(run, followed)
         if not run.refused and run.lost is None:
-            return Rewritten(Writer(run, followed, [source.file for source in sources]).write())
+            lines = Writer(run, followed, [source.file for source in sources]).write()
+            if not run.refused:
+                return Rewritten(lines)
     except Refusal as refusal:
         run.tell(refusal)
     except TooMany:

@@ -26,6 +26,7 @@ class TooMany(Exception):
 class Run:
     program: Program
     parameters: dict[str, Expression]
+    encodes: bool = False
     # The most messages that can come to a port, by the number of its component and its name.
     most: dict[tuple[int, str], int] = field(default_factory=dict)
     refused: dict[tuple[str, int, int], Refused] = field(default_factory=dict)

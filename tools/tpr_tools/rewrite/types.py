@@ -81,6 +81,9 @@ class Types:
         self.definitions = definitions
         self._known: dict[str, Type] = {word: Type(kind, word) for word, kind in _BASES.items()}
 
+    def base(self, word: str) -> Type:
+        return self._known[word]
+
     def named(self, word: str, at: Token) -> Type:
         known = self._known.get(word)
         if known is not None:

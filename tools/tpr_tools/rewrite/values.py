@@ -7,7 +7,7 @@ from __future__ import annotations
 import re
 from dataclasses import dataclass
 from enum import Enum
-from typing import Iterable, Optional, Union
+from typing import Optional, Union
 
 
 class Wild(Enum):
@@ -54,6 +54,14 @@ class Chosen:
 
 @dataclass(frozen=True)
 class Digits:
+    digits: str
+    letter: str
+
+
+@dataclass(frozen=True)
+class DigitsPattern:
+    """Digits with `?` for any one of them, of octets for any two, and `*` for any number of these."""
+
     digits: str
     letter: str
 
@@ -142,10 +150,10 @@ class Received:
 
 Form = Union[
     int, bool, str, float, Wild, Mark, Fields, Elements, Enumerated, Chosen, Digits, Options, Excluded, Bounds,
-    TextPattern, IfPresent, ComponentValue, VerdictValue, DefaultValue, PortValue, TimerValue, Reference, Received,
+    TextPattern, DigitsPattern, IfPresent, ComponentValue, VerdictValue, DefaultValue, PortValue, TimerValue, Reference, Received,
 ]
 
-_OPEN = (Wild, Options, Excluded, Bounds, TextPattern, Received, IfPresent)
+_OPEN = (Wild, Options, Excluded, Bounds, TextPattern, DigitsPattern, Received, IfPresent)
 VERDICTS = ("none", "pass", "inconc", "fail", "error")
 
 
@@ -207,7 +215,10 @@ def matches(value: Form, template: Form) -> bool:
     if isinstance(template, Bounds):
         return isinstance(value, int) and _within(value, template)
     if isinstance(template, TextPattern):
-        return isinstance(value, str) and _fits_pattern(value, template.text)
+        return isinstance(value, str) and _fits_pattern(value, template.text, ".")
+    if isinstance(template, DigitsPattern):
+        one = ".." if template.letter == "O" else "."
+        return isinstance(value, Digits) and _fits_pattern(value.digits, template.digits, one)
     return _matches_parts(value, template)
 
 
@@ -226,8 +237,8 @@ def _within(value: int, bounds: Bounds) -> bool:
     return low and (bounds.high is None or value <= bounds.high)
 
 
-def _fits_pattern(text: str, pattern: str) -> bool:
-    letters = "".join({"?": ".", "*": ".*"}.get(letter, re.escape(letter)) for letter in pattern)
+def _fits_pattern(text: str, pattern: str, one: str) -> bool:
+    letters = "".join({"?": one, "*": f"({one})*"}.get(letter, re.escape(letter)) for letter in pattern)
     return re.fullmatch(letters, text, re.DOTALL) is not None
 
 
@@ -242,22 +253,19 @@ def _match_elements(values: tuple[Form, ...], templates: tuple[Form, ...]) -> bo
     return len(values) in ends
 
 
-def at_steps(form: Form, steps: Iterable[int]) -> Form:
-    """What a template says of a part of what it matches; `?` where it says nothing."""
-    for step in steps:
-        if isinstance(form, (Fields, Elements)) and step < len(form.items):
-            form = form.items[step]
-        else:
-            return Wild.ANY
-    return form
+def may_be_left_out(template: Form) -> bool:
+    """Of an optional field: whether `omit` matches beside values."""
+    return template is Wild.ANY_OR_NONE or isinstance(template, IfPresent)
 
 
 def decided(template: Form, asked: Form) -> Optional[bool]:
     """Whether all values that match the template match the asked one, or none do; None where it is open."""
     if is_value(template):
         return matches(template, asked)
-    if asked is Wild.ANY:
-        return True
+    if asked is Wild.ANY or asked is Mark.OMIT:
+        return None if may_be_left_out(template) else asked is Wild.ANY
+    if isinstance(template, Chosen) and isinstance(asked, Chosen):
+        return decided(template.value, asked.value) if template.name == asked.name else False
     if isinstance(template, Options):
         answers = {decided(item, asked) for item in template.items}
         return answers.pop() if len(answers) == 1 else None
@@ -286,8 +294,15 @@ def _both(one: Bounds, other: Bounds) -> Optional[Bounds]:
 
 def narrowed(template: Form, asked: Form) -> Optional[Form]:
     """A template of what both match; None where that can't be said."""
-    if template is Wild.ANY:
+    if template in (Wild.ANY, Wild.ANY_OR_NONE):
         return asked
+    if isinstance(template, IfPresent):
+        return asked if asked is Mark.OMIT else narrowed(template.form, asked)
+    if asked is Wild.ANY:
+        return template
+    if isinstance(template, Chosen) and isinstance(asked, Chosen):
+        inner = narrowed(template.value, asked.value)
+        return inner if inner is None or inner == Options(()) else Chosen(template.name, inner)
     if is_value(asked):
         return asked if is_template(template) and matches(asked, template) else None
     if isinstance(template, Bounds) and isinstance(asked, Bounds):

@@ -5,6 +5,7 @@ import os
 from dataclasses import dataclass, field
 from typing import Optional
 
+from .encoding import Encoder
 from .emitted import Code, Emitted, Got, GotDone, Message, Operated, Sent, Told, Verdict, Way, Ways, Who
 from .following import Followed, Part, peers, statements_of, tells_of
 from .layout import Names, form_text, type_text
@@ -66,7 +67,8 @@ class Writer:
         self.lines = Lines(has_files=len(files) > 1)
         self.files = files
         self.shapes: dict[int, Shape] = {}
-        self.types = TypeWriter(run.program.types, followed.case.at)
+        self.encoder = Encoder(run.program.types, self.names.free, run.encodes)
+        self.types = TypeWriter(run.program.types, self.encoder, run.tell, followed.case.at)
         self.control_type = ""
         self.system_name = ""
         self.started: list[tuple[str, str, Token]] = []
@@ -80,6 +82,9 @@ class Writer:
         self._head()
         self.lines.add(f"module {self.module_name} {{")
         self._definitions()
+        if self.run.refused:
+            # Of a type that isn't written no value can be.
+            return self.lines
         for number, shape in self.shapes.items():
             if number != 0:
                 self._function(shape)
@@ -162,7 +167,7 @@ class Writer:
             for statement in statements_of(part.code):
                 message = statement.message if isinstance(statement, (Sent, Got)) else None
                 if message is not None:
-                    found[message.type.root] = None
+                    found[self.encoder.type_of(message.type)] = None
         return list(found)
 
     def _component_types(self, shapes: list[Shape], system: dict[str, PortOf]) -> None:
@@ -292,7 +297,7 @@ class Block:
             type = self.writer.shapes[0].type_name
         else:
             assert isinstance(symbol.type, Type)
-            type = type_text(symbol.type)
+            type = type_text(self.writer.encoder.type_of(symbol.type))
         self.lines.add(f"    var {type} {symbol.name};", at)
 
     def statements(self, code: Code, depth: int) -> None:
@@ -343,12 +348,14 @@ class Block:
         to = " to all component" if statement.to_all else ""
         if statement.to is not None:
             to = f" to {self._who(statement.to)}"
-        return f"{port}.send({self._message(statement.message)}){to}"
+        return f"{port}.send({self._message(statement.message, statement.at)}){to}"
 
-    def _message(self, message: Message) -> str:
+    def _message(self, message: Message, at: Token) -> str:
         if isinstance(message.form, Received):
             return message.form.symbol.name
-        return f"{type_text(message.type)}:{form_text(message.form)}"
+        encoder = self.writer.encoder
+        form = encoder.form_of(message.form, message.type, at)
+        return f"{type_text(encoder.type_of(message.type))}:{form_text(form)}"
 
     def _who(self, who: Who) -> str:
         return self.writer.shapes[who].name if isinstance(who, int) else who.name
@@ -356,7 +363,7 @@ class Block:
     def _got(self, operation: Got | GotDone) -> str:
         if isinstance(operation, GotDone):
             return f"{self.shape.controls[operation.component]}.receive(boolean:true)"
-        wanted = f"({self._message(operation.message)})" if operation.message else ""
+        wanted = f"({self._message(operation.message, operation.at)})" if operation.message else ""
         sender = f" from {self._who(operation.sender)}" if operation.sender is not None else ""
         text = f"{wanted}{sender}{self._redirect(operation)}"
         if operation.how == "check":

@@ -1,14 +1,16 @@
 """Writes the types of messages and of ports."""
 from __future__ import annotations
 
-from typing import Callable, Optional
+from typing import Callable, Iterator, Optional
 
 from . import tree
+from .encoding import Encoder
 from .layout import type_text
-from .refusing import refuse
+from .refusing import Refusal, refuse
 from .tokens import Token
 from .types import Kind, Type, Types
 
+_Tell = Callable[[Refusal], None]
 _Add = Callable[[str, Optional[Token]], None]
 _BASES = (Kind.INTEGER, Kind.BOOLEAN, Kind.CHARSTRING)
 _ENCODED = {
@@ -17,8 +19,10 @@ _ENCODED = {
 
 
 class TypeWriter:
-    def __init__(self, types: Types, nowhere: Token):
+    def __init__(self, types: Types, encoder: Encoder, tell: _Tell, nowhere: Token):
         self.types = types
+        self.tell = tell
+        self.encoder = encoder
         # Where a type stands that no module defines.
         self.nowhere = nowhere
         self._written: set[Type] = set()
@@ -50,7 +54,7 @@ class TypeWriter:
             if name.word in ("anytype", "address") or name.word.startswith("universal"):
                 continue
             type = self.types.named(name.word, name.at)
-            root = type.root
+            root = self.encoder.type_of(type)
             if root not in messages and not is_plain(root, []):
                 continue
             if listed.setdefault(root, type.name) != type.name:
@@ -65,9 +69,9 @@ class TypeWriter:
             return
         self._written.add(type.root)
         root = type.root
-        self._look_at_kind(root)
-        if root.kind is Kind.LIST:
-            assert root.element is not None
+        for reason in _reasons_against(root):
+            self.tell(Refusal(root.at or self.nowhere, reason))
+        if root.kind is Kind.LIST and root.element is not None:
             self._message_type(root.element, add, at)
             add(f"  type record of {type_text(root.element)} {root.name};", root.at)
             return
@@ -75,17 +79,6 @@ class TypeWriter:
             self._message_type(field.type, add, at)
         fields = ", ".join(f"{type_text(field.type)} {field.name}" for field in root.fields)
         add(f"  type record {root.name} {{ {fields} }}" if fields else f"  type record {root.name} {{ }}", root.at)
-
-    def _look_at_kind(self, root: Type) -> None:
-        at = root.at or self.nowhere
-        if root.kind in _ENCODED:
-            refuse(at, f"{_ENCODED[root.kind]} isn't carried over")
-        if root.kind not in (Kind.RECORD, Kind.LIST):
-            refuse(at, root.reason or f"no message has the type `{root.name}`")
-        if root.is_set and root.kind is Kind.LIST:
-            refuse(at, "a set of isn't carried over: the order of its elements doesn't count")
-        if any(field.is_optional for field in root.fields):
-            refuse(at, "an optional field isn't carried over")
 
     def _port_type(self, port: Type, sent: list[Type], received: list[Type], add: _Add) -> None:
         if port in self._written:
@@ -102,6 +95,17 @@ class TypeWriter:
         )
         # A port that nothing is sent to must list something.
         add(f"  type port {port.name} message {{ {text or 'inout boolean;'} }}", port.at)
+
+
+def _reasons_against(root: Type) -> Iterator[str]:
+    if root.kind in _ENCODED:
+        yield f"{_ENCODED[root.kind]} isn't carried over without --encode"
+    elif root.kind not in (Kind.RECORD, Kind.LIST):
+        yield root.reason or f"no message has the type `{root.name}`"
+    elif root.is_set and root.kind is Kind.LIST:
+        yield "a set of isn't carried over: the order of its elements doesn't count"
+    elif any(field.is_optional for field in root.fields):
+        yield "an optional field isn't carried over without --encode"
 
 
 def is_plain(type: Type, above: list[Type]) -> bool:
