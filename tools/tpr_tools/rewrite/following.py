@@ -7,12 +7,13 @@ from typing import Iterable, Iterator, Optional
 
 from . import tree
 from .components import SYSTEM, Behaviour
-from .emitted import Code, Emitted, Got, GotDone, Sent, Told, Ways
+from .emitted import Code, Emitted, Got, GotDone, Operated, Sent, Told, Verdict, Ways
 from .paths import Created, End, Exit, Joined, Path, Started, State
 from .refusing import Refusal, refuse
 from .run import Run
 from .tokens import Token
 from .types import Kind, Type
+from .values import VERDICTS
 
 MOST_ROUNDS = 8
 _Counts = Counter[tuple[int, str]]
@@ -39,6 +40,8 @@ class Followed:
     system: Optional[Type]
     # Components whose end every way of the test case waits for.
     done: frozenset[int] = frozenset()
+    # The least that the test case's own verdict is at its end.
+    least: str = "none"
 
 
 class CaseBehaviour(Behaviour):
@@ -92,7 +95,8 @@ def _follow_once(run: Run, case: tree.TestCase) -> Followed:
     if system is not None:
         parts += _system_part(run, system)
     done = frozenset.intersection(*(way.state.done | way.state.awaited for way in ways))
-    return Followed(case, parts, state.joins, system, done)
+    least = min((way.state.verdict for way in ways), key=VERDICTS.index)
+    return Followed(case, parts, state.joins, system, done, least)
 
 
 def _component_type(run: Run, word: str, at: Token) -> Type:
@@ -220,17 +224,37 @@ def look_at_ends(run: Run, followed: Followed) -> None:
     """What hangs on when a component begins or ends, where the profile's order is another."""
     by_number = {part.number: part for part in followed.parts}
     for part in followed.parts:
-        if part.started and part.number > 0 and part.number not in followed.done and waits(part.code):
-            reason = (
-                "the test case may end while this component still waits, which ends it there and is an error "
-                "here: wait for its end with `.done`"
-            )
-            run.tell(Refusal(part.started.at, reason))
+        if part.started and part.number > 0 and part.number not in followed.done:
+            reason = _reason_to_wait(followed, part)
+            if reason:
+                run.tell(Refusal(part.started.at, f"{reason}: wait for its end with `.done`"))
     for join in followed.joins:
         for end in (join.one, join.other):
             joined = by_number.get(end.component)
             if joined and end.component in join.running and end.port in ports_used(joined.code):
                 run.tell(Refusal(join.at, f"a component that runs already uses `{end.port}`, maybe before this"))
+
+
+def _reason_to_wait(followed: Followed, part: Part) -> str:
+    """Why it isn't the same whether the end of the test case ends this component; empty where it is."""
+    if waits(part.code):
+        return "the test case may end while this component still waits, which ends it there and is an error here"
+    words = [one.word for one in statements_of(part.code) if isinstance(one, Verdict)]
+    if any(VERDICTS.index(word) > VERDICTS.index(followed.least) for word in words):
+        return "the test case may end before this component sets its verdict, which always counts here"
+    if any(_may_fail(followed, part, one) for one in statements_of(part.code)):
+        return "the test case may end before this component comes to a send that fails, which always counts here"
+    return ""
+
+
+def _may_fail(followed: Followed, part: Part, statement: Emitted) -> bool:
+    """A send from a port that was stopped, or that leads to nobody, or to several without saying to whom."""
+    if isinstance(statement, Operated):
+        return statement.act in ("stop", "halt")
+    if not isinstance(statement, Sent) or statement.to_all:
+        return False
+    others = [end.component for end in peers(followed.joins, End(part.number, statement.port))]
+    return others.count(statement.to) != 1 if statement.to is not None else len(others) != 1
 
 
 def tells_of(code: Code) -> set[int]:

@@ -157,19 +157,32 @@ def checkpoint(index: int, counted: int, paths: list[Path]) -> Checkpoint:
 
 def joined(paths: list[Path], live: frozenset[str], has_verdict: bool) -> list[Path]:
     """The ways, where those of one `alt` that agree in all that is still asked for are one."""
-    merged = True
-    while merged:
-        merged = False
-        for fork in {id(path.fork): path.fork for path in paths if path.fork}.values():
-            group = [path for path in paths if path.fork is fork]
-            if len(group) == fork.ways and _agree(group, live, has_verdict):
-                path = Path(fork.code, _common(group, live), fork.above)
-                place = paths.index(group[0])
-                paths = [other for other in paths if other.fork is not fork]
-                paths.insert(place, path)
-                merged = True
-                break
-    return paths
+    while True:
+        groups: dict[int, list[Path]] = {}
+        for path in paths:
+            groups.setdefault(id(path.fork), []).append(path)
+        merged = {
+            key: _merged(group, live) for key, group in groups.items() if _is_whole(group) and _agree(group, live, has_verdict)
+        }
+        if not merged:
+            return paths
+        # The one stands where the first of its group stood.
+        paths = [
+            merged.get(id(path.fork), path) for path in paths
+            if id(path.fork) not in merged or path is groups[id(path.fork)][0]
+        ]
+
+
+def _is_whole(group: list[Path]) -> bool:
+    """Whether these are all ways of their `alt`."""
+    fork = group[0].fork
+    return fork is not None and len(group) == fork.ways
+
+
+def _merged(group: list[Path], live: frozenset[str]) -> Path:
+    fork = group[0].fork
+    assert fork is not None
+    return Path(fork.code, _common(group, live), fork.above)
 
 
 def _agree(group: list[Path], live: frozenset[str], has_verdict: bool) -> bool:

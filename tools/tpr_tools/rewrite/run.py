@@ -13,7 +13,7 @@ from .types import Kind, Type, Types
 from .values import Elements, Form, PortValue
 
 MOST_STEPS = 150_000
-MOST_WRITTEN = 100_000
+MOST_WRITTEN = 40_000
 MOST_REFUSALS = 100
 MOST_PORTS = 64
 

@@ -1,0 +1,68 @@
+"""Programs of the full language made by chance, and what tools/rewrite makes of them: both come to the same.
+
+    tests/rewrites/chance/chance_rules.py [FIRST COUNT]
+
+Each program is followed in every order of its acts by an interpreter of its own (full_runs.py), and what is carried
+over of it by the model of runs in tests/orders/. The verdicts are the same, and component by component the messages
+that were sent and that left a queue. It prints a line `passed ..` or `FAILED: ..` for each case.
+"""
+from __future__ import annotations
+
+import os
+import sys
+from collections import Counter
+
+HERE = os.path.dirname(os.path.realpath(__file__))
+ROOT = os.path.dirname(os.path.dirname(os.path.dirname(HERE)))
+sys.path[:0] = [HERE, os.environ.get("REWRITING", f"{ROOT}/tools"), f"{ROOT}/tests/orders"]
+
+from full_expressions import Fault
+from full_runs import Outcome, Runs, TooMany
+from profile_runs import outcomes_of
+from programs import program_of
+from tpr_tools.rewrite.rewriting import rewrite
+from tpr_tools.rewrite.tokens import Source
+
+FIRST, COUNT = 1, 600
+
+
+def look_at(seed: int) -> str:
+    """`same`, why the program isn't compared, or what is wrong."""
+    encodes = seed % 3 == 0
+    text = program_of(seed, encodes)
+    found = rewrite([Source("chance", text.encode())], encodes=encodes)
+    if found.refused:
+        return "refused"
+    try:
+        wanted = Runs(text).outcomes()
+        carried = outcomes_of(found.text)
+    except Fault:
+        return "faulty"
+    except TooMany:
+        return "large"
+    if any(events is None and result != "error" for result, events in wanted):
+        wanted, carried = verdicts(wanted), verdicts(carried)
+    return "same" if wanted == carried else f"wrong: {sorted(map(str, wanted ^ carried))[:2]}"
+
+
+def verdicts(outcomes: set[Outcome]) -> set[Outcome]:
+    return {(result, None) for result, _ in outcomes}
+
+
+def main() -> None:
+    first, count = map(int, sys.argv[1:]) if len(sys.argv) == 3 else (FIRST, COUNT)
+    answers: Counter[str] = Counter()
+    for seed in range(first, first + count):
+        answer = look_at(seed)
+        kind = answer.partition(":")[0]
+        answers[kind] += 1
+        if kind == "wrong":
+            print(f"FAILED: the program {seed}: {answer}")
+        elif kind == "same":
+            print(f"passed the program {seed}")
+    if len(sys.argv) == 3:
+        print(f"{dict(answers)}", file=sys.stderr)
+
+
+if __name__ == "__main__":
+    main()
