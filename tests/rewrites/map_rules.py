@@ -71,7 +71,8 @@ def look_at_explain(program: str, output: str) -> None:
         opened.write("\n".join(lines) + "\n")
     found = tool(program, "explain", output).splitlines()
     judged("explain", found[1:2] == ["  comes from kitchen.ttcn:16:40"], f"{found}")
-    judged("explain of another script", "comes from" not in tool(program, "explain", "kitchen.ttcn"), "it comes from one")
+    told = tool(program, "explain", "kitchen.ttcn")
+    judged("explain of another script", "comes from" not in told, told)
 
 
 def look_at_another(program: str, output: str) -> None:

@@ -136,7 +136,8 @@ def body_of(text: str) -> list[str]:
 def types_of(text: str) -> list[str]:
     """The types of messages that aren't the prelude's."""
     lines = [re.sub(r" *// [0-9]+$", "", line).strip() for line in text.splitlines()]
-    return [line for line in lines if line.startswith("type record") and line.split()[2] != "Order" and line[-2:] != "L;"]
+    found = [line for line in lines if line.startswith("type record")]
+    return [line for line in found if line.split()[2] != "Order" and not line.endswith(" L;")]
 
 
 def natural(program: str) -> None:

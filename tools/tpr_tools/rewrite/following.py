@@ -254,7 +254,7 @@ def _may_fail(followed: Followed, part: Part, statement: Emitted) -> bool:
     if not isinstance(statement, Sent) or statement.to_all:
         return False
     others = [end.component for end in peers(followed.joins, End(part.number, statement.port))]
-    return others.count(statement.to) != 1 if statement.to is not None else len(others) != 1
+    return sum(statement.to in (None, other) for other in others) != 1
 
 
 def tells_of(code: Code) -> set[int]:

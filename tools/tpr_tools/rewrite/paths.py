@@ -162,7 +162,8 @@ def joined(paths: list[Path], live: frozenset[str], has_verdict: bool) -> list[P
         for path in paths:
             groups.setdefault(id(path.fork), []).append(path)
         merged = {
-            key: _merged(group, live) for key, group in groups.items() if _is_whole(group) and _agree(group, live, has_verdict)
+            key: _merged(group, live) for key, group in groups.items()
+            if _is_whole(group) and _agree(group, live, has_verdict)
         }
         if not merged:
             return paths

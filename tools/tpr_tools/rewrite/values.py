@@ -150,7 +150,8 @@ class Received:
 
 Form = Union[
     int, bool, str, float, Wild, Mark, Fields, Elements, Enumerated, Chosen, Digits, Options, Excluded, Bounds,
-    TextPattern, DigitsPattern, IfPresent, ComponentValue, VerdictValue, DefaultValue, PortValue, TimerValue, Reference, Received,
+    TextPattern, DigitsPattern, IfPresent, ComponentValue, VerdictValue, DefaultValue, PortValue, TimerValue, Reference,
+    Received,
 ]
 
 _OPEN = (Wild, Options, Excluded, Bounds, TextPattern, DigitsPattern, Received, IfPresent)
