@@ -60,7 +60,7 @@ many_cons c (Some y) ys =
     let two = sum_by-cons (λ x. cond (x == c) 1 0) y [] in
     omega (arith, one, two)
 
-as_many : {X : Type 0} (f : X → Option Posted) (g : X → Option ℕ) (c : ℕ) → ((x : X) → length (cons_option (f x) []) ≡ many c (cons_option (g x) []))
+pub as_many : {X : Type 0} (f : X → Option Posted) (g : X → Option ℕ) (c : ℕ) → ((x : X) → length (cons_option (f x) []) ≡ many c (cons_option (g x) []))
     → (xs : List X) → length (filter_map f xs) ≡ many c (filter_map g xs)
 as_many f g c each [] = refl
 as_many f g c each (x ∷ xs) =
@@ -90,19 +90,19 @@ size_none : (b : Bool) → length (cons_option (cond b (let o : Option Posted = 
 size_none true = refl
 size_none false = refl
 
-arrival_size : (c d : CompId) (e : Entry) → length (cons_option (arrival_from d c e) []) ≡ many c.0 (cons_option (source_of e) [])
+pub arrival_size : (c d : CompId) (e : Entry) → length (cons_option (arrival_from d c e) []) ≡ many c.0 (cons_option (source_of e) [])
 arrival_size c d (entry.Arrive p v t) =
     let one = many_sent v.sender c.0 true in
     size_if (c.0 == v.sender) _ ∙ ap unit (turned c.0 v.sender) ∙ sym one
 arrival_size c d _ = refl
 
-task_size : (c d : CompId) (x : ℕ) (o : Option Entry) → length (cons_option (cond (c.0 == x) (sending_in d o) None) [])
+pub posted_size : (c d : CompId) (x : ℕ) (o : Option Entry) → length (cons_option (cond (c.0 == x) (sending_in d o) None) [])
     ≡ many c.0 (cons_option (cond (sends_to d.0 o) (Some x) None) [])
-task_size c d x None = size_none (c.0 == x)
-task_size c d x (Some (entry.Sent q n m)) =
+posted_size c d x None = size_none (c.0 == x)
+posted_size c d x (Some (entry.Sent q n m)) =
     size_both (c.0 == x) (d.0 == q.to.comp.0) _ ∙ ap (λ (b : Bool). cond (d.0 == q.to.comp.0) (unit b) 0) (turned c.0 x)
     ∙ sym (many_sent x c.0 (d.0 == q.to.comp.0))
-task_size c d x (Some _) = size_none (c.0 == x)
+posted_size c d x (Some _) = size_none (c.0 == x)
 
 module _ (logs : List (List Entry)) (full : List Spot) (is : IsOrderOf logs full) (c d : CompId) where
   -- what c did before a place is what the order has of it so far
@@ -206,7 +206,7 @@ module _ (logs : List (List Entry)) (full : List Spot) (is : IsOrderOf logs full
       ]
 
   -- in the whole order it sends what its history says
-  all_posted : posted_by logs c d full ≡ filter_map (sending_to d) (log_in logs c.0)
+  pub all_posted : posted_by logs c d full ≡ filter_map (sending_to d) (log_in logs c.0)
   all_posted =
       let log = log_in logs c.0 in
       let past = so_far (length full) (omega arith) in
@@ -235,7 +235,7 @@ module _ (logs : List (List Entry)) (full : List Spot) (is : IsOrderOf logs full
       let ys = posted_by logs c d (take i full) in
       let seen = ap (many c.0) (is.seen i (spot d.0 place) e there stands look) in
       let one = as_many (arrival_from d c) source_of c.0 (arrival_size c d) (take place log) in
-      let two = as_many (posted_at logs c d) (sender_to logs d.0) c.0 (λ a. task_size c d a.comp (entry_at logs a)) (take i full) in
+      let two = as_many (posted_at logs c d) (sender_to logs d.0) c.0 (λ a. posted_size c d a.comp (entry_at logs a)) (take i full) in
       let size : length xs ≡ length ys = omega (arith, seen, one, two) in
       given_front (arrival_from d c) log place
       ∙ ap (λ n. take n (filter_map (arrival_from d c) log)) size
