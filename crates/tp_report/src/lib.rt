@@ -10,5 +10,5 @@ pub mod report;
 mod rest;
 pub mod telling;
 pub mod verdicts;
-mod words;
+pub mod words;
 pub mod writing;

@@ -21,3 +21,4 @@ pub mod Missed
 pub mod Numbers
 pub mod Sorted
 pub mod Answered
+pub mod Texts

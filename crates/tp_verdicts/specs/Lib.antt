@@ -5,3 +5,4 @@ pub mod Standing
 pub mod Laws
 pub mod Found
 pub mod Sorting
+pub mod Texts

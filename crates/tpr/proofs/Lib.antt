@@ -1,3 +1,4 @@
 pub mod Reading
 pub mod Answered
 pub mod Refereed
+pub mod Always

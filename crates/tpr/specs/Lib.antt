@@ -4,3 +4,4 @@ pub mod Checked
 pub mod Ran
 pub mod Judged
 pub mod Handed
+pub mod Decided

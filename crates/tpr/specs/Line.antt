@@ -10,6 +10,7 @@ mode_text mode.Check = codes "check"
 mode_text mode.Run = codes "run"
 mode_text mode.Trace = codes "trace"
 mode_text mode.Judge = codes "judge"
+mode_text mode.Verdicts = codes "verdicts"
 
 -- the words are the mode's, and then the FILE, if one is given
 abbrev pub Asks : List (List ℕ) → Mode → Option (List ℕ) → Type 0

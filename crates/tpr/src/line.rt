@@ -16,6 +16,8 @@ pub enum Mode {
     Trace,
     /// Says whether a trace is lawful.
     Judge,
+    /// Says to which verdicts a test case can come.
+    Verdicts,
 }
 
 /// The mode of this word, if it names one.
@@ -33,6 +35,8 @@ fn mode_of(word: &str) -> Option<Mode>
         Some(Mode::Trace)
     } else if word == "judge" {
         Some(Mode::Judge)
+    } else if word == "verdicts" {
+        Some(Mode::Verdicts)
     } else {
         None
     }

@@ -1,22 +1,26 @@
-//! `tpr`: message ports of TTCN-3, replayed, checked, run, traced and judged.
+//! `tpr`: message ports of TTCN-3, replayed, checked, run, traced, judged and decided.
 #![tactic(auto)]
 
 ghost use Rattle.std.specs.Prelude.{◌≡◌, IfNone, IfSome, OnSome, Some};
 ghost use Rattle.std.specs.Io.Buffered.{writer_contents};
 ghost use Rattle.std.specs.Io.KnownBytes.{Keeps};
+ghost use Rattle.tp_text.specs.Watching.{left_in};
 ghost use Rattle.tpr.specs.Checked.{IsCheckAnswer};
+ghost use Rattle.tpr.specs.Decided.{IsKept, IsVerdictsAnswer};
 ghost use Rattle.tpr.specs.Handed.{BeginsWith, IsAnswered, IsHanded, IsJust};
 ghost use Rattle.tpr.specs.Judged.{IsJudgeAnswer};
 ghost use Rattle.tpr.specs.Outcome.{IsQueueAnswer, unread_text};
 ghost use Rattle.tpr.specs.Ran.{IsRunAnswer, IsTraceAnswer};
 
 mod checking;
+mod deciding;
 mod judging;
 mod line;
 mod modes;
 mod running;
 
 use checking::answer_check;
+use deciding::answer_verdicts;
 use judging::answer_judge;
 use line::{Mode, mode_and_file};
 use modes::{FAULTED, answer_fault, answer_queue};
@@ -60,6 +64,10 @@ fn answer<T: AllocGlobal + Threads + Wait + Sync, R: Read, W: Write>(
         (IsTraceAnswer R.remaining reader.old reader.new) writer.old writer.new result }
     ensures judge { mode ≡ Mode.Judge → IsAnswered W.contents
         (IsJudgeAnswer R.remaining reader.old reader.new) writer.old writer.new result }
+    ensures verdicts { mode ≡ Mode.Verdicts → IsAnswered W.contents
+        (IsVerdictsAnswer R.remaining reader.old reader.new) writer.old writer.new result }
+    ensures always { mode ≡ Mode.Verdicts → IsAnswered W.contents
+        (IsKept (left_in R.remaining reader.old)) writer.old writer.new result }
 {
     match mode {
         Mode::Queue => answer_queue(rt.alloc(), reader, writer),
@@ -67,6 +75,7 @@ fn answer<T: AllocGlobal + Threads + Wait + Sync, R: Read, W: Write>(
         Mode::Run => answer_run(rt, rt.alloc(), reader, writer, &OpenGate),
         Mode::Trace => answer_trace(rt, rt.alloc(), reader, writer, &OpenGate),
         Mode::Judge => answer_judge(rt.alloc(), reader, writer),
+        Mode::Verdicts => answer_verdicts(rt.alloc(), reader, writer),
     }
 }
 
@@ -115,6 +124,11 @@ fn answer_through<T: AllocGlobal + Threads + Wait + Sync, R: Read, W: Write + Dr
     ensures trace { mode ≡ Mode.Trace → IsHanded (IsTraceAnswer R.remaining reader.old reader.new)
         (writer_contents W.contents buffer) (W.contents result.1) result.0 }
     ensures judge { mode ≡ Mode.Judge → IsHanded (IsJudgeAnswer R.remaining reader.old reader.new)
+        (writer_contents W.contents buffer) (W.contents result.1) result.0 }
+    ensures verdicts { mode ≡ Mode.Verdicts → IsHanded
+        (IsVerdictsAnswer R.remaining reader.old reader.new)
+        (writer_contents W.contents buffer) (W.contents result.1) result.0 }
+    ensures always { mode ≡ Mode.Verdicts → IsHanded (IsKept (left_in R.remaining reader.old))
         (writer_contents W.contents buffer) (W.contents result.1) result.0 }
 {
     let mut writer = Watched::new(buffer);

@@ -27,3 +27,13 @@ pub returns-clause-judge : goal.returns-clause-judge
 returns-clause-judge g c = λ is.
     handed (writer_contents g.W.Write.contents) _ _ _ _ _ _ _ _ c.new-writer.ensures.inner c.into_inner.ensures (c.answer-status.ensures.judge is)
     c.emptied.ensures.status c.emptied.ensures.got c.emptied.ensures.front
+
+pub returns-clause-verdicts : goal.returns-clause-verdicts
+returns-clause-verdicts g c = λ is.
+    handed (writer_contents g.W.Write.contents) _ _ _ _ _ _ _ _ c.new-writer.ensures.inner c.into_inner.ensures (c.answer-status.ensures.verdicts is)
+    c.emptied.ensures.status c.emptied.ensures.got c.emptied.ensures.front
+
+pub returns-clause-always : goal.returns-clause-always
+returns-clause-always g c = λ is.
+    handed (writer_contents g.W.Write.contents) _ _ _ _ _ _ _ _ c.new-writer.ensures.inner c.into_inner.ensures (c.answer-status.ensures.always is)
+    c.emptied.ensures.status c.emptied.ensures.got c.emptied.ensures.front

@@ -1,0 +1,7 @@
+-- The line, and then nothing more.
+use Rattle.tpr.proofs.Answered.{answered}
+use Rattle.tpr.proofs.deciding.answer_want_of_memory.Goals as goal
+
+pub returns : goal.returns
+returns g c =
+    answered _ _ _ _ _ _ _ c.write_memory.ensures c.ended.ensures.written c.ended.ensures.told

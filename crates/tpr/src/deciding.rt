@@ -1,0 +1,94 @@
+//! Which verdicts a test case can come to.
+ghost use Rattle.std.specs.Prelude.{◌≡◌};
+ghost use Rattle.tp_text.specs.Watching.{left_in};
+ghost use Rattle.tp_verdicts.specs.Found.{IsVerdictsOf};
+ghost use Rattle.tp_verdicts.specs.Texts.{verdicts_status};
+ghost use Rattle.tpr.specs.Decided.{IsDecided, IsDecidedOf, IsKept, IsVerdictsAnswer};
+ghost use Rattle.tpr.specs.Handed.{IsAnswered, IsJust};
+ghost use Rattle.tpr.specs.Outcome.{memory_text};
+
+use crate::checking::{answer_check_fault, check_script};
+use crate::modes::{ANSWERED, FAULTED, ended, write_memory};
+use std::alloc::Global;
+use std::io::{Read, Write};
+use tp_play::test_case::TestCase;
+use tp_text::watched::Watched;
+use tp_verdicts::finding::find_verdicts;
+use tp_verdicts::verdicts::Verdicts;
+use tp_verdicts::writing::write_verdicts;
+
+/// The status where a test case can come to several verdicts.
+const SEVERAL: u8 = 2;
+/// The status where nothing is promised of a test case's verdicts.
+const UNDECIDED: u8 = 3;
+
+/// The status where these are the verdicts.
+fn verdicts_status(verdicts: &Verdicts) -> u8
+    ensures { result ≡ verdicts_status verdicts.now }
+{
+    if !verdicts.is_complete {
+        return UNDECIDED;
+    }
+    match verdicts.found.as_slice() {
+        [] => UNDECIDED,
+        [_] => ANSWERED,
+        [_, _, ..] => SEVERAL,
+    }
+}
+
+/// Prints the verdicts of this test case, and answers their status. `None` where the writer failed.
+fn answer_found<W: Write>(
+    test_case: &TestCase,
+    verdicts: &Verdicts,
+    writer: &mut Watched<W>,
+) -> Option<u8>
+    requires { IsVerdictsOf test_case.now verdicts.now }
+    ensures { IsAnswered W.contents (IsDecided test_case.now) writer.old writer.new result }
+{
+    write_verdicts(test_case.config(), verdicts, writer);
+    ended(writer, verdicts_status(verdicts))
+}
+
+/// Prints that memory was refused. The status is 3; `None` where the writer failed.
+fn answer_want_of_memory<W: Write>(writer: &mut Watched<W>) -> Option<u8>
+    ensures { IsAnswered W.contents (IsJust memory_text 3) writer.old writer.new result }
+{
+    write_memory(writer);
+    ended(writer, FAULTED)
+}
+
+/// Prints the verdicts that this test case can come to, or that memory was refused.
+fn decide<W: Write>(alloc: Global, test_case: &TestCase, writer: &mut Watched<W>) -> Option<u8>
+    ensures { IsAnswered W.contents (IsDecidedOf test_case.now) writer.old writer.new result }
+{
+    match find_verdicts(alloc, test_case) {
+        Ok(verdicts) => answer_found(test_case, &verdicts, writer),
+        Err(_) => answer_want_of_memory(writer),
+    }
+}
+
+/// Reads a script, checks it, and prints the verdicts that its test case can come to, or the line
+/// of its first fault: `always VERDICT` where each report that a run returns has this result;
+/// `VERDICT or VERDICT ..` where it has one of these; `undecided` where nothing is promised, and
+/// then `seen VERDICT ..` for those that were found. Behind that `states N`, how many states were
+/// looked at, at most 4,194,304; and unless it is one and no other, for each verdict a line
+/// `VERDICT: COMPONENT COMPONENT ..`, the components by whose steps a run comes to it.
+///
+/// The status is 0 for `always`, 2 for several, and 3 for `undecided`; 2 where the script was
+/// refused, as by `answer_check`; 3 where memory was refused, `fault 50 Memory`. `None` where the
+/// writer failed: a front of one of these answers is printed then. It waits for nobody.
+pub fn answer_verdicts<R: Read, W: Write>(
+    alloc: Global,
+    reader: &mut Watched<R>,
+    writer: &mut Watched<W>,
+) -> Option<u8>
+    ensures answer { IsAnswered W.contents (IsVerdictsAnswer R.remaining reader.old reader.new)
+        writer.old writer.new result }
+    ensures always { IsAnswered W.contents (IsKept (left_in R.remaining reader.old))
+        writer.old writer.new result }
+{
+    match check_script(alloc, reader) {
+        Err(fault) => answer_check_fault(writer, fault),
+        Ok(test_case) => decide(alloc, &test_case, writer),
+    }
+}
