@@ -6,15 +6,15 @@ rewrites() {
     while read -r part least; do
         at_least "$least" told "$room/rewrites_$part" tests/rewrites/rewrite_rules.py "$tpr" "$part"
     done <<'PARTS'
-table 73
+table 80
 natural 50
 same 59
 broken 6
 listed 39
 rows 109
-faults 30
+faults 37
 PARTS
-    at_least 470 told "$room/rewrites_by_chance" tests/rewrites/chance/chance_rules.py
+    at_least 484 told "$room/rewrites_by_chance" tests/rewrites/chance/chance_rules.py
     at_least 12 told "$room/rewrites_maps" tests/rewrites/map_rules.py "$tpr"
     observe env -u TPR "$root/tools/rewrite" --help
     tool_must "rewrite tells its words" 0 grep -q -- '--case NAME' "$room/printed"
