@@ -314,22 +314,33 @@ class Follower(ListFollower):
         finished: list[Path] = []
         is_asked = not is_first_done
         while paths:
-            self.run.step(loop.at)
-            path = paths.pop(0)
-            if is_asked and not self.truth(self.evaluate(condition, path, scope), condition.at):
-                finished.append(path)
-                continue
-            for one in self.block(block, path, scope):
-                if one.exit in (Exit.ON, Exit.CONTINUE):
-                    one.exit = Exit.ON
-                    paths += self.follow(step, one, scope) if step else [one]
+            turned: list[Path] = []
+            for path in paths:
+                self.run.step(loop.at)
+                if is_asked and not self.truth(self.evaluate(condition, path, scope), condition.at):
+                    finished.append(path)
                 else:
-                    one.exit = Exit.ON if one.exit is Exit.BREAK else one.exit
-                    finished.append(one)
+                    turned += self.block(block, path, scope)
             is_asked = True
-            paths = joined(paths, self.live(), self.has_verdict)
+            # All ways are joined once for each turn, since there may be many.
+            going_on = self._stepped(turned, step, scope, finished)
+            paths = joined(going_on, self.live(), self.has_verdict)
         self.frames.pop()
         return finished
+
+    def _stepped(
+        self, turned: list[Path], step: Optional[Statement], scope: Scope, finished: list[Path]
+    ) -> list[Path]:
+        """The ways that go on behind a turn, with the loop's step; the others have finished it."""
+        going_on: list[Path] = []
+        for one in turned:
+            if one.exit in (Exit.ON, Exit.CONTINUE):
+                one.exit = Exit.ON
+                going_on += self.follow(step, one, scope) if step else [one]
+            else:
+                one.exit = Exit.ON if one.exit is Exit.BREAK else one.exit
+                finished.append(one)
+        return going_on
 
     def _leave(self, statement: tree.Leave, path: Path, scope: Scope) -> None:
         path.exit = _EXITS[statement.how]
