@@ -113,6 +113,7 @@ def first_example(program: Program) -> Iterator[Case]:
     yield shows("README.md", f"{EXAMPLE}.ttcn")
     yield shows("README.md", f"{EXAMPLE}.expected")
     yield shows("docs/PROFILE.md", "examples/halt_holds_back_what_comes_later.expected")
+    yield shows("docs/EXPLORING.md", "examples/broadcast_is_overtaken_by_an_answer.verdicts")
     lines = text_of(f"{EXAMPLE}.ttcn").splitlines(keepends=True)
     name = "README.md, the changed line"
     if "counter.send" not in lines[25]:

@@ -83,7 +83,7 @@ def strays() -> Iterator[str]:
     for file in sorted(chain.from_iterable(it.glob("[!.]*") for it in example_files.FOLDERS)):
         name, ending, number = file.name.partition(".expected.")
         base = name if ending and number.isdecimal() else file.stem
-        belongs = (file.suffix == ".expected" or base == name) and any(
+        belongs = (file.suffix in (".expected", ".verdicts") or base == name) and any(
             (file.parent / f"{base}.{it}").exists() for it in ENDINGS
         )
         if file.name != "README.md" and file.suffix[1:] not in ENDINGS and not belongs:

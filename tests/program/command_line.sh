@@ -30,7 +30,7 @@ command_lines() {
 
 cannot_read() { # NAME FILE
     local mode
-    for mode in queue check run trace judge; do
+    for mode in queue check run trace judge verdicts; do
         observe "$tpr" "$mode" "$2" <text
         must "$1 in mode $mode" 2 "$unread" ''
     done
@@ -122,6 +122,7 @@ texts() {
     answers "a script that is right" check 0 "$sends_twice" $'accepted\n'
     answers "its report" run 0 "$sends_twice" "${report%.}"
     answers "its trace, with what came where it came" trace 0 "$sends_twice" "${trace%.}"
+    answers "its one verdict" verdicts 0 "$sends_twice" $'always none\nstates 4\n'
 }
 
 # A text may have 1,048,576 bytes.
@@ -196,8 +197,8 @@ command_line() {
     mkdir "$room/here"
     cd -- "$room/here" || exit 1
     at_least 12 command_lines
-    at_least 47 reading
-    at_least 22 texts
+    at_least 54 reading
+    at_least 24 texts
     at_least 7 limits
     at_least 15 writing
     cd -- "$root" || exit 1

@@ -106,12 +106,13 @@ SHORT = (
     Short("no script", "check", b"", 2, b"refused 10 Syntax line 1\n"),
     Short("a report", "run", PASSES, 0, PASSED),
     Short("a trace of a run", "trace", PASSES, 0, PASSED),
+    Short("the one verdict of a script", "verdicts", PASSES, 0, b"always pass\nstates 2\n"),
 )
 
 
 def cases() -> Iterator[Case]:
     """Each case: its name, its mode, and what is tried."""
-    for mode in ("queue", "check", "run", "trace", "judge"):
+    for mode in ("queue", "check", "run", "trace", "judge", "verdicts"):
         yield "a write that fails, each in turn", mode, write_that_fails("WRITE")
         yield "the writes from each on", mode, write_that_fails("WRITES_FROM")
         for taken in range(5):

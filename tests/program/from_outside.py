@@ -98,6 +98,7 @@ class Program:
             "run": SENDS_TO_ITSELF.encode(),
             "trace": SENDS_TO_ITSELF.encode(),
             "judge": trace_of_sends(),
+            "verdicts": SENDS_TO_ITSELF.replace("5000", "500").encode(),
         }
         self.answers = {
             "queue": b"halted 0\n" + b"unchanged\n" * 19999 + b"left 0\n",
@@ -105,6 +106,7 @@ class Program:
             "run": report_of_sends(),
             "trace": trace_of_sends(),
             "judge": b"lawful\none run\n",
+            "verdicts": b"always none\nstates 1001\n",
         }
         for mode, text in self.texts.items():
             with open(self.file(mode), "wb") as file:

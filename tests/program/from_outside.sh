@@ -22,5 +22,5 @@ each_failed_call() {
 }
 
 failed_calls() {
-    at_least 305 each_failed_call
+    at_least 335 each_failed_call
 }

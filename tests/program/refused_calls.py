@@ -65,6 +65,12 @@ def example(mode: str, file: str) -> Asked:
     return Asked(mode, text, 2 if example_files.is_refused(text) else 0, answer.read_bytes())
 
 
+def verdicts_of(file: str) -> Asked:
+    """An example that comes to several verdicts, and what is printed of them."""
+    path = example_files.example(file)
+    return Asked("verdicts", path, 2, path.with_suffix(".verdicts").read_bytes())
+
+
 def traces(folder: Path) -> Iterator[Asked]:
     """A lawful trace, one that isn't lawful in many lines, and one that has a bad line."""
     lawful = (ROOT / "tests" / "traces" / "lawful" / "ask_and_answer.trace").read_bytes()
@@ -112,6 +118,7 @@ def each_write(refusing: Refusing, asked: Asked) -> None:
 def of_the_program(refusing: Refusing, folder: Path) -> Iterator[Case]:
     asked = [example("queue", f"{it}.queue") for it in QUEUES]
     asked += [example("check", f"{it}.ttcn") for it in SCRIPTS]
+    asked.append(verdicts_of("broadcast_is_overtaken_by_an_answer.ttcn"))
     for it in asked:
         yield f"each allocation of {it.mode} {it.file.name}", functools.partial(each_allocation, refusing, it)
     for it in traces(folder):

@@ -348,7 +348,7 @@ manual_page() {
     if command -v man >/dev/null; then
         observe man --warnings -E UTF-8 -l tree/docs/tpr.1
         tool_must "the manual page" 0 says_nothing
-        set_up "the manual page tells the modes" grep -q 'tpr check | run | trace | queue | judge \[file\]' "$room/printed" && count 0
+        set_up "the manual page tells the modes" grep -q 'tpr check | run | trace | queue | judge | verdicts \[file\]' "$room/printed" && count 0
     else
         leave_out "the manual page, since there is no man"
     fi
