@@ -30,6 +30,7 @@ FOLDERS = {
     "tests/runs/many_components": ("orders",),
     "tests/tools": ("orders", "gate"),
     "tests/traces": ("orders",),
+    "tests/verdicts": ("orders",),
 }
 PACKAGES = ("tools/tpr_tools",)
 

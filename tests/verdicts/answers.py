@@ -1,0 +1,58 @@
+"""What `tpr verdicts` answered, read to the last byte: a line that isn't of its form is a fault."""
+from __future__ import annotations
+
+import re
+from dataclasses import dataclass
+
+from tpr_tools.model.run import VERDICTS
+
+MOST_STATES = 4_194_304
+WORD = f"(?:{'|'.join(VERDICTS)})"
+FORM = re.compile(
+    rf"(?:always (?P<always>{WORD})|(?P<several>{WORD}(?: or {WORD})+)|undecided(?:\nseen(?P<seen>(?: {WORD})+))?)\n"
+    rf"states (?P<states>0|[1-9][0-9]*)\n(?P<orders>(?:{WORD}:(?: [A-Za-z]\w*)*\n)*)",
+    re.A,
+)
+
+
+@dataclass(frozen=True)
+class Answer:
+    """The verdicts that are named, whether there are no others, how many states were looked at, and for each
+    verdict that has one an order by the names of components."""
+
+    verdicts: tuple[str, ...]
+    decided: bool
+    states: int
+    orders: tuple[tuple[str, tuple[str, ...]], ...]
+
+    def status(self) -> int:
+        """The status that goes with it."""
+        if not self.decided:
+            return 3
+        return 0 if len(self.verdicts) == 1 else 2
+
+    def fault(self) -> str | None:
+        """What of it can't be, whatever the script is."""
+        if list(self.verdicts) != [it for it in VERDICTS if it in self.verdicts]:
+            return "the verdicts aren't in their order, each once"
+        wanted = self.verdicts if self.status() > 0 else ()
+        if tuple(verdict for verdict, _ in self.orders) != wanted:
+            return "the orders aren't those of the verdicts"
+        if self.states > MOST_STATES or self.decided and self.states == 0:
+            return f"it can't be that {self.states} states were looked at"
+        return None
+
+
+def read_answer(printed: str) -> Answer | None:
+    """The answer, None where the text isn't one."""
+    found = FORM.fullmatch(printed)
+    if found is None:
+        return None
+    one, several, seen = found["always"], found["several"], found["seen"]
+    lines = [line.split(":") for line in found["orders"].splitlines()]
+    return Answer(
+        verdicts=(one,) if one else tuple(several.split(" or ")) if several else tuple((seen or "").split()),
+        decided=bool(one or several),
+        states=int(found["states"]),
+        orders=tuple((verdict, tuple(names.split())) for verdict, names in lines),
+    )

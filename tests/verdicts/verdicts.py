@@ -1,0 +1,262 @@
+"""Compares what `tpr verdicts` says of scripts with every order of their acts in the model of runs.
+
+    verdicts.py each PROGRAM SCRIPT..
+    verdicts.py random PROGRAM SEED NUMBER
+    verdicts.py limit PROGRAM
+    verdicts.py answers
+
+The verdicts must be exactly those of every order, where the model comes through all of them; where it doesn't, none
+that it came to may be missing. The status, the number of states and the order of the lines must be as the manual
+says, and by each order that is printed the model must come to its verdict, and to an end. `random` does so with scripts
+made by chance that have few components. `limit` has scripts whose states are counted by hand, up to the limit and
+beyond. `answers` looks whether answers that can't be are refused.
+
+Of each script it prints `passed 1 STATES SCRIPT`, `passed 0 STATES SCRIPT` where the model didn't come through all
+orders, or lines that begin with `FAILED: `, with the script. STATES is how many the program looked at.
+"""
+from __future__ import annotations
+
+import argparse
+import os
+import random
+import subprocess
+import sys
+import tempfile
+from concurrent.futures import ProcessPoolExecutor
+from functools import partial
+from pathlib import Path
+from typing import Callable, NamedTuple
+
+sys.dont_write_bytecode = True
+ROOT = Path(__file__).resolve().parents[2]
+sys.path[:0] = [str(ROOT / it) for it in ("tools", "tests/orders")]
+
+from answers import MOST_STATES, Answer, read_answer
+from every_order import EveryOrder, end_of
+from generator import some_script
+from tpr_tools.model.bodies import TestCase
+from tpr_tools.model.reading import read_script
+
+SECONDS_OF_THE_PROGRAM = 120
+MOST_COMPONENTS = 5  # of a script by chance
+
+
+class Bounds(NamedTuple):
+    """How far the model goes: so many states, and seconds of the processor."""
+
+    states: int
+    seconds: float
+
+
+OF_EACH = Bounds(10_000, 30.0)
+BY_CHANCE = Bounds(4_000, 1.5)
+
+
+class Compared(NamedTuple):
+    """Whether the model came through all orders, how many states the program looked at, and what is wrong."""
+
+    whole: bool
+    states: int
+    wrong: str | None
+
+
+def printed_of(program: str, path: Path) -> tuple[int, str]:
+    """The status and what is printed. What is said on standard error is behind it, and no answer has that."""
+    done = subprocess.run(
+        [program, "verdicts", str(path)],
+        stdin=subprocess.DEVNULL,
+        stdout=subprocess.PIPE,
+        stderr=subprocess.STDOUT,
+        timeout=SECONDS_OF_THE_PROGRAM,
+        check=False,
+    )
+    return done.returncode, done.stdout.decode("latin-1")
+
+
+def wrong_order(case: TestCase, answer: Answer) -> str | None:
+    """The first order by which the model doesn't come to its verdict."""
+    ends = ((verdict, names, end_of(case, names)) for verdict, names in answer.orders)
+    wrong = ((verdict, names, end) for verdict, names, end in ends if end != verdict)
+    return next((f"by {' '.join(names)} it comes to {end}, not to {verdict}" for verdict, names, end in wrong), None)
+
+
+def difference(said: set[str], decided: bool, found: set[str], whole: bool) -> str | None:
+    """In what the sets of verdicts differ."""
+    missed = found - said if decided else set()
+    made_up = said - found if whole else set()
+    if not missed and not made_up:
+        return None
+    how = "by every order" if whole else "by some orders"
+    return f"the program says {sorted(said)}, and the model comes to {sorted(found)} {how}"
+
+
+def compared(program: str, bounds: Bounds, path: Path) -> Compared:
+    status, printed = printed_of(program, path)
+    answer = read_answer(printed)
+    if answer is None:
+        return Compared(False, 0, f"this is no answer, with status {status}: {printed[:2000]}")
+    wrong = answer.fault() or (f"the status is {status}" if status != answer.status() else None)
+    case = TestCase(read_script(str(path)))
+    found, whole = EveryOrder(*bounds).verdicts(case)
+    if wrong is None and whole and not answer.decided:
+        wrong = "it is undecided, and the model comes through all orders"
+    wrong = wrong or difference(set(answer.verdicts), answer.decided, found, whole) or wrong_order(case, answer)
+    return Compared(whole, answer.states, wrong)
+
+
+def line_of(program: str, bounds: Bounds, path: Path) -> str:
+    try:
+        done = compared(program, bounds, path)
+    except Exception as error:  # a script that can't be read is a failure, and not the end of the others
+        done = Compared(False, 0, repr(error))
+    if done.wrong is None:
+        return f"passed {int(done.whole)} {done.states} {path}"
+    return f"FAILED: {path}: {done.wrong}\n{path.read_text(encoding='latin-1')}"
+
+
+def tell_each(looking: Callable[[Path], str], paths: list[Path]) -> None:
+    with ProcessPoolExecutor(len(os.sched_getaffinity(0))) as pool:
+        for line in pool.map(looking, paths):
+            print(line, flush=True)
+
+
+# Scripts by chance
+
+
+def is_small(text: str) -> bool:
+    return text.count(".create;") + 1 + text.count(" system C") <= MOST_COMPONENTS
+
+
+def made_by_chance(seed: str, number: int, folder: str) -> list[Path]:
+    """So many scripts of few components."""
+    made: list[Path] = []
+    for at in range(2 * number):
+        text = some_script(random.Random(f"{seed} {at}"))
+        if len(made) < number and is_small(text):
+            made.append(Path(folder, f"seed_{seed}_script_{at}.ttcn"))
+            made[-1].write_text(text, encoding="latin-1")
+    return made
+
+
+# The limit
+
+# Two components look so often at a port to which the other still sends: each look may come before or behind each of the
+# other's, and so may the two sends behind the looks. Each has so many places, and two more.
+LOOKS = ((5, 5), (7, 3), (2046, 2046), (2046, 2047))
+LOOKING = """module Looking {{
+    type port P message {{ inout integer; }}
+    type component C {{ port P p; }}
+    function first() runs on C {{ {} p.send(integer:1); }}
+    function second() runs on C {{ {} p.send(integer:1); }}
+    testcase t() runs on C {{
+        var C a := C.create; var C b := C.create; connect(a:p, b:p);
+        a.start(first()); b.start(second()); all component.done;
+    }}
+}}
+"""
+
+
+def looks(turns: int) -> str:
+    each = "alt { [] p.receive(integer:2) { } [else] { } }"
+    return f"for (var integer i := 0; i < {turns}; i := i + 1) {{ {each} }}"
+
+
+def limited(program: str, path: Path, first: int, second: int) -> str:
+    """The line for the script with so many looks."""
+    path.write_text(LOOKING.format(looks(first), looks(second)), encoding="latin-1")
+    states = (first + 2) * (second + 2)
+    status, printed = printed_of(program, path)
+    answer = read_answer(printed)
+    wanted = (("none",), states <= MOST_STATES, min(states, MOST_STATES))
+    if answer is None or (answer.verdicts, answer.decided, answer.states) != wanted or status != answer.status():
+        return f"FAILED: of {states} states the status is {status}, and it says {printed[:200]}"
+    wrong = answer.fault() or wrong_order(TestCase(read_script(str(path))), answer)
+    return f"FAILED: of {states} states: {wrong}" if wrong else f"passed of {states} states"
+
+
+# Answers that can't be
+
+REFUSED = (
+    "",
+    "always pass\n",
+    "always pass\nstates 0\n",
+    "always pass\nstates 4194305\n",
+    "always pass\nstates 07\n",
+    "always pass\nstates 7\npass: mtc\n",
+    "always pass \nstates 7\n",
+    "always good\nstates 7\n",
+    "pass or fail\nstates 7\npass: mtc\n",
+    "pass or fail\nstates 7\nfail: a\npass: mtc\n",
+    "fail or pass\nstates 7\nfail: a\npass: mtc\n",
+    "pass or pass\nstates 7\npass: a\npass: mtc\n",
+    "undecided\nseen pass\nstates 7\n",
+    "undecided\nstates 7\nundecided\n",
+)
+READ = (
+    ("always none\nstates 1\n", Answer(("none",), True, 1, ())),
+    (
+        "pass or error\nstates 7\npass:\nerror: mtc a\n",
+        Answer(("pass", "error"), True, 7, (("pass", ()), ("error", ("mtc", "a")))),
+    ),
+    ("undecided\nstates 0\n", Answer((), False, 0, ())),
+    ("undecided\nseen fail\nstates 4194304\nfail: a\n", Answer(("fail",), False, 4_194_304, (("fail", ("a",)),))),
+)
+# What the program says, whether it is decided, what the model finds, whether through all orders; and whether they fit.
+FITTING = (
+    ({"pass"}, True, {"pass"}, True, True),
+    ({"pass"}, True, {"pass", "fail"}, True, False),
+    ({"pass", "fail"}, True, {"pass"}, True, False),
+    ({"pass", "fail"}, True, {"pass"}, False, True),
+    ({"pass"}, True, {"fail"}, False, False),
+    ({"pass"}, False, {"pass", "fail"}, True, True),
+    ({"error"}, False, {"pass", "fail"}, True, False),
+)
+
+
+def judged_answers() -> None:
+    taken = {text: (answer := read_answer(text)) is not None and answer.fault() is None for text in REFUSED}
+    read = {text: (answer := read_answer(text)) == wanted and wanted.fault() is None for text, wanted in READ}
+    fits = {str(row[:4]): (difference(*row[:4]) is None) == row[4] for row in FITTING}
+    for what, well in [*((text, not it) for text, it in taken.items()), *read.items(), *fits.items()]:
+        print(f"{'passed' if well else 'FAILED: judged wrongly:'} {what!r}")
+
+
+def arguments() -> argparse.Namespace:
+    words = argparse.ArgumentParser(description="Whether `tpr verdicts` says what every order comes to.")
+    kinds = words.add_subparsers(dest="what", required=True)
+    kind = kinds.add_parser("each")
+    kind.add_argument("program", metavar="PROGRAM")
+    kind.add_argument("scripts", metavar="SCRIPT", nargs="+", type=Path)
+    kind = kinds.add_parser("random")
+    kind.add_argument("program", metavar="PROGRAM")
+    kind.add_argument("seed", metavar="SEED")
+    kind.add_argument("number", metavar="NUMBER", type=int)
+    kind = kinds.add_parser("limit")
+    kind.add_argument("program", metavar="PROGRAM")
+    kinds.add_parser("answers")
+    return words.parse_args()
+
+
+def tell_made(asked: argparse.Namespace, folder: str) -> None:
+    """What is told of the scripts that are written to the folder."""
+    if asked.what == "limit":
+        for first, second in LOOKS:
+            print(limited(asked.program, Path(folder, "looking.ttcn"), first, second), flush=True)
+        return
+    made = made_by_chance(asked.seed, asked.number, folder)
+    tell_each(partial(line_of, asked.program, BY_CHANCE), made)
+
+
+def main() -> None:
+    asked = arguments()
+    if asked.what == "answers":
+        judged_answers()
+    elif asked.what == "each":
+        tell_each(partial(line_of, asked.program, OF_EACH), asked.scripts)
+    else:
+        with tempfile.TemporaryDirectory() as folder:
+            tell_made(asked, folder)
+
+
+if __name__ == "__main__":
+    main()
