@@ -5,8 +5,8 @@ use crate::making::route;
 use crate::showing::{debug, says};
 use std::process::Abort;
 use std::sync::Wait;
-use tp_floor::notifier::Woken;
 use tp_floor::floor::Floor;
+use tp_floor::notifier::Woken;
 use tp_inbox::sender::{PutFault, ROUTE_LIMIT};
 use tp_refusal::memory::Memory;
 

@@ -11,8 +11,8 @@ use std::thread;
 use std::thread::{Threads, join};
 use tp_config::config::Config;
 use tp_config::port_type::CompId;
-use tp_floor::notifier::Woken;
 use tp_floor::floor::Floor;
+use tp_floor::notifier::Woken;
 use tp_inbox::owner::Closer;
 use tp_inbox::sender::Sender;
 
