@@ -1,4 +1,4 @@
-"""Expressions and templates of the full language, for an interpreter that shares nothing with tools/rewriting but its
+"""Expressions and templates of the full language, for an interpreter that shares nothing with tools/rewrite but its
 reader (ES 201 873-1, 6, 7, 15 and 16)."""
 from __future__ import annotations
 
@@ -8,7 +8,7 @@ from full_values import (
     ANY, ANY_OR_NONE, OMIT, UNSET, Choice, Component, IfPresent, List, NoneOf, OneOf, Pattern, Port, Range, Record,
     Sign, Word, is_same, matches,
 )
-from rewriting import tree
+from tpr_tools.rewrite import tree
 from tpr_tools.rewrite.reading_modules import ModuleReader
 from tpr_tools.rewrite.tokens import Source
 

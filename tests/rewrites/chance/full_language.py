@@ -11,7 +11,7 @@ from typing import Any, Generator, Optional
 
 from full_expressions import Cell, Evaluator, Fault, Program, Scope
 from full_values import Component, Default, Port, UNSET
-from rewriting import tree
+from tpr_tools.rewrite import tree
 
 Act = tuple[Any, ...]
 Acts = Generator[Act, Any, Any]

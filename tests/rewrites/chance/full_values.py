@@ -1,4 +1,4 @@
-"""Values and templates of the full language, as an interpreter has them that shares nothing with tools/rewriting."""
+"""Values and templates of the full language, as an interpreter has them that shares nothing with tools/rewrite."""
 from __future__ import annotations
 
 import fnmatch
