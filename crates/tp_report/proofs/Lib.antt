@@ -1,4 +1,4 @@
-mod Worst
+pub mod Worst
 mod Naming
 mod Deciding
 mod Pieces

@@ -1,5 +1,5 @@
 -- The order of verdicts.
-use Rattle.std.specs.Prelude.{ℕ, nat_lt, if◌then◌else◌}
+use Rattle.std.specs.Prelude.{ℕ, nat_eq, nat_lt, if◌then◌else◌}
 use Rattle.tp_value.specs.declared.verdict.Verdict.{Verdict}
 use Rattle.tp_value.specs.declared.verdict.Verdict.TheVariants as verdict
 
@@ -10,6 +10,14 @@ rank verdict.Pass = 1
 rank verdict.Inconc = 2
 rank verdict.Fail = 3
 rank verdict.Error = 4
+
+-- the verdict of a rank
+abbrev pub verdict_at : ℕ → Verdict
+verdict_at n =
+    if nat_eq n 0 then verdict.None else
+    (if nat_eq n 1 then verdict.Pass else
+    (if nat_eq n 2 then verdict.Inconc else
+    (if nat_eq n 3 then verdict.Fail else verdict.Error)))
 
 -- the greater of two verdicts
 abbrev pub worse : Verdict → Verdict → Verdict

@@ -1,6 +1,6 @@
 //! Verdicts.
-ghost use Rattle.std.specs.Prelude.{◌≡◌, ◌≢◌};
-ghost use Rattle.tp_value.specs.Verdicts.{worse};
+ghost use Rattle.std.specs.Prelude.{◌≡◌, ◌≢◌, ◌<◌};
+ghost use Rattle.tp_value.specs.Verdicts.{verdict_at, worse};
 
 /// What a test has come to (ES 201 873-1, 24.1), each worse than the one before.
 #[derive(Clone, Copy, Debug)]
@@ -18,8 +18,8 @@ pub enum Verdict {
 }
 
 impl Verdict {
-    /// The place in the order, from 0.
-    const fn rank(self) -> u8
+    /// The place in the order, from `none` 0 to `error` 4. Takes no memory.
+    pub const fn rank(self) -> u32
         ensures { result ≡ Rattle.tp_value.specs.Verdicts.rank self }
     {
         match self {
@@ -28,6 +28,20 @@ impl Verdict {
             Verdict::Inconc => 2,
             Verdict::Fail => 3,
             Verdict::Error => 4,
+        }
+    }
+
+    /// The verdict of this rank; `error` for a number above 4. Takes no memory.
+    pub const fn of_rank(number: u32) -> Verdict
+        ensures verdict { result ≡ verdict_at number }
+        ensures rank { number < 5 → Rattle.tp_value.specs.Verdicts.rank result ≡ number }
+    {
+        match number {
+            0 => Verdict::None,
+            1 => Verdict::Pass,
+            2 => Verdict::Inconc,
+            3 => Verdict::Fail,
+            _ => Verdict::Error,
         }
     }
 

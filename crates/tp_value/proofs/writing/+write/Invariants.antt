@@ -1,5 +1,5 @@
 -- What writes the rest writes the whole.
-use Rattle.std.proofs.Common.{List, ℕ, drop}
+use Rattle.std.proofs.Common.{drop}
 use Rattle.tp_text.specs.declared.watched.Watched.{Watched}
 use Rattle.tp_text.specs.Watching.{Writes}
 use Rattle.tp_value.specs.ValueText.{element_texts, field_texts, comma_separated, value_text}
