@@ -1,18 +1,15 @@
 -- The variables of a body: what their rule fixes, and what it says of each.
-use Rattle.std.proofs.Common.{◌⊎◌, inl, inr, ◌≡◌, ℕ, ◌<◌, List, [], ◌∷◌, ◌++◌, Some, length, take, get_or, slice_get, refl, sym, ap, ◌∙◌, subst, arith, string_bytes}
+use Rattle.std.proofs.Common.{◌⊎◌, inl, inr, ◌≡◌, ℕ, ◌<◌, List, [], ◌∷◌, ◌++◌, Some, length, take, slice_get, refl, sym, ap, ◌∙◌, subst, arith, string_bytes}
 use Rattle.std.proofs.Math.Seq.{take-length}
 use Rattle.std.proofs.lemmas.List.{length_push, take-append-le}
-use Rattle.std.proofs.lemmas.Option.{slice_get-get_or, slice_get_within}
+use Rattle.std.proofs.lemmas.Option.{slice_get_within}
 use Rattle.tp_tree.specs.declared.tree.Variable.{Variable}
 use Rattle.tp_play.specs.declared.body.VariableType.{VariableType}
-use Rattle.tp_name.specs.Named.{IsAbsent}
-use Rattle.tp_name.specs.Tables.{IsNumbered}
-use Rattle.tp_name.proofs.Numbering.{distinct_more}
 use Rattle.tp_body.specs.declared.scope.Scope.{Scope}
 use Rattle.tp_body.specs.declared.scope.Variables.{Variables}
 use Rattle.tp_body.specs.Scoping.{AreTyped, IsNew}
 use Rattle.tp_body.specs.Bodies.{AreVariables, no_variable, one_variable_more, IsHeld}
-use Rattle.tp_body.proofs.Fixed.{absent_contained, held_fixed}
+use Rattle.tp_body.proofs.Fixed.{held_fixed}
 use Rattle.tp_body.proofs.Placed.{push_cases}
 
 -- two lists with one more behind each
@@ -63,7 +60,7 @@ module _ (scope : Scope) where
     pub is_held : IsHeld scope x.type_name held
     pub new : IsNew scope vs [] (string_bytes x.name)
 
-  has_next : {xs : List Variable} {ws : Variables} → AreVariables scope xs ws → (i : ℕ) (x : Variable) → slice_get xs i ≡ Some x
+  pub has_next : {xs : List Variable} {ws : Variables} → AreVariables scope xs ws → (i : ℕ) (x : Variable) → slice_get xs i ≡ Some x
       → (vs : Variables) × AreVariables scope (take i xs) vs × Next (take i xs) vs x
   has_next (no_variable ws names types) i x there =
       let below = slice_get_within [] i x there in absurd (omega arith)
@@ -82,18 +79,3 @@ module _ (scope : Scope) where
           sym (ap (λ n. take n (xs ++ y ∷ [])) at ∙ take-append-le (length xs) xs (y ∷ []) (omega arith) ∙ take-length xs) in
           let here : Next xs vs y = record { few = few; held = h; is_held = is_held; new = new } in
           subst (λ l. (us : Variables) × AreVariables scope l us × Next l us x) same (vs, before, subst (Next xs vs) (sym is) here)
-
-  -- the variables before it are those that were made
-  pub next_variable : (xs : List Variable) (i : ℕ) (x : Variable) (vs : Variables) → i < length xs → x ≡ get_or xs i x → AreVariables scope (take i xs) vs
-      → (ws : Variables) × AreVariables scope xs ws → Next (take i xs) vs x
-  next_variable xs i x vs below is made (ws, whole) =
-      let p = has_next whole i x (slice_get-get_or xs i x below ∙ ap Some (sym is)) in
-      subst (λ us. Next (take i xs) us x) (variables_fixed (take i xs) p.0 vs p.1 made) p.2
-
--- one name more, which is new
-pub numbered_more : (names : List (List ℕ)) (name : List ℕ) → IsNumbered names → length names < 4294967295 → IsAbsent names name
-    → IsNumbered (names ++ name ∷ [])
-numbered_more names name before few absent = record {
-  few = omega (arith, length_push names name);
-  distinct = distinct_more names name before.distinct (absent_contained names name absent);
-}

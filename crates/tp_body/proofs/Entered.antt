@@ -6,7 +6,7 @@ use Rattle.std.proofs.lemmas.List.Elements.{All-map}
 use Rattle.std.proofs.lemmas.Option.{slice_get-get_or, slice_get_within, get_or_from_slice_get, slice_get-map, same_Some}
 use Rattle.tp_value.specs.declared.types.Field.{Field}
 use Rattle.tp_name.specs.Tables.{AreDistinct}
-use Rattle.tp_body.specs.Placing.{HaveEntries, IsPlacing, field_names}
+use Rattle.tp_body.specs.Placing.{HaveEntries, field_names}
 use Rattle.tp_body.proofs.Placed.{push_cases}
 use Rattle.tp_body.proofs.Matched.{none_twice}
 
@@ -74,13 +74,3 @@ module _ {E W : Type 0} (name : E → List ℕ) (R : Field → E → W → Type 
       one =
           same_Some e.entry x
           (sym e.is_entry ∙ ap (slice_get entries) (place (cases_lt e.at i) (cases_lt i e.at)) ∙ here)
-
-    -- also where it stands at the place of its field
-    pub placed_stands : AreDistinct (field_names fields) → (places : List ℕ) → IsPlacing fields (map name entries) places → (i p : ℕ) (x : E) (f : Field)
-        → slice_get places i ≡ Some p → slice_get entries i ≡ Some x → slice_get fields p ≡ Some f → (y : W) × R f x y
-    placed_stands apart places placing i p x f is_place here is_field = entry_stands apart i p x f here is_field same where
-      same : name x ≡ f.name
-      same =
-          same_Some (name x) f.name
-          (sym (slice_get-map name entries i ∙ ap (option_map name) here) ∙ sym (placing.same_name i p is_place) ∙ slice_get-map (λ g. g.name) fields p
-          ∙ ap (option_map (λ g. g.name)) is_field)

@@ -1,11 +1,12 @@
 -- Entries in the order of the text, and what they stand for in declared order.
-use Rattle.std.proofs.Common.{option_map, ◌⊎◌, inl, inr, ◌≡◌, ◌≢◌, ℕ, zero, suc, ◌+◌, ◌<◌, ◌≤◌, List, [], ◌∷◌, ◌++◌, length, map, take, Some, slice_get, slice_set, get_or, sym, ap, ◌∙◌, arith, subst, add-one}
+use Rattle.std.proofs.Common.{option_map, ◌⊎◌, inl, inr, ◌≡◌, ◌≢◌, ℕ, zero, suc, ◌+◌, ◌<◌, ◌≤◌, List, [], ◌∷◌, ◌++◌, length, map, take, Some, slice_get, slice_set, get_or, Contains, sym, ap, ◌∙◌, arith, subst, add-one}
 use Rattle.std.proofs.Math.Seq.{take-length}
 use Rattle.std.proofs.lemmas.Bool.{cases_lt}
 use Rattle.std.proofs.lemmas.List.{get_or-set_other, get_or-set_same, length-set, length-map, take_more}
+use Rattle.std.proofs.lemmas.List.Elements.{All-map}
 use Rattle.std.proofs.lemmas.Option.{slice_get-get_or, slice_get_within, get_or_from_slice_get, slice_get-map}
 use Rattle.tp_value.specs.declared.types.Field.{Field}
-use Rattle.tp_body.specs.Placing.{IsPlacing, field_names}
+use Rattle.tp_body.specs.Placing.{HaveEntries, IsPlacing, field_names}
 
 -- each place is one of a field
 pub place_below : (fields : List Field) (names : List (List ℕ)) (places : List ℕ) → IsPlacing fields names places → (i d : ℕ) → i < length places
@@ -15,6 +16,20 @@ place_below fields names places p i d below =
     let name : slice_get names i ≡ Some (get_or names i []) = slice_get-get_or names i [] (omega (arith, p.as_many, below)) in
     let there : slice_get (field_names fields) (get_or places i d) ≡ Some (get_or names i []) = p.same_name i (get_or places i d) here ∙ name in
     omega (arith, slice_get_within (field_names fields) (get_or places i d) (get_or names i []) there, length-map fields (λ f. f.name))
+
+-- so each field has an entry of its name
+pub placed_entries : (fields : List Field) (names : List (List ℕ)) (places : List ℕ) → IsPlacing fields names places → HaveEntries fields names
+placed_entries fields names places p = record {
+  count = p.count;
+  each =
+      All-map (Contains names) (λ g. g.name) fields
+      (λ k d below.
+      let at = p.each k below in
+      let same : slice_get (field_names fields) k ≡ slice_get names at.0 = p.same_name at.0 k (slice_get-get_or places at.0 k at.1 ∙ ap Some at.2) in
+      let there : slice_get names at.0 ≡ Some (get_or fields k d).name =
+      sym same ∙ slice_get-map (λ g. g.name) fields k ∙ ap (option_map (λ g. g.name)) (slice_get-get_or fields k d below) in
+      (at.0, slice_get_within names at.0 (get_or fields k d).name there, get_or_from_slice_get names at.0 (get_or fields k d).name (get_or fields k d).name there));
+}
 
 module _ {E W : Type 0} (name : E → List ℕ) (R : Field → E → W → Type 0) (entries : List E) (fields : List Field) where
   -- at place k stands what an entry of the field's name stands for
@@ -33,6 +48,15 @@ module _ {E W : Type 0} (name : E → List ℕ) (R : Field → E → W → Type 
   abbrev pub Filled : List ℕ → ℕ → List W → Type 0
   Filled places n ws = (i k : ℕ) → i < n → slice_get places i ≡ Some k → HasEntry k ws
 
+  -- an entry has the name of the field at its place
+  pub placed_name : {places : List ℕ} → IsPlacing fields (map name entries) places → (n p : ℕ) (f : Field) (x : E) → slice_get places n ≡ Some p
+      → slice_get fields p ≡ Some f → slice_get entries n ≡ Some x → name x ≡ f.name
+  placed_name placing n p f x is_place is_field is_entry =
+      let a : slice_get (field_names fields) p ≡ Some f.name = slice_get-map (λ g. g.name) fields p ∙ ap (option_map (λ g. g.name)) is_field in
+      let b : slice_get (map name entries) n ≡ Some (name x) = slice_get-map name entries n ∙ ap (option_map name) is_entry in
+      let c : slice_get (field_names fields) p ≡ slice_get (map name entries) n = placing.same_name n p is_place in
+      cc
+
   -- one more entry is put at its place
   pub filled_more : (places : List ℕ) (n : ℕ) (ws : List W) (p : ℕ) (y : W) (f : Field) (x : E) → IsPlacing fields (map name entries) places
       → length ws ≡ length fields
@@ -48,11 +72,7 @@ module _ {E W : Type 0} (name : E → List ℕ) (R : Field → E → W → Type 
         ∙ ap Some (get_or-set_same ws p y y (omega (arith, inside, many)))
 
     same_name : name x ≡ f.name
-    same_name =
-        let a : slice_get (field_names fields) p ≡ Some f.name = slice_get-map (λ g. g.name) fields p ∙ ap (option_map (λ g. g.name)) is_field in
-        let b : slice_get (map name entries) n ≡ Some (name x) = slice_get-map name entries n ∙ ap (option_map name) is_entry in
-        let c : slice_get (field_names fields) p ≡ slice_get (map name entries) n = placing.same_name n p is_place in
-        cc
+    same_name = placed_name placing n p f x is_place is_field is_entry
 
     new : HasEntry p (slice_set ws p y)
     new = record { field = f; at = n; entry = x; made = y; is_field = is_field; is_entry = is_entry; is_made = here; same = same_name; stands = stands }

@@ -107,6 +107,9 @@ absent_place names name k absent p = absent k p.there
 pub absent_contained : (names : List (List ℕ)) (name : List ℕ) → IsAbsent names name → Contains names name → ⊥
 absent_contained names name absent (k, below, is) = absent k (slice_get-get_or names k name below ∙ ap Some is)
 
+pub contained_at : (names : List (List ℕ)) (name : List ℕ) (k : ℕ) → slice_get names k ≡ Some name → Contains names name
+contained_at names name k there = (k, slice_get_within names k name there, get_or_from_slice_get names k name name there)
+
 -- a reference that isn't there
 module _ (scope : Scope) (variables : Variables) (turns : List (List ℕ)) where
   Stands : ComponentName → Type 0

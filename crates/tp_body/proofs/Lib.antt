@@ -13,7 +13,6 @@ pub mod Typing
 pub mod Fitting
 pub mod Listed
 pub mod Played
-pub mod Breaking
 pub mod Matched
 pub mod Entered
 pub mod FieldTables
@@ -21,7 +20,14 @@ pub mod ValueInversions
 pub mod Misplaced
 pub mod TemplateInversions
 pub mod Fixed
-pub mod Handing
 pub mod OperationInversions
 pub mod Declaring
 pub mod StatementInversions
+pub mod Telling
+pub mod BrokenValueRules
+pub mod BrokenTemplateRules
+pub mod BrokenOperationRules
+pub mod ValueExclusions
+pub mod TemplateExclusions
+pub mod OperationExclusions
+pub mod StatementExclusions

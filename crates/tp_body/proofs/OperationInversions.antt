@@ -7,7 +7,6 @@ use Rattle.tp_value.specs.declared.types.Ty.TheVariants as ty
 use Rattle.tp_value.specs.declared.verdict.Verdict.{Verdict}
 use Rattle.tp_tree.specs.declared.tree.ComponentName.{ComponentName}
 use Rattle.tp_tree.specs.declared.tree.ComponentName.TheVariants as c
-use Rattle.tp_tree.specs.declared.message.Message.{Message}
 use Rattle.tp_tree.specs.declared.message.MessageTemplate.{MessageTemplate}
 use Rattle.tp_tree.specs.declared.tree.Sent.{Sent as SentText}
 use Rattle.tp_tree.specs.declared.tree.Sent.TheVariants as sent
@@ -29,7 +28,7 @@ use Rattle.tp_body.specs.Scoping.{IsType, IsVariable, IsReference}
 use Rattle.tp_body.specs.Messages.{IsMessage, IsTemplate}
 use Rattle.tp_body.specs.Bodies as b
 use Rattle.tp_body.specs.Bodies.{IsSend, IsReceive, IsSent, IsReceiver, IsWanted, IsFrom, IsValueTarget, IsSenderTarget, IsVerdict}
-use Rattle.tp_body.proofs.Fixed.{absent_contained, absent_place, type_fixed, reference_named}
+use Rattle.tp_body.proofs.Fixed.{type_fixed}
 
 module _ (scope : Scope) (variables : Variables) (turns : List (List ℕ)) where
   -- what a variable of messages holds
@@ -41,146 +40,77 @@ module _ (scope : Scope) (variables : Variables) (turns : List (List ℕ)) where
   HasComponent name = (k : ℕ) × IsAbsent turns name × IsVariable variables name k kind.Component
 
   module _ (sendable : List Ty) where
-    SentMeans : SentText → Type 0
+    abbrev pub SentMeans : SentText → Type 0
     SentMeans (sent.Message x) = (m : SendMsg) × IsMessage scope.types.now turns x m × Contains sendable m.ty
     SentMeans (sent.Variable n) =
         ((k : ℕ) × IsPlace turns (string_bytes n) k × Contains sendable ty.Integer)
         ⊎ ((k : ℕ) × (u : Ty) × IsAbsent turns (string_bytes n) × IsVariable variables (string_bytes n) k (kind.Message u) × Contains sendable u)
 
-    sent_means : {x : SentText} {y : Sent} → IsSent scope variables turns sendable x y → SentMeans x
-    unfolding SentMeans
+    pub sent_means : {x : SentText} {y : Sent} → IsSent scope variables turns sendable x y → SentMeans x
     sent_means (b.written x m h l) = (m, h, l)
     sent_means (b.counter n k p l) = inl (k, p, l)
     sent_means (b.held n k u a v l) = inr (k, u, a, v, l)
 
-    pub sent_message : (x : SentText) (t : Message) → x ≡ sent.Message t → (y : Sent) × IsSent scope variables turns sendable x y
-        → (m : SendMsg) × IsMessage scope.types.now turns t m × Contains sendable m.ty
-    unfolding SentMeans
-    sent_message x t e h = subst SentMeans e (sent_means h.1)
-
-    pub sent_turn : (x : SentText) (n : String Global) (k : ℕ) → x ≡ sent.Variable n → IsPlace turns (string_bytes n) k
-        → (y : Sent) × IsSent scope variables turns sendable x y → Contains sendable ty.Integer
-    unfolding SentMeans
-    sent_turn x n k e p h = by (subst SentMeans e (sent_means h.1)) where
-      by : SentMeans (sent.Variable n) → Contains sendable ty.Integer
-      by (inl (j, q, l)) = l
-      by (inr (j, u, a, v, l)) = absurd (absent_place turns (string_bytes n) k a p)
-
-    pub sent_variable : (x : SentText) (n : String Global) → x ≡ sent.Variable n → IsAbsent turns (string_bytes n)
-        → (y : Sent) × IsSent scope variables turns sendable x y
-        → (k : ℕ) × (u : Ty) × IsAbsent turns (string_bytes n) × IsVariable variables (string_bytes n) k (kind.Message u) × Contains sendable u
-    unfolding SentMeans
-    sent_variable x n e absent h = by (subst SentMeans e (sent_means h.1)) where
-      by : SentMeans (sent.Variable n)
-          → (k : ℕ) × (u : Ty) × IsAbsent turns (string_bytes n) × IsVariable variables (string_bytes n) k (kind.Message u) × Contains sendable u
-      by (inl (j, q, l)) = absurd (absent_place turns (string_bytes n) j absent q)
-      by (inr found) = found
-
-  ReceiverMeans : Option Destination → Type 0
+  abbrev pub ReceiverMeans : Option Destination → Type 0
   ReceiverMeans None = Unit {0}
   ReceiverMeans (Some d.AllComponents) = Unit {0}
   ReceiverMeans (Some (d.Component x)) =
       ((k : ℕ) × IsReference scope variables turns x k) ⊎ ((n : String Global) × (x ≡ c.Named n) × HasComponent (string_bytes n))
 
-  receiver_means : {x : Option Destination} {y : Receiver} → IsReceiver scope variables turns x y → ReceiverMeans x
-  unfolding ReceiverMeans
+  pub receiver_means : {x : Option Destination} {y : Receiver} → IsReceiver scope variables turns x y → ReceiverMeans x
   receiver_means b.nobody = tt
   receiver_means b.all = tt
   receiver_means (b.reference x k h) = inl (k, h)
   receiver_means (b.variable n k a v) = inr (n, refl, (k, a, v))
 
-  -- a name of a variable is no reference
-  pub receiver_variable : (x : ComponentName) (n : String Global) → x ≡ c.Named n → Contains variables.names (string_bytes n)
-      → (y : Receiver) × IsReceiver scope variables turns (Some (d.Component x)) y → HasComponent (string_bytes n)
-  unfolding ReceiverMeans
-  receiver_variable x n e there h = by (receiver_means h.1) where
-    by : ReceiverMeans (Some (d.Component x)) → HasComponent (string_bytes n)
-    by (inl (j, r)) =
-        let a = reference_named scope variables turns x n j e r in
-        absurd (absent_contained variables.names (string_bytes n) a.1 there)
-    by (inr (m, f, found)) =
-        let same : m ≡ n = cc in
-        subst (λ s. HasComponent (string_bytes s)) same found
-
-  FromMeans : Option ComponentName → Type 0
+  abbrev pub FromMeans : Option ComponentName → Type 0
   FromMeans None = Unit {0}
   FromMeans (Some x) = (k : ℕ) × IsReference scope variables turns x k
 
-  from_means : {x : Option ComponentName} {y : Option ℕ} → IsFrom scope variables turns x y → FromMeans x
-  unfolding FromMeans
+  pub from_means : {x : Option ComponentName} {y : Option ℕ} → IsFrom scope variables turns x y → FromMeans x
   from_means b.whoever = tt
   from_means (b.this_one x k h) = (k, h)
 
-  pub from_reference : (x : Option ComponentName) (n : ComponentName) → x ≡ Some n → (y : Option ℕ) × IsFrom scope variables turns x y
-      → (k : ℕ) × IsReference scope variables turns n k
-  unfolding FromMeans
-  from_reference x n e h = subst FromMeans e (from_means h.1)
-
   module _ (receivable : List Ty) where
-    WantedMeans : Option MessageTemplate → Type 0
+    abbrev pub WantedMeans : Option MessageTemplate → Type 0
     WantedMeans None = Unit {0}
     WantedMeans (Some x) =
         (u : Ty) × (r : RecvTemplate) × IsType scope.types.now x.type_name u × Contains receivable u × IsTemplate scope.types.now turns u x.template r
 
-    wanted_means : {x : Option MessageTemplate} {y : RecvMsg} → IsWanted scope turns receivable x y → WantedMeans x
-    unfolding WantedMeans
+    pub wanted_means : {x : Option MessageTemplate} {y : RecvMsg} → IsWanted scope turns receivable x y → WantedMeans x
     wanted_means b.every_message = tt
     wanted_means (b.matching x u r f l h) = (u, r, f, l, h)
 
-    pub wanted_template : (x : Option MessageTemplate) (t : MessageTemplate) → x ≡ Some t → (y : RecvMsg) × IsWanted scope turns receivable x y
-        → (u : Ty) × (r : RecvTemplate) × IsType scope.types.now t.type_name u × Contains receivable u × IsTemplate scope.types.now turns u t.template r
-    unfolding WantedMeans
-    wanted_template x t e h = subst WantedMeans e (wanted_means h.1)
-
-  ValueMeans : RecvMsg → Option (String Global) → Type 0
+  abbrev pub ValueMeans : RecvMsg → Option (String Global) → Type 0
   ValueMeans m None = Unit {0}
   ValueMeans m (Some n) =
       (u : Ty) × (r : RecvTemplate) × (k : ℕ) × (m ≡ wanted.Of u r) × IsAbsent turns (string_bytes n)
       × IsVariable variables (string_bytes n) k (kind.Message u)
 
-  value_means : {m : RecvMsg} {x : Option (String Global)} {y : Option ℕ} → IsValueTarget variables turns m x y → ValueMeans m x
-  unfolding ValueMeans
+  pub value_means : {m : RecvMsg} {x : Option (String Global)} {y : Option ℕ} → IsValueTarget variables turns m x y → ValueMeans m x
   value_means (b.no_target m) = tt
   value_means (b.target u r n k a v) = (u, r, k, refl, a, v)
 
-  pub value_variable : (m : RecvMsg) (x : Option (String Global)) (n : String Global) → x ≡ Some n → (y : Option ℕ) × IsValueTarget variables turns m x y
-      → (u : Ty) × (r : RecvTemplate) × (k : ℕ) × (m ≡ wanted.Of u r) × IsAbsent turns (string_bytes n)
-      × IsVariable variables (string_bytes n) k (kind.Message u)
-  unfolding ValueMeans
-  value_variable m x n e h = subst (ValueMeans m) e (value_means h.1)
-
-  SenderMeans : Option (String Global) → Type 0
+  abbrev pub SenderMeans : Option (String Global) → Type 0
   SenderMeans None = Unit {0}
   SenderMeans (Some n) = HasComponent (string_bytes n)
 
-  sender_means : {x : Option (String Global)} {y : Option ℕ} → IsSenderTarget variables turns x y → SenderMeans x
-  unfolding SenderMeans
+  pub sender_means : {x : Option (String Global)} {y : Option ℕ} → IsSenderTarget variables turns x y → SenderMeans x
   sender_means b.no_sender_target = tt
   sender_means (b.sender_target n k a v) = (k, a, v)
 
-  pub sender_variable : (x : Option (String Global)) (n : String Global) → x ≡ Some n → (y : Option ℕ) × IsSenderTarget variables turns x y
-      → HasComponent (string_bytes n)
-  unfolding SenderMeans
-  sender_variable x n e h = subst SenderMeans e (sender_means h.1)
-
-VerdictMeans : VerdictName → Type 0
+abbrev pub VerdictMeans : VerdictName → Type 0
 VerdictMeans named_verdict.NoVerdict = Unit {0}
 VerdictMeans named_verdict.Pass = Unit {0}
 VerdictMeans named_verdict.Inconc = Unit {0}
 VerdictMeans named_verdict.Fail = Unit {0}
 VerdictMeans named_verdict.Error = ⊥
 
-verdict_means : {x : VerdictName} {y : Verdict} → IsVerdict x y → VerdictMeans x
-unfolding VerdictMeans
+pub verdict_means : {x : VerdictName} {y : Verdict} → IsVerdict x y → VerdictMeans x
 verdict_means b.no_verdict = tt
 verdict_means b.pass = tt
 verdict_means b.inconc = tt
 verdict_means b.fail = tt
-
--- no statement names `error`
-pub verdict_error : (x : VerdictName) → x ≡ named_verdict.Error → (y : Verdict) × IsVerdict x y → ⊥
-unfolding VerdictMeans
-verdict_error x e h = subst VerdictMeans e (verdict_means h.1)
 
 -- what is wanted has one type, so the variable behind `value` serves whatever it stands for
 module _ (scope : Scope) (variables : Variables) (turns : List (List ℕ)) (receivable : List Ty) where

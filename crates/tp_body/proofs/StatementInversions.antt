@@ -1,7 +1,7 @@
 -- What stands behind the parts of a statement that obeys its rule.
-use Rattle.std.proofs.Common.{◌⊎◌, inl, inr, ◌≡◌, ◌≢◌, ℕ, ◌<◌, List, [], ◌∷◌, ◌++◌, Option, Some, None, sym, ap, ◌∙◌, subst, arith, string_bytes, length, slice_get, get_or, Vec}
+use Rattle.std.proofs.Common.{◌⊎◌, inl, inr, ◌≡◌, ◌≢◌, ℕ, List, [], ◌∷◌, ◌++◌, Option, Some, None, sym, ap, ◌∙◌, subst, arith, string_bytes, length, slice_get, Vec}
 use Rattle.std.specs.declared.alloc.Global.{Global}
-use Rattle.std.proofs.lemmas.Option.{slice_get-get_or, slice_get_within}
+use Rattle.std.proofs.lemmas.Option.{slice_get_within}
 use Rattle.tp_value.specs.declared.verdict.Verdict.{Verdict}
 use Rattle.tp_config.specs.declared.port_type.PortType.{PortType}
 use Rattle.tp_queue.specs.declared.operation.PortOperation.{PortOperation}
@@ -31,36 +31,36 @@ use Rattle.tp_body.specs.Bodies as d
 use Rattle.tp_body.specs.Bodies.{IsSend, IsReceive, IsVerdict, IsStatement, IsBlock, IsBranch, IsAfter, AreBranches}
 use Rattle.tp_body.proofs.Placed.{push_cases}
 
-out_send : (x : Send) → out-Action (a.Send x) ≡ o.Send x
+pub out_send : (x : Send) → out-Action (a.Send x) ≡ o.Send x
 out_send x = ap out-Action (sym (a.rolls-Send x)) ∙ out-roll-Action (o.Send x)
 
-out_receive : (x : Receive) → out-Action (a.Receive x) ≡ o.Receive x
+pub out_receive : (x : Receive) → out-Action (a.Receive x) ≡ o.Receive x
 out_receive x = ap out-Action (sym (a.rolls-Receive x)) ∙ out-roll-Action (o.Receive x)
 
-out_control : (x : Control) → out-Action (a.Control x) ≡ o.Control x
+pub out_control : (x : Control) → out-Action (a.Control x) ≡ o.Control x
 out_control x = ap out-Action (sym (a.rolls-Control x)) ∙ out-roll-Action (o.Control x)
 
-out_all_ports : (x : PortOperation) → out-Action (a.AllPorts x) ≡ o.AllPorts x
+pub out_all_ports : (x : PortOperation) → out-Action (a.AllPorts x) ≡ o.AllPorts x
 out_all_ports x = ap out-Action (sym (a.rolls-AllPorts x)) ∙ out-roll-Action (o.AllPorts x)
 
-out_set_verdict : (x : VerdictName) → out-Action (a.SetVerdict x) ≡ o.SetVerdict x
+pub out_set_verdict : (x : VerdictName) → out-Action (a.SetVerdict x) ≡ o.SetVerdict x
 out_set_verdict x = ap out-Action (sym (a.rolls-SetVerdict x)) ∙ out-roll-Action (o.SetVerdict x)
 
-out_alt : (xs : Vec BranchText Global) (e : Option ElseBranch) → out-Action (a.Alt xs e) ≡ o.Alt xs e
+pub out_alt : (xs : Vec BranchText Global) (e : Option ElseBranch) → out-Action (a.Alt xs e) ≡ o.Alt xs e
 out_alt xs e = ap out-Action (sym (a.rolls-Alt xs e)) ∙ out-roll-Action (o.Alt xs e)
 
-out_for : (x : Counted) → out-Action (a.For x) ≡ o.For x
+pub out_for : (x : Counted) → out-Action (a.For x) ≡ o.For x
 out_for x = ap out-Action (sym (a.rolls-For x)) ∙ out-roll-Action (o.For x)
 
-out_nothing : out-BranchBody after.Nothing ≡ o.Nothing
+pub out_nothing : out-BranchBody after.Nothing ≡ o.Nothing
 out_nothing = ap out-BranchBody (sym after.rolls-Nothing) ∙ out-roll-BranchBody o.Nothing
 
-out_block : (xs : Vec StatementText Global) → out-BranchBody (after.Block xs) ≡ o.Block xs
+pub out_block : (xs : Vec StatementText Global) → out-BranchBody (after.Block xs) ≡ o.Block xs
 out_block xs = ap out-BranchBody (sym (after.rolls-Block xs)) ∙ out-roll-BranchBody (o.Block xs)
 
 module _ (scope : Scope) (variables : Variables) where
   -- what the rule says of a statement, by its layer
-  Ruled : List (List ℕ) → o.Action-F Action BranchBody BranchText Counted ElseBranch StatementText → Type 0
+  abbrev pub Ruled : List (List ℕ) → o.Action-F Action BranchBody BranchText Counted ElseBranch StatementText → Type 0
   Ruled turns (o.Send x) = (y : SendOperation) × IsSend scope variables turns x y
   Ruled turns (o.Receive x) = (y : Receiving) × IsReceive scope variables turns x y
   Ruled turns (o.Control x) =
@@ -75,8 +75,7 @@ module _ (scope : Scope) (variables : Variables) where
       IsNew scope variables turns (string_bytes (out-Counted x).turns.name)
       × ((block : List Statement) × IsBlock scope variables (turns ++ string_bytes (out-Counted x).turns.name ∷ []) (out-Counted x).block.items block)
 
-  ruled : {turns : List (List ℕ)} {x : Action} {y : Statement} → IsStatement scope variables turns x y → Ruled turns (out-Action x)
-  unfolding Ruled
+  pub ruled : {turns : List (List ℕ)} {x : Action} {y : Statement} → IsStatement scope variables turns x y → Ruled turns (out-Action x)
   ruled (d.send turns x y h) = subst (Ruled turns) (sym (out_send x)) (y, h)
   ruled (d.receive turns x y h) = subst (Ruled turns) (sym (out_receive x)) (y, h)
   ruled (d.control turns x k port other h) = subst (Ruled turns) (sym (out_control x)) (other, (k, port, h))
@@ -86,73 +85,20 @@ module _ (scope : Scope) (variables : Variables) where
   ruled (d.alt_else turns xs ys e otherwise h inner) = subst (Ruled turns) (sym (out_alt xs (Some e))) ((ys, h), (otherwise, inner))
   ruled (d.counted turns x block new h) = subst (Ruled turns) (sym (out_for x)) (new, (block, h))
 
-  module _ (turns : List (List ℕ)) where
-    pub made_send : (x : Action) (t : Send) → x ≡ a.Send t → (y : Statement) × IsStatement scope variables turns x y
-        → (z : SendOperation) × IsSend scope variables turns t z
-    unfolding Ruled
-    made_send x t e h = subst (Ruled turns) (ap out-Action e ∙ out_send t) (ruled h.1)
+  -- what the rule says of what stands behind an operation, by its layer
+  abbrev pub AfterMeans : List (List ℕ) → o.BranchBody-F Action BranchBody BranchText Counted ElseBranch StatementText → Type 0
+  AfterMeans turns o.Nothing = Unit {0}
+  AfterMeans turns (o.Block xs) = (ys : List Statement) × IsBlock scope variables turns xs.items ys
 
-    pub made_receive : (x : Action) (t : Receive) → x ≡ a.Receive t → (y : Statement) × IsStatement scope variables turns x y
-        → (z : Receiving) × IsReceive scope variables turns t z
-    unfolding Ruled
-    made_receive x t e h = subst (Ruled turns) (ap out-Action e ∙ out_receive t) (ruled h.1)
-
-    pub made_control : (x : Action) (t : Control) → x ≡ a.Control t → (y : Statement) × IsStatement scope variables turns x y
-        → (scope.behaviour ≢ behaviour_kind.SystemUnderTest) × ((k : ℕ) × (port : PortType) × IsPortNamed scope.ports.now (string_bytes t.port) k port)
-    unfolding Ruled
-    made_control x t e h = subst (Ruled turns) (ap out-Action e ∙ out_control t) (ruled h.1)
-
-    pub made_all_ports : (x : Action) (t : PortOperation) → x ≡ a.AllPorts t → (y : Statement) × IsStatement scope variables turns x y
-        → scope.behaviour ≢ behaviour_kind.SystemUnderTest
-    unfolding Ruled
-    made_all_ports x t e h = subst (Ruled turns) (ap out-Action e ∙ out_all_ports t) (ruled h.1)
-
-    pub made_set_verdict : (x : Action) (t : VerdictName) → x ≡ a.SetVerdict t → (y : Statement) × IsStatement scope variables turns x y
-        → (scope.behaviour ≢ behaviour_kind.SystemUnderTest) × ((v : Verdict) × IsVerdict t v)
-    unfolding Ruled
-    made_set_verdict x t e h = subst (Ruled turns) (ap out-Action e ∙ out_set_verdict t) (ruled h.1)
-
-    pub made_branches : (x : Action) (xs : Vec BranchText Global) (e : Option ElseBranch) → x ≡ a.Alt xs e
-        → (y : Statement) × IsStatement scope variables turns x y → (ys : List Branch) × AreBranches scope variables turns xs.items ys
-    unfolding Ruled
-    made_branches x xs None e h = subst (Ruled turns) (ap out-Action e ∙ out_alt xs None) (ruled h.1)
-    made_branches x xs (Some other) e h =
-        let p : Ruled turns (o.Alt xs (Some other)) = subst (Ruled turns) (ap out-Action e ∙ out_alt xs (Some other)) (ruled h.1) in p.0
-
-    pub made_else : (x : Action) (xs : Vec BranchText Global) (e : Option ElseBranch) (other : ElseBranch) → x ≡ a.Alt xs e → e ≡ Some other
-        → (y : Statement) × IsStatement scope variables turns x y
-        → (block : List Statement) × IsBlock scope variables turns (out-ElseBranch other).block.items block
-    unfolding Ruled
-    made_else x xs e other f g h =
-        let p : Ruled turns (o.Alt xs (Some other)) =
-        subst (Ruled turns) (ap out-Action (f ∙ ap (a.Alt xs) g) ∙ out_alt xs (Some other)) (ruled h.1) in p.1
-
-    pub made_for : (x : Action) (t : Counted) → x ≡ a.For t → (y : Statement) × IsStatement scope variables turns x y
-        → IsNew scope variables turns (string_bytes (out-Counted t).turns.name)
-        × ((block : List Statement) × IsBlock scope variables (turns ++ string_bytes (out-Counted t).turns.name ∷ []) (out-Counted t).block.items block)
-    unfolding Ruled
-    made_for x t e h = subst (Ruled turns) (ap out-Action e ∙ out_for t) (ruled h.1)
-
-    AfterMeans : o.BranchBody-F Action BranchBody BranchText Counted ElseBranch StatementText → Type 0
-    AfterMeans o.Nothing = Unit {0}
-    AfterMeans (o.Block xs) = (ys : List Statement) × IsBlock scope variables turns xs.items ys
-
-  after_means : {turns : List (List ℕ)} {x : BranchBody} {ys : List Statement} → IsAfter scope variables turns x ys → AfterMeans turns (out-BranchBody x)
-  unfolding AfterMeans
+  pub after_means : {turns : List (List ℕ)} {x : BranchBody} {ys : List Statement} → IsAfter scope variables turns x ys → AfterMeans turns (out-BranchBody x)
   after_means (d.nothing turns) = subst (AfterMeans turns) (sym out_nothing) tt
   after_means (d.block turns xs ys h) = subst (AfterMeans turns) (sym (out_block xs)) (ys, h)
 
-  module _ (turns : List (List ℕ)) where
-    pub made_block : (x : BranchBody) (xs : Vec StatementText Global) → x ≡ after.Block xs → (ys : List Statement) × IsAfter scope variables turns x ys
-        → (ys : List Statement) × IsBlock scope variables turns xs.items ys
-    unfolding AfterMeans
-    made_block x xs e h = subst (AfterMeans turns) (ap out-BranchBody e ∙ out_block xs) (after_means h.1)
-
-  made_parts : {turns : List (List ℕ)} {x : BranchText} {y : Branch} → IsBranch scope variables turns x y
+  pub made_parts : {turns : List (List ℕ)} {x : BranchText} {y : Branch} → IsBranch scope variables turns x y
       → IsReceive scope variables turns x.receive y.receiving × IsAfter scope variables turns x.body y.block
   made_parts (d.branch turns x y h after) = (h, after)
 
-  block_member : {turns : List (List ℕ)} {xs : List StatementText} {ys : List Statement} → IsBlock scope variables turns xs ys → (k : ℕ) (x : StatementText)
+  pub block_member : {turns : List (List ℕ)} {xs : List StatementText} {ys : List Statement} → IsBlock scope variables turns xs ys → (k : ℕ) (x : StatementText)
       → slice_get xs k ≡ Some x → (y : Statement) × IsStatement scope variables turns x.action y
   block_member (d.no_statement turns) k x there = let below = slice_get_within [] k x there in absurd (omega arith)
   block_member (d.one_statement_more turns xs ys z y before one) k x there =
@@ -163,7 +109,7 @@ module _ (scope : Scope) (variables : Variables) where
       by again (inl earlier) = again earlier
       by again (inr (at, is)) = subst (λ (t : StatementText). (w : Statement) × IsStatement scope variables turns t.action w) (sym is) (y, one)
 
-  branch_member : {turns : List (List ℕ)} {xs : List BranchText} {ys : List Branch} → AreBranches scope variables turns xs ys → (k : ℕ) (x : BranchText)
+  pub branch_member : {turns : List (List ℕ)} {xs : List BranchText} {ys : List Branch} → AreBranches scope variables turns xs ys → (k : ℕ) (x : BranchText)
       → slice_get xs k ≡ Some x → (y : Branch) × IsBranch scope variables turns x y
   branch_member (d.no_branch turns) k x there = let below = slice_get_within [] k x there in absurd (omega arith)
   branch_member (d.one_branch_more turns xs ys z y before one) k x there =
@@ -173,19 +119,3 @@ module _ (scope : Scope) (variables : Variables) where
           → (slice_get xs k ≡ Some x) ⊎ ((k ≡ length xs) × (x ≡ z)) → (w : Branch) × IsBranch scope variables turns x w
       by again (inl earlier) = again earlier
       by again (inr (at, is)) = subst (λ (t : BranchText). (w : Branch) × IsBranch scope variables turns t w) (sym is) (y, one)
-
-  module _ (turns : List (List ℕ)) where
-    -- the rule of each member
-    pub made_statement : (xs : List StatementText) (k : ℕ) (x : StatementText) → k < length xs → x ≡ get_or xs k x
-        → (ys : List Statement) × IsBlock scope variables turns xs ys → (y : Statement) × IsStatement scope variables turns x.action y
-    made_statement xs k x below is h = block_member h.1 k x (slice_get-get_or xs k x below ∙ ap Some (sym is))
-
-    pub made_branch : (xs : List BranchText) (k : ℕ) (x : BranchText) → k < length xs → x ≡ get_or xs k x
-        → (ys : List Branch) × AreBranches scope variables turns xs ys → (y : Branch) × IsBranch scope variables turns x y
-    made_branch xs k x below is h = branch_member h.1 k x (slice_get-get_or xs k x below ∙ ap Some (sym is))
-
-    pub made_operation : (x : BranchText) → (y : Branch) × IsBranch scope variables turns x y → (z : Receiving) × IsReceive scope variables turns x.receive z
-    made_operation x h = (h.0.receiving, (made_parts h.1).0)
-
-    pub made_after : (x : BranchText) → (y : Branch) × IsBranch scope variables turns x y → (ys : List Statement) × IsAfter scope variables turns x.body ys
-    made_after x h = (h.0.block, (made_parts h.1).1)

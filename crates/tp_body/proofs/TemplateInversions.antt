@@ -1,9 +1,9 @@
 -- What a template is that stands for something: the lines of the definition of templates, read backwards.
-use Rattle.std.proofs.Common.{inl, inr, ◌≡◌, ℕ, ◌<◌, ℤ, Bool, List, Option, None, Some, map, length, get_or, slice_get, string_bytes, Vec, refl, sym, ap, ◌∙◌, subst, arith}
+use Rattle.std.proofs.Common.{inl, inr, ◌≡◌, ℕ, ℤ, Bool, List, Option, None, Some, map, length, slice_get, string_bytes, Vec, refl, sym, ap, ◌∙◌, subst, arith}
 use Rattle.std.specs.declared.alloc.Global.{Global}
 use Rattle.std.specs.declared.string.String.{String}
 use Rattle.std.proofs.lemmas.List.{length_push}
-use Rattle.std.proofs.lemmas.Option.{none-some, slice_get_read, slice_get_within}
+use Rattle.std.proofs.lemmas.Option.{none-some, slice_get_within}
 use Rattle.tp_value.specs.declared.types.Ty.{Ty}
 use Rattle.tp_value.specs.declared.types.Ty.TheVariants as ty
 use Rattle.tp_value.specs.declared.types.Field.{Field}
@@ -11,6 +11,8 @@ use Rattle.tp_value.specs.declared.types.TypeDef.{TypeDef}
 use Rattle.tp_value.specs.declared.types.TypeDef.TheVariants as def
 use Rattle.tp_value.specs.declared.types.Types.{Types}
 use Rattle.tp_value.specs.Types.{named}
+use Rattle.tp_value.specs.HasType.{ArePrintable}
+use Rattle.tp_value.specs.Fits.{AreOrdered}
 use Rattle.tp_tree.specs.declared.message.Template.{Template}
 use Rattle.tp_tree.specs.declared.message.Template.TheVariants as t
 use Rattle.tp_tree.specs.declared.message.Template.TheOpen as o
@@ -18,43 +20,45 @@ use Rattle.tp_tree.specs.declared.message.Template.TheViews.{out-Template, out-r
 use Rattle.tp_tree.specs.declared.message.TemplateField.{TemplateField}
 use Rattle.tp_play.specs.declared.body.RecvTemplate.{RecvTemplate}
 use Rattle.tp_name.specs.Named.{IsPlace}
-use Rattle.tp_name.specs.Tables.{AreDistinct}
-use Rattle.tp_body.specs.Placing.{HaveEntries, IsPlacing, field_names}
-use Rattle.tp_body.specs.Messages.{IsTemplate, int_template, bool_template, text_template, turn_template, any, one_of, none_of, range, pattern, element_templates, place_templates, field_templates, AreMembers, no_member, one_member_more, AreElementTemplates, no_element_template, one_element_template_more, IsElementTemplate, many, single, AreFieldTemplates, no_field_template, one_field_template_more, AreNamedTemplates, no_name_template, one_name_template_more, StandsAsList, StandsAsRecord}
+use Rattle.tp_body.specs.Placing.{HaveEntries}
+use Rattle.tp_body.specs.Messages.{IsTemplate, int_template, bool_template, text_template, turn_template, any, one_of, none_of, range, pattern, element_templates, place_templates, field_templates, AreMembers, no_member, one_member_more, AreElementTemplates, no_element_template, one_element_template_more, IsElementTemplate, many, single, AreFieldTemplates, no_field_template, one_field_template_more, AreNamedTemplates, no_name_template, one_name_template_more}
 use Rattle.tp_body.proofs.Placed.{push_cases}
-use Rattle.tp_body.proofs.Entered.{AreEntered, entered_more, have_entries, placed_stands}
+use Rattle.tp_body.proofs.Entered.{AreEntered, entered_more, have_entries}
 
-out_name : (n : String Global) → out-Template (t.Name n) ≡ o.Name n
+pub out_name : (n : String Global) → out-Template (t.Name n) ≡ o.Name n
 out_name n = ap out-Template (sym (t.rolls-Name n)) ∙ out-roll-Template (o.Name n)
 
-out_one_of : (ts : Vec Template Global) → out-Template (t.OneOf ts) ≡ o.OneOf ts
+pub out_one_of : (ts : Vec Template Global) → out-Template (t.OneOf ts) ≡ o.OneOf ts
 out_one_of ts = ap out-Template (sym (t.rolls-OneOf ts)) ∙ out-roll-Template (o.OneOf ts)
 
-out_none_of : (ts : Vec Template Global) → out-Template (t.Complement ts) ≡ o.Complement ts
+pub out_none_of : (ts : Vec Template Global) → out-Template (t.Complement ts) ≡ o.Complement ts
 out_none_of ts = ap out-Template (sym (t.rolls-Complement ts)) ∙ out-roll-Template (o.Complement ts)
 
-out_list : (ts : Vec Template Global) → out-Template (t.List ts) ≡ o.List ts
+pub out_list : (ts : Vec Template Global) → out-Template (t.List ts) ≡ o.List ts
 out_list ts = ap out-Template (sym (t.rolls-List ts)) ∙ out-roll-Template (o.List ts)
 
-out_record : (es : Vec TemplateField Global) → out-Template (t.Record es) ≡ o.Record es
+pub out_record : (es : Vec TemplateField Global) → out-Template (t.Record es) ≡ o.Record es
 out_record es = ap out-Template (sym (t.rolls-Record es)) ∙ out-roll-Template (o.Record es)
 
-out_int : (z : ℤ) → out-Template (t.Int z) ≡ o.Int z
+pub out_int : (z : ℤ) → out-Template (t.Int z) ≡ o.Int z
 out_int z = ap out-Template (sym (t.rolls-Int z)) ∙ out-roll-Template (o.Int z)
 
-out_bool : (b : Bool) → out-Template (t.Bool b) ≡ o.Bool b
+pub out_bool : (b : Bool) → out-Template (t.Bool b) ≡ o.Bool b
 out_bool b = ap out-Template (sym (t.rolls-Bool b)) ∙ out-roll-Template (o.Bool b)
 
-out_text : (cs : Vec ℕ Global) → out-Template (t.Text cs) ≡ o.Text cs
+pub out_text : (cs : Vec ℕ Global) → out-Template (t.Text cs) ≡ o.Text cs
 out_text cs = ap out-Template (sym (t.rolls-Text cs)) ∙ out-roll-Template (o.Text cs)
 
-out_any : out-Template t.Any ≡ o.Any
+pub out_none : out-Template t.AnyOrNone ≡ o.AnyOrNone
+out_none = ap out-Template (sym t.rolls-AnyOrNone) ∙ out-roll-Template o.AnyOrNone
+
+pub out_any : out-Template t.Any ≡ o.Any
 out_any = ap out-Template (sym t.rolls-Any) ∙ out-roll-Template o.Any
 
-out_range : (low high : Option ℤ) → out-Template (t.Range low high) ≡ o.Range low high
+pub out_range : (low high : Option ℤ) → out-Template (t.Range low high) ≡ o.Range low high
 out_range low high = ap out-Template (sym (t.rolls-Range low high)) ∙ out-roll-Template (o.Range low high)
 
-out_pattern : (cs : Vec ℕ Global) → out-Template (t.Pattern cs) ≡ o.Pattern cs
+pub out_pattern : (cs : Vec ℕ Global) → out-Template (t.Pattern cs) ≡ o.Pattern cs
 out_pattern cs = ap out-Template (sym (t.rolls-Pattern cs)) ∙ out-roll-Template (o.Pattern cs)
 
 module _ (types : Types) (turns : List (List ℕ)) where
@@ -70,64 +74,34 @@ module _ (types : Types) (turns : List (List ℕ)) where
   IsEntries es (Some (def.Record fs)) = (rs : List RecvTemplate) × (length es ≡ length fs) × AreNamedTemplates types turns es fs rs
   IsEntries es None = ⊥
 
-  -- a layer of such a template, where it holds names or templates
-  abbrev IsOpened : Ty → o.Template-F Template TemplateField → Type 0
-  IsOpened u (o.Int z) = Unit {0}
-  IsOpened u (o.Bool b) = Unit {0}
-  IsOpened u (o.Text cs) = Unit {0}
+  -- a layer of such a template
+  abbrev pub IsOpened : Ty → o.Template-F Template TemplateField → Type 0
+  IsOpened u (o.Int z) = u ≡ ty.Integer
+  IsOpened u (o.Bool b) = u ≡ ty.Boolean
+  IsOpened u (o.Text cs) = (u ≡ ty.Charstring) × ArePrintable cs.items
   IsOpened u (o.Name n) = (k : ℕ) × (u ≡ ty.Integer) × IsPlace turns (string_bytes n) k
   IsOpened u o.Any = Unit {0}
   IsOpened u o.AnyOrNone = ⊥
   IsOpened u (o.OneOf ts) = (rs : List RecvTemplate) × AreMembers types turns u ts.items rs
   IsOpened u (o.Complement ts) = (rs : List RecvTemplate) × AreMembers types turns u ts.items rs
-  IsOpened u (o.Range low high) = Unit {0}
-  IsOpened u (o.Pattern cs) = Unit {0}
+  IsOpened u (o.Range low high) = (u ≡ ty.Integer) × AreOrdered low high
+  IsOpened u (o.Pattern cs) = u ≡ ty.Charstring
   IsOpened u (o.List ts) = IsBraced ts.items (named types u)
   IsOpened u (o.Record es) = IsEntries es.items (named types u)
 
-  opened : (u : Ty) (x : Template) (y : RecvTemplate) → IsTemplate types turns u x y → IsOpened u (out-Template x)
-  opened u x y (int_template z h) = subst (IsOpened ty.Integer) (sym (out_int z)) tt
-  opened u x y (bool_template b) = subst (IsOpened ty.Boolean) (sym (out_bool b)) tt
-  opened u x y (text_template cs h) = subst (IsOpened ty.Charstring) (sym (out_text cs)) tt
+  pub opened : (u : Ty) (x : Template) (y : RecvTemplate) → IsTemplate types turns u x y → IsOpened u (out-Template x)
+  opened u x y (int_template z h) = subst (IsOpened ty.Integer) (sym (out_int z)) refl
+  opened u x y (bool_template b) = subst (IsOpened ty.Boolean) (sym (out_bool b)) refl
+  opened u x y (text_template cs h) = subst (IsOpened ty.Charstring) (sym (out_text cs)) (refl, h)
   opened u x y (turn_template n k p) = subst (IsOpened ty.Integer) (sym (out_name n)) (k, refl, p)
   opened u x y (any v) = subst (IsOpened v) (sym out_any) tt
   opened u x y (one_of v ts rs h) = subst (IsOpened v) (sym (out_one_of ts)) (rs, h)
   opened u x y (none_of v ts rs h) = subst (IsOpened v) (sym (out_none_of ts)) (rs, h)
-  opened u x y (range low high h) = subst (IsOpened ty.Integer) (sym (out_range low high)) tt
-  opened u x y (pattern cs) = subst (IsOpened ty.Charstring) (sym (out_pattern cs)) tt
+  opened u x y (range low high h) = subst (IsOpened ty.Integer) (sym (out_range low high)) (refl, h)
+  opened u x y (pattern cs) = subst (IsOpened ty.Charstring) (sym (out_pattern cs)) refl
   opened u x y (element_templates v element ts rs e h) = subst (IsOpened v) (sym (out_list ts)) (subst (IsBraced ts.items) (sym e) (rs, h))
   opened u x y (place_templates v fs ts rs e h) = subst (IsOpened v) (sym (out_list ts)) (subst (IsBraced ts.items) (sym e) (rs, h))
   opened u x y (field_templates v fs es rs e n h) = subst (IsOpened v) (sym (out_record es)) (subst (IsEntries es.items) (sym e) (rs, n, h))
-
-  pub turn_parts : (u : Ty) (x : Template) (n : String Global) → x ≡ t.Name n → (y : RecvTemplate) × IsTemplate types turns u x y
-      → (k : ℕ) × (u ≡ ty.Integer) × IsPlace turns (string_bytes n) k
-  turn_parts u x n e (y, h) = subst (IsOpened u) (ap out-Template e ∙ out_name n) (opened u x y h)
-
-  pub one_of_parts : (u : Ty) (x : Template) (ts : Vec Template Global) → x ≡ t.OneOf ts → (y : RecvTemplate) × IsTemplate types turns u x y
-      → (rs : List RecvTemplate) × AreMembers types turns u ts.items rs
-  one_of_parts u x ts e (y, h) = subst (IsOpened u) (ap out-Template e ∙ out_one_of ts) (opened u x y h)
-
-  pub none_of_parts : (u : Ty) (x : Template) (ts : Vec Template Global) → x ≡ t.Complement ts → (y : RecvTemplate) × IsTemplate types turns u x y
-      → (rs : List RecvTemplate) × AreMembers types turns u ts.items rs
-  none_of_parts u x ts e (y, h) = subst (IsOpened u) (ap out-Template e ∙ out_none_of ts) (opened u x y h)
-
-  -- the whole, as its members stand in braces
-  pub as_list : (u : Ty) (x : Template) (ts : Vec Template Global) (members : List Template) → x ≡ t.List ts → members ≡ ts.items
-      → (y : RecvTemplate) × IsTemplate types turns u x y → StandsAsList types turns u members
-  as_list u x ts members e same (y, h) = record { list = ts; made = y; same = sym same; stands = subst (λ z. IsTemplate types turns u z y) e h }
-
-  pub as_record : (u : Ty) (x : Template) (es : Vec TemplateField Global) (entries : List TemplateField) → x ≡ t.Record es → entries ≡ es.items
-      → (y : RecvTemplate) × IsTemplate types turns u x y → StandsAsRecord types turns u entries
-  as_record u x es entries e same (y, h) = record { list = es; made = y; same = sym same; stands = subst (λ z. IsTemplate types turns u z y) e h }
-
-  pub list_parts : (u : Ty) (members : List Template) (d : Option TypeDef) → named types u ≡ d → StandsAsList types turns u members → IsBraced members d
-  list_parts u members d f h =
-      subst (λ l. IsBraced l d) h.same (subst (IsBraced h.list.items) f (subst (IsOpened u) (out_list h.list) (opened u (t.List h.list) h.made h.stands)))
-
-  pub record_parts : (u : Ty) (entries : List TemplateField) (d : Option TypeDef) → named types u ≡ d → StandsAsRecord types turns u entries
-      → IsEntries entries d
-  record_parts u entries d f h =
-      subst (λ l. IsEntries l d) h.same (subst (IsEntries h.list.items) f (subst (IsOpened u) (out_record h.list) (opened u (t.Record h.list) h.made h.stands)))
 
   -- each of the members stands for something
   pub members_each : (u : Ty) (ts : List Template) (rs : List RecvTemplate) → AreMembers types turns u ts rs → (k : ℕ) (x : Template)
@@ -164,7 +138,7 @@ module _ (types : Types) (turns : List (List ℕ)) where
   field_templates_count fs ts rs (one_field_template_more gs xs ys f x y h one) =
       omega (arith, field_templates_count gs xs ys h, length_push gs f, length_push xs x)
 
-  field_templates_each : (fs : List Field) (ts : List Template) (rs : List RecvTemplate) → AreFieldTemplates types turns fs ts rs → (k : ℕ) (f : Field)
+  pub field_templates_each : (fs : List Field) (ts : List Template) (rs : List RecvTemplate) → AreFieldTemplates types turns fs ts rs → (k : ℕ) (f : Field)
       (x : Template) → slice_get fs k ≡ Some f → slice_get ts k ≡ Some x → (y : RecvTemplate) × IsTemplate types turns f.ty x y
   field_templates_each fs ts rs no_field_template k f x is_field there = absurd (none-some x there)
   field_templates_each fs ts rs (one_field_template_more gs xs ys g z y h one) k f x is_field there =
@@ -181,35 +155,14 @@ module _ (types : Types) (turns : List (List ℕ)) where
       ]
 
   -- each field has an entry
-  named_templates_each : (es : List TemplateField) (fs : List Field) (rs : List RecvTemplate) → AreNamedTemplates types turns es fs rs
+  pub named_templates_each : (es : List TemplateField) (fs : List Field) (rs : List RecvTemplate) → AreNamedTemplates types turns es fs rs
       → AreEntered (λ x. string_bytes x.name) (λ f x. IsTemplate types turns f.ty x.template) es fs
   named_templates_each es fs rs (no_name_template zs) = λ k f there. absurd (none-some f there)
   named_templates_each es fs rs (one_name_template_more zs gs ys f j x y h e n one) =
       entered_more (λ x. string_bytes x.name) (λ f x. IsTemplate types turns f.ty x.template) zs gs f j x y (named_templates_each zs gs ys h) e n one
 
-  -- so much of the parts, where the whole stands for something
-  pub member_part : (u : Ty) (ts : List Template) (k : ℕ) (x : Template) → k < length ts → x ≡ get_or ts k x
-      → (rs : List RecvTemplate) × AreMembers types turns u ts rs → (y : RecvTemplate) × IsTemplate types turns u x y
-  member_part u ts k x below is (rs, h) = members_each u ts rs h k x (slice_get_read ts (length ts) k x refl below is)
-
-  pub element_part : (u : Ty) (ts : List Template) (k : ℕ) (x : Template) → k < length ts → x ≡ get_or ts k x
-      → (rs : List RecvTemplate) × AreElementTemplates types turns u ts rs → (y : RecvTemplate) × IsElementTemplate types turns u x y
-  element_part u ts k x below is (rs, h) = element_templates_each u ts rs h k x (slice_get_read ts (length ts) k x refl below is)
-
-  pub field_part : (fs : List Field) (ts : List Template) (k : ℕ) (f : Field) (x : Template) → k < length fs → f ≡ get_or fs k f → k < length ts
-      → x ≡ get_or ts k x → (rs : List RecvTemplate) × AreFieldTemplates types turns fs ts rs → (y : RecvTemplate) × IsTemplate types turns f.ty x y
-  field_part fs ts k f x inside is_field below is (rs, h) =
-      field_templates_each fs ts rs h k f x (slice_get_read fs (length fs) k f refl inside is_field) (slice_get_read ts (length ts) k x refl below is)
-
+  -- so each name of a field has one
   pub names_part : (es : List TemplateField) (fs : List Field) → (rs : List RecvTemplate) × (length es ≡ length fs) × AreNamedTemplates types turns es fs rs
       → HaveEntries fs (map (λ x. string_bytes x.name) es)
   names_part es fs (rs, n, h) =
       have_entries (λ x. string_bytes x.name) (λ f x. IsTemplate types turns f.ty x.template) es fs n (named_templates_each es fs rs h)
-
-  pub entry_part : (es : List TemplateField) (fs : List Field) (ps : List ℕ) → AreDistinct (field_names fs)
-      → IsPlacing fs (map (λ x. string_bytes x.name) es) ps → (k p : ℕ) (x : TemplateField) (f : Field) → slice_get ps k ≡ Some p
-      → slice_get es k ≡ Some x → slice_get fs p ≡ Some f
-      → (rs : List RecvTemplate) × (length es ≡ length fs) × AreNamedTemplates types turns es fs rs → (y : RecvTemplate) × IsTemplate types turns f.ty x.template y
-  entry_part es fs ps apart placing k p x f is_place is_entry is_field (rs, n, h) =
-      placed_stands (λ x. string_bytes x.name) (λ f x. IsTemplate types turns f.ty x.template) es fs n (named_templates_each es fs rs h) apart ps placing k p x f
-      is_place is_entry is_field

@@ -1,9 +1,9 @@
 -- What a value is that stands for something: the lines of the definition of values, read backwards.
-use Rattle.std.proofs.Common.{inl, inr, ◌≡◌, ℕ, ◌<◌, ℤ, Bool, List, Option, None, Some, map, length, get_or, slice_get, string_bytes, Vec, refl, sym, ap, ◌∙◌, subst, arith}
+use Rattle.std.proofs.Common.{inl, inr, ◌≡◌, ℕ, ℤ, Bool, List, Option, None, Some, map, length, slice_get, string_bytes, Vec, refl, sym, ap, ◌∙◌, subst, arith}
 use Rattle.std.specs.declared.alloc.Global.{Global}
 use Rattle.std.specs.declared.string.String.{String}
 use Rattle.std.proofs.lemmas.List.{length_push}
-use Rattle.std.proofs.lemmas.Option.{none-some, slice_get_read, slice_get_within}
+use Rattle.std.proofs.lemmas.Option.{none-some, slice_get_within}
 use Rattle.tp_value.specs.declared.types.Ty.{Ty}
 use Rattle.tp_value.specs.declared.types.Ty.TheVariants as ty
 use Rattle.tp_value.specs.declared.types.Field.{Field}
@@ -19,28 +19,27 @@ use Rattle.tp_tree.specs.declared.message.Value.TheViews.{out-Value, out-roll-Va
 use Rattle.tp_tree.specs.declared.message.ValueField.{ValueField}
 use Rattle.tp_play.specs.declared.body.SendValue.{SendValue}
 use Rattle.tp_name.specs.Named.{IsPlace}
-use Rattle.tp_name.specs.Tables.{AreDistinct}
-use Rattle.tp_body.specs.Placing.{HaveEntries, IsPlacing, field_names}
+use Rattle.tp_body.specs.Placing.{HaveEntries}
 use Rattle.tp_body.specs.Messages.{IsValue, int, bool, text, turn, elements, places, fields, AreElements, no_element, one_element_more, AreFields, no_field, one_field_more, AreNamed, no_name, one_name_more}
 use Rattle.tp_body.proofs.Placed.{push_cases}
-use Rattle.tp_body.proofs.Entered.{AreEntered, entered_more, have_entries, placed_stands}
+use Rattle.tp_body.proofs.Entered.{AreEntered, entered_more, have_entries}
 
-out_int : (z : ℤ) → out-Value (v.Int z) ≡ o.Int z
+pub out_int : (z : ℤ) → out-Value (v.Int z) ≡ o.Int z
 out_int z = ap out-Value (sym (v.rolls-Int z)) ∙ out-roll-Value (o.Int z)
 
-out_bool : (b : Bool) → out-Value (v.Bool b) ≡ o.Bool b
+pub out_bool : (b : Bool) → out-Value (v.Bool b) ≡ o.Bool b
 out_bool b = ap out-Value (sym (v.rolls-Bool b)) ∙ out-roll-Value (o.Bool b)
 
-out_text : (cs : Vec ℕ Global) → out-Value (v.Text cs) ≡ o.Text cs
+pub out_text : (cs : Vec ℕ Global) → out-Value (v.Text cs) ≡ o.Text cs
 out_text cs = ap out-Value (sym (v.rolls-Text cs)) ∙ out-roll-Value (o.Text cs)
 
-out_name : (n : String Global) → out-Value (v.Name n) ≡ o.Name n
+pub out_name : (n : String Global) → out-Value (v.Name n) ≡ o.Name n
 out_name n = ap out-Value (sym (v.rolls-Name n)) ∙ out-roll-Value (o.Name n)
 
-out_list : (vs : Vec Value Global) → out-Value (v.List vs) ≡ o.List vs
+pub out_list : (vs : Vec Value Global) → out-Value (v.List vs) ≡ o.List vs
 out_list vs = ap out-Value (sym (v.rolls-List vs)) ∙ out-roll-Value (o.List vs)
 
-out_record : (es : Vec ValueField Global) → out-Value (v.Record es) ≡ o.Record es
+pub out_record : (es : Vec ValueField Global) → out-Value (v.Record es) ≡ o.Record es
 out_record es = ap out-Value (sym (v.rolls-Record es)) ∙ out-roll-Value (o.Record es)
 
 module _ (types : Types) (turns : List (List ℕ)) where
@@ -57,7 +56,7 @@ module _ (types : Types) (turns : List (List ℕ)) where
   IsEntries es None = ⊥
 
   -- a layer of such a value
-  abbrev IsOpened : Ty → o.Value-F Value ValueField → Type 0
+  abbrev pub IsOpened : Ty → o.Value-F Value ValueField → Type 0
   IsOpened u (o.Int z) = u ≡ ty.Integer
   IsOpened u (o.Bool b) = u ≡ ty.Boolean
   IsOpened u (o.Text cs) = (u ≡ ty.Charstring) × ArePrintable cs.items
@@ -65,7 +64,7 @@ module _ (types : Types) (turns : List (List ℕ)) where
   IsOpened u (o.List vs) = IsBraced vs.items (named types u)
   IsOpened u (o.Record es) = IsEntries es.items (named types u)
 
-  opened : (u : Ty) (x : Value) (y : SendValue) → IsValue types turns u x y → IsOpened u (out-Value x)
+  pub opened : (u : Ty) (x : Value) (y : SendValue) → IsValue types turns u x y → IsOpened u (out-Value x)
   opened u x y (int z h) = subst (IsOpened ty.Integer) (sym (out_int z)) refl
   opened u x y (bool b) = subst (IsOpened ty.Boolean) (sym (out_bool b)) refl
   opened u x y (text cs h) = subst (IsOpened ty.Charstring) (sym (out_text cs)) (refl, h)
@@ -73,14 +72,6 @@ module _ (types : Types) (turns : List (List ℕ)) where
   opened u x y (elements t element vs ws e h) = subst (IsOpened t) (sym (out_list vs)) (subst (IsBraced vs.items) (sym e) (ws, h))
   opened u x y (places t fs vs ws e h) = subst (IsOpened t) (sym (out_list vs)) (subst (IsBraced vs.items) (sym e) (ws, h))
   opened u x y (fields t fs es ws e n h) = subst (IsOpened t) (sym (out_record es)) (subst (IsEntries es.items) (sym e) (ws, n, h))
-
-  pub turn_parts : (u : Ty) (x : Value) (n : String Global) → x ≡ v.Name n → (y : SendValue) × IsValue types turns u x y
-      → (k : ℕ) × (u ≡ ty.Integer) × IsPlace turns (string_bytes n) k
-  turn_parts u x n e (y, h) = subst (IsOpened u) (ap out-Value e ∙ out_name n) (opened u x y h)
-
-  pub list_parts : (u : Ty) (x : Value) (vs : Vec Value Global) (d : Option TypeDef) → x ≡ v.List vs → named types u ≡ d
-      → (y : SendValue) × IsValue types turns u x y → IsBraced vs.items d
-  list_parts u x vs d e f (y, h) = subst (IsBraced vs.items) f (subst (IsOpened u) (ap out-Value e ∙ out_list vs) (opened u x y h))
 
   -- each of the elements stands for something
   pub elements_each : (u : Ty) (vs : List Value) (ws : List SendValue) → AreElements types turns u vs ws → (k : ℕ) (x : Value) → slice_get vs k ≡ Some x
@@ -119,24 +110,7 @@ module _ (types : Types) (turns : List (List ℕ)) where
   named_each es fs ws (one_name_more zs gs ys f j x y h e n one) =
       entered_more (λ x. string_bytes x.name) (λ f x. IsValue types turns f.ty x.value) zs gs f j x y (named_each zs gs ys h) e n one
 
-  -- so much of the parts, where the whole stands for something
-  pub element_part : (u : Ty) (vs : List Value) (k : ℕ) (x : Value) → k < length vs → x ≡ get_or vs k x
-      → (ws : List SendValue) × AreElements types turns u vs ws → (y : SendValue) × IsValue types turns u x y
-  element_part u vs k x below is (ws, h) = elements_each u vs ws h k x (slice_get_read vs (length vs) k x refl below is)
-
-  pub field_part : (fs : List Field) (vs : List Value) (k : ℕ) (f : Field) (x : Value) → k < length fs → f ≡ get_or fs k f → k < length vs
-      → x ≡ get_or vs k x → (ws : List SendValue) × AreFields types turns fs vs ws → (y : SendValue) × IsValue types turns f.ty x y
-  field_part fs vs k f x inside is_field below is (ws, h) =
-      fields_each fs vs ws h k f x (slice_get_read fs (length fs) k f refl inside is_field) (slice_get_read vs (length vs) k x refl below is)
-
+  -- so each name of a field has one
   pub names_part : (es : List ValueField) (fs : List Field) → (ws : List SendValue) × (length es ≡ length fs) × AreNamed types turns es fs ws
       → HaveEntries fs (map (λ x. string_bytes x.name) es)
   names_part es fs (ws, n, h) = have_entries (λ x. string_bytes x.name) (λ f x. IsValue types turns f.ty x.value) es fs n (named_each es fs ws h)
-
-  pub entry_part : (es : List ValueField) (fs : List Field) (ps : List ℕ) → AreDistinct (field_names fs)
-      → IsPlacing fs (map (λ x. string_bytes x.name) es) ps → (k p : ℕ) (x : ValueField) (f : Field) → slice_get ps k ≡ Some p
-      → slice_get es k ≡ Some x → slice_get fs p ≡ Some f → (ws : List SendValue) × (length es ≡ length fs) × AreNamed types turns es fs ws
-      → (y : SendValue) × IsValue types turns f.ty x.value y
-  entry_part es fs ps apart placing k p x f is_place is_entry is_field (ws, n, h) =
-      placed_stands (λ x. string_bytes x.name) (λ f x. IsValue types turns f.ty x.value) es fs n (named_each es fs ws h) apart ps placing k p x f is_place
-      is_entry is_field

@@ -3,3 +3,7 @@ pub mod Placing
 pub mod Messages
 pub mod Bodies
 pub mod Closed
+pub mod BrokenValues
+pub mod BrokenTemplates
+pub mod BrokenOperations
+pub mod BrokenBodies

@@ -156,20 +156,6 @@ pub record IsRecordTemplate (types : Types) (turns : List (List ℕ)) (u : Ty) (
     (r : RecvTemplate) : Type 0 where
   pub stands : (v : Vec TemplateField Global) → v.items ≡ ts → IsTemplate types turns u (template.Record v) r
 
--- some templates in braces with these members stand for something
-pub record StandsAsList (types : Types) (turns : List (List ℕ)) (u : Ty) (ts : List Template) : Type 0 where
-  pub list : Vec Template Global
-  pub made : RecvTemplate
-  pub same : list.items ≡ ts
-  pub stands : IsTemplate types turns u (template.List list) made
-
--- the same where they are given under the names of fields
-pub record StandsAsRecord (types : Types) (turns : List (List ℕ)) (u : Ty) (ts : List TemplateField) : Type 0 where
-  pub list : Vec TemplateField Global
-  pub made : RecvTemplate
-  pub same : list.items ≡ ts
-  pub stands : IsTemplate types turns u (template.Record list) made
-
 -- a message: its type is known, and the value fits it
 pub record IsMessage (types : Types) (turns : List (List ℕ)) (x : Message) (m : SendMsg) : Type 0 where
   pub type_known : IsType types x.type_name m.ty

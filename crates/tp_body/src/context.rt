@@ -20,8 +20,11 @@ pub struct Context<'a, 'v, 'm> {
 }
 
 impl<'a, 'v, 'm> Context<'a, 'v, 'm> {
-    ghost use Rattle.std.specs.Prelude.{◌≡◌, ◌≢◌, Contains, IfErr, OnErr, OnOk};
-    ghost use Rattle.tp_name.specs.Refused.{Breaks};
+    ghost use Rattle.std.specs.Prelude.{◌≡◌, ◌≢◌, ◌⊎◌, ℕ, Contains, IfErr, OnErr, OnOk, Some};
+    ghost use Rattle.tp_name.specs.Named.{texts};
+    ghost use Rattle.tp_name.specs.Refused.{TellsAt};
+    ghost use Rattle.tp_body.specs.Scoping.{IsReference};
+    ghost use Rattle.tp_body.specs.BrokenOperations.{FromBreaks};
 
     /// 11 `Unknown`.
     pub fn unknown(&self) -> ModuleFault
@@ -69,8 +72,8 @@ impl<'a, 'v, 'm> Context<'a, 'v, 'm> {
         ensures ok { OnOk result (self.now.scope.now.behaviour ≢ BehaviourKind.SystemUnderTest) }
         ensures err { IfErr result (λ fault.
             fault ≡ ModuleFault.Refused ModuleRule.NotInSut self.now.line) }
-        ensures refused { IfErr result
-            (Breaks (self.now.scope.now.behaviour ≢ BehaviourKind.SystemUnderTest)) }
+        ensures sut { OnErr result
+            (self.now.scope.now.behaviour ≡ BehaviourKind.SystemUnderTest) }
     {
         if self.scope.behaviour == BehaviourKind::SystemUnderTest {
             return Err(refused(ModuleRule::NotInSut, self.line));
@@ -81,10 +84,10 @@ impl<'a, 'v, 'm> Context<'a, 'v, 'm> {
     /// What a name is refused with that may not stand there: 13 `WrongType` for a variable of the
     /// body, otherwise 11 `Unknown`, also for a loop variable.
     pub fn no_turn(&self, name: &str) -> ModuleFault
-        ensures variable { Contains self.now.variables.now.names name.now
-            → result ≡ ModuleFault.Refused ModuleRule.WrongType self.now.line }
-        ensures other { (Contains self.now.variables.now.names name.now → ⊥)
-            → result ≡ ModuleFault.Refused ModuleRule.Unknown self.now.line }
+        ensures { (Contains self.now.variables.now.names name.now
+            × (result ≡ ModuleFault.Refused ModuleRule.WrongType self.now.line))
+            ⊎ ((Contains self.now.variables.now.names name.now → ⊥)
+            × (result ≡ ModuleFault.Refused ModuleRule.Unknown self.now.line)) }
     {
         if self.variables.names.has(name) {
             self.wrong_type()
@@ -97,13 +100,12 @@ impl<'a, 'v, 'm> Context<'a, 'v, 'm> {
     /// nor a loop variable: 13 `WrongType` for a parameter or a component variable, otherwise
     /// 11 `Unknown`.
     pub fn no_variable(&self, name: &str) -> ModuleFault
-        ensures parameter { Contains self.now.scope.now.parameters.now name.now
-            → result ≡ ModuleFault.Refused ModuleRule.WrongType self.now.line }
-        ensures component { Contains self.now.scope.now.components.now name.now
-            → result ≡ ModuleFault.Refused ModuleRule.WrongType self.now.line }
-        ensures other { (Contains self.now.scope.now.parameters.now name.now → ⊥)
-            → (Contains self.now.scope.now.components.now name.now → ⊥)
-            → result ≡ ModuleFault.Refused ModuleRule.Unknown self.now.line }
+        ensures { ((Contains self.now.scope.now.parameters.now name.now
+            ⊎ Contains self.now.scope.now.components.now name.now)
+            × (result ≡ ModuleFault.Refused ModuleRule.WrongType self.now.line))
+            ⊎ ((Contains self.now.scope.now.parameters.now name.now → ⊥)
+            × (Contains self.now.scope.now.components.now name.now → ⊥)
+            × (result ≡ ModuleFault.Refused ModuleRule.Unknown self.now.line)) }
     {
         if self.scope.parameters.has(name) || self.scope.components.has(name) {
             return self.wrong_type();
@@ -113,7 +115,14 @@ impl<'a, 'v, 'm> Context<'a, 'v, 'm> {
 
     /// What a name behind `from` is refused with that is no reference: 13 `WrongType` for a
     /// variable, otherwise 11 `Unknown`.
-    pub fn no_reference(&self, component: &ComponentName) -> ModuleFault {
+    pub fn no_reference(&self, component: &ComponentName) -> ModuleFault
+        ensures { ((k : ℕ) → IsReference
+            self.now.scope.now self.now.variables.now (texts self.now.turns.now) component.now k
+            → ⊥)
+            → TellsAt self.now.line (FromBreaks
+            self.now.scope.now self.now.variables.now (texts self.now.turns.now)
+            (Some component.now)) result }
+    {
         if let ComponentName::Named(name) = component {
             return self.no_turn(name.as_str());
         }

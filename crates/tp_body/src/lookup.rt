@@ -28,8 +28,8 @@ pub fn place_of_port(ports: &CompType, name: &str) -> Option<usize>
 /// The port of this name: its place, and its type. Takes no memory.
 pub fn find_port<'p>(ports: &'p CompType, name: &str) -> Option<(u32, &'p PortType)>
     ensures there { IfSome result (λ found. IsPortNamed ports.now name.now found.0 found.1.now) }
-    ensures absent { length ports.now.ports.entries ≤ 64 → IfNone result
-        ((k : ℕ) (port : PortType) → IsPortNamed ports.now name.now k port → ⊥) }
+    ensures absent { length ports.now.ports.entries ≤ 64
+        → IfNone result (IsAbsent (declared_port_names ports.now) name.now) }
 {
     let place = place_of_port(ports, name)?;
     let Some((_, port)) = ports.ports.get_index(place) else {
@@ -88,8 +88,8 @@ pub fn find_type(types: &Types, name: &TypeName) -> Option<Ty>
 /// The variable of this name: its place, and what it holds. Takes no memory.
 pub fn find_variable(variables: &Variables, name: &str) -> Option<(usize, VariableType)>
     ensures there { IfSome result (λ found. IsVariable variables.now name.now found.0 found.1) }
-    ensures absent { AreTyped variables.now → IfNone result
-        ((k : ℕ) (held : VariableType) → IsVariable variables.now name.now k held → ⊥) }
+    ensures absent { AreTyped variables.now
+        → IfNone result (IsAbsent variables.now.names name.now) }
 {
     let place = variables.names.find(name)? as usize;
     let held = variables.types.get(place)?;

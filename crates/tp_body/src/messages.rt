@@ -1,12 +1,12 @@
 //! What the values of messages stand for.
-ghost use Rattle.std.specs.Prelude.{◌≡◌, List, IfErr, IfOk, length};
+ghost use Rattle.std.specs.Prelude.{◌≡◌, IfErr, IfOk, length};
 ghost use Rattle.tp_name.specs.Named.{texts};
-ghost use Rattle.tp_name.specs.Refused.{Breaks};
+ghost use Rattle.tp_name.specs.Refused.{TellsAt};
 ghost use Rattle.tp_name.specs.Tables.{AreDistinct};
 ghost use Rattle.tp_body.specs.Messages.{AreElements, AreFields, AreNamed, IsValue};
+ghost use Rattle.tp_body.specs.BrokenValues.{ElementsBreak, EntriesBreak, FieldsBreak, ValueBreaks};
 ghost use Rattle.tp_body.specs.Placing.{field_names};
 ghost use Rattle.tp_body.specs.Scoping.{IsSoundScope};
-ghost use Rattle.tp_play.specs.declared.body.SendValue.{SendValue};
 
 use crate::context::Context;
 use crate::placing::field_places;
@@ -34,9 +34,9 @@ pub fn resolve_value(
 ) -> Result<SendValue, ModuleFault>
     ensures stands { IfOk result
         (IsValue context.now.scope.now.types.now (texts context.now.turns.now) ty value.now) }
-    ensures refused { IsSoundScope context.now.scope.now
-        → IfErr result (Breaks ((y : SendValue) × IsValue context.now.scope.now.types.now
-        (texts context.now.turns.now) ty value.now y)) }
+    ensures told { IsSoundScope context.now.scope.now
+        → IfErr result (TellsAt context.now.line (ValueBreaks context.now.scope.now.types.now
+        context.now.variables.now (texts context.now.turns.now) ty value.now)) }
 {
     match value {
         Value::Int(number) => {
@@ -68,13 +68,13 @@ pub fn resolve_value(
             }
             None => Err(context.wrong_type()),
         },
-        Value::Record(entries) => match context.scope.types.definition(ty) {
-            Some(TypeDef::Record(fields)) => {
-                let made = resolve_named(alloc, context, fields.as_slice(), entries)?;
-                Ok(SendValue::Record(made))
-            }
-            Some(TypeDef::ListOf(_)) | None => Err(context.wrong_type()),
-        },
+        Value::Record(entries) => {
+            let Some(TypeDef::Record(fields)) = context.scope.types.definition(ty) else {
+                return Err(context.wrong_type());
+            };
+            let made = resolve_named(alloc, context, fields.as_slice(), entries)?;
+            Ok(SendValue::Record(made))
+        }
     }
 }
 
@@ -89,10 +89,9 @@ fn resolve_elements(
 ) -> Result<Items<SendValue>, ModuleFault>
     ensures stand { IfOk result
         (AreElements context.now.scope.now.types.now (texts context.now.turns.now) ty values.now) }
-    ensures refused { IsSoundScope context.now.scope.now
-        → IfErr result (Breaks ((ys : List SendValue)
-        × AreElements context.now.scope.now.types.now (texts context.now.turns.now)
-        ty values.now ys)) }
+    ensures told { IsSoundScope context.now.scope.now
+        → IfErr result (TellsAt context.now.line (ElementsBreak context.now.scope.now.types.now
+        context.now.variables.now (texts context.now.turns.now) ty values.now)) }
 {
     let mut made = Items::new(alloc);
     for value in values {
@@ -114,10 +113,9 @@ fn resolve_fields(
     ensures stand { IfOk result
         (AreFields context.now.scope.now.types.now (texts context.now.turns.now)
         fields.now values.now) }
-    ensures refused { IsSoundScope context.now.scope.now
-        → IfErr result (Breaks ((ys : List SendValue)
-        × AreFields context.now.scope.now.types.now (texts context.now.turns.now)
-        fields.now values.now ys)) }
+    ensures told { IsSoundScope context.now.scope.now
+        → IfErr result (TellsAt context.now.line (FieldsBreak context.now.scope.now.types.now
+        context.now.variables.now (texts context.now.turns.now) fields.now values.now)) }
 {
     if fields.len() != values.len() {
         return Err(context.wrong_type());
@@ -142,10 +140,9 @@ fn resolve_named(
     ensures named { IfOk result (λ made. AreNamed
         context.now.scope.now.types.now (texts context.now.turns.now) entries.now fields.now made) }
     ensures count { IfOk result (λ _. length entries.now ≡ length fields.now) }
-    ensures refused { IsSoundScope context.now.scope.now → AreDistinct (field_names fields.now)
-        → IfErr result (Breaks ((ys : List SendValue) × (length entries.now ≡ length fields.now)
-        × AreNamed context.now.scope.now.types.now (texts context.now.turns.now)
-        entries.now fields.now ys)) }
+    ensures told { IsSoundScope context.now.scope.now → AreDistinct (field_names fields.now)
+        → IfErr result (TellsAt context.now.line (EntriesBreak context.now.scope.now.types.now
+        context.now.variables.now (texts context.now.turns.now) fields.now entries.now)) }
 {
     let places = field_places(alloc, fields, entries, context.line)?;
     let mut made = Vec::new(alloc);

@@ -1,10 +1,11 @@
 //! What sends and receiving operations stand for.
-ghost use Rattle.std.specs.Prelude.{◌≡◌, ℕ, Contains, IfErr, IfOk, Option, Some};
+ghost use Rattle.std.specs.Prelude.{◌≡◌, ◌↔◌, Contains, IfErr, IfOk, IsTrue, OnErr, Some};
 ghost use Rattle.tp_name.specs.Named.{IsAbsent, texts};
-ghost use Rattle.tp_name.specs.Refused.{Breaks};
+ghost use Rattle.tp_name.specs.Refused.{TellsAt};
 ghost use Rattle.tp_body.specs.Scoping.{AreTyped, IsSoundScope, IsVariable};
 ghost use Rattle.tp_body.specs.Messages.{IsMessage};
 ghost use Rattle.tp_body.specs.Bodies.{IsReceive, IsReceiver, IsSend, IsFrom, IsSenderTarget, IsSent, IsValueTarget, IsVerdict, IsWanted};
+ghost use Rattle.tp_body.specs.BrokenOperations.{FromBreaks, MessageBreaks, NamesNoComponent, NamesNoMessage, NamesNoVariable, ReceiveBreaks, ReceiverBreaks, SendBreaks, SenderTargetBreaks, SentBreaks, ValueTargetBreaks, WantedBreaks};
 
 use crate::context::Context;
 use crate::lookup::{
@@ -36,9 +37,10 @@ fn resolve_written(
     ensures message { IfOk result
         (IsMessage context.now.scope.now.types.now (texts context.now.turns.now) message.now) }
     ensures listed { IfOk result (λ m. Contains sendable.now m.ty) }
-    ensures refused { IsSoundScope context.now.scope.now → IfErr result
-        (Breaks ((m : SendMsg) × IsMessage context.now.scope.now.types.now
-        (texts context.now.turns.now) message.now m × Contains sendable.now m.ty)) }
+    ensures told { IsSoundScope context.now.scope.now
+        → IfErr result (TellsAt context.now.line (MessageBreaks
+        context.now.scope.now context.now.variables.now (texts context.now.turns.now)
+        sendable.now message.now)) }
 {
     let Some(ty) = find_type(context.scope.types, &message.type_name) else {
         return Err(context.unknown());
@@ -59,7 +61,9 @@ fn resolve_counter(
     ensures value { IfOk result (λ m.
         m ≡ record { ty = Ty.Integer; value = SendValue.Turn place }) }
     ensures listed { IfOk result (λ _. Contains sendable.now Ty.Integer) }
-    ensures refused { IfErr result (Breaks (Contains sendable.now Ty.Integer)) }
+    ensures told { IfErr result (λ fault.
+        fault ≡ ModuleFault.Refused ModuleRule.Direction context.now.line) }
+    ensures unlisted { OnErr result (Contains sendable.now Ty.Integer → ⊥) }
 {
     if !lists(sendable, Ty::Integer) {
         return Err(context.direction());
@@ -76,9 +80,10 @@ fn variable_named(context: &Context, name: &str) -> Result<(usize, VariableType)
     ensures no_turn { IfOk result (λ _. IsAbsent (texts context.now.turns.now) name.now) }
     ensures held { IfOk result (λ found.
         IsVariable context.now.variables.now name.now found.0 found.1) }
-    ensures refused { AreTyped context.now.variables.now → IfErr result
-        (Breaks ((k : ℕ) × (held : VariableType) × IsAbsent (texts context.now.turns.now) name.now
-        × IsVariable context.now.variables.now name.now k held)) }
+    ensures told { AreTyped context.now.variables.now
+        → IfErr result (TellsAt context.now.line (NamesNoVariable
+        context.now.scope.now context.now.variables.now (texts context.now.turns.now)
+        name.now)) }
 {
     let None = find(context.turns, name) else {
         return Err(context.wrong_type());
@@ -95,9 +100,10 @@ fn message_variable(context: &Context, name: &str) -> Result<(usize, Ty), Module
     ensures no_turn { IfOk result (λ _. IsAbsent (texts context.now.turns.now) name.now) }
     ensures held { IfOk result (λ found.
         IsVariable context.now.variables.now name.now found.0 (VariableType.Message found.1)) }
-    ensures refused { AreTyped context.now.variables.now → IfErr result
-        (Breaks ((k : ℕ) × (ty : Ty) × IsAbsent (texts context.now.turns.now) name.now
-        × IsVariable context.now.variables.now name.now k (VariableType.Message ty))) }
+    ensures told { AreTyped context.now.variables.now
+        → IfErr result (TellsAt context.now.line (NamesNoMessage
+        context.now.scope.now context.now.variables.now (texts context.now.turns.now)
+        name.now)) }
 {
     let (place, held) = variable_named(context, name)?;
     match held {
@@ -112,9 +118,10 @@ fn component_variable(context: &Context, name: &str) -> Result<usize, ModuleFaul
     ensures no_turn { IfOk result (λ _. IsAbsent (texts context.now.turns.now) name.now) }
     ensures held { IfOk result (λ place.
         IsVariable context.now.variables.now name.now place VariableType.Component) }
-    ensures refused { AreTyped context.now.variables.now → IfErr result
-        (Breaks ((k : ℕ) × IsAbsent (texts context.now.turns.now) name.now
-        × IsVariable context.now.variables.now name.now k VariableType.Component)) }
+    ensures told { AreTyped context.now.variables.now
+        → IfErr result (TellsAt context.now.line (NamesNoComponent
+        context.now.scope.now context.now.variables.now (texts context.now.turns.now)
+        name.now)) }
 {
     let (place, held) = variable_named(context, name)?;
     match held {
@@ -135,10 +142,10 @@ fn resolve_sent(
     ensures stands { IfOk result (IsSent
         context.now.scope.now context.now.variables.now (texts context.now.turns.now)
         sendable.now sent.now) }
-    ensures refused { IsSoundScope context.now.scope.now → AreTyped context.now.variables.now
-        → IfErr result (Breaks ((y : Sent) × IsSent
+    ensures told { IsSoundScope context.now.scope.now → AreTyped context.now.variables.now
+        → IfErr result (TellsAt context.now.line (SentBreaks
         context.now.scope.now context.now.variables.now (texts context.now.turns.now)
-        sendable.now sent.now y)) }
+        sendable.now sent.now)) }
 {
     match sent {
         tree::Sent::Message(message) => {
@@ -160,6 +167,17 @@ fn resolve_sent(
     }
 }
 
+/// Whether the name is that of a variable, which no loop variable hides.
+fn is_variable(context: &Context, name: &str) -> bool
+    ensures { IsTrue result ↔ (IsAbsent (texts context.now.turns.now) name.now
+        × Contains context.now.variables.now.names name.now) }
+{
+    let None = find(context.turns, name) else {
+        return false;
+    };
+    context.variables.names.has(name)
+}
+
 /// The component behind `to`: a variable's, or a reference. 13 `WrongType` for a variable of
 /// messages, 11 `Unknown` for any other name that is no component.
 #[tactic(auto, using(crate::proofs::OperationRules::cases))]
@@ -167,14 +185,14 @@ fn resolve_component(context: &Context, component: &ComponentName) -> Result<Rec
     ensures stands { IfOk result (IsReceiver
         context.now.scope.now context.now.variables.now (texts context.now.turns.now)
         (Some (Destination.Component component.now))) }
-    ensures refused { AreTyped context.now.variables.now → IfErr result
-        (Breaks ((y : Receiver) × IsReceiver
+    ensures told { AreTyped context.now.variables.now
+        → IfErr result (TellsAt context.now.line (ReceiverBreaks
         context.now.scope.now context.now.variables.now (texts context.now.turns.now)
-        (Some (Destination.Component component.now)) y)) }
+        (Some (Destination.Component component.now)))) }
 {
     if let ComponentName::Named(name) = component {
         let name = name.as_str();
-        if find(context.turns, name).is_none() && context.variables.names.find(name).is_some() {
+        if is_variable(context, name) {
             let place = component_variable(context, name)?;
             return Ok(Receiver::Variable(place));
         }
@@ -190,10 +208,10 @@ fn resolve_component(context: &Context, component: &ComponentName) -> Result<Rec
 fn resolve_receiver(context: &Context, to: &Option<Destination>) -> Result<Receiver, ModuleFault>
     ensures stands { IfOk result (IsReceiver
         context.now.scope.now context.now.variables.now (texts context.now.turns.now) to.now) }
-    ensures refused { AreTyped context.now.variables.now → IfErr result
-        (Breaks ((y : Receiver) × IsReceiver
+    ensures told { AreTyped context.now.variables.now
+        → IfErr result (TellsAt context.now.line (ReceiverBreaks
         context.now.scope.now context.now.variables.now (texts context.now.turns.now)
-        to.now y)) }
+        to.now)) }
 {
     match to {
         None => Ok(Receiver::Nobody),
@@ -214,10 +232,10 @@ pub fn resolve_send(
 ) -> Result<SendOperation, ModuleFault>
     ensures stands { IfOk result (IsSend
         context.now.scope.now context.now.variables.now (texts context.now.turns.now) send.now) }
-    ensures refused { IsSoundScope context.now.scope.now → AreTyped context.now.variables.now
-        → IfErr result (Breaks ((y : SendOperation) × IsSend
+    ensures told { IsSoundScope context.now.scope.now → AreTyped context.now.variables.now
+        → IfErr result (TellsAt context.now.line (SendBreaks
         context.now.scope.now context.now.variables.now (texts context.now.turns.now)
-        send.now y)) }
+        send.now)) }
 {
     let Some((place, port)) = find_port(context.scope.ports, send.port.as_str()) else {
         return Err(context.unknown());
@@ -243,9 +261,10 @@ fn resolve_wanted(
 ) -> Result<RecvMsg, ModuleFault>
     ensures stands { IfOk result (IsWanted
         context.now.scope.now (texts context.now.turns.now) receivable.now template.now) }
-    ensures refused { IsSoundScope context.now.scope.now → IfErr result
-        (Breaks ((y : RecvMsg) × IsWanted
-        context.now.scope.now (texts context.now.turns.now) receivable.now template.now y)) }
+    ensures told { IsSoundScope context.now.scope.now
+        → IfErr result (TellsAt context.now.line (WantedBreaks
+        context.now.scope.now context.now.variables.now (texts context.now.turns.now)
+        receivable.now template.now)) }
 {
     let Some(template) = template else {
         return Ok(RecvMsg::Any);
@@ -269,9 +288,9 @@ fn resolve_sender(
 ) -> Result<Option<usize>, ModuleFault>
     ensures stands { IfOk result (IsFrom
         context.now.scope.now context.now.variables.now (texts context.now.turns.now) sender.now) }
-    ensures refused { IfErr result (Breaks ((y : Option ℕ) × IsFrom
+    ensures told { IfErr result (TellsAt context.now.line (FromBreaks
         context.now.scope.now context.now.variables.now (texts context.now.turns.now)
-        sender.now y)) }
+        sender.now)) }
 {
     let Some(component) = sender else {
         return Ok(None);
@@ -292,9 +311,10 @@ fn resolve_value_target(
 ) -> Result<Option<usize>, ModuleFault>
     ensures stands { IfOk result (IsValueTarget
         context.now.variables.now (texts context.now.turns.now) wanted.now target.now) }
-    ensures refused { AreTyped context.now.variables.now → IfErr result
-        (Breaks ((y : Option ℕ) × IsValueTarget
-        context.now.variables.now (texts context.now.turns.now) wanted.now target.now y)) }
+    ensures told { AreTyped context.now.variables.now
+        → IfErr result (TellsAt context.now.line (ValueTargetBreaks
+        context.now.scope.now context.now.variables.now (texts context.now.turns.now)
+        wanted.now target.now)) }
 {
     let Some(name) = target else {
         return Ok(None);
@@ -303,9 +323,7 @@ fn resolve_value_target(
     match wanted {
         RecvMsg::Any => Err(context.wrong_type()),
         RecvMsg::Of(ty, _) => {
-            if *ty != held {
-                return Err(context.wrong_type());
-            }
+            context.check_type(*ty, held)?;
             Ok(Some(place))
         }
     }
@@ -320,9 +338,10 @@ fn resolve_sender_target(
 ) -> Result<Option<usize>, ModuleFault>
     ensures stands { IfOk result (IsSenderTarget
         context.now.variables.now (texts context.now.turns.now) target.now) }
-    ensures refused { AreTyped context.now.variables.now → IfErr result
-        (Breaks ((y : Option ℕ) × IsSenderTarget
-        context.now.variables.now (texts context.now.turns.now) target.now y)) }
+    ensures told { AreTyped context.now.variables.now
+        → IfErr result (TellsAt context.now.line (SenderTargetBreaks
+        context.now.scope.now context.now.variables.now (texts context.now.turns.now)
+        target.now)) }
 {
     let Some(name) = target else {
         return Ok(None);
@@ -343,10 +362,10 @@ pub fn resolve_receive(
 ) -> Result<Receiving, ModuleFault>
     ensures stands { IfOk result (IsReceive
         context.now.scope.now context.now.variables.now (texts context.now.turns.now) receive.now) }
-    ensures refused { IsSoundScope context.now.scope.now → AreTyped context.now.variables.now
-        → IfErr result (Breaks ((y : Receiving) × IsReceive
+    ensures told { IsSoundScope context.now.scope.now → AreTyped context.now.variables.now
+        → IfErr result (TellsAt context.now.line (ReceiveBreaks
         context.now.scope.now context.now.variables.now (texts context.now.turns.now)
-        receive.now y)) }
+        receive.now)) }
 {
     let Some((place, port)) = find_port(context.scope.ports, receive.port.as_str()) else {
         return Err(context.unknown());
@@ -372,9 +391,9 @@ pub fn resolve_receive(
 #[tactic(auto, using(crate::proofs::OperationRules::cases))]
 pub fn resolve_verdict(context: &Context, name: VerdictName) -> Result<Verdict, ModuleFault>
     ensures verdict { IfOk result (IsVerdict name) }
-    ensures error { IfErr result (λ fault.
+    ensures told { IfErr result (λ fault.
         fault ≡ ModuleFault.Refused ModuleRule.WrongType context.now.line) }
-    ensures refused { IfErr result (Breaks ((verdict : Verdict) × IsVerdict name verdict)) }
+    ensures error { OnErr result (name ≡ VerdictName.Error) }
 {
     match name {
         VerdictName::NoVerdict => Ok(Verdict::None),

@@ -2,7 +2,7 @@
 ghost use Rattle.std.specs.Prelude.{◌≡◌, ◌<◌, ◌↔◌, ◌⊎◌, ℕ, List, [], true, IfErr, IfNone, IfOk, IfSome, IsTrue, OnOk, length, map, slice_get, slice_set, string_bytes};
 ghost use Rattle.std.specs.Bool.{OnFalse};
 ghost use Rattle.tp_name.specs.Named.{IsAbsent};
-ghost use Rattle.tp_name.specs.Refused.{Breaks};
+ghost use Rattle.tp_name.specs.Refused.{TellsAt};
 ghost use Rattle.tp_name.specs.Tables.{AreDistinct};
 ghost use Rattle.tp_body.specs.Placing.{HaveEntries, IsPlacing, IsTable, field_names};
 
@@ -152,8 +152,9 @@ pub fn field_places<E: NamedField>(
 ) -> Result<Vec<usize>, ModuleFault>
     ensures placed { IfOk result (λ places.
         IsPlacing fields.now (map E.name entries.now) places.items) }
-    ensures refused { AreDistinct (field_names fields.now)
-        → IfErr result (Breaks (HaveEntries fields.now (map E.name entries.now))) }
+    ensures told { AreDistinct (field_names fields.now)
+        → IfErr result (TellsAt line (λ rule. (rule ≡ ModuleRule.WrongType)
+        × (HaveEntries fields.now (map E.name entries.now) → ⊥))) }
 {
     if entries.len() != fields.len() {
         return Err(refused(ModuleRule::WrongType, line));

@@ -1,8 +1,9 @@
 //! What a text and the name of a loop variable stand for, in values and in templates.
-ghost use Rattle.std.specs.Prelude.{◌≡◌, ℕ, IfErr, IfOk, OnOk};
+ghost use Rattle.std.specs.Prelude.{◌≡◌, IfErr, IfOk, OnOk};
 ghost use Rattle.tp_name.specs.Named.{IsPlace, texts};
-ghost use Rattle.tp_name.specs.Refused.{Breaks};
+ghost use Rattle.tp_name.specs.Refused.{TellsAt};
 ghost use Rattle.tp_value.specs.HasType.{ArePrintable};
+ghost use Rattle.tp_body.specs.BrokenValues.{NameBreaks, TextBreaks};
 
 use crate::context::Context;
 use std::alloc::Global;
@@ -23,7 +24,7 @@ pub fn resolve_text(
     ensures text { IfOk result (λ made. made ≡ text.now) }
     ensures charstring { OnOk result (ty ≡ Ty.Charstring) }
     ensures printable { OnOk result (ArePrintable text.now) }
-    ensures refused { IfErr result (Breaks ((ty ≡ Ty.Charstring) × ArePrintable text.now)) }
+    ensures told { IfErr result (TellsAt context.now.line (TextBreaks ty text.now)) }
 {
     context.check_type(ty, Ty::Charstring)?;
     if !are_printable(text) {
@@ -39,8 +40,8 @@ pub fn resolve_text(
 pub fn resolve_turn(context: &Context, ty: Ty, name: &str) -> Result<usize, ModuleFault>
     ensures place { IfOk result (IsPlace (texts context.now.turns.now) name.now) }
     ensures integer { OnOk result (ty ≡ Ty.Integer) }
-    ensures refused { IfErr result (Breaks ((place : ℕ) × (ty ≡ Ty.Integer)
-        × IsPlace (texts context.now.turns.now) name.now place)) }
+    ensures told { IfErr result (TellsAt context.now.line
+        (NameBreaks context.now.variables.now (texts context.now.turns.now) ty name.now)) }
 {
     let Some(place) = find(context.turns, name) else {
         return Err(context.no_turn(name));

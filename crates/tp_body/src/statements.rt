@@ -1,8 +1,9 @@
 //! What statements stand for.
 ghost use Rattle.std.specs.Prelude.{◌≡◌, ◌≢◌, ◌∷◌, ◌++◌, [], IfErr, IfOk, List, OnOk, length};
 ghost use Rattle.tp_name.specs.Named.{texts};
-ghost use Rattle.tp_name.specs.Refused.{Breaks};
+ghost use Rattle.tp_name.specs.Refused.{Breaks, Tells, TellsAt};
 ghost use Rattle.tp_body.specs.Bodies.{AreBranches, IsAfter, IsBlock, IsBody, IsBranch, IsStatement};
+ghost use Rattle.tp_body.specs.BrokenBodies.{AfterBreaks, BlockBreaks, BodyBreaks, BranchBreaks, BranchesBreak, StatementBreaks};
 ghost use Rattle.tp_body.specs.Closed.{needed_around_all};
 ghost use Rattle.tp_body.specs.Scoping.{AreTyped, IsSoundScope, reference_count};
 ghost use Rattle.tp_play.specs.Playable.{IsPlayable};
@@ -50,10 +51,10 @@ fn resolve_control(context: &Context, control: &Control) -> Result<Statement, Mo
     ensures stands { IfOk result (IsStatement
         context.now.scope.now context.now.variables.now (texts context.now.turns.now)
         (Action.Control control.now)) }
-    ensures refused { IsSoundScope context.now.scope.now → IfErr result
-        (Breaks ((y : Statement) × IsStatement
+    ensures told { IsSoundScope context.now.scope.now
+        → IfErr result (Tells (StatementBreaks
         context.now.scope.now context.now.variables.now (texts context.now.turns.now)
-        (Action.Control control.now) y)) }
+        context.now.line (Action.Control control.now))) }
 {
     context.check_not_in_sut()?;
     let Some((place, _)) = find_port(context.scope.ports, control.port.as_str()) else {
@@ -68,9 +69,9 @@ fn resolve_all_ports(context: &Context, operation: PortOperation) -> Result<Stat
     ensures stands { IfOk result (IsStatement
         context.now.scope.now context.now.variables.now (texts context.now.turns.now)
         (Action.AllPorts operation)) }
-    ensures refused { IfErr result (Breaks ((y : Statement) × IsStatement
+    ensures told { IfErr result (Tells (StatementBreaks
         context.now.scope.now context.now.variables.now (texts context.now.turns.now)
-        (Action.AllPorts operation) y)) }
+        context.now.line (Action.AllPorts operation))) }
 {
     context.check_not_in_sut()?;
     Ok(Statement::AllPorts(operation))
@@ -83,9 +84,9 @@ fn resolve_set_verdict(context: &Context, name: VerdictName) -> Result<Statement
     ensures stands { IfOk result (IsStatement
         context.now.scope.now context.now.variables.now (texts context.now.turns.now)
         (Action.SetVerdict name)) }
-    ensures refused { IfErr result (Breaks ((y : Statement) × IsStatement
+    ensures told { IfErr result (Tells (StatementBreaks
         context.now.scope.now context.now.variables.now (texts context.now.turns.now)
-        (Action.SetVerdict name) y)) }
+        context.now.line (Action.SetVerdict name))) }
 {
     context.check_not_in_sut()?;
     let verdict = resolve_verdict(context, name)?;
@@ -107,10 +108,10 @@ fn resolve_statement<'m>(
 ) -> Result<Statement, ModuleFault>
     ensures stands { IfOk result (IsStatement
         context.now.scope.now context.now.variables.now (texts context.now.turns.now) action.now) }
-    ensures refused { IsSoundScope context.now.scope.now → AreTyped context.now.variables.now
-        → IfErr result (Breaks ((y : Statement) × IsStatement
+    ensures told { IsSoundScope context.now.scope.now → AreTyped context.now.variables.now
+        → IfErr result (Tells (StatementBreaks
         context.now.scope.now context.now.variables.now (texts context.now.turns.now)
-        action.now y)) }
+        context.now.line action.now)) }
 {
     match action {
         Action::Send(send) => {
@@ -148,10 +149,10 @@ fn resolve_for<'m>(
     ensures stands { IfOk result (IsStatement
         context.now.scope.now context.now.variables.now (texts context.now.turns.now)
         (Action.For looped.now)) }
-    ensures refused { IsSoundScope context.now.scope.now → AreTyped context.now.variables.now
-        → IfErr result (Breaks ((y : Statement) × IsStatement
+    ensures told { IsSoundScope context.now.scope.now → AreTyped context.now.variables.now
+        → IfErr result (Tells (StatementBreaks
         context.now.scope.now context.now.variables.now (texts context.now.turns.now)
-        (Action.For looped.now) y)) }
+        context.now.line (Action.For looped.now))) }
 {
     let name = looped.turns.name.as_str();
     if !is_new(context, name) {
@@ -176,10 +177,10 @@ fn resolve_block<'m>(
 ) -> Result<Items<Statement>, ModuleFault>
     ensures stands { IfOk result (IsBlock
         context.now.scope.now context.now.variables.now (texts context.now.turns.now) block.now) }
-    ensures refused { IsSoundScope context.now.scope.now → AreTyped context.now.variables.now
-        → IfErr result (Breaks ((y : List Statement) × IsBlock
+    ensures told { IsSoundScope context.now.scope.now → AreTyped context.now.variables.now
+        → IfErr result (Tells (BlockBreaks
         context.now.scope.now context.now.variables.now (texts context.now.turns.now)
-        block.now y)) }
+        block.now)) }
 {
     let mut made = Items::new(alloc);
     for statement in block {
@@ -203,10 +204,10 @@ fn resolve_after<'m>(
 ) -> Result<Items<Statement>, ModuleFault>
     ensures stands { IfOk result (IsAfter
         context.now.scope.now context.now.variables.now (texts context.now.turns.now) body.now) }
-    ensures refused { IsSoundScope context.now.scope.now → AreTyped context.now.variables.now
-        → IfErr result (Breaks ((y : List Statement) × IsAfter
+    ensures told { IsSoundScope context.now.scope.now → AreTyped context.now.variables.now
+        → IfErr result (Tells (AfterBreaks
         context.now.scope.now context.now.variables.now (texts context.now.turns.now)
-        body.now y)) }
+        body.now)) }
 {
     match body {
         BranchBody::Nothing => Ok(Items::new(alloc)),
@@ -224,10 +225,10 @@ fn resolve_branch<'m>(
 ) -> Result<Branch, ModuleFault>
     ensures stands { IfOk result (IsBranch
         context.now.scope.now context.now.variables.now (texts context.now.turns.now) branch.now) }
-    ensures refused { IsSoundScope context.now.scope.now → AreTyped context.now.variables.now
-        → IfErr result (Breaks ((y : Branch) × IsBranch
+    ensures told { IsSoundScope context.now.scope.now → AreTyped context.now.variables.now
+        → IfErr result (Tells (BranchBreaks
         context.now.scope.now context.now.variables.now (texts context.now.turns.now)
-        branch.now y)) }
+        branch.now)) }
 {
     let here = Context {
         line: branch.line,
@@ -249,10 +250,10 @@ fn resolve_branches<'m>(
     ensures stands { IfOk result (AreBranches
         context.now.scope.now context.now.variables.now (texts context.now.turns.now)
         branches.now) }
-    ensures refused { IsSoundScope context.now.scope.now → AreTyped context.now.variables.now
-        → IfErr result (Breaks ((y : List Branch) × AreBranches
+    ensures told { IsSoundScope context.now.scope.now → AreTyped context.now.variables.now
+        → IfErr result (Tells (BranchesBreak
         context.now.scope.now context.now.variables.now (texts context.now.turns.now)
-        branches.now y)) }
+        branches.now)) }
 {
     let mut made = Items::new(alloc);
     for branch in branches {
@@ -271,7 +272,8 @@ fn resolve_branches<'m>(
 /// references and the variables.
 ///
 /// Where the component type has at most 64 ports, and no two fields of a record type have one name,
-/// whatever is answered but 50 says that the body breaks a rule.
+/// whatever is answered but 50 is the rule that the first fault breaks, and its line; so the body
+/// breaks a rule.
 pub fn resolve_body(
     alloc: Global,
     scope: &Scope,
@@ -280,6 +282,8 @@ pub fn resolve_body(
     statements: &[tree::Statement],
 ) -> Result<Body, ModuleFault>
     ensures body { IfOk result (IsBody scope.now declared.now statements.now) }
+    ensures told { IsSoundScope scope.now
+        → IfErr result (Tells (BodyBreaks scope.now line declared.now statements.now)) }
     ensures refused { IsSoundScope scope.now → IfErr result
         (Breaks ((body : Body) × IsBody scope.now declared.now statements.now body)) }
     ensures closed { IfOk result (λ body. needed_around_all body.statements ≡ 0) }

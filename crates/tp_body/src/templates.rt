@@ -1,12 +1,12 @@
 //! What the templates of receiving operations stand for.
-ghost use Rattle.std.specs.Prelude.{◌≡◌, List, IfErr, IfOk, length, map};
+ghost use Rattle.std.specs.Prelude.{◌≡◌, ◌≢◌, IfErr, IfOk, OnErr, length, map};
 ghost use Rattle.tp_name.specs.Named.{texts};
-ghost use Rattle.tp_name.specs.Refused.{Breaks};
+ghost use Rattle.tp_name.specs.Refused.{TellsAt};
 ghost use Rattle.tp_name.specs.Tables.{AreDistinct};
-ghost use Rattle.tp_body.specs.Messages.{AreElementTemplates, AreFieldTemplates, AreMembers, AreNamedTemplates, IsElementTemplate, IsListTemplate, IsRecordTemplate, IsTemplate, StandsAsList, StandsAsRecord, part_of};
+ghost use Rattle.tp_body.specs.Messages.{AreElementTemplates, AreFieldTemplates, AreMembers, AreNamedTemplates, IsElementTemplate, IsListTemplate, IsRecordTemplate, IsTemplate, part_of};
+ghost use Rattle.tp_body.specs.BrokenTemplates.{ElementTemplatesBreak, EntryTemplatesBreak, FieldTemplatesBreak, ListBreaks, MembersBreak, RangeBreaks, RecordBreaks, TemplateBreaks};
 ghost use Rattle.tp_body.specs.Placing.{field_names};
 ghost use Rattle.tp_body.specs.Scoping.{IsSoundScope};
-ghost use Rattle.tp_play.specs.declared.body.RecvTemplate.{RecvTemplate};
 
 use crate::context::Context;
 use crate::placing::field_places;
@@ -36,7 +36,7 @@ fn pattern_part(character: u8) -> PatternPart
 /// The parts of a pattern.
 fn parts(alloc: Global, text: &[u8]) -> Result<Items<PatternPart>, ModuleFault>
     ensures parts { IfOk result (λ parts. parts ≡ map part_of text.now) }
-    ensures refused { IfErr result (λ fault. fault ≡ ModuleFault.Memory (record {})) }
+    ensures memory { IfErr result (λ fault. fault ≡ ModuleFault.Memory (record {})) }
 {
     let mut parts = Items::new(alloc);
     for character in text {
@@ -57,9 +57,7 @@ fn resolve_range(
     ensures stands { IfOk result
         (IsTemplate context.now.scope.now.types.now (texts context.now.turns.now)
         ty (Template.Range lower upper)) }
-    ensures refused { IfErr result (Breaks ((r : RecvTemplate)
-        × IsTemplate context.now.scope.now.types.now (texts context.now.turns.now)
-        ty (Template.Range lower upper) r)) }
+    ensures told { IfErr result (TellsAt context.now.line (RangeBreaks ty lower upper)) }
 {
     context.check_type(ty, Ty::Integer)?;
     if !are_ordered(lower, upper) {
@@ -85,10 +83,9 @@ pub fn resolve_template(
 ) -> Result<RecvTemplate, ModuleFault>
     ensures stands { IfOk result
         (IsTemplate context.now.scope.now.types.now (texts context.now.turns.now) ty template.now) }
-    ensures refused { IsSoundScope context.now.scope.now
-        → IfErr result (Breaks ((r : RecvTemplate)
-        × IsTemplate context.now.scope.now.types.now (texts context.now.turns.now)
-        ty template.now r)) }
+    ensures told { IsSoundScope context.now.scope.now
+        → IfErr result (TellsAt context.now.line (TemplateBreaks context.now.scope.now.types.now
+        context.now.variables.now (texts context.now.turns.now) ty template.now)) }
 {
     match template {
         Template::Int(number) => {
@@ -142,9 +139,9 @@ fn resolve_list(
 ) -> Result<RecvTemplate, ModuleFault>
     ensures stands { IfOk result (IsListTemplate
         context.now.scope.now.types.now (texts context.now.turns.now) ty members.now) }
-    ensures refused { IsSoundScope context.now.scope.now
-        → IfErr result (Breaks (StandsAsList context.now.scope.now.types.now
-        (texts context.now.turns.now) ty members.now)) }
+    ensures told { IsSoundScope context.now.scope.now
+        → IfErr result (TellsAt context.now.line (ListBreaks context.now.scope.now.types.now
+        context.now.variables.now (texts context.now.turns.now) ty members.now)) }
 {
     match context.scope.types.definition(ty) {
         Some(TypeDef::ListOf(element)) => {
@@ -171,9 +168,9 @@ fn resolve_record(
 ) -> Result<RecvTemplate, ModuleFault>
     ensures stands { IfOk result (IsRecordTemplate
         context.now.scope.now.types.now (texts context.now.turns.now) ty entries.now) }
-    ensures refused { IsSoundScope context.now.scope.now
-        → IfErr result (Breaks (StandsAsRecord context.now.scope.now.types.now
-        (texts context.now.turns.now) ty entries.now)) }
+    ensures told { IsSoundScope context.now.scope.now
+        → IfErr result (TellsAt context.now.line (RecordBreaks context.now.scope.now.types.now
+        context.now.variables.now (texts context.now.turns.now) ty entries.now)) }
 {
     let Some(TypeDef::Record(fields)) = context.scope.types.definition(ty) else {
         return Err(context.wrong_type());
@@ -193,10 +190,9 @@ fn resolve_members(
 ) -> Result<Items<RecvTemplate>, ModuleFault>
     ensures stand { IfOk result
         (AreMembers context.now.scope.now.types.now (texts context.now.turns.now) ty members.now) }
-    ensures refused { IsSoundScope context.now.scope.now
-        → IfErr result (Breaks ((rs : List RecvTemplate)
-        × AreMembers context.now.scope.now.types.now (texts context.now.turns.now)
-        ty members.now rs)) }
+    ensures told { IsSoundScope context.now.scope.now
+        → IfErr result (TellsAt context.now.line (MembersBreak context.now.scope.now.types.now
+        context.now.variables.now (texts context.now.turns.now) ty members.now)) }
 {
     let mut made = Items::new(alloc);
     for member in members {
@@ -218,10 +214,10 @@ fn resolve_element_template(
     ensures stands { IfOk result
         (IsElementTemplate context.now.scope.now.types.now (texts context.now.turns.now)
         ty member.now) }
-    ensures refused { IsSoundScope context.now.scope.now
-        → IfErr result (Breaks ((r : RecvTemplate)
-        × IsElementTemplate context.now.scope.now.types.now (texts context.now.turns.now)
-        ty member.now r)) }
+    ensures told { IsSoundScope context.now.scope.now
+        → IfErr result (TellsAt context.now.line (TemplateBreaks context.now.scope.now.types.now
+        context.now.variables.now (texts context.now.turns.now) ty member.now)) }
+    ensures no_star { OnErr result (member.now ≢ Template.AnyOrNone) }
 {
     if let Template::AnyOrNone = member {
         return Ok(RecvTemplate::AnyOrNone);
@@ -241,10 +237,10 @@ fn resolve_element_templates(
     ensures stand { IfOk result
         (AreElementTemplates context.now.scope.now.types.now (texts context.now.turns.now)
         ty members.now) }
-    ensures refused { IsSoundScope context.now.scope.now
-        → IfErr result (Breaks ((rs : List RecvTemplate)
-        × AreElementTemplates context.now.scope.now.types.now (texts context.now.turns.now)
-        ty members.now rs)) }
+    ensures told { IsSoundScope context.now.scope.now
+        → IfErr result (TellsAt context.now.line (ElementTemplatesBreak
+        context.now.scope.now.types.now context.now.variables.now (texts context.now.turns.now)
+        ty members.now)) }
 {
     let mut made = Items::new(alloc);
     for member in members {
@@ -266,10 +262,10 @@ fn resolve_field_templates(
     ensures stand { IfOk result (AreFieldTemplates
         context.now.scope.now.types.now (texts context.now.turns.now)
         fields.now members.now) }
-    ensures refused { IsSoundScope context.now.scope.now
-        → IfErr result (Breaks ((rs : List RecvTemplate) × AreFieldTemplates
-        context.now.scope.now.types.now (texts context.now.turns.now)
-        fields.now members.now rs)) }
+    ensures told { IsSoundScope context.now.scope.now
+        → IfErr result (TellsAt context.now.line (FieldTemplatesBreak
+        context.now.scope.now.types.now context.now.variables.now (texts context.now.turns.now)
+        fields.now members.now)) }
 {
     if fields.len() != members.len() {
         return Err(context.wrong_type());
@@ -295,10 +291,10 @@ fn resolve_named_templates(
     ensures named { IfOk result (λ made. AreNamedTemplates
         context.now.scope.now.types.now (texts context.now.turns.now) entries.now fields.now made) }
     ensures count { IfOk result (λ _. length entries.now ≡ length fields.now) }
-    ensures refused { IsSoundScope context.now.scope.now → AreDistinct (field_names fields.now)
-        → IfErr result (Breaks ((rs : List RecvTemplate) × (length entries.now ≡ length fields.now)
-        × AreNamedTemplates context.now.scope.now.types.now (texts context.now.turns.now)
-        entries.now fields.now rs)) }
+    ensures told { IsSoundScope context.now.scope.now → AreDistinct (field_names fields.now)
+        → IfErr result (TellsAt context.now.line (EntryTemplatesBreak
+        context.now.scope.now.types.now context.now.variables.now (texts context.now.turns.now)
+        fields.now entries.now)) }
 {
     let places = field_places(alloc, fields, entries, context.line)?;
     let mut made = Vec::new(alloc);

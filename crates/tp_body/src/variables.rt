@@ -1,16 +1,18 @@
 //! The variables of a body, and which names are new.
-ghost use Rattle.std.specs.Prelude.{◌≡◌, ◌∷◌, ◌++◌, ◌↔◌, [], ℕ, List, IfErr, IfNone, IfOk, IfSome, IsTrue, OnOk, Some, slice_get};
+ghost use Rattle.std.specs.Prelude.{◌≡◌, ◌≤◌, ◌∷◌, ◌++◌, ◌↔◌, [], ℕ, List, Contains, IfErr, IfNone, IfOk, IfSome, IsTrue, OnOk, Some, length, slice_get};
+ghost use Rattle.std.specs.Bool.{OnFalse};
 ghost use Rattle.tp_name.specs.Named.{IsAbsent, texts};
-ghost use Rattle.tp_name.specs.Refused.{Breaks};
+ghost use Rattle.tp_name.specs.Refused.{Tells, TellsAt};
 ghost use Rattle.tp_name.specs.Tables.{IsNumbered};
 ghost use Rattle.tp_body.specs.Scoping.{IsNew, declared_port_names};
 ghost use Rattle.tp_body.specs.Bodies.{AreVariables, IsHeld};
+ghost use Rattle.tp_body.specs.BrokenBodies.{VariablesBreak};
 
 use crate::context::Context;
 use crate::lookup::{find_type, place_of_port};
 use crate::scope::{BehaviourKind, Scope, Variables};
 use std::alloc::Global;
-use tp_name::fault::ModuleFault;
+use tp_name::fault::{ModuleFault, ModuleRule};
 use tp_name::name::find;
 use tp_name::name_set::NameSet;
 use tp_play::body::VariableType;
@@ -77,8 +79,9 @@ fn add_variable<'m>(
     ensures names { OnOk result (variables.new.names ≡ variables.old.names ++ name.now ∷ []) }
     ensures types { OnOk result (variables.new.types ≡ variables.old.types ++ held ∷ []) }
     ensures numbered { IsNumbered variables.new.names }
-    ensures refused { IfErr result
-        (Breaks (IsNumbered (variables.old.names ++ name.now ∷ []))) }
+    ensures told { (Contains variables.old.names name.now → ⊥)
+        → IfErr result (TellsAt line (λ rule. (rule ≡ ModuleRule.Limit)
+        × (4294967295 ≤ length variables.old.names))) }
 {
     if let Err(fault) = variables.names.add(name) {
         return Err(fault.at(line));
@@ -97,8 +100,7 @@ pub fn resolve_variables<'m>(
     declared: &'m [Variable],
 ) -> Result<Variables<'m>, ModuleFault>
     ensures declared { IfOk result (AreVariables scope.now declared.now) }
-    ensures refused { IfErr result
-        (Breaks ((vs : Variables) × AreVariables scope.now declared.now vs)) }
+    ensures told { IfErr result (Tells (VariablesBreak scope.now declared.now)) }
 {
     let mut variables = Variables {
         names: NameSet::new(alloc),
@@ -126,9 +128,12 @@ pub fn resolve_variables<'m>(
 
 /// Whether no parameter has the name of a port. Takes no memory.
 pub fn are_no_ports(scope: &Scope) -> bool
-    ensures { IsTrue result ↔ ((k : ℕ) (name : List ℕ)
+    ensures apart { IsTrue result ↔ ((k : ℕ) (name : List ℕ)
         → slice_get (declared_port_names scope.now.ports.now) k ≡ Some name
         → IsAbsent scope.now.parameters.now name) }
+    ensures twice { OnFalse result ((name : List ℕ)
+        × Contains (declared_port_names scope.now.ports.now) name
+        × Contains scope.now.parameters.now name) }
 {
     for place in 0..scope.ports.ports.len() {
         let Some((name, _)) = scope.ports.ports.get_index(place) else {

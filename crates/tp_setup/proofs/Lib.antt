@@ -20,3 +20,12 @@ pub mod Ready
 pub mod Renaming
 pub mod Stopping
 pub mod OneModule
+pub mod Telling
+pub mod NamesTold
+pub mod CasesTold
+pub mod DefinitionsTold
+pub mod CreationsTold
+pub mod PairsTold
+pub mod SetupTold
+pub mod StartsTold
+pub mod PreparedTold

@@ -27,7 +27,7 @@ use Rattle.tp_setup.proofs.Setting.{adds_append}
 use Rattle.tp_setup.proofs.Steps.{zip_at}
 use Rattle.tp_setup.proofs.Zips.{not_before, zip_middle, zip_same}
 
-most_small : (case : TestCase) → most_variables case ≤ 63
+pub most_small : (case : TestCase) → most_variables case ≤ 63
 most_small case = by (is_some case.system) where
   by : (b : Bool) → (if b then 62 else 63) ≤ 63
   by true = omega arith
@@ -54,13 +54,13 @@ kind_known names xs more x ms each =
     let at = zip_middle (IsMember names) xs x more ms each in
     place_known names x.type_name at.0.kind (sym at.1.kind)
 
-tests : (case : TestCase) (cs : List Creation) → All (λ (x : Declared). x.role ≡ role.Test) (main_component case ∷ map created cs)
+pub tests : (case : TestCase) (cs : List Creation) → All (λ (x : Declared). x.role ≡ role.Test) (main_component case ∷ map created cs)
 tests case cs =
     All-cons (λ (x : Declared). x.role ≡ role.Test) (main_component case) (map created cs) refl
     (All-map (λ (x : Declared). x.role ≡ role.Test) created cs (λ k d below. refl))
 
 -- test components alone have no test system interface among them
-no_system : (names : List (List ℕ)) (xs : List Declared) (ms : List Member) → All (λ (x : Declared). x.role ≡ role.Test) xs → AllZip (IsMember names) xs ms
+pub no_system : (names : List (List ℕ)) (xs : List Declared) (ms : List Member) → All (λ (x : Declared). x.role ≡ role.Test) xs → AllZip (IsMember names) xs ms
     → HasSystem ms → ⊥
 no_system names xs ms each zipped (m, (k, below, is), system) =
     let there : slice_get ms k ≡ Some m = slice_get-get_or ms k m below ∙ ap (λ (m : Member). Some m) is in

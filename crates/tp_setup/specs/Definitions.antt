@@ -1,5 +1,5 @@
 -- The definitions of a module, as lists in the order of the text (ES 201 873-1, 8).
-use Rattle.std.specs.Prelude.{ℕ, Option, Some, None, List, [], map, string_bytes}
+use Rattle.std.specs.Prelude.{◌≡◌, ℕ, Option, Some, None, List, [], Contains, map, string_bytes}
 use Rattle.std.specs.List.{filter_map, flat_map}
 use Rattle.tp_tree.specs.declared.tree.Module.{Module}
 use Rattle.tp_tree.specs.declared.tree.Definition.{Definition}
@@ -65,6 +65,13 @@ case_of (defined.Port p) = None
 case_of (defined.Component c) = None
 case_of (defined.Function f) = None
 case_of (defined.TestCase c) = Some c
+
+-- the test case stands among these definitions, and begins at this line
+pub record BeginsAmong (definitions : List Definition) (case : TestCase) (line : ℕ) : Type 0 where
+  pub definition : Definition
+  pub there : Contains definitions definition
+  pub is : case_of definition.defined ≡ Some case
+  pub line_is : line ≡ definition.line
 
 abbrev pub type_definitions : Module → List Defined
 type_definitions m = among type_of m.definitions.items

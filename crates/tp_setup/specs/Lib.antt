@@ -8,3 +8,9 @@ pub mod Components
 pub mod Configuring
 pub mod Starting
 pub mod Prepared
+pub mod BrokenNames
+pub mod BrokenDefinitions
+pub mod BrokenSetup
+pub mod Additions
+pub mod BrokenStarts
+pub mod Broken

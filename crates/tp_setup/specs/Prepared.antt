@@ -7,7 +7,7 @@ use Rattle.tp_config.specs.Setup.{Setup}
 use Rattle.tp_config.specs.Shape.{ports_of}
 use Rattle.tp_setup.specs.declared.starts.Starts.{Starts}
 use Rattle.tp_setup.specs.declared.prepared.Prepared.{Prepared}
-use Rattle.tp_setup.specs.Definitions.{component_type_names, component_types, functions, test_cases}
+use Rattle.tp_setup.specs.Definitions.{BeginsAmong, component_type_names, component_types, functions, test_cases}
 use Rattle.tp_setup.specs.Rules.{HasUniqueNames}
 use Rattle.tp_setup.specs.Sorted.{AreSorted, HasSoundDefinitions}
 use Rattle.tp_setup.specs.Resolved.{AreTypes, AreComponentTypes}
@@ -26,6 +26,8 @@ pub record IsConfigOf (m : Module) (case : TestCase) (config : Setup) : Type 0 w
 pub record IsPreparedOf (m : Module) (p : Prepared) : Type 0 where
   -- the module has this test case, and no other
   pub one_test_case : test_cases m ≡ p.case.case.now ∷ []
+  -- it begins at this line
+  pub begins : BeginsAmong m.definitions.items p.case.case.now p.case.line
   pub sorted : AreSorted m p.sorted
   -- the record and record-of types, and nothing else
   pub types : AreTypes m p.types

@@ -1,9 +1,11 @@
 //! The third pass of the checks: the components of the test case.
-ghost use Rattle.std.specs.Prelude.{◌≡◌, All, ◌≤◌, ◌+◌, ◌++◌, ◌∷◌, [], List, ℕ, Contains, IfErr, IfNone, IfOk, IfSome, None, OnErr, OnOk, Some, length, map, option_map, slice_get, string_bytes};
+ghost use Rattle.std.specs.Prelude.{◌≡◌, All, ◌<◌, ◌≤◌, ◌+◌, ◌++◌, ◌∷◌, [], List, ℕ, Contains, IfErr, IfNone, IfOk, IfSome, None, OnErr, OnOk, Some, length, map, option_map, slice_get, string_bytes};
 ghost use Rattle.std.specs.Option.{option_copied};
 ghost use Rattle.tp_name.specs.Tables.{AreDistinct, IsNumbered, place_of};
-ghost use Rattle.tp_name.specs.Refused.{Breaks};
+ghost use Rattle.tp_name.specs.Refused.{Breaks, TellsAt};
 ghost use Rattle.tp_setup.specs.Components.{Adds, AddsAll, AreNumbered, CanAdd, CanAddAll, HasPorts, HasSoundVariables, HasStopped, IsSoundVariable, component_number, created, creation_of, creations, interface, variable, variables};
+ghost use Rattle.tp_setup.specs.Additions.{AdditionBreaks, AwaitsInterface, HasRoom, InterfaceBreaks, StopsAt};
+ghost use Rattle.tp_setup.specs.BrokenSetup.{CreationBreaks};
 ghost use Rattle.tp_setup.specs.Sorted.{AreComponentsNamed, component_types_in};
 
 use crate::config_faults::create_fault_at;
@@ -53,6 +55,13 @@ pub(crate) fn add_component(
           type_name = component.now.type_name.now;
           role = component.now.role;
         }) config.old)) }
+    ensures told { length types.now ≡ length config.old.types
+        → IfErr result (TellsAt component.now.line (AdditionBreaks types.now
+        (record {
+          name = component.now.name.now;
+          type_name = component.now.type_name.now;
+          role = component.now.role;
+        }) config.old)) }
 {
     let Some(kind) = types.find(component.type_name) else {
         return Err(refused(ModuleRule::Unknown, component.line));
@@ -97,6 +106,9 @@ fn check_variable<'m>(
     ensures few { OnOk result (length variables.new ≤ rules.now.most) }
     ensures refused { IfErr result (Breaks (IsSoundVariable rules.now.types.now rules.now.ports.now
         variables.old rules.now.most creation.now)) }
+    ensures told { (others : List (List ℕ)) → length variables.old < 4294967295
+        → IfErr result (TellsAt line (CreationBreaks rules.now.types.now rules.now.ports.now
+        others variables.old rules.now.most creation.now)) }
 {
     if let Err(fault) = variables.add(creation.name.as_str()) {
         return Err(fault.at(line));
@@ -187,6 +199,10 @@ fn create<'m>(
         IsSoundVariable rules.now.types.now rules.now.ports.now variables.old rules.now.most
         at.entry.creation.now
         × CanAdd rules.now.types.now (created at.entry.creation.now) config.old)) }
+    ensures told { (others : List (List ℕ))
+        → HasRoom rules.now.types.now others variables.old rules.now.most config.old
+        → IfErr result (TellsAt at.entry.line (CreationBreaks rules.now.types.now
+        rules.now.ports.now others variables.old rules.now.most at.entry.creation.now)) }
 {
     check_variable(variables, rules, at.creation, at.line)?;
     let component = DeclaredComponent {
@@ -221,6 +237,10 @@ pub(crate) fn create_components<'m>(
         HasSoundVariables rules.now.types.now rules.now.ports.now rules.now.most
         (creations setups.now)
         × CanAddAll rules.now.types.now (variables setups.now) config.old) stopped.fault) }
+    ensures told { (others : List (List ℕ))
+        → HasRoom rules.now.types.now others [] rules.now.most config.old
+        → IfErr result (λ stopped. StopsAt rules.now.types.now rules.now.ports.now others
+        rules.now.most setups.now stopped.before.now stopped.fault) }
 {
     let mut variables = NameSet::new(alloc);
     for (i, setup) in setups.iter().enumerate() {
@@ -279,6 +299,8 @@ pub(crate) fn add_interface(
         ≡ option_map (λ _. length config.old.components) case.now.system) }
     ensures refused { IfErr result (Breaks (
         All (λ x. CanAdd types.now x config.old) (interface case.now))) }
+    ensures told { AwaitsInterface types.now case.now config.old
+        → IfErr result (TellsAt line (InterfaceBreaks case.now config.old)) }
 {
     let Some(system) = &case.system else {
         return Ok(None);

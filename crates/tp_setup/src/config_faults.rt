@@ -12,6 +12,11 @@ use tp_refusal::memory::Memory;
 /// A refused create, told at this line by its own refusal.
 pub(crate) fn create_fault_at(fault: CreateFault, line: u32) -> ModuleFault
     ensures told { fault_refusal result ≡ create_refusal fault }
+    ensures duplicate { fault ≡ CreateFault.Duplicate
+        → result ≡ ModuleFault.Refused ModuleRule.Duplicate line }
+    ensures limit { fault ≡ CreateFault.Limit
+        → result ≡ ModuleFault.Refused ModuleRule.Limit line }
+    ensures memory { fault ≡ CreateFault.Memory → result ≡ ModuleFault.Memory (record {}) }
     ensures line { IsAtLine line result }
 {
     match fault {

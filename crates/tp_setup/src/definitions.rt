@@ -1,14 +1,15 @@
 //! The second pass of the checks: what definitions name is defined.
-ghost use Rattle.std.specs.Prelude.{◌≡◌, ◌≤◌, ◌↔◌, All, Contains, IfErr, IfOk, IfSome, IsTrue, OnOk, is_some, length, option_map, string_bytes};
+ghost use Rattle.std.specs.Prelude.{◌≡◌, ◌≤◌, ◌↔◌, ℕ, All, Contains, IfErr, IfOk, IfSome, IsTrue, List, OnOk, is_some, length, option_map, string_bytes};
 ghost use Rattle.std.specs.List.{AllZip, list_all};
 ghost use Rattle.tp_tree.specs.declared.tree.Defined.{Defined};
 ghost use Rattle.tp_setup.specs.Definitions.{declared_ports};
-ghost use Rattle.tp_name.specs.Refused.{Breaks};
+ghost use Rattle.tp_name.specs.Refused.{Breaks, Tells, TellsAt};
 ghost use Rattle.tp_setup.specs.Rules.{AreComponentTypesKnown, CanPlaySystem, HasUniqueNames, IsComponentFault, IsSoundFunction, NamesType, has_known_messages, has_known_parameters, has_known_ports, sut};
 ghost use Rattle.tp_name.specs.Tables.{place_of};
 ghost use Rattle.tp_setup.specs.Sorted.{AreComponentTypesIn, AreSorted, AreSound, ArePortsNamed, HasSoundDefinitions, IsSortedSound, IsSoundIn, types_in};
 ghost use Rattle.tp_setup.specs.Resolved.{IsNamedType};
 ghost use Rattle.tp_setup.specs.Defining.{IsDefined};
+ghost use Rattle.tp_setup.specs.BrokenDefinitions.{DefinitionBreaks, DefinitionsBreak, DefinitionsOfBreak};
 
 use crate::ports::{has_room, make_components, make_port_types};
 use crate::resolving::{are_types, is_type, make_types};
@@ -91,6 +92,7 @@ fn are_ports_few(ports: &[PortDeclaration]) -> bool
 fn known(is_known: bool, line: u32) -> Result<(), ModuleFault>
     ensures known { OnOk result (IsTrue is_known) }
     ensures refused { IfErr result (λ _. ¬ IsTrue is_known) }
+    ensures told { IfErr result (λ fault. fault ≡ ModuleFault.Refused ModuleRule.Unknown line) }
 {
     if is_known {
         Ok(())
@@ -143,6 +145,9 @@ fn check_function(
         → CanPlaySystem (option_map string_bytes system.now) function.now) }
     ensures refused { IfErr result (λ _. ¬ IsSoundFunction components.now
         (option_map string_bytes system.now) function.now) }
+    ensures told { (types ports : List (List ℕ)) → IfErr result (TellsAt line (DefinitionBreaks
+        types ports components.now (option_map string_bytes system.now)
+        (Defined.Function function.now))) }
 {
     known(components.has(function.runs_on.as_str()), line)?;
     known(are_parameters_known(components, &function.parameters), line)?;
@@ -166,6 +171,7 @@ fn check_case(components: &NameSet, case: &TestCase, line: u32) -> Result<(), Mo
         IfSome case.now.system (λ s. Contains components.now (string_bytes s))) }
     ensures refused { IfErr result (λ _.
         ¬ AreComponentTypesKnown components.now (Defined.TestCase case.now)) }
+    ensures told { IfErr result (λ fault. fault ≡ ModuleFault.Refused ModuleRule.Unknown line) }
 {
     known(components.has(case.runs_on.as_str()), line)?;
     match &case.system {
@@ -185,6 +191,9 @@ fn check_definition(
         IsSoundIn sorted.now (option_map string_bytes system.now) definition.now) }
     ensures refused { IfErr result (λ _.
         ¬ IsSoundIn sorted.now (option_map string_bytes system.now) definition.now) }
+    ensures told { IfErr result (TellsAt definition.now.line (DefinitionBreaks
+        sorted.now.type_names sorted.now.port_names sorted.now.component_names
+        (option_map string_bytes system.now) definition.now.defined)) }
 {
     let line = definition.line;
     let types = &sorted.type_names;
@@ -215,6 +224,9 @@ fn check_definitions(
         AreSound sorted.now (option_map string_bytes system.now) definitions.now) }
     ensures refused { IfErr result (λ _.
         ¬ AreSound sorted.now (option_map string_bytes system.now) definitions.now) }
+    ensures told { IfErr result (Tells (DefinitionsBreak
+        sorted.now.type_names sorted.now.port_names sorted.now.component_names
+        (option_map string_bytes system.now) definitions.now)) }
 {
     for definition in definitions {
         check_definition(sorted, system, definition)?;
@@ -233,6 +245,8 @@ fn sort_sound<'m>(
     ensures sound { OnOk result (HasSoundDefinitions parsed.now case.now) }
     ensures refused { IfErr result (
         Breaks (HasUniqueNames parsed.now × HasSoundDefinitions parsed.now case.now)) }
+    ensures told { HasUniqueNames parsed.now
+        → IfErr result (Tells (DefinitionsOfBreak parsed.now case.now)) }
 {
     let sorted = sort(alloc, parsed)?;
     check_definitions(&sorted, &case.system, &parsed.definitions)?;
@@ -292,8 +306,11 @@ pub fn define<'m>(
     ensures defined { IfOk result (IsDefined parsed.now) }
     ensures sound { OnOk result (HasSoundDefinitions parsed.now case.entry.case.now) }
     ensures case { IfOk result (λ d. d.case.case.now ≡ case.entry.case.now) }
+    ensures begins { IfOk result (λ d. d.case.line ≡ case.entry.line) }
     ensures refused { IfErr result (Breaks (HasUniqueNames parsed.now
         × HasSoundDefinitions parsed.now case.entry.case.now)) }
+    ensures told { HasUniqueNames parsed.now
+        → IfErr result (Tells (DefinitionsOfBreak parsed.now case.entry.case.now)) }
 {
     let sorted = sort_sound(alloc, parsed, case.case)?;
     let MadeTypes { types, components } = make(alloc, &sorted)?;

@@ -1,11 +1,14 @@
 //! The first three passes of the checks.
 ghost use Rattle.std.specs.Prelude.{◌≡◌, ◌≤◌, ◌∷◌, [], All, IfErr, IfOk, OnOk, length, map};
 ghost use Rattle.tp_config.specs.Shape.{ports_of};
-ghost use Rattle.tp_name.specs.Refused.{Breaks};
+ghost use Rattle.tp_name.specs.Refused.{Breaks, Tells};
+ghost use Rattle.tp_setup.specs.Broken.{DeclarationsBreak, ThirdPassBreaks};
+ghost use Rattle.tp_setup.specs.Rules.{AreComponentTypesKnown};
+ghost use Rattle.tp_tree.specs.declared.tree.Defined.{Defined};
 ghost use Rattle.tp_setup.specs.Components.{variables};
 ghost use Rattle.tp_setup.specs.Configuring.{AreOwnPorts, AreSoundVariables, CanSetUp, IsSetUp};
 ghost use Rattle.tp_setup.specs.Defining.{IsDefined};
-ghost use Rattle.tp_setup.specs.Definitions.{test_cases};
+ghost use Rattle.tp_setup.specs.Definitions.{BeginsAmong, test_cases};
 ghost use Rattle.tp_setup.specs.Prepared.{IsPreparedOf, IsWellDeclared};
 ghost use Rattle.tp_setup.specs.Rules.{HasUniqueNames};
 ghost use Rattle.tp_setup.specs.Sorted.{AreComponentsNamed, AreFunctionsNamed, HasSoundDefinitions, component_types_in, functions_in};
@@ -30,7 +33,10 @@ fn find_definitions(alloc: Global, parsed: &Module) -> Result<Definitions<'_>, M
     ensures case { IfOk result (λ d. test_cases parsed.now ≡ d.case.case.now ∷ []) }
     ensures sound { IfOk result (λ d. HasSoundDefinitions parsed.now d.case.case.now) }
     ensures defined { IfOk result (IsDefined parsed.now) }
+    ensures begins { IfOk result (λ d.
+        BeginsAmong parsed.now.definitions.items d.case.case.now d.case.line) }
     ensures refused { IfErr result (Breaks (IsWellDeclared parsed.now)) }
+    ensures told { IfErr result (Tells (DeclarationsBreak parsed.now)) }
 {
     let case = check_names(alloc, parsed)?;
     define(alloc, parsed, case)
@@ -69,6 +75,11 @@ fn set_up_and_start<'m>(
         (map ports_of components.items) case.entry.case.now
         × ((starts : Starts)
         × AreStarts (functions_in sorted.now) case.entry.case.now starts))) }
+    ensures told { AreOwnPorts (component_types_in sorted.now) (map ports_of components.items)
+        → AreComponentTypesKnown sorted.now.component_names (Defined.TestCase case.entry.case.now)
+        → IfErr result (Tells (ThirdPassBreaks sorted.now.component_names
+        (component_types_in sorted.now) (map ports_of components.items)
+        (functions_in sorted.now) case.entry.case.now case.entry.line)) }
 {
     let made = set_up(alloc, sorted, case, components)?;
     let starts = check_starts(alloc, sorted, case, &made.variables)?;
@@ -84,6 +95,7 @@ pub fn prepare(alloc: Global, parsed: &Module) -> Result<Prepared<'_>, ModuleFau
     ensures rules { OnOk result (IsWellDeclared parsed.now) }
     ensures made { IfOk result (IsPreparedOf parsed.now) }
     ensures refused { IfErr result (Breaks (IsWellDeclared parsed.now)) }
+    ensures told { IfErr result (Tells (DeclarationsBreak parsed.now)) }
 {
     let Definitions {
         case,

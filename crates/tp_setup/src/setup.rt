@@ -1,10 +1,14 @@
 //! The third pass of the checks: the connections and mappings of the test case.
-ghost use Rattle.std.specs.Prelude.{◌≡◌, ◌≤◌, ◌++◌, ◌∷◌, [], All, IfErr, IfNone, IfOk, IfSome, None, OnOk, length, map};
-ghost use Rattle.tp_name.specs.Refused.{Breaks};
+ghost use Rattle.std.specs.Prelude.{◌≡◌, ◌≤◌, ◌++◌, ◌∷◌, [], codes, All, IfErr, IfNone, IfOk, IfSome, None, OnOk, length, map};
+ghost use Rattle.tp_name.specs.Refused.{Breaks, Tells, TellsAt};
 ghost use Rattle.tp_name.specs.Tables.{IsNumbered};
 ghost use Rattle.tp_config.specs.declared.port_type.PortRef.{PortRef};
 ghost use Rattle.tp_config.specs.Setup.{Setup, empty_setup};
 ghost use Rattle.tp_config.specs.Shape.{ports_of};
+ghost use Rattle.tp_setup.specs.Additions.{StopsAt};
+ghost use Rattle.tp_setup.specs.BrokenSetup.{CaseSetupBreaks, ConnectBreaks, EndsBreak, MapBreaks, PairBreaks, PairsBreak, SetupBreaks};
+ghost use Rattle.tp_setup.specs.Rules.{AreComponentTypesKnown};
+ghost use Rattle.tp_tree.specs.declared.tree.Defined.{Defined};
 ghost use Rattle.tp_setup.specs.Sorted.{AreComponentsNamed, component_types_in};
 ghost use Rattle.std.specs.Option.{option_map, option_to_list};
 ghost use Rattle.tp_setup.specs.Components.{AddsAll, HasSoundVariables, created, creation_of, creations, main_component, component_number, variable, variables};
@@ -54,6 +58,7 @@ fn find_end(
     ensures end { IfOk result (IsEnd config.now known.now (component_number system) end.now) }
     ensures refused { IsNumbered known.now → IfErr result (Breaks ((p : PortRef)
         × IsEnd config.now known.now (component_number system) end.now p)) }
+    ensures told { IfErr result (λ fault. fault ≡ ModuleFault.Refused ModuleRule.Unknown line) }
 {
     let Some(comp) = find_end_component(known, system, &end.component) else {
         return Err(refused(ModuleRule::Unknown, line));
@@ -79,6 +84,8 @@ fn find_ends(
     ensures refused { IsNumbered known.now → IfErr result (Breaks ((p : PortRef) × (q : PortRef)
         × IsEnd config.now known.now (component_number system) ends.entry.0.now p
         × IsEnd config.now known.now (component_number system) ends.entry.1.now q)) }
+    ensures told { IsNumbered known.now → IfErr result (TellsAt line (EndsBreak config.now
+        known.now (component_number system) ends.entry.0.now ends.entry.1.now)) }
 {
     let p = find_end(config, known, system, ends.0, line)?;
     let q = find_end(config, known, system, ends.1, line)?;
@@ -99,6 +106,8 @@ fn connect_ends(
     ensures refused { IsNumbered known.now → HaveOwnPorts config.old.types
         → IfErr result (Breaks ((t : Setup) × Connects config.old known.now
         (component_number system) ends.entry.0.now ends.entry.1.now t)) }
+    ensures told { IsNumbered known.now → IfErr result (TellsAt line (ConnectBreaks config.old
+        known.now (component_number system) ends.entry.0.now ends.entry.1.now)) }
 {
     let (p, q) = find_ends(config, known, system, ends, line)?;
     match config.connect(p, q) {
@@ -121,6 +130,8 @@ fn map_ends(
     ensures refused { IsNumbered known.now → HaveOwnPorts config.old.types
         → IfErr result (Breaks ((t : Setup) × Maps config.old known.now
         (component_number system) ends.entry.0.now ends.entry.1.now t)) }
+    ensures told { IsNumbered known.now → IfErr result (TellsAt line (MapBreaks config.old
+        known.now (component_number system) ends.entry.0.now ends.entry.1.now)) }
 {
     let (p, q) = find_ends(config, known, system, ends, line)?;
     match config.map(p, q) {
@@ -148,6 +159,10 @@ fn add_setup<'m>(
         × IsStep config.old known.old (component_number system) setup.now.action t)
         × IsNumbered (known.old
         ++ option_to_list (option_map variable (creation_of setup.now))))) }
+    ensures told { IsNumbered known.old → IsNumbered (known.old
+        ++ option_to_list (option_map variable (creation_of setup.now)))
+        → IfErr result (TellsAt setup.now.line (PairBreaks config.old known.old
+        (component_number system) setup.now.action)) }
 {
     let line = setup.line;
     match &setup.action {
@@ -184,6 +199,8 @@ pub fn connect_all<'m>(
     ensures refused { HaveOwnPorts config.old.types → IfErr result (Breaks (((t : Setup)
         × Makes (component_number system) config.old setups.now t)
         × IsNumbered (variables setups.now))) }
+    ensures told { IsNumbered (variables setups.now) → IfErr result (
+        Tells (PairsBreak (component_number system) config.old setups.now)) }
 {
     let mut known = NameSet::new(alloc);
     for setup in setups {
@@ -227,9 +244,16 @@ fn first_fault(
     requires broken { HavePorts rules.now.types.now config.old.types
         → Breaks (CanSetUpBeside rules.now.types.now rules.now.ports.now config.old.types
         case.case.now) stopped.fault }
-    ensures { HavePorts rules.now.types.now config.old.types
+    ensures broken { HavePorts rules.now.types.now config.old.types
         → Breaks (CanSetUpBeside rules.now.types.now rules.now.ports.now config.old.types
         case.entry.case.now) result }
+    ensures told { HavePorts rules.now.types.now config.old.types
+        → AreComponentTypesKnown rules.now.types.now (Defined.TestCase case.entry.case.now)
+        → StopsAt rules.now.types.now rules.now.ports.now (codes "mtc" ∷ [])
+        (most_variables case.entry.case.now) case.entry.case.now.setups.items
+        stopped.entry.before.now stopped.entry.fault
+        → Tells (SetupBreaks rules.now.types.now rules.now.ports.now config.old.types
+        case.entry.case.now case.entry.line) result }
 {
     let system = match add_interface(alloc, config, rules.types, case.case, case.line) {
         Ok(system) => system,
@@ -258,6 +282,10 @@ fn create_beside(
         (map created (creations case.entry.case.now.setups.items)) config.old config.new) }
     ensures refused { HavePorts types.now config.old.types → IfErr result (Breaks (CanSetUpBeside
         types.now ports.now config.old.types case.entry.case.now)) }
+    ensures told { HavePorts types.now config.old.types
+        → AreComponentTypesKnown types.now (Defined.TestCase case.entry.case.now)
+        → IfErr result (Tells (SetupBreaks types.now ports.now config.old.types
+        case.entry.case.now case.entry.line)) }
 {
     let rules = VariableRules {
         types,
@@ -287,6 +315,10 @@ fn create_all(
     ensures refused { AreOwnPorts (component_types_in sorted.now) config.old.types
         → IfErr result (Breaks (CanSetUp sorted.now.component_names
         (component_types_in sorted.now) config.old.types case.entry.case.now)) }
+    ensures told { AreOwnPorts (component_types_in sorted.now) config.old.types
+        → AreComponentTypesKnown sorted.now.component_names (Defined.TestCase case.entry.case.now)
+        → IfErr result (Tells (CaseSetupBreaks sorted.now.component_names
+        (component_types_in sorted.now) config.old.types case.entry.case.now case.entry.line)) }
 {
     let runs_on = case.case.runs_on.as_str();
     let ports = ports_of_type(alloc, sorted, runs_on, case.line)?;
@@ -311,6 +343,10 @@ fn add_components(
     ensures refused { AreOwnPorts (component_types_in sorted.now) config.old.types
         → IfErr result (Breaks (CanSetUp sorted.now.component_names
         (component_types_in sorted.now) config.old.types case.entry.case.now)) }
+    ensures told { AreOwnPorts (component_types_in sorted.now) config.old.types
+        → AreComponentTypesKnown sorted.now.component_names (Defined.TestCase case.entry.case.now)
+        → IfErr result (Tells (CaseSetupBreaks sorted.now.component_names
+        (component_types_in sorted.now) config.old.types case.entry.case.now case.entry.line)) }
 {
     let main = DeclaredComponent {
         name: "mtc",
@@ -341,6 +377,10 @@ fn configure<'m>(
     ensures refused { AreOwnPorts (component_types_in sorted.now) config.old.types
         → IfErr result (Breaks (CanSetUp sorted.now.component_names
         (component_types_in sorted.now) config.old.types case.entry.case.now)) }
+    ensures told { AreOwnPorts (component_types_in sorted.now) config.old.types
+        → AreComponentTypesKnown sorted.now.component_names (Defined.TestCase case.entry.case.now)
+        → IfErr result (Tells (CaseSetupBreaks sorted.now.component_names
+        (component_types_in sorted.now) config.old.types case.entry.case.now case.entry.line)) }
 {
     add_components(alloc, &mut *config, sorted, case)?;
     let types = &sorted.component_names;
@@ -377,6 +417,10 @@ pub fn set_up<'m>(
     ensures refused { AreOwnPorts (component_types_in sorted.now) (map ports_of components.items)
         → IfErr result (Breaks (CanSetUp sorted.now.component_names
         (component_types_in sorted.now) (map ports_of components.items) case.entry.case.now)) }
+    ensures told { AreOwnPorts (component_types_in sorted.now) (map ports_of components.items)
+        → AreComponentTypesKnown sorted.now.component_names (Defined.TestCase case.entry.case.now)
+        → IfErr result (Tells (CaseSetupBreaks sorted.now.component_names (component_types_in
+        sorted.now) (map ports_of components.items) case.entry.case.now case.entry.line)) }
 {
     let mut config = Config::new(alloc, components);
     let variables = configure(alloc, &mut config, sorted, case)?;

@@ -4,7 +4,9 @@ ghost use Rattle.std.specs.Option.{option_copied};
 ghost use Rattle.std.specs.List.{AllZip};
 ghost use Rattle.tp_setup.specs.Sorted.{AreFunctionsNamed, functions_in};
 ghost use Rattle.tp_name.specs.Tables.{IsNumbered};
-ghost use Rattle.tp_name.specs.Refused.{Breaks};
+ghost use Rattle.tp_name.specs.Refused.{Breaks, Tells, TellsAt};
+ghost use Rattle.tp_setup.specs.BrokenStarts.{AfterStartsBreaks, ArgumentBreaks, ArgumentsBreak, IsNeverStarted, StartBreaks, StartBreaksAmong, StartsBreak};
+ghost use Rattle.tp_tree.specs.declared.tree.Function.{Function};
 ghost use Rattle.tp_config.specs.declared.port_type.CompId.{CompId};
 ghost use Rattle.tp_setup.specs.declared.starts.Started.{Started};
 ghost use Rattle.tp_setup.specs.declared.starts.Starts.{Starts};
@@ -20,6 +22,7 @@ use std::alloc::Global;
 use tp_config::port_type::CompId;
 use tp_name::fault::{ModuleFault, ModuleRule, refused};
 use tp_name::name_set::{NameFault, NameSet};
+use tp_refusal::memory::Memory;
 use tp_tree::tree::{ComponentName, ComponentStart, Function, Parameter, SetupStatement, TestCase};
 
 /// The component that the argument names, or `None` where there is none. Takes no memory.
@@ -69,6 +72,8 @@ fn check_argument(
     ensures refused { IsNumbered variables.now → IfErr result (Breaks ((comp : CompId)
         × IsArgument variables.now argument.now comp
         × HasParameterType (map (λ t. t.now) types.now) parameter.now comp)) }
+    ensures told { IsNumbered variables.now → IfErr result (TellsAt line (
+        ArgumentBreaks variables.now (map (λ t. t.now) types.now) parameter.now argument.now)) }
 {
     let Some(comp) = find_argument(variables, argument) else {
         return Err(refused(ModuleRule::Unknown, line));
@@ -94,6 +99,9 @@ fn check_arguments(
     ensures refused { IsNumbered variables.now → IfErr result (Breaks ((made : List CompId)
         × AllZip (IsArgument variables.now) start.now.arguments.items made
         × AllZip (HasParameterType (map (λ t. t.now) types.now)) parameters.now made)) }
+    ensures told { IsNumbered variables.now → IfErr result (TellsAt start.now.line (
+        ArgumentsBreak variables.now (map (λ t. t.now) types.now) parameters.now
+        start.now.arguments.items)) }
 {
     let arguments = start.arguments.as_slice();
     if arguments.len() != parameters.len() {
@@ -121,6 +129,10 @@ fn check_start(
     ensures refused { IsNumbered variables.now → IfErr result (Breaks ((made : Started)
         × IsStartOf (functions_in sorted.now) variables.now (map (λ t. t.now) types.now)
         start.now made)) }
+    ensures told { (started : List (List ℕ)) → IsNumbered variables.now
+        → (Contains started (string_bytes start.now.component) → ⊥)
+        → IfErr result (TellsAt start.now.line (StartBreaks (functions_in sorted.now)
+        variables.now (map (λ t. t.now) types.now) started start.now)) }
 {
     let line = start.line;
     let Some(comp) = variable_component(variables, start.component.as_str()) else {
@@ -171,6 +183,9 @@ fn add_started<'m>(
     ensures added { OnOk result (started.new
         ≡ started.old ++ string_bytes start.now.component ∷ []) }
     ensures numbered { OnOk result (IsNumbered started.new) }
+    ensures told { (functions : List Function) → (types : List (List ℕ)) → IfErr result (
+        TellsAt start.now.line (
+        StartBreaks functions variables.now types started.old start.now)) }
     ensures refused { IfErr result (Breaks (
         Contains variables.now (string_bytes start.now.component)
         × IsNumbered (started.old ++ string_bytes start.now.component ∷ []))) }
@@ -181,7 +196,8 @@ fn add_started<'m>(
     match started.add(start.component.as_str()) {
         Ok(()) => Ok(()),
         Err(NameFault::Duplicate) => Err(refused(ModuleRule::NotStarted, start.line)),
-        Err(fault) => Err(fault.at(start.line)),
+        Err(NameFault::Limit) => Err(refused(ModuleRule::Limit, start.line)),
+        Err(NameFault::Memory) => Err(ModuleFault::Memory(Memory)),
     }
 }
 
@@ -196,6 +212,8 @@ fn find_starts(
         AllZip (IsStartPlace started.now) (variables setups.now) places.items) }
     ensures refused { IfErr result (Breaks ((places : List ℕ)
         × AllZip (IsStartPlace started.now) (variables setups.now) places)) }
+    ensures told { IfErr result (Tells (λ rule line. (rule ≡ ModuleRule.NotStarted)
+        × IsNeverStarted started.now setups.now line)) }
 {
     let mut places = Vec::new(alloc);
     for setup in setups {
@@ -215,6 +233,8 @@ fn find_starts(
 fn check_done(case: &TestCase, places: &[u32], line: u32) -> Result<(), ModuleFault>
     ensures done { OnOk result (0 < length places.now → IsSome case.now.all_done) }
     ensures refused { IfErr result (Breaks (0 < length places.now → IsSome case.now.all_done)) }
+    ensures told { IfErr result (λ fault. (fault ≡ ModuleFault.Refused ModuleRule.NoDone line)
+        × (0 < length places.now) × (case.now.all_done ≡ None)) }
 {
     if case.all_done.is_some() || places.is_empty() {
         return Ok(());
@@ -239,6 +259,9 @@ fn check_each<'m>(
     ensures refused { IsNumbered variables.now → IfErr result (Breaks ((made : List Started)
         × AllZip (IsStartOf (functions_in sorted.now) variables.now (map (λ t. t.now) types.now))
         starts.now made × IsNumbered (started_names starts.now))) }
+    ensures told { IsNumbered variables.now → IfErr result (Tells (
+        StartBreaksAmong (functions_in sorted.now) variables.now (map (λ t. t.now) types.now)
+        starts.now)) }
 {
     let mut names = NameSet::new(alloc);
     let mut started = Vec::new(alloc);
@@ -266,6 +289,8 @@ fn start_all<'m>(
     ensures refused { IsNumbered names.now → IfErr result (Breaks ((made : List Started)
         × AllZip (IsStartOf (functions_in sorted.now) names.now (type_names_of case.now))
         case.now.starts.items made × IsNumbered (started_names case.now.starts.items))) }
+    ensures told { IsNumbered names.now → IfErr result (Tells (StartBreaksAmong
+        (functions_in sorted.now) names.now (type_names_of case.now) case.now.starts.items)) }
 {
     let types = component_types(alloc, case)?;
     check_each(alloc, sorted, names, &types, &case.starts)
@@ -281,6 +306,8 @@ fn place_starts(alloc: Global, started: &NameSet, case: CaseAt<'_>) -> Result<Ve
         (variables case.entry.case.now.setups.items) places)
         × (0 < length (creations case.entry.case.now.setups.items)
         → IsSome case.entry.case.now.all_done))) }
+    ensures told { IfErr result (Tells (
+        AfterStartsBreaks started.now case.entry.case.now case.entry.line)) }
 {
     let places = find_starts(alloc, started, &case.case.setups)?;
     check_done(case.case, &places, case.line)?;
@@ -309,6 +336,8 @@ pub fn check_starts(
     ensures starts { IfOk result (AreStarts (functions_in sorted.now) case.entry.case.now) }
     ensures refused { IsNumbered names.now → IfErr result (Breaks ((starts : Starts)
         × AreStarts (functions_in sorted.now) case.entry.case.now starts)) }
+    ensures told { IsNumbered names.now → IfErr result (Tells (
+        StartsBreak (functions_in sorted.now) case.entry.case.now case.entry.line)) }
 {
     let (started, starts) = start_all(alloc, sorted, case.case, names)?;
     let places = place_starts(alloc, &started, case)?;

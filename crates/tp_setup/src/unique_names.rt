@@ -1,10 +1,11 @@
 //! The first pass of the checks: names are given once, and there is one test case.
-ghost use Rattle.std.specs.Prelude.{◌≡◌, ◌<◌, ◌∷◌, ◌++◌, [], All, IfErr, IfOk, OnOk, is_some, length, map};
+ghost use Rattle.std.specs.Prelude.{◌≡◌, ◌<◌, ◌∷◌, ◌++◌, ◌⊎◌, [], All, IfErr, IfOk, IfSome, OnOk, Some, is_some, length, map};
 ghost use Rattle.std.specs.List.{list_any};
 ghost use Rattle.std.specs.Option.{option_to_list};
-ghost use Rattle.tp_name.specs.Refused.{Breaks};
+ghost use Rattle.tp_name.specs.Refused.{Breaks, Tells, TellsAt};
 ghost use Rattle.tp_name.specs.Tables.{AreDistinct, IsNumbered};
-ghost use Rattle.tp_setup.specs.Definitions.{among, case_of, name_of, declared, declared_ports, inner_names, test_cases};
+ghost use Rattle.tp_setup.specs.BrokenNames.{DeclaringBreaks, DefinitionNamesBreak, GivenNamesBreak, NameBreaks, NamesBreak, inner_declared, port_name_list};
+ghost use Rattle.tp_setup.specs.Definitions.{BeginsAmong, among, case_of, name_of, declared, declared_ports, inner_names, test_cases};
 ghost use Rattle.tp_setup.specs.Rules.{AreNamed, HasOneTestCase, HasUniqueNames};
 ghost use Rattle.tp_setup.specs.Cases.{cases_of};
 ghost use Rattle.tp_tree.specs.declared.tree.Definition.{Definition};
@@ -30,6 +31,7 @@ fn add_name<'m>(names: &mut NameSet<'m>, name: &'m DeclaredName) -> Result<(), M
     ensures names { OnOk result (names.new ≡ names.old ++ declared name.now ∷ []) }
     ensures numbered { IsNumbered names.new }
     ensures refused { IfErr result (Breaks (IsNumbered (names.old ++ declared name.now ∷ []))) }
+    ensures told { IfErr result (TellsAt name.now.line (NameBreaks names.old (declared name.now))) }
 {
     match names.add(name.name.as_str()) {
         Ok(()) => Ok(()),
@@ -43,6 +45,7 @@ fn declare_all<'m>(names: &mut NameSet<'m>, list: &'m [DeclaredName]) -> Result<
     ensures names { OnOk result (names.new ≡ names.old ++ map declared list.now) }
     ensures numbered { IsNumbered names.new }
     ensures refused { IfErr result (Breaks (IsNumbered (names.old ++ map declared list.now))) }
+    ensures told { IfErr result (Tells (DeclaringBreaks names.old list.now)) }
 {
     for name in list {
         add_name(names, name)?;
@@ -64,6 +67,7 @@ pub(crate) fn declare_ports<'m>(
     ensures numbered { IsNumbered names.new }
     ensures distinct { AreDistinct names.new }
     ensures refused { IfErr result (Breaks (IsNumbered (names.old ++ declared_ports ports.now))) }
+    ensures told { IfErr result (Tells (DeclaringBreaks names.old (port_name_list ports.now))) }
 {
     for port in ports {
         declare_all(names, &port.names)?;
@@ -78,6 +82,8 @@ fn declare_fields<'m>(names: &mut NameSet<'m>, fields: &'m [FieldType]) -> Resul
     ensures numbered { IsNumbered names.new }
     ensures refused { IfErr result (Breaks (IsNumbered (
         names.old ++ map (λ f. declared f.name) fields.now))) }
+    ensures told { IfErr result (
+        Tells (DeclaringBreaks names.old (map (λ f. f.name) fields.now))) }
 {
     for field in fields {
         add_name(names, &field.name)?;
@@ -101,6 +107,8 @@ pub fn declare_parameters<'m>(
     ensures numbered { IsNumbered names.old → IsNumbered names.new }
     ensures refused { IfErr result (Breaks (IsNumbered (
         names.old ++ map (λ p. declared p.name) parameters.now))) }
+    ensures told { IsNumbered names.old → IfErr result (
+        Tells (DeclaringBreaks names.old (map (λ p. p.name) parameters.now))) }
 {
     for parameter in parameters {
         add_name(names, &parameter.name)?;
@@ -115,6 +123,7 @@ fn declare_inner<'m>(names: &mut NameSet<'m>, defined: &'m Defined) -> Result<()
     requires numbered { IsNumbered names.old }
     ensures numbered { OnOk result (IsNumbered (inner_names defined.now)) }
     ensures refused { IfErr result (Breaks (IsNumbered (inner_names defined.now))) }
+    ensures told { IfErr result (Tells (DeclaringBreaks [] (inner_declared defined.now))) }
 {
     match defined {
         Defined::Record(record) => declare_fields(names, &record.fields),
@@ -129,6 +138,8 @@ fn declare_inner<'m>(names: &mut NameSet<'m>, defined: &'m Defined) -> Result<()
 fn check_inner(alloc: Global, definition: &Definition) -> Result<(), ModuleFault>
     ensures numbered { OnOk result (IsNumbered (inner_names definition.now.defined)) }
     ensures refused { IfErr result (Breaks (IsNumbered (inner_names definition.now.defined))) }
+    ensures told { IfErr result (
+        Tells (DeclaringBreaks [] (inner_declared definition.now.defined))) }
 {
     let mut names = NameSet::new(alloc);
     declare_inner(&mut names, &definition.defined)
@@ -158,6 +169,11 @@ fn next_case<'m>(
         ≡ cases_of before.entry ++ option_to_list (case_of definition.now.defined)) }
     ensures refused { IfErr result (λ _.
         1 < length (cases_of before.entry ++ option_to_list (case_of definition.now.defined))) }
+    ensures begins { IfOk result (λ after. (after ≡ before.entry) ⊎ IfSome after (λ found.
+        (case_of definition.now.defined ≡ Some found.case.now)
+        × (found.line ≡ definition.now.line))) }
+    ensures told { IfErr result (λ fault.
+        fault ≡ ModuleFault.Refused ModuleRule.Duplicate definition.now.line) }
 {
     let Defined::TestCase(case) = &definition.defined else {
         return Ok(before);
@@ -199,6 +215,7 @@ fn check_name<'m>(
     ensures refused { IfErr result (Breaks (
         IsNumbered (names.old ++ name_of definition.now.defined ∷ [])
         × IsNumbered (inner_names definition.now.defined))) }
+    ensures told { IfErr result (Tells (GivenNamesBreak names.old definition.now)) }
 {
     if let Err(fault) = names.add(defined_name(&definition.defined)) {
         return Err(fault.at(definition.line));
@@ -217,7 +234,10 @@ fn find_case<'m>(
         IsNumbered (map (λ (x : Definition). name_of x.defined) definitions.now)) }
     ensures inner { OnOk result (
         All (λ (x : Definition). IsNumbered (inner_names x.defined)) definitions.now) }
+    ensures begins { IfOk result (λ case. IfSome case (λ found.
+        BeginsAmong definitions.now found.case.now found.line)) }
     ensures refused { IfErr result (Breaks (AreNamed definitions.now)) }
+    ensures told { IfErr result (Tells (DefinitionNamesBreak definitions.now)) }
 {
     let mut names = NameSet::new(alloc);
     let mut case = None;
@@ -238,8 +258,11 @@ fn find_case<'m>(
 pub fn check_names(alloc: Global, parsed: &Module) -> Result<CaseAt<'_>, ModuleFault>
     ensures case { IfOk result (λ found. test_cases parsed.now ≡ found.case.now ∷ []) }
     ensures names { OnOk result (HasUniqueNames parsed.now) }
+    ensures begins { IfOk result (λ found.
+        BeginsAmong parsed.now.definitions.items found.case.now found.line) }
     ensures refused { IfErr result (
         Breaks (HasUniqueNames parsed.now × HasOneTestCase parsed.now)) }
+    ensures told { IfErr result (Tells (NamesBreak parsed.now)) }
 {
     if !has_case(&parsed.definitions) {
         return Err(refused(ModuleRule::Unknown, parsed.line));

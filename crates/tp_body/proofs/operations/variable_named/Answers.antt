@@ -1,6 +1,14 @@
 -- A name that is no variable stands for none.
-use Rattle.std.proofs.Common.{inr}
+use Rattle.tp_name.specs.Named.{texts}
+use Rattle.tp_body.specs.BrokenOperations as b
+use Rattle.tp_body.proofs.BrokenOperationRules.{no_variable_told}
+use Rattle.tp_body.proofs.Telling.{told_rule}
 use Rattle.tp_body.proofs.operations.variable_named.Goals as goal
 
-pub returns-in-None-find_variable-clause-refused : goal.returns-in-None-find_variable-clause-refused
-returns-in-None-find_variable-clause-refused c = λ typed. inr (λ h. c.in-None-find_variable.ensures.absent typed h.0 h.1 h.3)
+pub returns-in_default-clause-told : goal.returns-in_default-clause-told
+returns-in_default-clause-told c = λ typed. told_rule _ _ _ _ (cc) (b.turn _ c.in_default.ensures.there)
+
+pub returns-in-None-find_variable-clause-told : goal.returns-in-None-find_variable-clause-told
+returns-in-None-find_variable-clause-told c = λ typed.
+    no_variable_told c.args.context.now.scope.now c.args.context.now.variables.now (texts c.args.context.now.turns.now) c.args.context.now.line
+    _ c.args.name.now c.in-None.ensures.absent (c.in-None-find_variable.ensures.absent typed) c.no_variable.ensures

@@ -1,11 +1,12 @@
 -- The next entry takes the free place of its name, and at the end each field has an entry.
-use Rattle.std.proofs.Common.{◌≡◌, ◌<◌, inr, refl, arith, ap, sym, ◌∙◌, slice_get, length, option_map, map, true, true≢false, subst, Some}
+use Rattle.std.proofs.Common.{◌≡◌, ◌<◌, refl, arith, ap, sym, ◌∙◌, slice_get, length, option_map, map, true, true≢false, subst, Some}
 use Rattle.std.proofs.lemmas.Bool.{OnFalse_at}
 use Rattle.std.proofs.lemmas.Option.{slice_get-map, slice_get_read, slice_get_within}
 use Rattle.std.proofs.lemmas.List.{length-map, length-set}
 use Rattle.tp_name.specs.Named.{IsAbsent}
 use Rattle.tp_body.specs.Placing.{field_names}
 use Rattle.tp_body.proofs.Placed.{pairs_more, taken_more}
+use Rattle.tp_body.proofs.Telling.{told_rule}
 use Rattle.tp_body.proofs.Misplaced.{placed_more, no_unknown, no_second, none_missing}
 use Rattle.tp_body.proofs.placing.field_places.Goals as goal
 
@@ -54,21 +55,24 @@ returns-clause-placed g c =
       each = λ k below. i.each k (subst (λ l. slice_get l k ≡ Some true) c.deref.ensures.value (all k (omega (arith, i.as_many, c.deref.ensures.len, below))));
     }
 
-pub returns-in_default-clause-refused : goal.returns-in_default-clause-refused
-returns-in_default-clause-refused g c = λ apart.
+pub returns-in_default-clause-told : goal.returns-in_default-clause-told
+returns-in_default-clause-told g c = λ apart.
     let names = map g.E.NamedField.name c.args.entries.now in
     let is_entry : slice_get c.args.entries.now c.loop-index.index ≡ Some c.index-entries-index.result =
     slice_get_read c.args.entries.now (length c.args.entries.now) c.loop-index.index c.index-entries-index.result refl (omega arith)
     c.index-entries-index.is in
     let absent : IsAbsent (field_names c.args.fields.now) c.name.result.now =
     rw c.in_default.is at (c.in_ok-found.ensures.absent apart) in
-    inr (λ all.
-    no_unknown c.args.fields.now names apart all c.loop-index.index c.name.result.now
-    (slice_get-map g.E.NamedField.name c.args.entries.now c.loop-index.index ∙ ap (option_map g.E.NamedField.name) is_entry ∙ ap Some (sym c.name.ensures))
-    absent)
+    told_rule _ _ _ _ (cc) (
+      refl,
+      λ all.
+          no_unknown c.args.fields.now names apart all c.loop-index.index c.name.result.now
+          (slice_get-map g.E.NamedField.name c.args.entries.now c.loop-index.index ∙ ap (option_map g.E.NamedField.name) is_entry ∙ ap Some (sym c.name.ensures))
+          absent,
+    )
 
-pub returns-then-not-occupy-clause-refused : goal.returns-then-not-occupy-clause-refused
-returns-then-not-occupy-clause-refused g c = λ apart.
+pub returns-then-not-occupy-clause-told : goal.returns-then-not-occupy-clause-told
+returns-then-not-occupy-clause-told g c = λ apart.
     let names = map g.E.NamedField.name c.args.entries.now in
     let i = c.loop-index.invariant in
     let is_entry : slice_get c.args.entries.now c.loop-index.index ≡ Some c.index-entries-index.result =
@@ -87,17 +91,23 @@ returns-then-not-occupy-clause-refused g c = λ apart.
       slice_get_within (field_names c.args.fields.now) c.in-Some.place
           c.name.result.now placed,
     ) in
-    inr (λ all.
-    no_second c.args.fields.now names apart all c.loop-index.places.items c.in-Some.place c.name.result.now i.same_name there placed
-    (i.each c.in-Some.place (OnFalse_at c.if-not-occupy.true c.occupy.ensures.taken inside)))
+    told_rule _ _ _ _ (cc) (
+      refl,
+      λ all.
+          no_second c.args.fields.now names apart all c.loop-index.places.items c.in-Some.place c.name.result.now i.same_name there placed
+          (i.each c.in-Some.place (OnFalse_at c.if-not-occupy.true c.occupy.ensures.taken inside)),
+    )
 
-pub returns-then-not-are_all-clause-refused : goal.returns-then-not-are_all-clause-refused
-returns-then-not-are_all-clause-refused g c = λ apart.
+pub returns-then-not-are_all-clause-told : goal.returns-then-not-are_all-clause-told
+returns-then-not-are_all-clause-told g c = λ apart.
     let i = c.loop-index.invariant in
     let names = map g.E.NamedField.name c.args.entries.now in
-    inr (λ all.
-    true≢false (sym (c.are_all.ensures.1 (λ k below.
-    let p = none_missing c.args.fields.now names apart all c.loop-index.places.items i.same_name
-    (i.passed ∙ omega (arith, length-map c.args.entries.now g.E.NamedField.name)) k
-    (omega (arith, below, i.as_many, c.deref.ensures.len)) in
-    subst (λ l. slice_get l k ≡ Some true) (sym c.deref.ensures.value) (i.taken p.0 k p.1))) ∙ c.if-not-are_all.true))
+    told_rule _ _ _ _ (cc) (
+      refl,
+      λ all.
+          true≢false (sym (c.are_all.ensures.1 (λ k below.
+          let p = none_missing c.args.fields.now names apart all c.loop-index.places.items i.same_name
+          (i.passed ∙ omega (arith, length-map c.args.entries.now g.E.NamedField.name)) k
+          (omega (arith, below, i.as_many, c.deref.ensures.len)) in
+          subst (λ l. slice_get l k ≡ Some true) (sym c.deref.ensures.value) (i.taken p.0 k p.1))) ∙ c.if-not-are_all.true),
+    )

@@ -1,19 +1,17 @@
--- A verdict is set in no behaviour of the system under test.
-use Rattle.std.proofs.Common.{refl}
+-- A verdict is set in no behaviour of the system under test, and isn't `error`.
+use Rattle.tp_name.specs.declared.fault.ModuleRule.TheVariants as rule
 use Rattle.tp_name.specs.Named.{texts}
-use Rattle.tp_tree.specs.declared.tree.Action.TheVariants as action
-use Rattle.tp_body.proofs.Handing.{handed_on}
-use Rattle.tp_body.proofs.StatementInversions.{made_set_verdict}
+use Rattle.tp_body.specs.BrokenBodies as b
+use Rattle.tp_body.proofs.Telling.{tells_here}
 use Rattle.tp_body.proofs.statements.resolve_set_verdict.Goals as goal
 
-pub returns-in_err-check_not_in_sut-clause-refused : goal.returns-in_err-check_not_in_sut-clause-refused
-returns-in_err-check_not_in_sut-clause-refused c =
-    handed_on c.from_residual.result _ c.from_residual.ensures.1 c.in_err-check_not_in_sut.ensures.refused (λ h.
-    (made_set_verdict c.args.context.now.scope.now c.args.context.now.variables.now (texts c.args.context.now.turns.now) (action.SetVerdict c.args.name)
-    c.args.name refl h).0)
+pub returns-in_err-check_not_in_sut-clause-told : goal.returns-in_err-check_not_in_sut-clause-told
+returns-in_err-check_not_in_sut-clause-told c =
+    tells_here _ _ _ c.from_residual.result _ c.from_residual.ensures.1 c.in_err-check_not_in_sut.ensures.err
+    (b.verdict_in_sut (texts c.args.context.now.turns.now) c.args.context.now.line c.args.name c.in_err-check_not_in_sut.ensures.sut)
 
-pub returns-in_err-verdict-clause-refused : goal.returns-in_err-verdict-clause-refused
-returns-in_err-verdict-clause-refused c =
-    handed_on c.from_residual-in_err-verdict.result _ c.from_residual-in_err-verdict.ensures.1 c.in_err-verdict.ensures.refused (λ h.
-    (made_set_verdict c.args.context.now.scope.now c.args.context.now.variables.now (texts c.args.context.now.turns.now) (action.SetVerdict c.args.name)
-    c.args.name refl h).1)
+pub returns-in_err-verdict-clause-told : goal.returns-in_err-verdict-clause-told
+returns-in_err-verdict-clause-told c =
+    tells_here c.args.context.now.line rule.WrongType _ c.from_residual-in_err-verdict.result _ c.from_residual-in_err-verdict.ensures.1
+    c.in_err-verdict.ensures.told
+    (rw c.in_err-verdict.ensures.error (b.error_verdict (texts c.args.context.now.turns.now) c.args.context.now.line c.in_ok-check_not_in_sut.ensures.ok))

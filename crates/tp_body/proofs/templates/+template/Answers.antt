@@ -1,20 +1,25 @@
 -- The next template stands for what is made of it, and at the end each field has one.
-use Rattle.std.proofs.Common.{◌≡◌, ◌≤◌, inr, length, arith, ap, sym, ◌∙◌, refl, map, slice_get, Some, string_bytes, get_or, rules}
+use Rattle.std.proofs.Common.{◌≡◌, ◌≤◌, length, arith, ap, sym, ◌∙◌, refl, map, slice_get, Some, string_bytes, get_or, rules, subst, take, All}
+use Rattle.std.proofs.lemmas.List.Elements.{All-push}
 use Rattle.std.proofs.lemmas.Option.{slice_get_read}
 use Rattle.std.proofs.lemmas.Result.{IfErr-weaker}
 use Rattle.std.proofs.lemmas.List.{length-set, length-map}
 use Rattle.tp_value.specs.declared.types.TypeDef.TheVariants as def
 use Rattle.tp_value.specs.Types.{named}
-use Rattle.tp_play.specs.declared.body.RecvTemplate.{RecvTemplate}
+use Rattle.tp_name.specs.declared.fault.ModuleRule.TheVariants as rule
 use Rattle.tp_name.specs.Named.{texts}
-use Rattle.tp_name.specs.Refused.{Breaks}
 use Rattle.tp_body.specs.Placing.{IsPlacing}
-use Rattle.tp_body.specs.Messages.{IsTemplate, StandsAsList, StandsAsRecord, no_member, no_element_template, no_field_template, no_name_template, one_name_template_more, AreNamedTemplates}
-use Rattle.tp_body.proofs.Entries.{place_below, filled_more, all_filled, in_order}
+use Rattle.tp_body.specs.Messages.{IsTemplate, no_member, no_element_template, no_field_template, no_name_template, one_name_template_more, AreNamedTemplates}
+use Rattle.tp_body.specs.BrokenTemplates as b
+use Rattle.tp_body.specs.BrokenTemplates.{IsTemplateEntry}
+use Rattle.tp_body.proofs.Entries.{place_below, placed_entries, placed_name, filled_more, all_filled, in_order}
+use Rattle.tp_body.proofs.ValueRules.{pushed}
 use Rattle.tp_body.proofs.TemplateRules.{members_more, element_templates_more, field_templates_more}
-use Rattle.tp_body.proofs.Breaking.{breaks_part, hands_on}
-use Rattle.tp_body.proofs.TemplateInversions.{turn_parts, one_of_parts, none_of_parts, as_list, as_record, list_parts, record_parts, member_part, element_part, field_part, field_templates_count, names_part, entry_part}
+use Rattle.tp_body.proofs.Telling.{tells_at, tells_rule, told_at, told_rule}
+use Rattle.tp_body.proofs.BrokenValueRules.{record_behind}
+use Rattle.tp_body.proofs.BrokenTemplateRules.{breaks_element, breaks_field, breaks_member}
 use Rattle.tp_body.proofs.templates.+template.Goals as goal
+use Rattle.tp_body.proofs.templates.+template.Goals.{resolve_record-in_default-via-in-Some+in_default, resolve_record-in_default-via-in_default}
 
 pub resolve_element_templates-loop-member-init : goal.resolve_element_templates-loop-member-init
 resolve_element_templates-loop-member-init t c = rw c.new-made.ensures (no_element_template c.args.ty)
@@ -38,7 +43,11 @@ pub resolve_named_templates-index_mut-requires : goal.resolve_named_templates-in
 resolve_named_templates-index_mut-requires t c = omega (arith, c.in-Some.ensures.lookup.3.0, c.loop-index.invariant.as_many, c.loop-index.made.ok.0)
 
 pub resolve_named_templates-loop-index-init : goal.resolve_named_templates-loop-index-init
-resolve_named_templates-loop-index-init t c = record { as_many = search rules; filled = λ i k below there. absurd (omega (arith, below)) }
+resolve_named_templates-loop-index-init t c = record {
+  as_many = search rules;
+  filled = λ i k below there. absurd (omega (arith, below));
+  fit = λ k d below. absurd (omega (arith, below));
+}
 
 pub resolve_named_templates-loop-index-preserved : goal.resolve_named_templates-loop-index-preserved
 resolve_named_templates-loop-index-preserved t c =
@@ -54,7 +63,25 @@ resolve_named_templates-loop-index-preserved t c =
     let is_entry : slice_get c.args.entries.now c.loop-index.index ≡ Some c.index-entries-index.result =
     slice_get_read c.args.entries.now (length c.args.entries.now) c.loop-index.index c.index-entries-index.result refl (omega arith)
     c.index-entries-index.is in
+    let same : string_bytes c.index-entries-index.result.name ≡ c.in-Some.field.now.name =
+    placed_name (λ x. string_bytes x.name) (λ f x. IsTemplate c.args.context.now.scope.now.types.now (texts c.args.context.now.turns.now) f.ty x.template)
+    c.args.entries.now c.args.fields.now placing c.loop-index.index c.index-place.result.now c.in-Some.field.now c.index-entries-index.result is_place is_field
+    is_entry in
+    let fits : IsTemplateEntry c.args.context.now.scope.now.types.now (texts c.args.context.now.turns.now) c.args.fields.now c.index-entries-index.result =
     record {
+      place = c.index-place.result.now;
+      field = c.in-Some.field.now;
+      made = c.in_ok-one.one;
+      declared = is_field;
+      same_name = same;
+      fits = c.in_ok-one.ensures.stands;
+    } in
+    record {
+      fit =
+          subst (All (IsTemplateEntry c.args.context.now.scope.now.types.now (texts c.args.context.now.turns.now) c.args.fields.now))
+          (pushed c.args.entries.now c.loop-index.index c.index-entries-index.result (omega arith) c.index-entries-index.is)
+          (All-push (IsTemplateEntry c.args.context.now.scope.now.types.now (texts c.args.context.now.turns.now) c.args.fields.now)
+          (take c.loop-index.index c.args.entries.now) c.index-entries-index.result i.fit fits);
       as_many = length-set c.loop-index.made.items c.index-place.result.now c.in_ok-one.one ∙ i.as_many;
       filled =
           filled_more (λ x. string_bytes x.name) (λ f x. IsTemplate c.args.context.now.scope.now.types.now (texts c.args.context.now.turns.now) f.ty x.template)
@@ -86,61 +113,57 @@ resolve_members-loop-member-preserved t c =
     rw c.in_ok-push.ensures.ok (members_more _ _ c.args.ty c.args.members.now c.loop-member.member-index c.member-item.result c.loop-member.made c.in_ok-one.one
     (omega arith) c.member-item.is c.loop-member.invariant c.in_ok-one.ensures.stands)
 
-pub resolve_element_templates-returns-in_err-one-clause-refused : goal.resolve_element_templates-returns-in_err-one-clause-refused
-resolve_element_templates-returns-in_err-one-clause-refused t c = λ sound.
-    hands_on c.from_residual.result c.in_err-one.field-0.0 c.from_residual.ensures.1
-    (element_part c.args.context.now.scope.now.types.now (texts c.args.context.now.turns.now) c.args.ty c.args.members.now c.loop-member.member-index
-    c.member-item.result (omega arith) c.member-item.is)
-    (c.in_err-one.ensures.refused sound)
+pub resolve_element_templates-returns-in_err-one-clause-told : goal.resolve_element_templates-returns-in_err-one-clause-told
+resolve_element_templates-returns-in_err-one-clause-told t c = λ sound.
+    tells_at _ _ _ c.from_residual.result c.in_err-one.field-0.0 c.from_residual.ensures.1
+    (breaks_element c.args.context.now.scope.now.types.now c.args.context.now.variables.now (texts c.args.context.now.turns.now) c.args.ty c.args.members.now
+    c.loop-member.made c.loop-member.member-index c.member-item.result (omega arith) c.member-item.is c.in_err-one.ensures.no_star c.loop-member.invariant)
+    (c.in_err-one.ensures.told sound)
 
-pub resolve_field_templates-returns-then-fields-members-clause-refused : goal.resolve_field_templates-returns-then-fields-members-clause-refused
-resolve_field_templates-returns-then-fields-members-clause-refused t c = λ sound.
-    inr (λ whole.
-    c.if-fields-members.true
-    (field_templates_count c.args.context.now.scope.now.types.now (texts c.args.context.now.turns.now) c.args.fields.now c.args.members.now whole.0 whole.1))
+pub resolve_field_templates-returns-then-fields-members-clause-told : goal.resolve_field_templates-returns-then-fields-members-clause-told
+resolve_field_templates-returns-then-fields-members-clause-told t c = λ sound.
+    told_rule _ _ _ _ (cc) (b.count c.args.fields.now c.args.members.now c.if-fields-members.true)
 
-pub resolve_field_templates-returns-in_err-one-clause-refused : goal.resolve_field_templates-returns-in_err-one-clause-refused
-resolve_field_templates-returns-in_err-one-clause-refused t c = λ sound.
-    hands_on c.from_residual.result c.in_err-one.field-0.0 c.from_residual.ensures.1
-    (field_part c.args.context.now.scope.now.types.now (texts c.args.context.now.turns.now) c.args.fields.now c.args.members.now c.loop-index.index
-    (get_or c.args.fields.now c.loop-index.index c.index-fields-index.result) c.index-members-index.result (omega arith)
-    (ap (get_or c.args.fields.now c.loop-index.index) c.index-fields-index.is) (omega arith) c.index-members-index.is)
-    (c.in_err-one.ensures.refused sound)
+pub resolve_field_templates-returns-in_err-one-clause-told : goal.resolve_field_templates-returns-in_err-one-clause-told
+resolve_field_templates-returns-in_err-one-clause-told t c = λ sound.
+    tells_at _ _ _ c.from_residual.result c.in_err-one.field-0.0 c.from_residual.ensures.1
+    (breaks_field c.args.context.now.scope.now.types.now c.args.context.now.variables.now (texts c.args.context.now.turns.now) c.args.fields.now
+    c.args.members.now c.loop-index.made c.loop-index.index (get_or c.args.fields.now c.loop-index.index c.index-fields-index.result)
+    c.index-members-index.result c.if-fields-members.false (omega arith) (ap (get_or c.args.fields.now c.loop-index.index) c.index-fields-index.is)
+    (omega arith) c.index-members-index.is c.loop-index.invariant)
+    (c.in_err-one.ensures.told sound)
 
-pub resolve_list-returns-in_err-made-in-Some-ListOf-clause-refused : goal.resolve_list-returns-in_err-made-in-Some-ListOf-clause-refused
-resolve_list-returns-in_err-made-in-Some-ListOf-clause-refused t c = λ sound.
+pub resolve_list-returns-in_err-made-in-Some-ListOf-clause-told : goal.resolve_list-returns-in_err-made-in-Some-ListOf-clause-told
+resolve_list-returns-in_err-made-in-Some-ListOf-clause-told t c = λ sound.
     let defined : named c.args.context.now.scope.now.types.now c.args.ty ≡ Some (def.ListOf c.in-Some-ListOf.element) =
     sym c.in-Some-ListOf.ensures ∙ ap Some c.in-Some-ListOf.field-0-is in
-    hands_on c.from_residual.result c.in_err-made-in-Some-ListOf.field-0.0 c.from_residual.ensures.1
-    (list_parts c.args.context.now.scope.now.types.now (texts c.args.context.now.turns.now) c.args.ty c.args.members.now
-    (Some (def.ListOf c.in-Some-ListOf.element)) defined)
-    (c.in_err-made-in-Some-ListOf.ensures.refused sound)
+    tells_at _ _ _ c.from_residual.result c.in_err-made-in-Some-ListOf.field-0.0 c.from_residual.ensures.1
+    (λ r broken. b.elements c.args.ty c.in-Some-ListOf.element c.args.members.now r defined broken)
+    (c.in_err-made-in-Some-ListOf.ensures.told sound)
 
-pub resolve_list-returns-in_err-made-in-Some-Record-clause-refused : goal.resolve_list-returns-in_err-made-in-Some-Record-clause-refused
-resolve_list-returns-in_err-made-in-Some-Record-clause-refused t c = λ sound.
+pub resolve_list-returns-in_err-made-in-Some-Record-clause-told : goal.resolve_list-returns-in_err-made-in-Some-Record-clause-told
+resolve_list-returns-in_err-made-in-Some-Record-clause-told t c = λ sound.
     let defined : named c.args.context.now.scope.now.types.now c.args.ty ≡ Some (def.Record c.in-Some-Record.fields) =
     sym c.in-Some-Record.ensures ∙ ap Some c.in-Some-Record.field-0-is in
-    hands_on c.from_residual-in_err-made-in-Some-Record.result c.in_err-made-in-Some-Record.field-0.0
+    tells_at _ _ _ c.from_residual-in_err-made-in-Some-Record.result c.in_err-made-in-Some-Record.field-0.0
     c.from_residual-in_err-made-in-Some-Record.ensures.1
-    (list_parts c.args.context.now.scope.now.types.now (texts c.args.context.now.turns.now) c.args.ty c.args.members.now
-    (Some (def.Record c.in-Some-Record.fields)) defined)
-    (rw c.as_slice.ensures at (c.in_err-made-in-Some-Record.ensures.refused sound))
+    (λ r broken. b.places c.args.ty c.in-Some-Record.fields c.args.members.now r defined broken)
+    (rw c.as_slice.ensures at (c.in_err-made-in-Some-Record.ensures.told sound))
 
-pub resolve_members-returns-in_err-one-clause-refused : goal.resolve_members-returns-in_err-one-clause-refused
-resolve_members-returns-in_err-one-clause-refused t c = λ sound.
-    hands_on c.from_residual.result c.in_err-one.field-0.0 c.from_residual.ensures.1
-    (member_part c.args.context.now.scope.now.types.now (texts c.args.context.now.turns.now) c.args.ty c.args.members.now c.loop-member.member-index
-    c.member-item.result (omega arith) c.member-item.is)
-    (c.in_err-one.ensures.refused sound)
+pub resolve_members-returns-in_err-one-clause-told : goal.resolve_members-returns-in_err-one-clause-told
+resolve_members-returns-in_err-one-clause-told t c = λ sound.
+    tells_at _ _ _ c.from_residual.result c.in_err-one.field-0.0 c.from_residual.ensures.1
+    (breaks_member c.args.context.now.scope.now.types.now c.args.context.now.variables.now (texts c.args.context.now.turns.now) c.args.ty c.args.members.now
+    c.loop-member.made c.loop-member.member-index c.member-item.result (omega arith) c.member-item.is c.loop-member.invariant)
+    (c.in_err-one.ensures.told sound)
 
-pub resolve_named_templates-returns-in_err-places-clause-refused : goal.resolve_named_templates-returns-in_err-places-clause-refused
-resolve_named_templates-returns-in_err-places-clause-refused t c = λ sound apart.
-    hands_on c.from_residual.result c.in_err-places.field-0.0 c.from_residual.ensures.1
-    (names_part c.args.context.now.scope.now.types.now (texts c.args.context.now.turns.now) c.args.entries.now c.args.fields.now)
-    (c.in_err-places.ensures.refused apart)
+pub resolve_named_templates-returns-in_err-places-clause-told : goal.resolve_named_templates-returns-in_err-places-clause-told
+resolve_named_templates-returns-in_err-places-clause-told t c = λ sound apart.
+    tells_at _ _ _ c.from_residual.result c.in_err-places.field-0.0 c.from_residual.ensures.1
+    (λ r h. rw h.0 (b.names c.args.fields.now c.args.entries.now h.1)) (c.in_err-places.ensures.told apart)
 
-pub resolve_named_templates-returns-in_default-clause-refused : goal.resolve_named_templates-returns-in_default-clause-refused
-resolve_named_templates-returns-in_default-clause-refused t c =
+pub resolve_named_templates-returns-in_default-clause-told : goal.resolve_named_templates-returns-in_default-clause-told
+resolve_named_templates-returns-in_default-clause-told t c =
     let placing : IsPlacing c.args.fields.now (map (λ x. string_bytes x.name) c.args.entries.now) c.in_ok-places.places.items =
     c.in_ok-places.ensures.placed in
     absurd (omega (
@@ -151,8 +174,8 @@ resolve_named_templates-returns-in_default-clause-refused t c =
           c.index-place.result.now (omega (arith, placing.as_many, length-map c.args.entries.now (λ x. string_bytes x.name))),
     ))
 
-pub resolve_named_templates-returns-in_err-one-clause-refused : goal.resolve_named_templates-returns-in_err-one-clause-refused
-resolve_named_templates-returns-in_err-one-clause-refused t c = λ sound apart.
+pub resolve_named_templates-returns-in_err-one-clause-told : goal.resolve_named_templates-returns-in_err-one-clause-told
+resolve_named_templates-returns-in_err-one-clause-told t c = λ sound apart.
     let placing : IsPlacing c.args.fields.now (map (λ x. string_bytes x.name) c.args.entries.now) c.in_ok-places.places.items =
     c.in_ok-places.ensures.placed in
     let is_place : slice_get c.in_ok-places.places.items c.loop-index.index ≡ Some c.index-place.result.now =
@@ -164,55 +187,93 @@ resolve_named_templates-returns-in_err-one-clause-refused t c = λ sound apart.
     let is_entry : slice_get c.args.entries.now c.loop-index.index ≡ Some c.index-entries-index.result =
     slice_get_read c.args.entries.now (length c.args.entries.now) c.loop-index.index c.index-entries-index.result refl (omega arith)
     c.index-entries-index.is in
-    hands_on c.from_residual-in_err-one.result c.in_err-one.field-0.0 c.from_residual-in_err-one.ensures.1
-    (entry_part c.args.context.now.scope.now.types.now (texts c.args.context.now.turns.now) c.args.entries.now c.args.fields.now
-    c.in_ok-places.places.items apart placing c.loop-index.index c.index-place.result.now c.index-entries-index.result c.in-Some.field.now is_place is_entry
-    is_field)
-    (c.in_err-one.ensures.refused sound)
+    let same : string_bytes c.index-entries-index.result.name ≡ c.in-Some.field.now.name =
+    placed_name (λ x. string_bytes x.name) (λ f x. IsTemplate c.args.context.now.scope.now.types.now (texts c.args.context.now.turns.now) f.ty x.template)
+    c.args.entries.now c.args.fields.now placing c.loop-index.index c.index-place.result.now c.in-Some.field.now c.index-entries-index.result is_place is_field
+    is_entry in
+    tells_at _ _ _ c.from_residual-in_err-one.result c.in_err-one.field-0.0 c.from_residual-in_err-one.ensures.1
+    (λ r broken. b.entry c.args.fields.now c.args.entries.now c.loop-index.index c.index-place.result.now c.in-Some.field.now c.index-entries-index.result r
+    (placed_entries c.args.fields.now (map (λ x. string_bytes x.name) c.args.entries.now) c.in_ok-places.places.items placing) c.loop-index.invariant.fit
+    is_entry is_field same broken)
+    (c.in_err-one.ensures.told sound)
 
-pub resolve_record-returns-in_err-made-clause-refused : goal.resolve_record-returns-in_err-made-clause-refused
-resolve_record-returns-in_err-made-clause-refused t c = λ sound.
+pub resolve_record-returns-in_err-made-clause-told : goal.resolve_record-returns-in_err-made-clause-told
+resolve_record-returns-in_err-made-clause-told t c = λ sound.
     let defined : named c.args.context.now.scope.now.types.now c.args.ty ≡ Some (def.Record c.in-Some-Record.fields) =
     sym c.in-Some-Record.ensures ∙ ap Some c.in-Some-Record.field-0-is in
-    hands_on c.from_residual.result c.in_err-made.field-0.0 c.from_residual.ensures.1
-    (record_parts c.args.context.now.scope.now.types.now (texts c.args.context.now.turns.now) c.args.ty c.args.entries.now
-    (Some (def.Record c.in-Some-Record.fields)) defined)
-    ((rw c.as_slice.ensures at c.in_err-made.ensures.refused) sound (sound.own_names c.args.ty c.in-Some-Record.fields defined))
+    tells_at _ _ _ c.from_residual.result c.in_err-made.field-0.0 c.from_residual.ensures.1
+    (λ r broken. b.fields c.args.ty c.in-Some-Record.fields c.args.entries.now r defined broken)
+    ((rw c.as_slice.ensures at c.in_err-made.ensures.told) sound (sound.own_names c.args.ty c.in-Some-Record.fields defined))
 
-pub resolve_template-returns-in_err-place-in-Name-clause-refused : goal.resolve_template-returns-in_err-place-in-Name-clause-refused
-resolve_template-returns-in_err-place-in-Name-clause-refused t c = λ sound.
-    hands_on c.from_residual-in_err-place-in-Name.result c.in_err-place-in-Name.field-0.0 c.from_residual-in_err-place-in-Name.ensures.1
-    (turn_parts c.args.context.now.scope.now.types.now (texts c.args.context.now.turns.now) c.args.ty c.args.template.now c.in-Name.name c.in-Name.is)
-    (rw c.as_str.ensures.value at c.in_err-place-in-Name.ensures.refused)
+pub resolve_template-returns-in_err-place-in-Name-clause-told : goal.resolve_template-returns-in_err-place-in-Name-clause-told
+resolve_template-returns-in_err-place-in-Name-clause-told t c = λ sound.
+    tells_at _ _ _ c.from_residual-in_err-place-in-Name.result c.in_err-place-in-Name.field-0.0 c.from_residual-in_err-place-in-Name.ensures.1
+    (λ r broken. rw c.in-Name.is (b.name c.args.ty c.in-Name.name r broken))
+    (rw c.as_str.ensures.value at c.in_err-place-in-Name.ensures.told)
 
-pub resolve_template-returns-in_err-made-in-OneOf-clause-refused : goal.resolve_template-returns-in_err-made-in-OneOf-clause-refused
-resolve_template-returns-in_err-made-in-OneOf-clause-refused t c = λ sound.
-    hands_on c.from_residual-in_err-made-in-OneOf.result c.in_err-made-in-OneOf.field-0.0 c.from_residual-in_err-made-in-OneOf.ensures.1
-    (one_of_parts c.args.context.now.scope.now.types.now (texts c.args.context.now.turns.now) c.args.ty c.args.template.now c.in-OneOf.members c.in-OneOf.is)
-    (rw c.deref-in-OneOf.ensures.value at (c.in_err-made-in-OneOf.ensures.refused sound))
+pub resolve_template-returns-in_err-made-in-OneOf-clause-told : goal.resolve_template-returns-in_err-made-in-OneOf-clause-told
+resolve_template-returns-in_err-made-in-OneOf-clause-told t c = λ sound.
+    tells_at _ _ _ c.from_residual-in_err-made-in-OneOf.result c.in_err-made-in-OneOf.field-0.0 c.from_residual-in_err-made-in-OneOf.ensures.1
+    (λ r broken. rw c.in-OneOf.is (b.one_of c.args.ty c.in-OneOf.members r broken))
+    (rw c.deref-in-OneOf.ensures.value at (c.in_err-made-in-OneOf.ensures.told sound))
 
-pub resolve_template-returns-in_err-made-in-Complement-clause-refused : goal.resolve_template-returns-in_err-made-in-Complement-clause-refused
-resolve_template-returns-in_err-made-in-Complement-clause-refused t c = λ sound.
-    hands_on c.from_residual-in_err-made-in-Complement.result c.in_err-made-in-Complement.field-0.0 c.from_residual-in_err-made-in-Complement.ensures.1
-    (none_of_parts c.args.context.now.scope.now.types.now (texts c.args.context.now.turns.now) c.args.ty c.args.template.now c.in-Complement.members c.in-Complement.is)
-    (rw c.deref-in-Complement.ensures.value at (c.in_err-made-in-Complement.ensures.refused sound))
+pub resolve_template-returns-in_err-made-in-Complement-clause-told : goal.resolve_template-returns-in_err-made-in-Complement-clause-told
+resolve_template-returns-in_err-made-in-Complement-clause-told t c = λ sound.
+    tells_at _ _ _ c.from_residual-in_err-made-in-Complement.result c.in_err-made-in-Complement.field-0.0 c.from_residual-in_err-made-in-Complement.ensures.1
+    (λ r broken. rw c.in-Complement.is (b.none_of c.args.ty c.in-Complement.members r broken))
+    (rw c.deref-in-Complement.ensures.value at (c.in_err-made-in-Complement.ensures.told sound))
 
-pub resolve_template-returns-in-List-clause-refused : goal.resolve_template-returns-in-List-clause-refused
-resolve_template-returns-in-List-clause-refused t c = λ sound.
-    IfErr-weaker c.resolve_list.result
-    (Breaks (StandsAsList c.args.context.now.scope.now.types.now (texts c.args.context.now.turns.now) c.args.ty c.deref-in-List.result.now))
-    (Breaks ((y : RecvTemplate) × IsTemplate c.args.context.now.scope.now.types.now (texts c.args.context.now.turns.now) c.args.ty c.args.template.now y))
-    (breaks_part
-    (as_list c.args.context.now.scope.now.types.now (texts c.args.context.now.turns.now) c.args.ty c.args.template.now c.in-List.members
-    c.deref-in-List.result.now c.in-List.is c.deref-in-List.ensures.value))
-    (c.resolve_list.ensures.refused sound)
+pub resolve_list-returns-in-None-clause-told : goal.resolve_list-returns-in-None-clause-told
+resolve_list-returns-in-None-clause-told t c = λ sound. told_rule _ _ _ _ (cc) (b.no_braces c.args.ty c.args.members.now (sym c.in-None.ensures))
 
-pub resolve_template-returns-in-Record-clause-refused : goal.resolve_template-returns-in-Record-clause-refused
-resolve_template-returns-in-Record-clause-refused t c = λ sound.
-    IfErr-weaker c.resolve_record.result
-    (Breaks (StandsAsRecord c.args.context.now.scope.now.types.now (texts c.args.context.now.turns.now) c.args.ty c.deref-in-Record.result.now))
-    (Breaks ((y : RecvTemplate) × IsTemplate c.args.context.now.scope.now.types.now (texts c.args.context.now.turns.now) c.args.ty c.args.template.now y))
-    (breaks_part
-    (as_record c.args.context.now.scope.now.types.now (texts c.args.context.now.turns.now) c.args.ty c.args.template.now c.in-Record.entries
-    c.deref-in-Record.result.now c.in-Record.is c.deref-in-Record.ensures.value))
-    (c.resolve_record.ensures.refused sound)
+pub resolve_record-returns-in_default-clause-told : goal.resolve_record-returns-in_default-clause-told
+resolve_record-returns-in_default-clause-told t c = λ sound.
+    told_rule _ _ _ _ (cc) (b.no_record c.args.ty c.args.entries.now (λ fs is.
+    let p = record_behind c.definition.result fs (c.definition.ensures ∙ is) in
+    let found : c.definition.result ≡ Some p.0 = p.1 in
+    let held : p.0.now ≡ def.Record fs = p.2 in
+    elim c.in_default.branch [
+      | resolve_record-in_default-via-in-Some+in_default w ↦ absurd (cc)
+      | resolve_record-in_default-via-in_default w ↦ absurd (cc)
+    ]))
+
+pub resolve_template-returns-in_err-check_type-in-Int-clause-told : goal.resolve_template-returns-in_err-check_type-in-Int-clause-told
+resolve_template-returns-in_err-check_type-in-Int-clause-told t c = λ sound.
+    tells_rule _ rule.WrongType _ c.from_residual.result _ c.from_residual.ensures.1 c.in_err-check_type-in-Int.ensures.err
+    (rw c.in-Int.is (b.no_integer c.args.ty c.in-Int.number c.in_err-check_type-in-Int.ensures.other))
+
+pub resolve_template-returns-in_err-check_type-in-Bool-clause-told : goal.resolve_template-returns-in_err-check_type-in-Bool-clause-told
+resolve_template-returns-in_err-check_type-in-Bool-clause-told t c = λ sound.
+    tells_rule _ rule.WrongType _ c.from_residual-in_err-check_type-in-Bool.result _ c.from_residual-in_err-check_type-in-Bool.ensures.1
+    c.in_err-check_type-in-Bool.ensures.err (rw c.in-Bool.is (b.no_boolean c.args.ty c.in-Bool.truth c.in_err-check_type-in-Bool.ensures.other))
+
+pub resolve_template-returns-in_err-text-in-Text-clause-told : goal.resolve_template-returns-in_err-text-in-Text-clause-told
+resolve_template-returns-in_err-text-in-Text-clause-told t c = λ sound.
+    tells_at _ _ _ c.from_residual-in_err-text-in-Text.result _ c.from_residual-in_err-text-in-Text.ensures.1
+    (λ r broken. rw c.in-Text.is (b.text c.args.ty c.in-Text.text r broken)) (rw c.deref.ensures.value at c.in_err-text-in-Text.ensures.told)
+
+pub resolve_template-returns-in_err-check_type-in-Pattern-clause-told : goal.resolve_template-returns-in_err-check_type-in-Pattern-clause-told
+resolve_template-returns-in_err-check_type-in-Pattern-clause-told t c = λ sound.
+    tells_rule _ rule.WrongType _ c.from_residual-in_err-check_type-in-Pattern.result _ c.from_residual-in_err-check_type-in-Pattern.ensures.1
+    c.in_err-check_type-in-Pattern.ensures.err
+    (rw c.in-Pattern.is (b.no_pattern c.args.ty c.in-Pattern.text c.in_err-check_type-in-Pattern.ensures.other))
+
+pub resolve_template-returns-in-AnyOrNone-clause-told : goal.resolve_template-returns-in-AnyOrNone-clause-told
+resolve_template-returns-in-AnyOrNone-clause-told t c = λ sound. told_rule _ rule.WrongType _ _ (cc) (rw c.in-AnyOrNone.is (b.any_or_none c.args.ty))
+
+pub resolve_template-returns-in-Range-clause-told : goal.resolve_template-returns-in-Range-clause-told
+resolve_template-returns-in-Range-clause-told t c = λ sound.
+    IfErr-weaker c.resolve_range.result _ _
+    (λ f. told_at _ _ _ f (λ r broken. rw c.in-Range.is (b.range c.args.ty c.in-Range.lower c.in-Range.upper r broken))) c.resolve_range.ensures.told
+
+pub resolve_template-returns-in-List-clause-told : goal.resolve_template-returns-in-List-clause-told
+resolve_template-returns-in-List-clause-told t c = λ sound.
+    IfErr-weaker c.resolve_list.result _ _
+    (λ f. told_at _ _ _ f (λ r broken. rw c.in-List.is (b.list c.args.ty c.in-List.members r broken)))
+    (rw c.deref-in-List.ensures.value at (c.resolve_list.ensures.told sound))
+
+pub resolve_template-returns-in-Record-clause-told : goal.resolve_template-returns-in-Record-clause-told
+resolve_template-returns-in-Record-clause-told t c = λ sound.
+    IfErr-weaker c.resolve_record.result _ _
+    (λ f. told_at _ _ _ f (λ r broken. rw c.in-Record.is (b.record_of_names c.args.ty c.in-Record.entries r broken)))
+    (rw c.deref-in-Record.ensures.value at (c.resolve_record.ensures.told sound))

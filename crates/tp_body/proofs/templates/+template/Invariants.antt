@@ -1,7 +1,8 @@
 -- What the templates so far stand for is made, each in its turn or at the place of its field.
-use Rattle.std.proofs.Common.{◌≡◌, length, take, string_bytes}
+use Rattle.std.proofs.Common.{◌≡◌, length, take, string_bytes, All}
 use Rattle.tp_name.specs.Named.{texts}
 use Rattle.tp_body.specs.Messages.{AreMembers, AreElementTemplates, AreFieldTemplates, IsTemplate}
+use Rattle.tp_body.specs.BrokenTemplates.{IsTemplateEntry}
 use Rattle.tp_body.proofs.Entries.{Filled}
 use Rattle.tp_body.proofs.templates.+template.Given as goal
 
@@ -18,6 +19,7 @@ invariant-resolve_named_templates-loop-index l = record {
   as_many : length l.made.items ≡ length l.fields;
   filled : Filled (λ x. string_bytes x.name) (λ f x. IsTemplate l.context.scope.now.types.now (texts l.context.turns.now) f.ty x.template)
       l.entries l.fields l.places.items l.index l.made.items;
+  fit : All (IsTemplateEntry l.context.scope.now.types.now (texts l.context.turns.now) l.fields) (take l.index l.entries);
 }
 
 abbrev pub invariant-resolve_members-loop-member : goal.invariant-resolve_members-loop-member

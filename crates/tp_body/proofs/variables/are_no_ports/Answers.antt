@@ -5,7 +5,7 @@ use Rattle.std.proofs.lemmas.Option.{slice_get-map, slice_get_within}
 use Rattle.tp_config.specs.declared.port_type.PortType.{PortType}
 use Rattle.tp_config.specs.declared.port_type.CompType.{CompType}
 use Rattle.tp_body.specs.Scoping.{declared_port_names}
-use Rattle.tp_body.proofs.Fixed.{absent_place}
+use Rattle.tp_body.proofs.Fixed.{absent_place, contained_at}
 use Rattle.tp_body.proofs.PortRules.{ports_more}
 use Rattle.tp_body.proofs.variables.are_no_ports.Goals as goal
 
@@ -20,16 +20,26 @@ loop-place-preserved c =
     (name_here c.args.scope.now.ports.now c.loop-place.place _ c.in-Some.ensures.entry)
     (rw c.as_str.ensures.value at c.in-None.ensures.absent) c.loop-place.invariant
 
-pub returns-in_default-find : goal.returns-in_default-find
-returns-in_default-find c = (
+pub returns-in_default-find-clause-apart : goal.returns-in_default-find-clause-apart
+returns-in_default-find-clause-apart c = (
   λ h. absurd (true≢false (sym h)),
   λ h. absurd (absent_place c.args.scope.now.parameters.now (string_bytes c.in-Some.name.now) _
       (h c.loop-place.place (string_bytes c.in-Some.name.now) (name_here c.args.scope.now.ports.now c.loop-place.place _ c.in-Some.ensures.entry))
       (rw c.as_str.ensures.value at c.in_default-find.ensures.there)),
 )
 
-pub returns : goal.returns
-returns c =
+pub returns-in_default-find-clause-twice : goal.returns-in_default-find-clause-twice
+returns-in_default-find-clause-twice c =
+    let name = string_bytes c.in-Some.name.now in
+    let port = name_here c.args.scope.now.ports.now c.loop-place.place _ c.in-Some.ensures.entry in
+    let there = rw c.as_str.ensures.value at c.in_default-find.ensures.there in (
+      name,
+      contained_at (declared_port_names c.args.scope.now.ports.now) name c.loop-place.place port,
+      contained_at c.args.scope.now.parameters.now name _ there.there,
+    )
+
+pub returns-clause-apart : goal.returns-clause-apart
+returns-clause-apart c =
     let entries = c.args.scope.now.ports.now.ports.entries in (
       λ t k name there.
           let within = slice_get_within (declared_port_names c.args.scope.now.ports.now) k name there in

@@ -1,10 +1,13 @@
 -- The next variable holds what its type says, and its name is new.
-use Rattle.std.proofs.Common.{inr, sym, ◌∙◌, true≢false, arith, subst, take, ◌<◌, ap, length, string_bytes}
+use Rattle.std.proofs.Common.{refl, sym, ◌∙◌, true≢false, arith, subst, take, ◌<◌, ap, length, string_bytes}
 use Rattle.std.proofs.lemmas.List.{length_push}
+use Rattle.std.proofs.lemmas.Option.{slice_get_read}
+use Rattle.tp_name.specs.declared.fault.ModuleRule.TheVariants as rule
 use Rattle.tp_body.specs.Bodies.{AreVariables, no_variable, one_variable_more}
 use Rattle.tp_body.proofs.ValueRules.{pushed}
-use Rattle.tp_body.proofs.Declaring.{next_variable, numbered_more}
-use Rattle.tp_body.proofs.Handing.{handed_on}
+use Rattle.tp_body.specs.BrokenBodies.{VariablesBreak, in_variable, no_type, not_new, too_many}
+use Rattle.tp_body.proofs.Fixed.{absent_contained}
+use Rattle.tp_body.proofs.Telling.{tells_from, told_here}
 use Rattle.tp_body.proofs.variables.resolve_variables.Goals as goal
 
 pub loop-variable-init : goal.loop-variable-init
@@ -25,23 +28,30 @@ loop-variable-preserved c =
       numbered = c.add_variable.ensures.numbered;
     }
 
-pub returns-in_default-clause-refused : goal.returns-in_default-clause-refused
-returns-in_default-clause-refused c = inr (λ h.
-    let n = next_variable c.args.scope.now c.args.declared.now c.loop-variable.variable-index c.variable-item.result c.loop-variable.variables
-    (omega arith) c.variable-item.is c.loop-variable.invariant.declared h in
-    c.in_default.ensures.absent n.held n.is_held)
+pub returns-in_default-clause-told : goal.returns-in_default-clause-told
+returns-in_default-clause-told c =
+    let x = c.variable-item.result in
+    told_here x.line rule.Unknown (VariablesBreak c.args.scope.now c.args.declared.now) _ (cc)
+    (in_variable c.loop-variable.variables c.loop-variable.variable-index x _ c.loop-variable.invariant.declared
+    (slice_get_read c.args.declared.now (length c.args.declared.now) c.loop-variable.variable-index x refl (omega arith) c.variable-item.is)
+    (no_type c.in_default.ensures.absent))
 
-pub returns-then-not-is_new-clause-refused : goal.returns-then-not-is_new-clause-refused
-returns-then-not-is_new-clause-refused c = inr (λ h.
-    let n = next_variable c.args.scope.now c.args.declared.now c.loop-variable.variable-index c.variable-item.result c.loop-variable.variables
-    (omega arith) c.variable-item.is c.loop-variable.invariant.declared h in
-    true≢false (sym ((rw c.as_str-name.ensures.value at c.is_new.ensures.1) n.new) ∙ c.if-not-is_new.true))
+pub returns-then-not-is_new-clause-told : goal.returns-then-not-is_new-clause-told
+returns-then-not-is_new-clause-told c =
+    let x = c.variable-item.result in
+    told_here x.line rule.Duplicate (VariablesBreak c.args.scope.now c.args.declared.now) _ (cc)
+    (in_variable c.loop-variable.variables c.loop-variable.variable-index x _ c.loop-variable.invariant.declared
+    (slice_get_read c.args.declared.now (length c.args.declared.now) c.loop-variable.variable-index x refl (omega arith) c.variable-item.is)
+    (not_new c.in-Some.held c.in-Some.ensures.there
+    (λ h. true≢false (sym ((rw c.as_str-name.ensures.value at c.is_new.ensures.1) h) ∙ c.if-not-is_new.true))))
 
-pub returns-in_err-add_variable-clause-refused : goal.returns-in_err-add_variable-clause-refused
-returns-in_err-add_variable-clause-refused c =
-    handed_on c.from_residual.result _ c.from_residual.ensures.1 c.in_err-add_variable.ensures.refused (λ h.
+pub returns-in_err-add_variable-clause-told : goal.returns-in_err-add_variable-clause-told
+returns-in_err-add_variable-clause-told c =
     let x = c.variable-item.result in
     let vs = c.loop-variable.variables in
-    let n = next_variable c.args.scope.now c.args.declared.now c.loop-variable.variable-index x vs (omega arith) c.variable-item.is
-    c.loop-variable.invariant.declared h in
-    rw c.as_str-name.ensures.value (numbered_more vs.names (string_bytes x.name) c.loop-variable.invariant.numbered n.few n.new.no_variable))
+    let new = rw c.as_str-name.ensures.value at c.is_new.ensures.0 c.if-not-is_new.false in
+    tells_from _ _ _ c.from_residual.result _ c.from_residual.ensures.1
+    (λ r h. rw h.0 (in_variable vs c.loop-variable.variable-index x _ c.loop-variable.invariant.declared
+    (slice_get_read c.args.declared.now (length c.args.declared.now) c.loop-variable.variable-index x refl (omega arith) c.variable-item.is)
+    (too_many c.in-Some.held c.in-Some.ensures.there new h.1)))
+    (c.in_err-add_variable.ensures.told (rw c.as_str-name.ensures.value (absent_contained vs.names (string_bytes x.name) new.no_variable)))

@@ -4,6 +4,12 @@ use Rattle.tp_setup.specs.Components.{CanAdd, interface}
 use Rattle.tp_setup.proofs.Adding.{interface_is, only_one}
 use Rattle.tp_setup.proofs.Refusing.{handed_on}
 use Rattle.tp_setup.proofs.Creating.{adds_more, adds_none}
+use Rattle.std.proofs.Common.{codes, string_bytes}
+use Rattle.tp_config.specs.declared.port_type.Role.TheVariants as role
+use Rattle.tp_name.specs.Refused.{TellsAt}
+use Rattle.tp_setup.specs.Additions.{AdditionBreaks, AwaitsInterface, InterfaceBreaks}
+use Rattle.tp_setup.proofs.CreationsTold.{interface_told}
+use Rattle.tp_setup.proofs.Telling.{at_map, handed}
 use Rattle.tp_setup.proofs.components.add_interface.Goals as goal
 
 pub returns-clause-added : goal.returns-clause-added
@@ -18,3 +24,12 @@ returns-in_err-number-clause-refused c =
     (λ each. rw c.as_str.ensures.value
     (only_one (λ x. CanAdd c.args.types.now x c.args.config.now) (interface c.args.case.now) _
     (interface_is c.args.case.now c.in-Some.system c.in-Some.is) each))
+
+pub returns-in_err-number-clause-told : goal.returns-in_err-number-clause-told
+returns-in_err-number-clause-told c = λ (w : AwaitsInterface _ _ _).
+    handed (TellsAt c.args.line (InterfaceBreaks c.args.case.now c.args.config.now)) c.from_residual.result _ c.from_residual.ensures.1
+    (at_map c.args.line
+    (AdditionBreaks c.args.types.now (record { name = codes "system"; type_name = string_bytes c.in-Some.system; role = role.System }) c.args.config.now)
+    (InterfaceBreaks c.args.case.now c.args.config.now) c.in_err-number.field-0.0
+    (interface_told c.args.types.now c.args.case.now c.args.config.now c.in-Some.system c.in-Some.is w)
+    (rw c.as_str.ensures.value at (c.in_err-number.ensures.told w.typed)))

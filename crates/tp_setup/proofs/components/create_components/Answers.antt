@@ -6,6 +6,7 @@ use Rattle.tp_setup.proofs.Lookups.{creation_among}
 use Rattle.tp_setup.proofs.Refusing.{breaks_part}
 use Rattle.tp_setup.specs.Components.{AddsAll, created, creations, variable}
 use Rattle.tp_setup.proofs.Creating.{adds_more, no_creation, one_creation, sound_more}
+use Rattle.tp_setup.proofs.CreationsTold.{room_more, stops_told}
 use Rattle.tp_setup.proofs.components.create_components.Goals as goal
 
 pub loop-i-preserved-in_default : goal.loop-i-preserved-in_default
@@ -46,3 +47,14 @@ returns-in-Err-clause-refused c =
     (creations (drop (i + 1) xs)) (creations xs) c.in-Some.creation.now c.args.config.now c.loop-i.config
     (creation_among xs i c.index-setups-i.result (omega arith) c.index-setups-i.is c.in-Some.creation.now c.in-Some.ensures) c.loop-i.invariant.names
     c.loop-i.invariant.added) c.in-Err.ensures.refused
+
+pub returns-in-Err-clause-told : goal.returns-in-Err-clause-told
+returns-in-Err-clause-told c = λ others room.
+    let rules = c.args.rules.now in
+    let xs = c.args.setups.now in
+    let before = c.loop-i.invariant in
+    stops_told rules.types.now rules.ports.now others c.loop-i.variables rules.most xs c.loop-i.i c.index-setups-i.result c.in-Some.creation.now
+    c.in-Err.fault (omega arith) c.index-setups-i.is c.in-Some.ensures before.names before.sound
+    (c.in-Err.ensures.told others
+    (room_more rules.types.now rules.ports.now others c.loop-i.variables rules.most (creations (take c.loop-i.i xs)) c.args.config.now c.loop-i.config
+    before.names before.sound before.added room))

@@ -3,6 +3,10 @@ use Rattle.std.proofs.Common.{arith, option_map, string_bytes}
 use Rattle.tp_setup.specs.Sorted.{AreSound, IsSoundIn}
 use Rattle.tp_setup.proofs.Refusing.{all_at, handed_fact}
 use Rattle.tp_setup.proofs.Steps.{all_more, all_whole}
+use Rattle.tp_name.specs.Refused.{Tells}
+use Rattle.tp_setup.specs.BrokenDefinitions.{DefinitionsBreak}
+use Rattle.tp_setup.proofs.DefinitionsTold.{definition_among}
+use Rattle.tp_setup.proofs.Telling.{handed}
 use Rattle.tp_setup.proofs.definitions.check_definitions.Goals as goal
 
 pub loop-definition-preserved : goal.loop-definition-preserved
@@ -22,3 +26,12 @@ returns-in_err-check_definition-clause-refused c =
     (λ (h : AreSound c.args.sorted.now (option_map string_bytes c.args.system.now) c.args.definitions.now). c.in_err-check_definition.ensures.refused
     (all_at (IsSoundIn c.args.sorted.now (option_map string_bytes c.args.system.now)) c.args.definitions.now c.loop-definition.definition-index
     c.definition-item.result (omega arith) c.definition-item.is h))
+
+pub returns-in_err-check_definition-clause-told : goal.returns-in_err-check_definition-clause-told
+returns-in_err-check_definition-clause-told c =
+    let s = c.args.sorted.now in
+    let system = option_map string_bytes c.args.system.now in
+    handed (Tells (DefinitionsBreak s.type_names s.port_names s.component_names system c.args.definitions.now)) c.from_residual.result _
+    c.from_residual.ensures.1
+    (definition_among s.type_names s.port_names s.component_names system c.args.definitions.now c.loop-definition.definition-index c.definition-item.result
+    c.in_err-check_definition.field-0.0 (omega arith) c.definition-item.is c.loop-definition.invariant c.in_err-check_definition.ensures.told)

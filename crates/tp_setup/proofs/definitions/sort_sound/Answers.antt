@@ -5,6 +5,10 @@ use Rattle.tp_setup.specs.Rules.{HasUniqueNames}
 use Rattle.tp_setup.specs.Sorted.{AreSound, HasSoundDefinitions}
 use Rattle.tp_setup.proofs.Refusing.{handed_break, handed_on}
 use Rattle.tp_setup.proofs.Sound.{sound_all}
+use Rattle.tp_name.specs.Refused.{Tells}
+use Rattle.tp_setup.specs.BrokenDefinitions.{DefinitionsBreak, DefinitionsOfBreak}
+use Rattle.tp_setup.proofs.DefinitionsTold.{told_all}
+use Rattle.tp_setup.proofs.Telling.{handed, memory_left, tells_memory}
 use Rattle.tp_setup.proofs.definitions.sort_sound.Goals as goal
 
 pub returns-clause-sound : goal.returns-clause-sound
@@ -31,3 +35,22 @@ returns-in_err-check_definitions-clause-refused c =
     (sound_all (type_names m) s.type_names (port_type_names m) s.port_names (component_type_names m) s.component_names
     (option_map string_bytes c.args.case.now.system) m.definitions.items (sym c.in_ok-sorted.ensures.sorted.types.names_are)
     (sym c.in_ok-sorted.ensures.sorted.ports.names_are) (sym c.in_ok-sorted.ensures.sorted.components.names_are) h.1)))
+
+pub returns-in_err-sorted-clause-told : goal.returns-in_err-sorted-clause-told
+returns-in_err-sorted-clause-told c = λ unique.
+    handed (Tells (DefinitionsOfBreak c.args.parsed.now c.args.case.now)) c.from_residual.result _ c.from_residual.ensures.1
+    (tells_memory (DefinitionsOfBreak c.args.parsed.now c.args.case.now) c.in_err-sorted.field-0.0
+    (memory_left (HasUniqueNames c.args.parsed.now) c.in_err-sorted.field-0.0 c.in_err-sorted.ensures.refused unique))
+
+pub returns-in_err-check_definitions-clause-told : goal.returns-in_err-check_definitions-clause-told
+returns-in_err-check_definitions-clause-told c = λ unique.
+    let s = c.in_ok-sorted.sorted in
+    let m = c.args.parsed.now in
+    let system = option_map string_bytes c.args.case.now.system in
+    let fault = c.in_err-check_definitions.field-0.0 in
+    handed (Tells (DefinitionsOfBreak m c.args.case.now)) c.from_residual-in_err-check_definitions.result _
+    c.from_residual-in_err-check_definitions.ensures.1
+    (told_all s.type_names (type_names m) s.port_names (port_type_names m) s.component_names (component_type_names m) system m.definitions.items fault
+    c.in_ok-sorted.ensures.sorted.types.names_are c.in_ok-sorted.ensures.sorted.ports.names_are c.in_ok-sorted.ensures.sorted.components.names_are
+    (subst (λ l. Tells (DefinitionsBreak s.type_names s.port_names s.component_names system l) fault) c.deref.ensures.value
+    c.in_err-check_definitions.ensures.told))

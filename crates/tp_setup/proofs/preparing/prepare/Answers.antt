@@ -9,6 +9,11 @@ use Rattle.tp_setup.specs.Starting.{AreStarts}
 use Rattle.tp_setup.specs.Prepared.{IsConfigOf}
 use Rattle.tp_setup.proofs.OneModule.{declared_part, own_made}
 use Rattle.tp_setup.proofs.Refusing.{handed_on}
+use Rattle.tp_name.specs.Refused.{Tells}
+use Rattle.tp_setup.specs.Broken.{DeclarationsBreak, ThirdPassBreaks, third_pass}
+use Rattle.tp_setup.specs.Sorted.{component_types_in, functions_in}
+use Rattle.tp_setup.proofs.PreparedTold.{case_known, third_told}
+use Rattle.tp_setup.proofs.Telling.{handed, tells_map}
 use Rattle.tp_setup.proofs.preparing.prepare.Goals as goal
 
 pub set_up_and_start-requires-clause-components : goal.set_up_and_start-requires-clause-components
@@ -54,6 +59,7 @@ returns-clause-made c =
     let made = c.in_ok-case.ensures.defined in
     record {
       one_test_case = c.in_ok-case.ensures.case;
+      begins = c.in_ok-case.ensures.begins;
       sorted = made.sorted;
       types = made.types;
       config = record {
@@ -75,3 +81,20 @@ returns-in_err-configured-clause-refused c =
     handed_on c.from_residual-in_err-configured.result _ c.from_residual-in_err-configured.ensures.1
     (c.in_err-configured.ensures.refused (own_made m d made c.in_ok-case.ensures.names))
     (declared_part m d made c.in_ok-case.ensures.case)
+
+pub returns-in_err-configured-clause-told : goal.returns-in_err-configured-clause-told
+returns-in_err-configured-clause-told c =
+    let m = c.args.parsed.now in
+    let d = c.in_ok-case.field-0 in
+    let case = d.case.case.now in
+    let line = d.case.line in
+    let found = c.in_ok-case.ensures in
+    handed (Tells (DeclarationsBreak m)) c.from_residual-in_err-configured.result _ c.from_residual-in_err-configured.ensures.1
+    (tells_map
+    (ThirdPassBreaks d.sorted.component_names (component_types_in d.sorted) (map ports_of d.components.items) (functions_in d.sorted) case line)
+    (DeclarationsBreak m) c.in_err-configured.field-0.0
+    (λ rule at b. third_pass case line rule at
+    (record { one_test_case = found.case; names = found.names; definitions = found.sound; begins = found.begins })
+    (third_told m d found.defined case line rule at b))
+    (c.in_err-configured.ensures.told (own_made m d found.defined found.names)
+    (case_known m d.sorted.component_names case line found.defined.sorted.components.names_are found.begins found.sound)))

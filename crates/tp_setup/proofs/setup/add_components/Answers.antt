@@ -10,6 +10,13 @@ use Rattle.tp_setup.proofs.Ready.{main_added, main_can}
 use Rattle.tp_setup.proofs.Refusing.{handed_on}
 use Rattle.tp_setup.proofs.Setting.{adds_main}
 use Rattle.tp_setup.proofs.TypePorts.{have_ports}
+use Rattle.tp_name.specs.Refused.{Tells}
+use Rattle.tp_tree.specs.declared.tree.Defined.TheVariants as defined
+use Rattle.tp_setup.specs.BrokenSetup.{CaseSetupBreaks}
+use Rattle.tp_setup.specs.Components.{CanAdd}
+use Rattle.tp_setup.specs.Rules.{AreComponentTypesKnown}
+use Rattle.tp_setup.proofs.SetupTold.{main_free}
+use Rattle.tp_setup.proofs.Telling.{handed, memory_left, tells_memory}
 use Rattle.tp_setup.proofs.setup.add_components.Goals as goal
 
 pub returns-clause-added : goal.returns-clause-added
@@ -38,3 +45,25 @@ returns-clause-refused c =
     let names = c.args.sorted.now.component_names in
     subst (λ t. AreOwnPorts types t → IfErr c.create_all.result (Breaks (CanSetUp names types t c.args.case.case.now)))
     (ap (λ s. s.types) c.in_ok-add_component.ensures.added.added) c.create_all.ensures.refused
+
+pub returns-in_err-add_component-clause-told : goal.returns-in_err-add_component-clause-told
+returns-in_err-add_component-clause-told c = λ own known.
+    let types = component_types_in c.args.sorted.now in
+    let names = c.args.sorted.now.component_names in
+    let case = c.args.case.case.now in
+    let made = c.args.config.now.types in
+    let P = CaseSetupBreaks names types made case c.args.case.line in
+    handed (Tells P) c.from_residual.result _ c.from_residual.ensures.1
+    (tells_memory P c.in_err-add_component.field-0.0
+    (memory_left (CanAdd names (main_component case) c.args.config.now) c.in_err-add_component.field-0.0
+    (rw c.as_str.ensures.value at c.in_err-add_component.ensures.refused)
+    (main_free names made case c.args.config.now (have_ports types names made c.requires.named own) known.0 c.requires.empty)))
+
+pub returns-clause-told : goal.returns-clause-told
+returns-clause-told c =
+    let types = component_types_in c.args.sorted.now in
+    let names = c.args.sorted.now.component_names in
+    let case = c.args.case.case.now in
+    subst (λ t. AreOwnPorts types t → AreComponentTypesKnown names (defined.TestCase case)
+    → IfErr c.create_all.result (Tells (CaseSetupBreaks names types t case c.args.case.line)))
+    (ap (λ s. s.types) c.in_ok-add_component.ensures.added.added) c.create_all.ensures.told

@@ -9,6 +9,14 @@ use Rattle.tp_setup.proofs.Ready.{all_ready, interface_ready}
 use Rattle.tp_setup.proofs.Refusing.{breaks_part, handed_on}
 use Rattle.tp_setup.proofs.Setting.{set_up_is}
 use Rattle.tp_setup.proofs.TypePorts.{have_ports}
+use Rattle.std.proofs.Common.{[], append-nil, map, ◌∷◌}
+use Rattle.tp_name.specs.Refused.{Tells}
+use Rattle.tp_config.specs.Setup.{Setup, empty_setup}
+use Rattle.tp_setup.specs.Additions.{InterfaceBreaks}
+use Rattle.tp_setup.specs.BrokenSetup.{CaseSetupBreaks, PairsBreak}
+use Rattle.tp_setup.specs.Components.{AddsAll, created, creations, main_component}
+use Rattle.tp_setup.proofs.SetupTold.{awaits, beside_told, interface_breaks, pairs_told, small_variables}
+use Rattle.tp_setup.proofs.Telling.{handed, tells_from}
 use Rattle.tp_setup.proofs.setup.configure.Goals as goal
 
 pub returns-clause-config : goal.returns-clause-config
@@ -42,3 +50,46 @@ returns-clause-refused c = λ own.
     (c.connect_all.ensures.refused
     (subst HaveOwnPorts (sym (c.in_ok-system.ensures.added.types_stay ∙ c.in_ok-add_components.ensures.added.types_stay))
     (have_ports types names made c.requires.named own).own))
+
+pub returns-in_err-system-clause-told : goal.returns-in_err-system-clause-told
+returns-in_err-system-clause-told c = λ own known.
+    let types = component_types_in c.args.sorted.now in
+    let names = c.args.sorted.now.component_names in
+    let made = c.args.config.now.types in
+    let case = c.args.case.case.now in
+    let line = c.args.case.line in
+    let s = c.add_components.new.config in
+    let sound = c.in_ok-add_components.ensures.sound in
+    let added : AddsAll names (main_component case ∷ map created (creations case.setups.items)) (empty_setup made) s =
+    subst (λ (z : Setup). AddsAll names (main_component case ∷ map created (creations case.setups.items)) z s) c.requires.empty
+    c.in_ok-add_components.ensures.added in
+    handed (Tells (CaseSetupBreaks names types made case line)) c.from_residual-in_err-system.result _ c.from_residual-in_err-system.ensures.1
+    (tells_from line (InterfaceBreaks case s) (CaseSetupBreaks names types made case line) c.in_err-system.field-0.0
+    (λ rule b. record {
+      ports = sound.ports;
+      has_ports = sound.has_ports;
+      breaks = interface_breaks names sound.ports made case line case.setups.items sound.sound s added [] (sym (append-nil case.setups.items)) rule b;
+    })
+    (c.in_err-system.ensures.told (awaits names sound.ports made case line case.setups.items sound.sound s added
+    (have_ports types names made c.requires.named own) known)))
+
+pub returns-clause-told : goal.returns-clause-told
+returns-clause-told c = λ own known.
+    let types = component_types_in c.args.sorted.now in
+    let names = c.args.sorted.now.component_names in
+    let made = c.args.config.now.types in
+    let case = c.args.case.case.now in
+    let line = c.args.case.line in
+    let first = c.add_components.new.config in
+    let s = c.add_interface.new.config in
+    let sound = c.in_ok-add_components.ensures.sound in
+    let system = component_number c.in_ok-system.system in
+    let added : AddsAll names (main_component case ∷ map created (creations case.setups.items)) (empty_setup made) first =
+    subst (λ (z : Setup). AddsAll names (main_component case ∷ map created (creations case.setups.items)) z first) c.requires.empty
+    c.in_ok-add_components.ensures.added in
+    IfErr-weaker c.connect_all.result (Tells (PairsBreak system s case.setups.items)) (Tells (CaseSetupBreaks names types made case line))
+    (λ f told. beside_told names sound.ports types made case line sound.has_ports f
+    (pairs_told names sound.ports made case line case.setups.items sound.sound first added s c.in_ok-system.ensures.added system
+    c.in_ok-system.ensures.number [] f (sym (append-nil case.setups.items)) told))
+    (rw c.deref.ensures.value at (c.connect_all.ensures.told
+    (rw c.deref.ensures.value (small_variables names sound.ports case case.setups.items sound.sound))))

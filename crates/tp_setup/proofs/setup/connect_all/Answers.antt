@@ -6,6 +6,10 @@ use Rattle.tp_setup.proofs.Connecting.{makes_more, variables_more}
 use Rattle.tp_setup.proofs.Making.{makes_types, next_step}
 use Rattle.tp_setup.proofs.Refusing.{handed_on}
 use Rattle.tp_setup.specs.Configuring.{HaveOwnPorts}
+use Rattle.tp_name.specs.Refused.{Tells}
+use Rattle.tp_setup.specs.BrokenSetup.{PairsBreak}
+use Rattle.tp_setup.proofs.PairsTold.{numbered_next, pair_among}
+use Rattle.tp_setup.proofs.Telling.{handed}
 use Rattle.tp_setup.proofs.setup.connect_all.Goals as goal
 
 pub loop-setup-init : goal.loop-setup-init
@@ -32,3 +36,16 @@ returns-in_err-add_setup-clause-refused c = λ own.
     (subst HaveOwnPorts (sym (makes_types system c.args.config.now (take i xs) c.loop-setup.config c.loop-setup.invariant.makes)) own))
     (next_step system c.args.config.now own xs i c.setup-item.result c.loop-setup.config c.loop-setup.known (omega arith) c.setup-item.is
     c.loop-setup.invariant.makes c.loop-setup.invariant.known)
+
+pub returns-in_err-add_setup-clause-told : goal.returns-in_err-add_setup-clause-told
+returns-in_err-add_setup-clause-told c = λ own.
+    let xs = c.args.setups.now in
+    let i = c.loop-setup.setup-index in
+    let x = c.setup-item.result in
+    let system = component_number c.args.system in
+    let before = c.loop-setup.invariant in
+    handed (Tells (PairsBreak system c.args.config.now xs)) c.from_residual.result _ c.from_residual.ensures.1
+    (pair_among xs i x (omega arith) c.setup-item.is c.loop-setup.known before.known system c.args.config.now c.loop-setup.config
+    c.in_err-add_setup.field-0.0 before.makes
+    (c.in_err-add_setup.ensures.told before.numbered
+    (numbered_next xs i x (omega arith) c.setup-item.is c.loop-setup.known before.known own)))

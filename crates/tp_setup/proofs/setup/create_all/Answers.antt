@@ -3,6 +3,12 @@ use Rattle.std.proofs.lemmas.Result.{IfErr-weaker}
 use Rattle.tp_setup.specs.Sorted.{component_types_in}
 use Rattle.tp_setup.proofs.Refusing.{breaks_part, handed_on}
 use Rattle.tp_setup.proofs.TypePorts.{can_beside, have_ports}
+use Rattle.std.proofs.Common.{string_bytes, List, ℕ}
+use Rattle.tp_name.specs.Refused.{Tells}
+use Rattle.tp_setup.specs.BrokenSetup.{CaseSetupBreaks, SetupBreaks}
+use Rattle.tp_setup.specs.Components.{HasPorts}
+use Rattle.tp_setup.proofs.SetupTold.{beside_told, ports_there}
+use Rattle.tp_setup.proofs.Telling.{handed, memory_left, tells_memory}
 use Rattle.tp_setup.proofs.setup.create_all.Goals as goal
 
 pub returns-in_err-ports-clause-refused : goal.returns-in_err-ports-clause-refused
@@ -19,3 +25,26 @@ returns-clause-refused c = λ own.
     (can_beside types names c.in_ok-ports.ports c.args.config.now.types c.args.case.case.now c.requires.named c.in_ok-ports.ensures.distinct
     (rw c.as_str-runs_on.ensures.value at c.in_ok-ports.ensures.ports)))
     (c.create_beside.ensures.refused (have_ports types names c.args.config.now.types c.requires.named own))
+
+pub returns-in_err-ports-clause-told : goal.returns-in_err-ports-clause-told
+returns-in_err-ports-clause-told c = λ own known.
+    let types = component_types_in c.args.sorted.now in
+    let names = c.args.sorted.now.component_names in
+    let case = c.args.case.case.now in
+    let P = CaseSetupBreaks names types c.args.config.now.types case c.args.case.line in
+    handed (Tells P) c.from_residual.result _ c.from_residual.ensures.1
+    (tells_memory P c.in_err-ports.field-0.0
+    (memory_left ((ports : List (List ℕ)) × HasPorts types (string_bytes case.runs_on) ports) c.in_err-ports.field-0.0
+    (rw c.as_str-runs_on.ensures.value at (c.in_err-ports.ensures.refused own.numbered))
+    (ports_there types names (string_bytes case.runs_on) c.requires.named known.0)))
+
+pub returns-clause-told : goal.returns-clause-told
+returns-clause-told c = λ own known.
+    let types = component_types_in c.args.sorted.now in
+    let names = c.args.sorted.now.component_names in
+    let case = c.args.case.case.now in
+    let made = c.args.config.now.types in
+    IfErr-weaker c.create_beside.result (Tells (SetupBreaks names c.in_ok-ports.ports made case c.args.case.line))
+    (Tells (CaseSetupBreaks names types made case c.args.case.line))
+    (beside_told names c.in_ok-ports.ports types made case c.args.case.line (rw c.as_str-runs_on.ensures.value at c.in_ok-ports.ensures.ports))
+    (c.create_beside.ensures.told (have_ports types names made c.requires.named own) known)

@@ -3,6 +3,11 @@ use Rattle.std.proofs.Common.{subst}
 use Rattle.tp_setup.specs.Configuring.{CanSetUpBeside, HavePorts}
 use Rattle.tp_setup.proofs.Ready.{beside_can, has_first}
 use Rattle.tp_setup.proofs.Refusing.{breaks_part}
+use Rattle.std.proofs.Common.{codes, sym, ◌∷◌, []}
+use Rattle.tp_name.specs.Refused.{Tells}
+use Rattle.tp_setup.specs.Additions.{StopsAt}
+use Rattle.tp_setup.specs.BrokenSetup.{SetupBreaks}
+use Rattle.tp_setup.proofs.SetupTold.{room_first}
 use Rattle.tp_setup.proofs.setup.create_beside.Goals as goal
 
 pub first_fault-requires : goal.first_fault-requires
@@ -17,3 +22,16 @@ first_fault-requires c =
           c.deref.ensures.value c.most_variables.ensures (subst (HavePorts c.args.types.now) stay have) c.requires.main
           (subst (λ t. CanSetUpBeside c.args.types.now c.args.ports.now t case) stay r)) c.in-Err.ensures.refused;
     }
+
+pub returns-in-Err-clause-told : goal.returns-in-Err-clause-told
+returns-in-Err-clause-told c = λ have known.
+    let names = c.args.types.now in
+    let case = c.args.case.case.now in
+    let stay = c.in-Err.ensures.stopped.added.types_stay in
+    let stops : StopsAt names c.args.ports.now (codes "mtc" ∷ []) c.most_variables.result c.deref.result.now c.in-Err.stopped.before.now
+    c.in-Err.stopped.fault =
+    c.in-Err.ensures.told (codes "mtc" ∷ [])
+    (room_first names case c.args.config.now.types c.args.config.now c.most_variables.result have c.requires.main c.most_variables.ensures) in
+    subst (λ t. Tells (SetupBreaks names c.args.ports.now t case c.args.case.line) c.first_fault.result) stay
+    (c.first_fault.ensures.told (subst (HavePorts names) (sym stay) have) known
+    (rw (c.most_variables.ensures, c.deref.ensures.value) at stops))

@@ -5,18 +5,22 @@ use Rattle.tp_setup.specs.Configuring.{HaveOwnPorts}
 use Rattle.tp_setup.proofs.Ready.{interface_can}
 use Rattle.tp_setup.proofs.Refusing.{breaks_part}
 use Rattle.tp_setup.proofs.Stopping.{before_can}
+use Rattle.tp_setup.specs.Additions.{InterfaceBreaks, StopsAt}
+use Rattle.tp_setup.specs.BrokenSetup.{SetupBreaks}
+use Rattle.tp_setup.proofs.SetupTold.{awaits, interface_breaks, pairs_told, small_variables, stopped_told}
+use Rattle.tp_setup.proofs.Telling.{tells_from}
 use Rattle.tp_setup.proofs.setup.first_fault.Goals as goal
 use Rattle.tp_setup.proofs.setup.first_fault.Goals.{in-Ok-connect_all, in-Err-connect_all}
 
-pub returns-in-Err : goal.returns-in-Err
-returns-in-Err c = λ have.
+pub returns-in-Err-clause-broken : goal.returns-in-Err-clause-broken
+returns-in-Err-clause-broken c = λ have.
     let first = c.requires.first in
     breaks_part _ _ c.in-Err.fault
     (λ r. interface_can c.args.rules.now.types.now c.args.config.now.types c.args.case.case.now r.config r.is_set_up have c.args.config.now r.sound.few
     c.args.stopped.before.now first.rest first.all first.added) c.in-Err.ensures.refused
 
-pub returns : goal.returns
-returns c = λ have.
+pub returns-clause-broken : goal.returns-clause-broken
+returns-clause-broken c = λ have.
     elim c.match-connect_all.branch [
       | in-Ok-connect_all w ↦ rw w.result-is (c.requires.broken have)
       | in-Err-connect_all w ↦
@@ -25,4 +29,37 @@ returns c = λ have.
           (before_can c.args.rules.now.types.now c.args.rules.now.ports.now c.args.case.case.now c.args.stopped.before.now c.args.config.now
           c.add_interface.new.config (component_number c.in-Ok.system) c.requires.first c.in-Ok.ensures.added c.in-Ok.ensures.number)
           (w.in-Err-connect_all.ensures.refused (subst HaveOwnPorts (sym c.in-Ok.ensures.added.types_stay) have.own)))
+    ]
+
+pub returns-in-Err-clause-told : goal.returns-in-Err-clause-told
+returns-in-Err-clause-told c = λ have known (stops : StopsAt _ _ _ _ _ _ _).
+    let rules = c.args.rules.now in
+    let case = c.args.case.case.now in
+    let line = c.args.case.line in
+    let s = c.args.config.now in
+    let before = c.args.stopped.before.now in
+    let first = c.requires.first in
+    tells_from line (InterfaceBreaks case s) (SetupBreaks rules.types.now rules.ports.now s.types case line) c.in-Err.fault
+    (interface_breaks rules.types.now rules.ports.now s.types case line before stops.sound s first.added first.rest first.all)
+    (c.in-Err.ensures.told (awaits rules.types.now rules.ports.now s.types case line before stops.sound s first.added have known))
+
+pub returns-clause-told : goal.returns-clause-told
+returns-clause-told c = λ have known (stops : StopsAt _ _ _ _ _ _ _).
+    let rules = c.args.rules.now in
+    let case = c.args.case.case.now in
+    let line = c.args.case.line in
+    let s = c.args.config.now in
+    let before = c.args.stopped.before.now in
+    let first = c.requires.first in
+    let system = component_number c.in-Ok.system in
+    elim c.match-connect_all.branch [
+      | in-Ok-connect_all w ↦
+          rw w.result-is
+          (stopped_told rules.types.now rules.ports.now s.types case line before stops.sound s first.added c.add_interface.new.config
+          c.in-Ok.ensures.added system c.in-Ok.ensures.number _ c.args.stopped.fault stops w.in-Ok-connect_all.ensures.makes)
+      | in-Err-connect_all w ↦
+          rw w.result-is
+          (pairs_told rules.types.now rules.ports.now s.types case line before stops.sound s first.added c.add_interface.new.config
+          c.in-Ok.ensures.added system c.in-Ok.ensures.number first.rest w.in-Err-connect_all.fault first.all
+          (w.in-Err-connect_all.ensures.told (small_variables rules.types.now rules.ports.now case before stops.sound)))
     ]

@@ -10,6 +10,11 @@ use Rattle.tp_setup.proofs.Naming.{numbered_first}
 use Rattle.tp_setup.proofs.Refusing.{handed_on, mapped_behind}
 use Rattle.tp_setup.proofs.Steps.{pushed, zip_more}
 use Rattle.tp_setup.proofs.Zips.{zip_here}
+use Rattle.tp_name.specs.Refused.{Tells}
+use Rattle.tp_setup.specs.BrokenStarts.{StartBreaksAmong}
+use Rattle.tp_setup.proofs.Naming.{repeated}
+use Rattle.tp_setup.proofs.StartsTold.{start_among}
+use Rattle.tp_setup.proofs.Telling.{handed}
 use Rattle.tp_setup.proofs.starting.check_each.Goals as goal
 
 pub loop-start-preserved : goal.loop-start-preserved
@@ -48,3 +53,28 @@ returns-in_err-one-clause-refused c = λ few.
     handed_on c.from_residual-in_err-one.result _ c.from_residual-in_err-one.ensures.1 (c.in_err-one.ensures.refused few)
     (λ r. zip_here (IsStartOf (functions_in c.args.sorted.now) c.args.variables.now (map (λ t. t.now) c.args.types.now)) c.args.starts.now r.0
     c.loop-start.start-index c.start-item.result r.1 (omega arith) c.start-item.is)
+
+pub returns-in_err-add_started-clause-told : goal.returns-in_err-add_started-clause-told
+returns-in_err-add_started-clause-told c = λ few.
+    let functions = functions_in c.args.sorted.now in
+    let types = map (λ t. t.now) c.args.types.now in
+    let xs = c.args.starts.now in
+    let before = c.loop-start.invariant in
+    handed (Tells (StartBreaksAmong functions c.args.variables.now types xs)) c.from_residual.result _ c.from_residual.ensures.1
+    (start_among functions c.args.variables.now types xs c.loop-start.start-index c.start-item.result c.loop-start.names c.loop-start.started.items
+    c.in_err-add_started.field-0.0 (omega arith) c.start-item.is before.started before.names before.numbered
+    (c.in_err-add_started.ensures.told functions types))
+
+pub returns-in_err-one-clause-told : goal.returns-in_err-one-clause-told
+returns-in_err-one-clause-told c = λ few.
+    let functions = functions_in c.args.sorted.now in
+    let types = map (λ t. t.now) c.args.types.now in
+    let xs = c.args.starts.now in
+    let before = c.loop-start.invariant in
+    let x = c.start-item.result in
+    let own = subst IsNumbered c.in_ok-add_started.ensures.added c.in_ok-add_started.ensures.numbered in
+    handed (Tells (StartBreaksAmong functions c.args.variables.now types xs)) c.from_residual-in_err-one.result _
+    c.from_residual-in_err-one.ensures.1
+    (start_among functions c.args.variables.now types xs c.loop-start.start-index x c.loop-start.names c.loop-start.started.items
+    c.in_err-one.field-0.0 (omega arith) c.start-item.is before.started before.names before.numbered
+    (c.in_err-one.ensures.told c.loop-start.names few (λ h. repeated c.loop-start.names (string_bytes x.component) h own.distinct)))

@@ -5,6 +5,13 @@ use Rattle.std.proofs.lemmas.List.{length-map}
 use Rattle.std.proofs.lemmas.Slice.Zip.{AllZip-long}
 use Rattle.tp_setup.specs.Components.{creations, variable, variables}
 use Rattle.tp_setup.specs.Starting.{IsStartPlace}
+use Rattle.std.proofs.Common.{ℕ}
+use Rattle.tp_name.specs.declared.fault.ModuleRule.{ModuleRule}
+use Rattle.tp_name.specs.declared.fault.ModuleRule.TheVariants.{NotStarted}
+use Rattle.tp_name.specs.Refused.{Tells}
+use Rattle.tp_setup.specs.BrokenStarts.{AfterStartsBreaks, IsNeverStarted, never_started, no_done}
+use Rattle.tp_setup.proofs.StartsTold.{all_started, some_creations}
+use Rattle.tp_setup.proofs.Telling.{handed, tells_map}
 use Rattle.tp_setup.proofs.starting.place_starts.Goals as goal
 
 pub returns-clause-places : goal.returns-clause-places
@@ -19,3 +26,24 @@ returns-clause-done c =
     AllZip-long (IsStartPlace c.args.started.now) (variables case.setups.items) c.in_ok-places.places.items all
     ∙ length-map (creations case.setups.items) variable in
     λ some. c.in_ok-check_done.ensures.done (subst (λ l. 0 < length l) (sym c.deref-2.ensures.value) (omega (arith, some, count)))
+
+pub returns-in_err-places-clause-told : goal.returns-in_err-places-clause-told
+returns-in_err-places-clause-told c =
+    let case = c.args.case.case.now in
+    let P = AfterStartsBreaks c.args.started.now case c.args.case.line in
+    handed (Tells P) c.from_residual.result _ c.from_residual.ensures.1
+    (tells_map (λ (rule : ModuleRule) (line : ℕ). (rule ≡ NotStarted) × IsNeverStarted c.args.started.now case.setups.items line) P
+    c.in_err-places.field-0.0 (λ rule line b. subst (λ r. P r line) (sym b.0) (never_started line b.1))
+    (rw c.deref.ensures.value at c.in_err-places.ensures.told))
+
+pub returns-in_err-check_done-clause-told : goal.returns-in_err-check_done-clause-told
+returns-in_err-check_done-clause-told c =
+    let case = c.args.case.case.now in
+    let started = c.args.started.now in
+    let places = c.in_ok-places.places.items in
+    let all : AllZip (IsStartPlace started) (variables case.setups.items) places = rw (← c.deref.ensures.value) c.in_ok-places.ensures.places in
+    let told = c.in_err-check_done.ensures.told in
+    handed (Tells (AfterStartsBreaks started case c.args.case.line)) c.from_residual-in_err-check_done.result _
+    c.from_residual-in_err-check_done.ensures.1
+    (rw told.0 (no_done (all_started started (variables case.setups.items) places all)
+    (some_creations started case.setups.items places all (rw c.deref-2.ensures.value at told.1)) told.2))

@@ -1,9 +1,14 @@
 -- No two definitions of the module have one name, nor any two names within a definition.
-use Rattle.std.proofs.Common.{◌≡◌, ◌∷◌, [], ◌∙◌, All, ap, arith, inr, length, map, subst, sym}
+use Rattle.std.proofs.Common.{◌≡◌, ◌≢◌, ◌∷◌, [], ◌∙◌, All, ap, arith, inr, length, map, subst, sym}
 use Rattle.tp_tree.specs.declared.tree.Definition.{Definition}
 use Rattle.tp_name.specs.Tables.{IsNumbered}
-use Rattle.tp_setup.specs.Definitions.{among, case_of, inner_names, name_of}
+use Rattle.tp_name.specs.Refused.{Tells}
+use Rattle.tp_setup.specs.BrokenNames.{DefinitionNamesBreak, NamesBreak, in_definition, no_test_case}
+use Rattle.tp_setup.specs.Cases.{cases_of}
+use Rattle.tp_setup.specs.Definitions.{among, case_of, inner_names, name_of, test_cases}
 use Rattle.tp_setup.specs.Rules.{AreNamed, HasOneTestCase, HasUniqueNames}
+use Rattle.tp_setup.proofs.CasesTold.{some_case}
+use Rattle.tp_setup.proofs.Telling.{handed, tells_map}
 use Rattle.tp_setup.proofs.Naming.{no_case}
 use Rattle.tp_setup.proofs.Refusing.{handed_on}
 use Rattle.tp_setup.proofs.unique_names.check_names.Goals as goal
@@ -29,3 +34,25 @@ returns-in_err-found-clause-refused c =
       inner = h.0.inner;
       one_case = omega (arith, ap length h.1.1);
     }))
+
+pub returns-then-not-has_case-clause-told : goal.returns-then-not-has_case-clause-told
+returns-then-not-has_case-clause-told c =
+    let none : among case_of c.args.parsed.now.definitions.items ≡ [] =
+    no_case c.args.parsed.now.definitions.items (rw c.deref.ensures.value at (sym c.has_case.ensures ∙ c.if-not-has_case.true)) in
+    rw c.refused.ensures (no_test_case none)
+
+pub returns-in_err-found-clause-told : goal.returns-in_err-found-clause-told
+returns-in_err-found-clause-told c =
+    let m = c.args.parsed.now in
+    let some : test_cases m ≢ [] =
+    some_case m.definitions.items (rw c.deref.ensures.value at (sym c.has_case.ensures ∙ c.if-not-has_case.false)) in
+    handed (Tells (NamesBreak m)) c.from_residual.result _ c.from_residual.ensures.1
+    (tells_map (DefinitionNamesBreak m.definitions.items) (NamesBreak m) c.in_err-found.field-0.0 (λ rule line b. in_definition rule line some b)
+    (rw c.deref-2.ensures.value at c.in_err-found.ensures.told))
+
+pub returns-in-None-clause-told : goal.returns-in-None-clause-told
+returns-in-None-clause-told c =
+    let m = c.args.parsed.now in
+    let none : test_cases m ≡ [] =
+    ap (among case_of) (sym c.deref-2.ensures.value) ∙ sym c.in_ok-found.ensures.case ∙ ap cases_of c.in-None.is in
+    rw c.refused-in-None.ensures (no_test_case none)

@@ -4,6 +4,10 @@ use Rattle.tp_name.specs.Tables.{IsNumbered}
 use Rattle.tp_setup.specs.Definitions.{declared}
 use Rattle.tp_setup.proofs.Naming.{numbered_first}
 use Rattle.tp_setup.proofs.Refusing.{handed_on, mapped_behind}
+use Rattle.tp_setup.specs.BrokenNames.{DeclaringBreaks}
+use Rattle.tp_name.specs.Refused.{Tells}
+use Rattle.tp_setup.proofs.NamesTold.{map_same, name_among}
+use Rattle.tp_setup.proofs.Telling.{handed}
 use Rattle.tp_setup.proofs.unique_names.declare_all.Goals as goal
 
 pub returns-in_err-add_name-clause-refused : goal.returns-in_err-add_name-clause-refused
@@ -13,3 +17,10 @@ returns-in_err-add_name-clause-refused c =
     (subst IsNumbered
     (mapped_behind declared c.args.names.now c.loop-name.names c.args.list.now c.loop-name.name-index c.name-item.result (omega arith) c.name-item.is
     c.loop-name.invariant.names) h))
+
+pub returns-in_err-add_name-clause-told : goal.returns-in_err-add_name-clause-told
+returns-in_err-add_name-clause-told c =
+    handed (Tells (DeclaringBreaks c.args.names.now c.args.list.now)) c.from_residual.result _ c.from_residual.ensures.1
+    (subst (λ l. Tells (DeclaringBreaks c.args.names.now l) c.in_err-add_name.field-0.0) (map_same c.args.list.now)
+    (name_among (λ n. n) c.args.names.now c.loop-name.names c.args.list.now c.loop-name.name-index c.name-item.result _ (omega arith) c.name-item.is
+    c.loop-name.invariant.names c.loop-name.invariant.numbered c.in_err-add_name.ensures.told))

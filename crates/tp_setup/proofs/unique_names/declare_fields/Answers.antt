@@ -4,6 +4,10 @@ use Rattle.tp_name.specs.Tables.{IsNumbered}
 use Rattle.tp_setup.specs.Definitions.{declared}
 use Rattle.tp_setup.proofs.Naming.{numbered_first}
 use Rattle.tp_setup.proofs.Refusing.{handed_on, mapped_behind}
+use Rattle.tp_setup.specs.BrokenNames.{DeclaringBreaks}
+use Rattle.tp_name.specs.Refused.{Tells}
+use Rattle.tp_setup.proofs.NamesTold.{name_among}
+use Rattle.tp_setup.proofs.Telling.{handed}
 use Rattle.tp_setup.proofs.unique_names.declare_fields.Goals as goal
 
 pub returns-in_err-add_name-clause-refused : goal.returns-in_err-add_name-clause-refused
@@ -13,3 +17,9 @@ returns-in_err-add_name-clause-refused c =
     (subst IsNumbered
     (mapped_behind (λ f. declared f.name) c.args.names.now c.loop-field.names c.args.fields.now c.loop-field.field-index c.field-item.result (omega arith)
     c.field-item.is c.loop-field.invariant.names) h))
+
+pub returns-in_err-add_name-clause-told : goal.returns-in_err-add_name-clause-told
+returns-in_err-add_name-clause-told c =
+    handed (Tells (DeclaringBreaks c.args.names.now (map (λ f. f.name) c.args.fields.now))) c.from_residual.result _ c.from_residual.ensures.1
+    (name_among (λ f. f.name) c.args.names.now c.loop-field.names c.args.fields.now c.loop-field.field-index c.field-item.result _ (omega arith)
+    c.field-item.is c.loop-field.invariant.names c.loop-field.invariant.numbered c.in_err-add_name.ensures.told)

@@ -4,6 +4,10 @@ use Rattle.tp_name.specs.Tables.{IsNumbered}
 use Rattle.tp_setup.specs.Definitions.{declared}
 use Rattle.tp_setup.proofs.Naming.{numbered_first}
 use Rattle.tp_setup.proofs.Refusing.{handed_on, mapped_behind}
+use Rattle.tp_setup.specs.BrokenNames.{DeclaringBreaks}
+use Rattle.tp_name.specs.Refused.{Tells}
+use Rattle.tp_setup.proofs.NamesTold.{name_among}
+use Rattle.tp_setup.proofs.Telling.{handed}
 use Rattle.tp_setup.proofs.unique_names.declare_parameters.Goals as goal
 
 pub returns-in_err-add_name-clause-refused : goal.returns-in_err-add_name-clause-refused
@@ -13,3 +17,9 @@ returns-in_err-add_name-clause-refused c =
     (subst IsNumbered
     (mapped_behind (λ p. declared p.name) c.args.names.now c.loop-parameter.names c.args.parameters.now c.loop-parameter.parameter-index c.parameter-item.result (omega arith)
     c.parameter-item.is c.loop-parameter.invariant.names) h))
+
+pub returns-in_err-add_name-clause-told : goal.returns-in_err-add_name-clause-told
+returns-in_err-add_name-clause-told c = λ numbered.
+    handed (Tells (DeclaringBreaks c.args.names.now (map (λ p. p.name) c.args.parameters.now))) c.from_residual.result _ c.from_residual.ensures.1
+    (name_among (λ p. p.name) c.args.names.now c.loop-parameter.names c.args.parameters.now c.loop-parameter.parameter-index c.parameter-item.result _
+    (omega arith) c.parameter-item.is c.loop-parameter.invariant.names (c.loop-parameter.invariant.numbered numbered) c.in_err-add_name.ensures.told)

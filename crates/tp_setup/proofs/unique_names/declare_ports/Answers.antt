@@ -5,6 +5,10 @@ use Rattle.tp_name.specs.Tables.{IsNumbered}
 use Rattle.tp_setup.specs.Definitions.{declared, declared_ports}
 use Rattle.tp_setup.proofs.Naming.{numbered_first}
 use Rattle.tp_setup.proofs.Refusing.{flat_behind, handed_on}
+use Rattle.tp_setup.specs.BrokenNames.{DeclaringBreaks, port_name_list}
+use Rattle.tp_name.specs.Refused.{Tells}
+use Rattle.tp_setup.proofs.NamesTold.{port_among}
+use Rattle.tp_setup.proofs.Telling.{handed}
 use Rattle.tp_setup.proofs.unique_names.declare_ports.Goals as goal
 
 pub returns-in_err-declare_all-clause-refused : goal.returns-in_err-declare_all-clause-refused
@@ -15,3 +19,9 @@ returns-in_err-declare_all-clause-refused c =
     (subst IsNumbered
     (flat_behind (λ (p : PortDeclaration). map declared p.names.items) c.args.names.now c.loop-port.names c.args.ports.now c.loop-port.port-index
     c.port-item.result (omega arith) c.port-item.is c.loop-port.invariant.names) h)))
+
+pub returns-in_err-declare_all-clause-told : goal.returns-in_err-declare_all-clause-told
+returns-in_err-declare_all-clause-told c =
+    handed (Tells (DeclaringBreaks c.args.names.now (port_name_list c.args.ports.now))) c.from_residual.result _ c.from_residual.ensures.1
+    (port_among c.args.names.now c.loop-port.names c.args.ports.now c.loop-port.port-index c.port-item.result _ (omega arith) c.port-item.is
+    c.loop-port.invariant.names (rw c.deref.ensures.value at c.in_err-declare_all.ensures.told))

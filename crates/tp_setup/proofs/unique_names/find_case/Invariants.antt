@@ -1,8 +1,8 @@
 -- No name so far is given twice, and what was found is the only test case so far, if any.
-use Rattle.std.proofs.Common.{◌≡◌, map, take, All}
+use Rattle.std.proofs.Common.{◌≡◌, map, take, All, IfSome}
 use Rattle.tp_tree.specs.declared.tree.Definition.{Definition}
 use Rattle.tp_name.specs.Tables.{IsNumbered}
-use Rattle.tp_setup.specs.Definitions.{among, case_of, name_of, inner_names}
+use Rattle.tp_setup.specs.Definitions.{BeginsAmong, among, case_of, name_of, inner_names}
 use Rattle.tp_setup.specs.Cases.{cases_of}
 use Rattle.tp_setup.proofs.unique_names.find_case.Given as goal
 
@@ -12,4 +12,5 @@ invariant-loop-definition l = record {
   numbered : IsNumbered l.names;
   case : among case_of (take l.definition-index l.definitions) ≡ cases_of l.case;
   inner : All (λ (x : Definition). IsNumbered (inner_names x.defined)) (take l.definition-index l.definitions);
+  begins : IfSome l.case (λ found. BeginsAmong (take l.definition-index l.definitions) found.case.now found.line);
 }
