@@ -13,3 +13,10 @@ pub mod Sound
 pub mod Declared
 pub mod BodyRules
 pub mod Whole
+pub mod Zips
+pub mod SameMessages
+pub mod SameTemplates
+pub mod SameStatements
+pub mod SameDefinitions
+pub mod SameSetups
+pub mod SameModules

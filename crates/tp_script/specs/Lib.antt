@@ -3,4 +3,5 @@ pub mod Behaviours
 pub mod TestCases
 pub mod Instances
 pub mod Scripts
+pub mod Accepted
 pub mod Told

@@ -6,6 +6,7 @@ mod bodies;
 pub mod checking;
 pub mod fault;
 mod instances;
+pub mod laws;
 pub mod reading;
 mod scopes;
 mod total;

@@ -1,10 +1,12 @@
 pub mod Ahead
+pub mod Contents
 pub mod Definitions
 pub mod Grammar
 pub mod Nesting
 pub mod Passing
 pub mod Reading
 pub mod Refusals
+pub mod Same
 pub mod Sequences
 pub mod Standing
 pub mod Statements

@@ -3,6 +3,7 @@
 
 mod cursor;
 mod definitions;
+pub mod laws;
 mod operations;
 pub mod parser;
 mod parts;

@@ -1,0 +1,18 @@
+-- That a right text is accepted.
+use Rattle.std.specs.Prelude.{ℕ, List}
+use Rattle.tp_tree.specs.declared.tree.Module.{Module}
+use Rattle.tp_script.specs.declared.fault.TestCaseFault.{TestCaseFault}
+use Rattle.tp_script.specs.declared.fault.TestCaseFault.TheVariants.{Refused, Memory}
+use Rattle.tp_script.specs.TestCases.{WellFormed}
+use Rattle.tp_script.specs.Scripts.{IsModuleOf, IsScriptFaultOf}
+
+-- memory was refused
+abbrev pub IsWantOfMemory : TestCaseFault → Type 0
+IsWantOfMemory (Refused rule line) = ⊥
+IsWantOfMemory (Memory m) = Unit {0}
+
+-- a text that is read as a module that obeys the rules is refused for want of memory alone
+abbrev pub ScriptsAreAccepted : Type 0
+ScriptsAreAccepted =
+    (text : List ℕ) (parsed : Module) (fault : TestCaseFault) → IsModuleOf text parsed → WellFormed parsed
+    → IsScriptFaultOf text fault → IsWantOfMemory fault

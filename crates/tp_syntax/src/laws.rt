@@ -1,0 +1,21 @@
+//! Laws of the grammar, each as a function whose contract it is. They do nothing.
+ghost use Rattle.tp_syntax.specs.Same.{ModulesAreUnique, ReadingsAreUnique};
+ghost use Rattle.tp_syntax.specs.Same.{SameModulesHaveSameTokens};
+
+/// The law that modules which are the same but for their lines have the same tokens: that they are
+/// the same leaves nothing out that a token tells. It is the other half of the next law.
+pub fn same_modules_have_same_tokens()
+    ensures { SameModulesHaveSameTokens }
+{}
+
+/// The law that tokens are those of one module of the grammar: two modules of the grammar with the
+/// same tokens are the same but for their lines.
+pub fn modules_are_unique()
+    ensures { ModulesAreUnique }
+{}
+
+/// The law that a text is one module of the grammar, so that what [`parse`](crate::parser::parse)
+/// answers is, but for its lines, the only module of the grammar that the text is read as.
+pub fn readings_are_unique()
+    ensures { ReadingsAreUnique }
+{}
