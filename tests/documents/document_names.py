@@ -102,14 +102,18 @@ def words_of_code(text: str) -> list[str]:
     return sorted(set(chain.from_iterable(map(str.split, shown))))
 
 
+def is_wrong_body(crate: str, name: str) -> bool:
+    """Whether the crate has a wrong body of this name, wherever it stands."""
+    places = (f"crates/{crate}/must-fail", f"tests/wrong_bodies/{crate}/**")
+    return any(glob.glob(f"{place}/{name}.edit", recursive=True) for place in places)
+
+
 def lost_wrong_bodies(text: str) -> Iterator[str]:
     """The wrong bodies, `crate/name`, that a document names and that aren't there."""
     for word in words_of_code(text):
         found = re.fullmatch(r"(tp[a-z]*_[a-z]+)/([a-z0-9_]+)", word)
-        if found:
-            shelves = (f"crates/{found[1]}/must-fail", f"tests/wrong_bodies/{found[1]}")
-            if not any(os.path.isfile(f"{shelf}/{found[2]}.edit") for shelf in shelves):
-                yield f"the wrong body {word}"
+        if found and not is_wrong_body(found[1], found[2]):
+            yield f"the wrong body {word}"
 
 
 def lost_files(text: str) -> Iterator[str]:

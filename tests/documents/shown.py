@@ -149,15 +149,6 @@ def lost(source: str, quote: str) -> Optional[str]:
     return None if quote and f"\n{quote}" in f"\n{text_of(source)}\n" else "it doesn't stand there"
 
 
-def named_wrong_bodies(_: Program) -> Iterator[Case]:
-    """Each wrong body that docs/CONTRACTS.md names is there."""
-    for name in dict.fromkeys(re.findall(r"`(tp_[a-z]+/[a-z_]+)`", text_of("docs/CONTRACTS.md"))):
-        crate, _, edit = name.partition("/")
-        shelves = (f"crates/{crate}/must-fail", f"tests/wrong_bodies/{crate}")
-        is_there = any((ROOT / shelf / f"{edit}.edit").is_file() for shelf in shelves)
-        yield f"docs/CONTRACTS.md names {name}", None if is_there else "there is no such wrong body"
-
-
 # Each group, with how many cases it has at least.
 GROUPS: tuple[tuple[Callable[[Program], Iterator[Case]], int], ...] = (
     (refusal_scripts, 26),
@@ -165,7 +156,6 @@ GROUPS: tuple[tuple[Callable[[Program], Iterator[Case]], int], ...] = (
     (first_example, 4),
     (script_of_the_profile, 1),
     (quoted_contracts, 9),
-    (named_wrong_bodies, 27),
 )
 
 

@@ -34,7 +34,7 @@ import grammar
 
 LIST = ROOT / "tests" / "gate" / "cases.list"
 ENDINGS = ("queue", "ttcn")
-MOST_ENTRIES = 40  # of a folder of tests/golden/
+MOST_ENTRIES = 40  # of a folder of tests/
 
 
 class Kind(Enum):
@@ -92,9 +92,11 @@ def strays() -> Iterator[str]:
 
 def full_folders() -> Iterator[str]:
     """In a folder of many entries nobody finds anything."""
-    for folder in example_files.FOLDERS[1:]:
-        if (number := len([*folder.iterdir()])) > MOST_ENTRIES:
-            yield f"{folder.relative_to(ROOT)} has {number} entries, and {MOST_ENTRIES} at most"
+    tests = ROOT / "tests"
+    entries = Counter(it.parent for it in tests.rglob("*") if it.name != "__pycache__")
+    for folder, number in sorted(entries.items()):
+        if number > MOST_ENTRIES and folder.name != "__pycache__":
+            yield f"{folder.relative_to(ROOT)} has {number} entries, and {MOST_ENTRIES} are the most"
 
 
 def twins(there: list[Listed]) -> Iterator[str]:

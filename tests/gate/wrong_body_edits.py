@@ -181,7 +181,8 @@ def crates():
 
 
 def shelves(crate):
-    """The folders of a crate's edits: those that the gate tries, and the others."""
+    """The folders of a crate's edits: those that the gate tries, and the others, which may stand in a folder for each
+    module that they edit."""
     return f"{ROOT}/crates/{crate}/must-fail", f"{ROOT}/tests/wrong_bodies/{crate}"
 
 
@@ -189,9 +190,19 @@ def files_of(crate):
     """The edits of a crate by their names, each with the files that have it."""
     found: dict[str, list[str]] = {}
     for shelf in shelves(crate):
-        for name in sorted(os.listdir(shelf)) if os.path.isdir(shelf) else []:
-            found.setdefault(name.removesuffix(".edit"), []).append(f"{shelf}/{name}")
+        for folder, _, names in sorted(os.walk(shelf)):
+            for name in sorted(names):
+                found.setdefault(name.removesuffix(".edit"), []).append(f"{folder}/{name}")
     return found
+
+
+def folder_of(crate, edit):
+    """Where an edit of the second shelf stands: in the folder of the first module that it edits, if its crate has
+    folders."""
+    shelf = shelves(crate)[1]
+    has_folders = os.path.isdir(shelf) and any(it.is_dir() for it in os.scandir(shelf))
+    module = edit.pairs[0][0].removeprefix("src/").removesuffix(".rt")
+    return f"{shelf}/{module}" if has_folders else shelf
 
 
 def of_each_run():

@@ -11,9 +11,10 @@ longer that is stale, and shows nothing.
 Prints how many edits there are, how many of them each run of the gate tries (with --tried: this one
 has), how many are recorded, stale and never recorded, and the command that tries what is wanting. The
 status is 1, with a line that begins with FAILED for each fault, where an edit can't be applied,
-names what isn't there (tests/gate/wrong_body_names.py) or can't be found by `./test wrong_bodies`, where a
-crate has edits and each run tries none of them, and where a line of the record has another form, stands
-twice or out of its order, or names no edit. A stale or missing line is no fault.
+names what isn't there (tests/gate/wrong_body_names.py), can't be found by `./test wrong_bodies` or stands
+in another folder than that of its module, where a crate has edits and each run tries none of them, and
+where a line of the record has another form, stands twice or out of its order, or names no edit. A stale or
+missing line is no fault.
 """
 import argparse
 import fcntl
@@ -25,7 +26,7 @@ sys.dont_write_bytecode = True
 
 from wrong_body_basis import basis, sum_of, toolchain
 from wrong_body_edits import (
-    ROOT, Edit, Unfit, crates, files_of, of_each_run, read, shelves, write,
+    ROOT, Edit, Unfit, crates, files_of, folder_of, of_each_run, read, shelves, write,
 )
 from wrong_body_names import Names
 
@@ -95,30 +96,40 @@ def lost_edits():
             wrong.append(f"tests/wrong_bodies/{name} belongs to no crate")
     for name, files in sorted(all_edits().items()):
         if len(files) > 1:
-            wrong.append(f"{name} stands on both shelves")
+            wrong.append(f"{name} stands in {len(files)} files: {', '.join(os.path.relpath(it, ROOT) for it in files)}")
         others = [it for it in files if not it.endswith(".edit")]
         wrong += [f"{os.path.relpath(it, ROOT)} is no .edit" for it in others]
     return wrong
 
 
-def state_of(name, files, lines, tried_on):
-    """What the record says of an edit: current, stale, or missing. Raises Unfit where it can't be
-    applied."""
-    crate = name.partition("/")[0]
-    edit = Edit(files[0], f"{ROOT}/crates/{crate}")
+def misplaced(file, crate, edit):
+    """What is wrong with the place of an edit, if anything."""
+    first, _ = shelves(crate)
+    folder = os.path.dirname(file)
+    wanted = folder if folder == first else folder_of(crate, edit)
+    wrong = f"{os.path.relpath(file, ROOT)} belongs into {os.path.relpath(wanted, ROOT)}"
+    return [] if folder == wanted else [wrong]
+
+
+def state_of(name, edit, lines, tried_on):
+    """What the record says of an edit: current, stale, or missing."""
     if name not in lines:
         return "missing"
-    return "current" if lines[name][0] == tried_on.sum(crate, edit.text) else "stale"
+    return "current" if lines[name][0] == tried_on.sum(name.partition("/")[0], edit.text) else "stale"
 
 
 def states(lines):
     """What the record says of each edit, by its name, and what is wrong with the edits."""
     found, wrong, tried_on = {}, lost_edits(), Basis(ROOT)
     for name, files in sorted(all_edits().items()):
+        crate = name.partition("/")[0]
         try:
-            found[name] = state_of(name, files, lines, tried_on)
+            edit = Edit(files[0], f"{ROOT}/crates/{crate}")
         except Unfit as why:
             wrong.append(f"{name} can't be applied: {why}")
+            continue
+        found[name] = state_of(name, edit, lines, tried_on)
+        wrong += misplaced(files[0], crate, edit)
     return found, wrong
 
 

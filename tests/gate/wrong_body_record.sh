@@ -82,16 +82,18 @@ write_edit() { # FILE OLD NEW
 }
 
 # `high` stands on `low`, and cites the proof of one of its functions. Each has an edit on the second shelf
-# by which `get` is wrong, which each run tries of `low`, and `high` one on the first.
+# by which `get` is wrong, `high` in the folder of its module, which each run tries of `low`, and `high` one on the first.
 make_record_tree() {
     local crate
-    mkdir -p tree/tests/gate tree/tests/wrong_bodies/{low,high} tree/crates/high/must-fail || return
+    mkdir -p tree/tests/gate tree/tests/wrong_bodies/{low,high/room} tree/crates/high/must-fail || return
     cp -- "$root"/tests/gate/wrong_bod*.py tree/tests/gate/ && write_prover prover || return
     printf 'high: low # the upper\nlow: thiserror\n' >tree/crates.txt
     echo 'Handles allowed: none.' >tree/HANDLES
     for crate in low high; do
         mkdir -p tree/crates/$crate/{src,specs,proofs/get,proofs/hidden} || return
         write_sources tree/crates/$crate || return
+    done
+    for crate in low high/room; do
         write_edit tree/tests/wrong_bodies/$crate/gets_more.edit 'self.size + 0' 'self.size + 1 /* wrong */' || return
     done
     echo 'low/gets_more room::Room::get' >tree/tests/wrong_bodies/each_run
@@ -164,7 +166,7 @@ what_makes_a_line_stale() {
     edited_says "a comment in the list of crates" crates.txt upper lower 3 0 0
     edited_says "a count in the list of crates" crates.txt low: 'low may_wait=2 tests_may=Wait:' 3 0 0
     edited_says "what a crate may do" HANDLES none Wait 0 3 0
-    edited_says "the edit" tests/wrong_bodies/high/gets_more.edit '+ 1' '+ 2' 2 1 0
+    edited_says "the edit" tests/wrong_bodies/high/room/gets_more.edit '+ 1' '+ 2' 2 1 0
     touch tree/crates/low/src/more.rt
     record_says "a source more below" 0 3 0
     rm tree/crates/low/src/more.rt
@@ -183,9 +185,9 @@ what_is_a_fault() {
         "high/gives_another can't be applied: src/room.rt holds a text 0 times, and not once: x * 1"
     edited_says "an edit whose text stands twice" $high 'usize = 64' 'usize = x * 1' 1 1 0 \
         "high/gives_another can't be applied: src/room.rt holds a text 2 times, and not once: x * 1"
-    edited_says "an edit of another file" tests/wrong_bodies/high/gets_more.edit room.rt hall.rt 2 0 0 \
+    edited_says "an edit of another file" tests/wrong_bodies/high/room/gets_more.edit room.rt hall.rt 2 0 0 \
         "high/gets_more can't be applied: there is no file src/hall.rt"
-    edited_says "an edit without a new text" tests/wrong_bodies/high/gets_more.edit 'new: ' 'now: ' 2 0 0 \
+    edited_says "an edit without a new text" tests/wrong_bodies/high/room/gets_more.edit 'new: ' 'now: ' 2 0 0 \
         "high/gets_more can't be applied: its line 3 can't stand there: now: self.size + 1 /* wrong */"
     edited_says "a line for no edit" $record 'low/gets_more' 'low/gets_none' 2 0 1 \
         "$record: low/gets_none is no edit"
@@ -197,10 +199,12 @@ what_is_a_fault() {
         "$record: line 4 stands for low/gets_more, as an earlier one does"
     edited_says "a line of another form" $record room::Room::get "room get" 2 0 1 \
         "$record: line 1 is no line of the record: $(sed -n '1s/room::Room::get/room get/p' tree/$record)"
-    cp tree/tests/wrong_bodies/high/gets_more.edit tree/crates/high/must-fail/
+    cp tree/tests/wrong_bodies/high/room/gets_more.edit tree/crates/high/must-fail/
     in_tree wrong_body_record.py
-    must "an edit on both shelves" 1 "FAILED: high/gets_more stands on both shelves"$'\n'"wrong bodies: 3, 3 for a whole run of the gate; recorded: 3 current, 0 stale, 0 never"$'\n' ''
+    must "an edit on both shelves" 1 "FAILED: high/gets_more stands in 2 files: crates/high/must-fail/gets_more.edit, \
+tests/wrong_bodies/high/room/gets_more.edit"$'\n'"wrong bodies: 3, 3 for a whole run of the gate; recorded: 3 current, 0 stale, 0 never"$'\n' ''
     rm tree/crates/high/must-fail/gets_more.edit
+    what_is_misplaced
     mkdir tree/tests/wrong_bodies/gone
     record_says "edits of no crate" 3 0 0 "tests/wrong_bodies/gone belongs to no crate"
     rmdir tree/tests/wrong_bodies/gone
@@ -212,11 +216,29 @@ what_is_a_fault() {
     echo 'low/gets_more room::Room::get' >tree/tests/wrong_bodies/each_run
 }
 
+what_is_misplaced() {
+    local shelf=tests/wrong_bodies
+    mv tree/$shelf/high/room tree/$shelf/high/hall
+    record_says "an edit in the folder of another module" 3 0 0 \
+        "$shelf/high/hall/gets_more.edit belongs into $shelf/high/room"
+    mv tree/$shelf/high/hall tree/$shelf/high/room
+    mkdir tree/$shelf/low/room
+    record_says "an edit beside the folders of its crate" 3 0 0 "$shelf/low/gets_more.edit belongs into $shelf/low/room"
+    mv tree/$shelf/low/gets_more.edit tree/$shelf/low/room/
+    record_says "an edit that was moved into a folder" 3 0 0
+    cp tree/$shelf/high/room/gets_more.edit tree/$shelf/high/
+    record_says "an edit in two folders" 3 0 0 \
+        "high/gets_more stands in 2 files: $shelf/high/gets_more.edit, $shelf/high/room/gets_more.edit" \
+        "$shelf/high/gets_more.edit belongs into $shelf/high/room"
+    rm tree/$shelf/high/gets_more.edit
+    mv tree/$shelf/low/room/gets_more.edit tree/$shelf/low/ && rmdir tree/$shelf/low/room
+}
+
 # What an edit names must be there. These are tried on `high`, in place of its edit on the second shelf.
 names_says() { # NAME NEW TEXT [FAULT]
     local faults=()
     if (($# > 2)); then faults=("high/gets_more can't be compiled: nothing that it can see is named $3"); fi
-    edited_says "$1" tests/wrong_bodies/high/gets_more.edit 'self.size + 1 /* wrong */' "$2" 2 1 0 "${faults[@]}"
+    edited_says "$1" tests/wrong_bodies/high/room/gets_more.edit 'self.size + 1 /* wrong */' "$2" 2 1 0 "${faults[@]}"
 }
 
 what_names_are_there() {
@@ -236,10 +258,10 @@ what_names_are_there() {
     names_says "names that it declares" '{ let more = 1; [7].iter().max_by_key(|it| it + more) }' max_by_key
     names_says "words of a text, a comment and a number" 'if "gone" == "gone too" { 0x1f } else { 9_u8 } // gone'
     names_says "words that were there before" 'self.size'
-    write_edit tree/tests/wrong_bodies/high/gets_more.edit 'self.size + 0' 'hidden(1)'
+    write_edit tree/tests/wrong_bodies/high/room/gets_more.edit 'self.size + 0' 'hidden(1)'
     edited_says "a function that gets another name" crates/high/src/room.rt 'fn hidden' 'fn shown' 1 2 0 \
         "high/gets_more can't be compiled: nothing that it can see is named hidden"
-    write_edit tree/tests/wrong_bodies/high/gets_more.edit 'self.size + 0' 'self.size + 1 /* wrong */'
+    write_edit tree/tests/wrong_bodies/high/room/gets_more.edit 'self.size + 0' 'self.size + 1 /* wrong */'
 }
 
 what_a_trial_writes() {
@@ -261,14 +283,14 @@ what_a_trial_writes() {
     sed -i 's/wrong/right/' $shelf/low/gets_more.edit
     trial_says "one isn't refused" 1 $'low/gets_more: NOT REFUSED\nwrong bodies: 0 refused, 0 not told, 1 not refused\n' \
         "$both" low/gets_more
-    rm $shelf/high/gets_more.edit
+    rm $shelf/high/room/gets_more.edit
     trial_says "one is gone" 0 $'high/gives_another: refused\nwrong bodies: 1 refused, 0 not told, 0 not refused\n' \
         $'high/gives_another room::hidden\n' high
     write_edit $shelf/low/gets_more.edit 'size: 16' 'size: 17 /* wrong */'
     trial_says "one of two impls of a trait" 0 $'low/gets_more: refused\nwrong bodies: 1 refused, 0 not told, 0 not refused\n' \
         $'high/gives_another room::hidden\nlow/gets_more room::RoomFromu16::from\n' low/gets_more
     what_a_trial_lets_through
-    write_edit $shelf/high/gets_more.edit none 'any /* wrong */'
+    write_edit $shelf/high/room/gets_more.edit none 'any /* wrong */'
     in_tree wrong_bodies.py high
     must "an edit that can't be applied ends all" 1 '' \
         $'wrong_bodies: an edit of high can\'t be applied: src/room.rt holds a text 0 times, and not once: none\n'
@@ -316,7 +338,7 @@ what_is_not_tried() {
 # An interrupt comes to all of it, and one more while it ends, as of somebody who presses the keys twice.
 interrupted_trial() {
     local started
-    sed -i 's/wrong/hangs/' tree/tests/wrong_bodies/high/gets_more.edit
+    sed -i 's/wrong/hangs/' tree/tests/wrong_bodies/high/room/gets_more.edit
     cp tree/tests/wrong_bodies/record kept_record && mkdir rooms
     PATH=$PWD/prover:$PATH TMPDIR=$PWD/rooms setsid "${takes_signals[@]}" \
         python3 tree/tests/gate/wrong_bodies.py >"$room/printed" 2>"$room/said" &
@@ -387,7 +409,7 @@ record_of_wrong_bodies() {
         cp -R tree kept_tree
         in_tree wrong_bodies.py
         at_least 34 what_makes_a_line_stale
-        at_least 12 what_is_a_fault
+        at_least 16 what_is_a_fault
         at_least 17 what_names_are_there
         rm -r tree && cp -R kept_tree tree
         at_least 21 what_a_trial_writes
