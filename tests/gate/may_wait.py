@@ -63,8 +63,7 @@ def counted(lines: list[str]) -> tuple[dict[str, dict[str, str]], set[str]]:
 
 def sum_of_sources(crate: str) -> str:
     folder = f"{ROOT}/crates/{crate}"
-    found: str = sum_of([(file, text_of(f"{folder}/{file}")) for file in files_of(folder)])
-    return found
+    return sum_of([(file, text_of(f"{folder}/{file}")) for file in files_of(folder)])
 
 
 def read_known() -> dict[tuple[str, str], dict[str, str]]:

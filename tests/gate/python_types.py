@@ -5,6 +5,7 @@
 
 For each folder, or each of those named, a line `passed FOLDER`, or lines `FAILED: ..`. The modules of tests/ have short
 names, of which two folders may have the same: so each folder is looked at by itself, with those whose modules it uses.
+A folder of tests/ that has modules and isn't one of these fails.
 """
 from __future__ import annotations
 
@@ -26,6 +27,8 @@ FOLDERS = {
     "tests/gate": ("checking", "program"),
     "tests/orders": (),
     "tests/program": ("traces",),
+    "tests/rewrites": (),
+    "tests/rewrites/chance": ("orders",),
     "tests/runs": ("program", "orders", "traces"),
     "tests/runs/many_components": ("orders",),
     "tests/tools": ("orders", "gate"),
@@ -47,6 +50,12 @@ def files_of(folder: str) -> list[str]:
     return [*files, *(it for it in PACKAGES if it.startswith(f"{folder}/"))]
 
 
+def unlisted() -> list[str]:
+    """The folders below tests/ that have modules or commands, and aren't looked at."""
+    found = {str(it.parent.relative_to(ROOT)) for it in sorted((ROOT / "tests").rglob("*")) if is_python(it)}
+    return sorted(found - FOLDERS.keys())
+
+
 def wrong_in(folder: str) -> str:
     """What mypy says of a folder; nothing where all fits."""
     used = [str(ROOT / "tests" / it) for it in FOLDERS[folder]]
@@ -60,8 +69,12 @@ def wrong_in(folder: str) -> str:
 def main() -> int:
     words = argparse.ArgumentParser(description="Whether the types of tools/ and tests/ fit.")
     words.add_argument("folders", nargs="*", metavar="FOLDER", help=f"of {', '.join(FOLDERS)}; all without one")
+    asked = words.parse_args().folders
     status = 0
-    for folder in words.parse_args().folders or FOLDERS:
+    for folder in [] if asked else unlisted():
+        print(f"FAILED: nobody looks at the types of {folder}: FOLDERS in {Path(__file__).name} doesn't have it")
+        status = 1
+    for folder in asked or FOLDERS:
         said = wrong_in(folder)
         print(f"FAILED: the types of {folder}\n{said}" if said else f"passed the types of {folder}", flush=True)
         status = status or bool(said)

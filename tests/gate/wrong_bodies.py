@@ -24,6 +24,8 @@ keeps its line.
 The last line is `wrong bodies: N refused, M not told, K not refused`, with `, L not tried` behind it
 where there are such.
 """
+from __future__ import annotations
+
 import argparse
 import os
 import re
@@ -33,7 +35,10 @@ import subprocess
 import sys
 import tempfile
 import threading
+from collections.abc import Callable, Iterable, Sequence
 from concurrent.futures import ThreadPoolExecutor
+from types import FrameType
+from typing import Optional, TypeVar
 
 sys.dont_write_bytecode = True
 
@@ -41,7 +46,7 @@ from wrong_body_basis import below
 from wrong_body_edits import (
     ROOT, TOLD, Edit, Unfit, crates, files_of, place_at, read, write,
 )
-from wrong_body_record import Basis, read_record, update, wanting
+from wrong_body_record import Basis, Line, read_record, update, wanting
 
 AT_ONCE = 16
 
@@ -56,11 +61,19 @@ NOT_PROVED, PROVED, NO_ANSWER = "not proved", "proved", "no answer"
 
 ENDING = (signal.SIGINT, signal.SIGTERM, signal.SIGHUP)
 
+# What became of an edit, and the lines that tell so.
+Tried = tuple[str, list[str]]
+# What of a crate is tried, and what is made of it.
+Edits = TypeVar("Edits")
+Made = TypeVar("Made")
+
 printing = threading.Lock()
 is_over = threading.Event()  # once it is set, no further check begins
 
 
-def check(folder, paths, words=("rt", "check", "--jobs", "1")):
+def check(
+    folder: str, paths: Iterable[str], words: Iterable[str] = ("rt", "check", "--jobs", "1")
+) -> tuple[list[str], str]:
     """What a check says of these functions, or of the whole crate where there are none, and what the
     prover answers."""
     words = [*words, *[word for path in paths for word in ("--only", path)]]
@@ -75,9 +88,9 @@ def check(folder, paths, words=("rt", "check", "--jobs", "1")):
     return lines, PROVED if ran.returncode == 0 else NO_ANSWER
 
 
-def batches(edits):
+def batches(edits: Iterable[Edit]) -> list[list[Edit]]:
     """Puts the edits together, as many at once as go with one another."""
-    made: list[list[object]] = []
+    made: list[list[Edit]] = []
     for edit in edits:
         fits = [it for it in made if len(it) < AT_ONCE and edit.goes_with(it)]
         if fits:
@@ -87,7 +100,9 @@ def batches(edits):
     return made
 
 
-def try_them(folder, edits, proved, ask=check):
+def try_them(
+    folder: str, edits: Sequence[Edit], proved: Sequence[str], ask: Callable[[str, list[str]], tuple[list[str], str]] = check
+) -> list[Tried]:
     """Applies the edits, checks the functions, all where none is named, and takes the edits back.
     Returns what became of each, and the function in which it was refused."""
     files = {file: read(f"{folder}/{file}") for edit in edits for file, _, _ in edit.pairs}
@@ -101,7 +116,7 @@ def try_them(folder, edits, proved, ask=check):
     return [(outcome(told, answer, not proved), told or all_told) for told in told_of_each]
 
 
-def outcome(told, answer, is_alone):
+def outcome(told: list[str], answer: str, is_alone: bool) -> str:
     """What a check shows of an edit: by what was told of its own functions, by the prover's answer, and
     by whether it was tried alone."""
     if answer == NO_ANSWER:
@@ -111,7 +126,7 @@ def outcome(told, answer, is_alone):
     return UNTOLD if any(SHAPE.search(line) for line in told) else REFUSED
 
 
-def refused_in(folder, edit, told, proved):
+def refused_in(folder: str, edit: Edit, told: list[str], proved: Sequence[str]) -> str:
     """The function of which the prover said so, as a check names it, without its crate: the edit's
     own, or else the one of the first line."""
     if not told:
@@ -129,7 +144,7 @@ def refused_in(folder, edit, told, proved):
     return paths[0].partition("::")[2] if paths else mine[0].file
 
 
-def copy(room, crate, uses):
+def copy(room: str, crate: str, uses: dict[str, list[str]]) -> str:
     """Copies what a check reads of a crate, and of those below it, which is their libraries too.
     Returns the folder of the crate."""
     for file in ("crates.txt", "HANDLES"):
@@ -144,7 +159,7 @@ def copy(room, crate, uses):
     return f"{room}/crates/{crate}"
 
 
-def edits_of(crate, names, folder):
+def edits_of(crate: str, names: Sequence[str], folder: str) -> list[Edit]:
     """The edits of a crate, or those of these names. One that can't be applied ends all."""
     files = files_of(crate)
     for name in names:
@@ -156,20 +171,21 @@ def edits_of(crate, names, folder):
         sys.exit(f"wrong_bodies: an edit of {crate} can't be applied: {why}")
 
 
-def try_alone(folder, edit):
+def try_alone(folder: str, edit: Edit) -> Tried:
     return (UNTRIED, []) if is_over.is_set() else try_them(folder, [edit], [])[0]
 
 
-def try_batch(crate, batch, folder, proved, tried_on):
+def try_batch(crate: str, batch: list[Edit], folder: str, proved: Sequence[str], tried_on: Basis) -> list[str]:
     """Tries edits that go with one another, tells what became of each, and writes it down."""
-    found, lines = {}, {}
+    found: dict[str, str] = {}
+    lines: dict[str, Optional[Line]] = {}
     for edit, (seen, told) in zip(batch, try_them(folder, batch, proved)):
         if seen in (LEFT, UNTRIED):
             seen, told = try_alone(folder, edit)
         name = f"{crate}/{edit.name}"
         where = refused_in(folder, edit, told, proved) if seen == REFUSED else None
         if seen != UNTRIED:
-            lines[name] = where and (tried_on.sum(crate, edit.text), where)
+            lines[name] = (tried_on.sum(crate, edit.text), where) if where else None
         found[name] = seen
     with printing:
         for name, seen in found.items():
@@ -178,7 +194,7 @@ def try_batch(crate, batch, folder, proved, tried_on):
     return [*found.values()]
 
 
-def try_crate(crate, names, room):
+def try_crate(crate: str, names: Sequence[str], room: str) -> list[str]:
     """Tries the wrong bodies of a crate, or those of these names. Returns what became of each."""
     edits_of(crate, names, f"{ROOT}/crates/{crate}")
     lines, answer = check(f"{ROOT}/crates/{crate}", [])
@@ -192,7 +208,7 @@ def try_crate(crate, names, room):
     folder = copy(room, crate, crates())
     tried_on = Basis(room)
     tried_on.sum(crate, "")
-    found = []
+    found: list[str] = []
     for batch in batches(edits_of(crate, names, folder)):
         if is_over.is_set():
             break
@@ -200,23 +216,23 @@ def try_crate(crate, names, room):
     return found
 
 
-def try_in_a_room(crate, names):
+def try_in_a_room(crate: str, names: Sequence[str]) -> list[str]:
     with tempfile.TemporaryDirectory(prefix="wrong-bodies-") as room:
         return try_crate(crate, names, room)
 
 
-def ignore_further():
+def ignore_further() -> None:
     """A second signal would leave folders."""
     for it in ENDING:
         signal.signal(it, signal.SIG_IGN)
 
 
-def interrupt(_number, _frame):
+def interrupt(_number: int, _frame: Optional[FrameType]) -> None:
     ignore_further()
     raise KeyboardInterrupt
 
 
-def try_each(jobs, work, asked):
+def try_each(jobs: int, work: Callable[[str, Edits], Made], asked: dict[str, Edits]) -> list[Made]:
     """What the work makes of each of the crates, so many at once. Whatever ends this early, as an
     interrupt does, lets no further one begin, and waits for those at work, which take their folders
     away."""
@@ -234,7 +250,7 @@ def try_each(jobs, work, asked):
             raise
 
 
-def asked(words):
+def asked(words: list[str]) -> dict[str, list[str]]:
     """The crates that the words ask for, each with the names of its edits, none where it is all."""
     if words == ["stale"]:
         words = wanting()
@@ -249,13 +265,13 @@ def asked(words):
     return {crate: [] if "" in names else names for crate, names in found.items()}
 
 
-def number_of_jobs(text):
+def number_of_jobs(text: str) -> int:
     if not re.fullmatch(r"[1-9]\d?", text):
         raise argparse.ArgumentTypeError(f"{text!r} is no number from 1 to 99")
     return int(text)
 
 
-def main():
+def main() -> int:
     words = argparse.ArgumentParser("wrong_bodies", description="Tries wrong bodies, each of which must be refused.")
     words.add_argument("--jobs", metavar="N", type=number_of_jobs, default=1, help="so many crates at once")
     words.add_argument("names", metavar="stale | CRATE | CRATE/NAME", nargs="*", help="all without one")

@@ -18,6 +18,8 @@ bodies of each run: N refused, M failed`, and the status is 1 where one failed.
 `rt ci` gives back the libraries that were there before it, which may be of older sources. With
 `stale_libraries` those are taken away, so that afterwards each is of the sources that are there.
 """
+from __future__ import annotations
+
 import argparse
 import functools
 import os
@@ -25,6 +27,7 @@ import shutil
 import subprocess
 import sys
 import tempfile
+from typing import Optional
 
 sys.dont_write_bytecode = True
 
@@ -35,11 +38,11 @@ from wrong_body_basis import PARTS, below
 from wrong_body_edits import ROOT, crates, of_each_run
 
 
-def library(crate):
+def library(crate: str) -> str:
     return f"{ROOT}/crates/{crate}/out/rlib/{crate}.rlib"
 
 
-def last_change(crate, uses):
+def last_change(crate: str, uses: dict[str, list[str]]) -> int:
     """When a source of the crate, or of one below it, was changed last."""
     folders = [f"{ROOT}/crates/{it}/{part}" for it in [crate, *below(crate, uses)] for part in PARTS]
     files = [f"{ROOT}/crates.txt"]
@@ -49,12 +52,12 @@ def last_change(crate, uses):
     return max(os.stat(it).st_mtime_ns for it in files)
 
 
-def is_stale(crate, uses):
+def is_stale(crate: str, uses: dict[str, list[str]]) -> bool:
     made = library(crate)
     return not os.path.exists(made) or os.stat(made).st_mtime_ns < last_change(crate, uses)
 
 
-def remove_stale_libraries():
+def remove_stale_libraries() -> None:
     uses = crates()
     for crate in uses:
         if is_stale(crate, uses):
@@ -62,13 +65,13 @@ def remove_stale_libraries():
 
 
 @functools.lru_cache(maxsize=None)
-def kit():
+def kit() -> str:
     """The toolchain's folder, in which its first page stands."""
     ran = subprocess.run(["rt", "doc"], stdin=subprocess.DEVNULL, capture_output=True, text=True)
     return os.path.dirname(ran.stdout.strip())
 
 
-def words_of(crate, uses):
+def words_of(crate: str, uses: dict[str, list[str]]) -> list[str]:
     """The words by which `rattle` checks the crate over the libraries below it."""
     root = "main" if os.path.exists(f"{ROOT}/crates/{crate}/src/main.rt") else "lib"
     libraries = {it: library(it) for it in uses[crate] if it in uses}
@@ -82,13 +85,13 @@ def words_of(crate, uses):
     return [*words, *logic, "--logic-built", f"{kit()}/logic_built"]
 
 
-def copy(crate, room):
+def copy(crate: str, room: str) -> None:
     for part in PARTS:
         if os.path.isdir(f"{ROOT}/crates/{crate}/{part}"):
             shutil.copytree(f"{ROOT}/crates/{crate}/{part}", f"{room}/{part}")
 
 
-def failure(outcome):
+def failure(outcome: str) -> Optional[str]:
     """Why an edit that came to this failed, if it did."""
     if outcome == UNTOLD:
         return "is refused only for its shape"
@@ -97,9 +100,10 @@ def failure(outcome):
     return None if outcome == REFUSED else "is not refused in its function"
 
 
-def try_crate(crate, functions):
+def try_crate(crate: str, functions: dict[str, str]) -> dict[str, Optional[str]]:
     """Tries these edits of a crate, each in its function. Returns why each failed, if it did."""
-    uses, found = crates(), {}
+    uses = crates()
+    found: dict[str, Optional[str]] = {}
     old = [it for it in below(crate, uses) if is_stale(it, uses)]
     if old:
         return dict.fromkeys(functions, f"can't be tried: {old[0]} has no library of these sources")
@@ -115,7 +119,7 @@ def try_crate(crate, functions):
     return found
 
 
-def by_crates(listed):
+def by_crates(listed: dict[str, str]) -> dict[str, dict[str, str]]:
     """The functions of the edits, by crates and names. Those crates come first that stand on most,
     since a check takes longest where it has most to read."""
     found: dict[str, dict[str, str]] = {}
@@ -125,7 +129,7 @@ def by_crates(listed):
     return dict(sorted(found.items(), key=lambda it: -len(below(it[0], uses))))
 
 
-def try_and_say(crate, functions):
+def try_and_say(crate: str, functions: dict[str, str]) -> int:
     """Tries the edits of a crate, tells what became of each, and returns how many failed."""
     found = try_crate(crate, functions)
     with printing:
@@ -135,13 +139,14 @@ def try_and_say(crate, functions):
     return sum(why is not None for why in found.values())
 
 
-def main():
+def main() -> int:
     words = argparse.ArgumentParser(description="Tries the wrong bodies that each run of the gate tries.")
     words.add_argument("--jobs", metavar="N", type=number_of_jobs, default=1, help="so many crates at once")
     words.add_argument("what", nargs="?", choices=("stale_libraries",), help="takes away libraries of older sources")
     asked = words.parse_args()
     if asked.what:
-        return remove_stale_libraries()
+        remove_stale_libraries()
+        return 0
     listed = of_each_run()[0]
     try:
         failed = sum(try_each(asked.jobs, try_and_say, by_crates(listed)))

@@ -15,10 +15,14 @@ traits whole, with the bodies that these give their methods. Where the text isn'
 function's body, it is kept: what is taken needlessly costs a trial, and what is left out wrongly
 would let a line of the record stand that isn't true.
 """
+from __future__ import annotations
+
 import hashlib
 import os
 import re
 import subprocess
+from collections.abc import Iterable
+from typing import Optional
 
 PARTS = ("src", "specs", "proofs")
 # The files of proofs/ that are of one function.
@@ -44,16 +48,20 @@ CITED = re.compile(r"\bRattle(?:\.[\w«»-]+)*")
 COUNT = re.compile(r" (?:may_wait|tests_may)=[^ :]*")
 
 
+# The first place of something in a text, and the one behind it.
+Span = tuple[int, int]
+
+
 class Unclear(Exception):
     """A source whose functions can't be told apart from the rest."""
 
 
-def masked(text):
+def masked(text: str) -> str:
     """The text with each comment, string and character blanked, so that brackets can be counted."""
     return MASKED.sub(lambda it: re.sub(r"[^\n]", " ", it[0]), text)
 
 
-def closing(text, at):
+def closing(text: str, at: int) -> int:
     """The place behind the bracket that closes the one at this place."""
     depth = 0
     for found in re.compile(r"[(\[{}\])]").finditer(text, at):
@@ -63,7 +71,7 @@ def closing(text, at):
     raise Unclear
 
 
-def head_from(text, at, end):
+def head_from(text: str, at: int, end: int) -> tuple[str, int]:
     """The head of the item that begins here, without what stands in its round and square brackets,
     and the place of the `{`, `;` or `}` that ends it, or of the text's end."""
     head = ""
@@ -78,7 +86,7 @@ def head_from(text, at, end):
     return head, end
 
 
-def body_of(text, head, at, end):
+def body_of(text: str, head: str, at: int, end: int) -> Optional[Span]:
     """The first and the last place of a function's body, whose head ends here. None where there is
     no body, or where what stands in it may be seen outside."""
     while CLAUSE.search(head):
@@ -96,9 +104,9 @@ def body_of(text, head, at, end):
     return None if ITEM_WORD.search(text[at:behind]) else (at, behind)
 
 
-def bodies(text, at, end):
+def bodies(text: str, at: int, end: int) -> list[Span]:
     """The bodies of the functions that stand between these places, in modules and impls too."""
-    found = []
+    found: list[Span] = []
     while at < end:
         head, place = head_from(text, at, end)
         if place < end and text[place] == "}":
@@ -114,21 +122,21 @@ def bodies(text, at, end):
     return found
 
 
-def behind_function(text, head, at, end):
+def behind_function(text: str, head: str, at: int, end: int) -> int:
     """The place behind a function, whose head ends here: behind its clauses and its body."""
     while at < end and text[at] == "{" and CLAUSE.search(head):
         head, at = head_from(text, closing(text, at), end)
     return closing(text, at) if at < end and text[at] == "{" else at + 1
 
 
-def comments(source):
+def comments(source: str) -> list[Span]:
     """The first and the last place of each comment of a source."""
     if "/*" in masked(source):
         raise Unclear
     return [it.span() for it in MASKED.finditer(source) if it[0].startswith("//")]
 
 
-def without(source, cut):
+def without(source: str, cut: Iterable[Span]) -> str:
     """A source without what stands at these places, and without the lines that are empty then."""
     left, at = "", 0
     for first, behind in sorted(cut):
@@ -138,11 +146,11 @@ def without(source, cut):
     return without_empty_lines(left + source[at:])
 
 
-def without_empty_lines(text):
+def without_empty_lines(text: str) -> str:
     return "\n".join(line.rstrip() for line in text.split("\n") if line.strip())
 
 
-def reached(source):
+def reached(source: str) -> str:
     """What of a source a crate above it can rest on: all but comments, empty lines, and the bodies
     of functions. Where these can't be told, all of it."""
     try:
@@ -152,7 +160,7 @@ def reached(source):
         return source
 
 
-def said(file, text):
+def said(file: str, text: str) -> str:
     """What a file says to the prover: all but its comments and empty lines, of a source where these
     can be told."""
     if file.endswith(".antt"):
@@ -164,9 +172,9 @@ def said(file, text):
         return text
 
 
-def files_of(folder):
+def files_of(folder: str) -> list[str]:
     """The files below src/, specs/ and proofs/ of a crate, by their paths in it."""
-    found = []
+    found: list[str] = []
     for part in PARTS:
         for at, _, names in os.walk(f"{folder}/{part}"):
             inner = os.path.relpath(at, folder)
@@ -174,12 +182,12 @@ def files_of(folder):
     return sorted(found)
 
 
-def text_of(file):
+def text_of(file: str) -> str:
     with open(file, "rb") as it:
         return it.read().decode(errors="surrogateescape")
 
 
-def texts_below(root, crate):
+def texts_below(root: str, crate: str) -> tuple[dict[str, str], dict[str, str]]:
     """What is taken of a crate below, and the proofs of its functions, by the names of their
     modules."""
     taken, proofs = {}, {}
@@ -192,13 +200,13 @@ def texts_below(root, crate):
     return taken, proofs
 
 
-def is_cited(module, cited):
+def is_cited(module: str, cited: Iterable[str]) -> bool:
     """Whether one of the names that are cited is that of this module, of one round it, or of what
     it has."""
     return any(f"{module}.".startswith(f"{it}.") or it.startswith(f"{module}.") for it in cited)
 
 
-def with_cited(taken, proofs):
+def with_cited(taken: dict[str, str], proofs: dict[str, str]) -> dict[str, str]:
     """The texts that are taken, and each proof of a function that one of them names."""
     while True:
         cited = {it for text in taken.values() for it in CITED.findall(text)}
@@ -208,9 +216,9 @@ def with_cited(taken, proofs):
         taken = {**taken, **more}
 
 
-def below(crate, uses):
+def below(crate: str, uses: dict[str, list[str]]) -> list[str]:
     """The crates of crates.txt below this one."""
-    found = set()
+    found: set[str] = set()
     left = [crate]
     while left:
         more = [it for it in uses[left.pop()] if it in uses and it not in found]
@@ -219,14 +227,14 @@ def below(crate, uses):
     return sorted(found)
 
 
-def lines_of(root):
+def lines_of(root: str) -> dict[str, str]:
     """The lines of crates.txt, without comments and counts, by their crates."""
     lines = [line.partition("#")[0].split() for line in text_of(f"{root}/crates.txt").split("\n")]
     texts = [COUNT.sub("", " ".join(line)) for line in lines if line]
     return {re.split("[ :]", text)[0]: text for text in texts if ":" in text}
 
 
-def toolchain():
+def toolchain() -> str:
     """The toolchain's line, or nothing where there is none."""
     try:
         ran = subprocess.run(["rt", "version"], stdin=subprocess.DEVNULL, capture_output=True, text=True)
@@ -235,16 +243,16 @@ def toolchain():
     return ran.stdout.strip() if ran.returncode == 0 else ""
 
 
-def logic_of(kit):
+def logic_of(kit: str) -> str:
     """The logic that the toolchain's line names, or the whole line where it names none."""
     return kit[kit.index("logic ") :] if "logic " in kit else kit
 
 
-def basis(root, crate, uses, kit):
+def basis(root: str, crate: str, uses: dict[str, list[str]], kit: str) -> str:
     """The hash of all that an edit of the crate is tried on, but of the edit itself."""
     folder = f"{root}/crates/{crate}"
     taken = {f"{crate}/{file}": said(file, text_of(f"{folder}/{file}")) for file in files_of(folder)}
-    proofs = {}
+    proofs: dict[str, str] = {}
     for it in below(crate, uses):
         its_taken, its_proofs = texts_below(root, it)
         taken.update(its_taken)
@@ -254,5 +262,5 @@ def basis(root, crate, uses, kit):
     return sum_of([logic_of(kit), handles, lines, sorted(with_cited(taken, proofs).items())])
 
 
-def sum_of(parts):
+def sum_of(parts: list[object]) -> str:
     return hashlib.sha256(repr(parts).encode(errors="surrogateescape")).hexdigest()[:32]

@@ -1,8 +1,15 @@
 """Wrong bodies: the edits that the prover must refuse, and the functions that they are in."""
+from __future__ import annotations
+
 import os
 import re
+from collections.abc import Iterable, Sequence
+from typing import Optional
 
 ROOT = os.path.dirname(os.path.dirname(os.path.dirname(os.path.realpath(__file__))))
+
+# The type that a function is of, if any, with the trait there, and the same with the types that the trait is for.
+Owners = tuple[Optional[str], Optional[str]]
 
 # A line that says where a proof is wanting: in the code, or in a file of a function's proof.
 TOLD = re.compile(
@@ -19,33 +26,33 @@ class Unfit(Exception):
 class Edit:
     """One edit file: the texts that it replaces, by the files that they stand in."""
 
-    def __init__(self, path, folder):
+    def __init__(self, path: str, folder: str):
         self.name = os.path.basename(path).removesuffix(".edit")
         self.text = read(path)
         self.pairs = pairs_of(self.text)
-        self.places = []
+        self.places: list[Place] = []
         self.texts: dict[str, str] = {}
         for file, old, new in self.pairs:
             text = self.texts.get(file) or source(folder, file)
             self.places.append(place_of(file, text, old))
             self.texts[file] = text.replace(old, new)
 
-    def apply(self, folder):
+    def apply(self, folder: str) -> None:
         for file, old, new in self.pairs:
             text = read(f"{folder}/{file}")
             write(f"{folder}/{file}", text.replace(old, new))
 
-    def paths(self, proved):
+    def paths(self, proved: Sequence[str]) -> list[str]:
         """The functions that it edits, as a check prints them."""
         return [path for place in self.places for path in place.paths(proved)]
 
-    def goes_with(self, others):
+    def goes_with(self, others: Iterable[Edit]) -> bool:
         """Whether no other edit is in one of its functions, nor in a cycle of calls with one."""
         mine = {it.key for it in self.places}
         theirs = {place.key for other in others for place in other.places}
         return None not in mine | theirs and not mine & theirs
 
-    def told(self, lines):
+    def told(self, lines: Iterable[str]) -> list[str]:
         """What is said of its own functions, and all that is said where it is in none."""
         said = [line for line in lines if TOLD.match(line)]
         if any(place.key is None for place in self.places):
@@ -57,34 +64,36 @@ class Place:
     """The function that a text stands in: its file, its lines, the type that it is of, if any, with
     the trait there and then with what that is for, and its name or that of its cycle."""
 
-    def __init__(self, file, first, last, owners=(None, None), name=None, cycle=None):
+    def __init__(
+        self, file: str, first: int, last: int, owners: Owners = (None, None), name: str = "", cycle: Optional[str] = None
+    ):
         self.file, self.first, self.last = file, first, last
         self.owner, self.whole_owner = owners
         self.name, self.cycle = name, cycle
-        self.key = name and (f"+{cycle}" if cycle else f"{file} {self.owner} {name}")
+        self.key = (f"+{cycle}" if cycle else f"{file} {self.owner} {name}") if name else None
 
-    def paths(self, proved):
+    def paths(self, proved: Sequence[str]) -> list[str]:
         named = [path for path in proved if path.split("::")[-1] == self.name]
         room = os.path.basename(self.file).removesuffix(".rt")
         here = [path for path in named if f"::{room}::" in path] or named
         owned = [path for path in here if self.is_owned(path.split("::")[-2])] or here
         return [path for path in owned if path.split("::")[-2].lower() == self.whole_owner] or owned
 
-    def is_owned(self, word):
+    def is_owned(self, word: str) -> bool:
         """Whether this word before a function's name is that of its type, or of its room where it
         has none."""
         if not self.owner:
             return word[:1].islower()
         return word[:1].isupper() and word.lower().startswith(self.owner)
 
-    def is_told_by(self, line):
+    def is_told_by(self, line: str) -> bool:
         told = TOLD.match(line)
         assert told is not None, line
         if told["proof"]:
             return self.has_proof(told["proof"].split("/"))
         return told["file"] == self.file and self.first <= int(told["line"]) <= self.last
 
-    def has_proof(self, rooms):
+    def has_proof(self, rooms: list[str]) -> bool:
         """Whether these folders, from the topmost, are those of its proof. A method's are named by
         the file of its type, and those of a cycle by one of its functions."""
         if self.cycle:
@@ -94,26 +103,27 @@ class Place:
         return rooms == [*self.file.removeprefix("src/").removesuffix(".rt").split("/"), self.name]
 
 
-def read(path):
+def read(path: str) -> str:
     with open(path, encoding="utf-8") as file:
         return file.read()
 
 
-def write(path, text):
+def write(path: str, text: str) -> None:
     with open(path, "w", encoding="utf-8") as file:
         file.write(text)
 
 
-def source(folder, file):
+def source(folder: str, file: str) -> str:
     try:
         return read(f"{folder}/{file}")
     except OSError:
         raise Unfit(f"there is no file {file}") from None
 
 
-def pairs_of(text):
+def pairs_of(text: str) -> list[tuple[str, str, str]]:
     """The texts of an edit, each with its file and what stands in its place."""
-    found, file, old = [], None, None
+    found: list[tuple[str, str, str]] = []
+    file, old = "", None
     for number, line in enumerate(text.split("\n"), 1):
         kind, _, value = line.partition(":")
         value = value.removeprefix(" ")
@@ -131,14 +141,14 @@ def pairs_of(text):
     return found
 
 
-def place_of(file, text, old):
+def place_of(file: str, text: str, old: str) -> Place:
     """Finds the function round a text, which must stand in the file once."""
     if text.count(old) != 1:
         raise Unfit(f"{file} holds a text {text.count(old)} times, and not once: {old}")
     return place_at(file, text.split("\n"), text[: text.index(old)].count("\n"))
 
 
-def place_at(file, lines, at):
+def place_at(file: str, lines: list[str], at: int) -> Place:
     """The function round a line, of which the first is 0."""
     heads = [n for n in range(at + 1) if re.match(r"\s*(pub(\(\w+\))? )?(const )?fn \w", lines[n])]
     if not heads:
@@ -154,10 +164,10 @@ def place_at(file, lines, at):
     assert named is not None
     name = named[1]
     owners = owners_of(lines[:head]) if indent else (None, None)
-    return Place(file, first + 1, last + 1, owners, name, cycle and cycle[1])
+    return Place(file, first + 1, last + 1, owners, name, cycle[1] if cycle else None)
 
 
-def owners_of(lines):
+def owners_of(lines: Iterable[str]) -> Owners:
     """The type of the last `impl` or `trait` of these lines and the name of the trait that it
     meets, if any, in small letters, as the folders of its proofs begin; and the same with the types
     that the trait is for."""
@@ -170,7 +180,7 @@ def owners_of(lines):
     return owner, owner + re.sub(r"\W", "", types).lower()
 
 
-def crates():
+def crates() -> dict[str, list[str]]:
     """The crates, each with those that it names."""
     found: dict[str, list[str]] = {}
     for line in read(f"{ROOT}/crates.txt").split("\n"):
@@ -180,13 +190,13 @@ def crates():
     return found
 
 
-def shelves(crate):
+def shelves(crate: str) -> tuple[str, str]:
     """The folders of a crate's edits: those that the gate tries, and the others, which may stand in a folder for each
     module that they edit."""
     return f"{ROOT}/crates/{crate}/must-fail", f"{ROOT}/tests/wrong_bodies/{crate}"
 
 
-def files_of(crate):
+def files_of(crate: str) -> dict[str, list[str]]:
     """The edits of a crate by their names, each with the files that have it."""
     found: dict[str, list[str]] = {}
     for shelf in shelves(crate):
@@ -196,7 +206,7 @@ def files_of(crate):
     return found
 
 
-def folder_of(crate, edit):
+def folder_of(crate: str, edit: Edit) -> str:
     """Where an edit of the second shelf stands: in the folder of the first module that it edits, if its crate has
     folders."""
     shelf = shelves(crate)[1]
@@ -205,7 +215,7 @@ def folder_of(crate, edit):
     return f"{shelf}/{module}" if has_folders else shelf
 
 
-def of_each_run():
+def of_each_run() -> tuple[dict[str, str], list[str]]:
     """The edits of the second shelf that each run of the gate tries, as CRATE/NAME, each with the
     function that it edits; and the lines of their list that are none."""
     found, wrong = {}, []

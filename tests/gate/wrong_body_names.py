@@ -14,10 +14,14 @@ one hasn't must stand where it can be seen from:
 What is let through may not compile all the same: types aren't looked at. What is told may compile: a
 word of the toolchain's library that nothing here has yet. Then a trial sees the edit refused.
 """
+from __future__ import annotations
+
 import os
 import re
+from collections.abc import Collection, Iterator
 
 from wrong_body_basis import Unclear, below, closing, masked
+from wrong_body_edits import Edit
 
 # The language's own words, and those that each file may use without a line for them.
 EVERYWHERE = frozenset(
@@ -45,18 +49,23 @@ TYPE = re.compile(r"\b(?:struct|enum|trait|type)\s+(\w+)")
 DECLARES = re.compile(r"\blet\s+([^=]*)=|\bfor\s+(.*?)\sin\b|\|([^|]*)\||([^{};]*)=>")
 
 
-def code_of(text):
+# The words that can be seen, and what each type, trait, room and crate has.
+Seen = tuple[set[str], dict[str, set[str]]]
+
+
+def code_of(text: str) -> str:
     """The text without comments, strings, and what contracts alone use."""
     return NOT_CODE.sub(" ", masked(text))
 
 
-def words_of(text):
+def words_of(text: str) -> list[str]:
     return [word for word in WORD.findall(text) if not word[0].isdigit()]
 
 
-def without_brackets(text, opening, closing_one):
+def without_brackets(text: str, opening: str, closing_one: str) -> str:
     """The text without what stands in such brackets."""
-    left, depth = [], 0
+    left: list[str] = []
+    depth = 0
     for letter in text:
         depth -= letter == closing_one
         left.append(letter if depth == 0 and letter not in (opening, closing_one) else " ")
@@ -64,23 +73,23 @@ def without_brackets(text, opening, closing_one):
     return "".join(left)
 
 
-def owner_of(kind, head):
+def owner_of(kind: str, head: str) -> str:
     """The name of an enum or a trait, or of the type that an `impl` is of, by its head."""
     words = words_of(without_brackets(head.replace("->", "  "), "<", ">").rpartition(" for ")[2])
     words = words[: words.index("where")] if "where" in words else words
     return (words[-1] if kind == "impl" else words[0]) if words else ""
 
 
-def variants(body):
+def variants(body: str) -> list[str]:
     """The variants of an enum, by what stands in its brackets."""
     for opening, closing_one in (("(", ")"), ("{", "}"), ("[", "]")):
         body = without_brackets(body, opening, closing_one)
     return [words[0] for words in map(words_of, body.split(",")) if words]
 
 
-def parts_in(text):
+def parts_in(text: str) -> list[tuple[str, list[str]]]:
     """What each type and trait of a source has, by the name of the type or trait."""
-    found = []
+    found: list[tuple[str, list[str]]] = []
     for it in OWNER.finditer(text):
         try:
             body = text[it.end() : closing(text, it.end() - 1) - 1]
@@ -90,7 +99,7 @@ def parts_in(text):
     return found
 
 
-def declared(text):
+def declared(text: str) -> set[str]:
     """The names that a new text may declare."""
     parts = [part for found in DECLARES.findall(text) for part in found]
     return {word for part in parts for word in words_of(part) if not word[0].isupper()}
@@ -99,7 +108,7 @@ def declared(text):
 class Source:
     """What a file of src/ has: its words, its types, its items, and what its types and traits have."""
 
-    def __init__(self, path):
+    def __init__(self, path: str):
         with open(path, encoding="utf-8") as file:
             text = code_of(file.read())
         self.room = os.path.basename(path).removesuffix(".rt")
@@ -111,10 +120,12 @@ class Source:
 class Names:
     """The names in the sources of a tree, each file of which is read once."""
 
-    def __init__(self, root, uses):
-        self.root, self.uses, self.read, self.seen = root, uses, {}, {}
+    def __init__(self, root: str, uses: dict[str, list[str]]):
+        self.root, self.uses = root, uses
+        self.read: dict[str, dict[str, Source]] = {}
+        self.seen: dict[str, Seen] = {}
 
-    def sources(self, crate):
+    def sources(self, crate: str) -> dict[str, Source]:
         """The files of the crate's src/, by their paths in the crate."""
         if crate not in self.read:
             folder = f"{self.root}/crates/{crate}"
@@ -122,7 +133,7 @@ class Names:
             self.read[crate] = {os.path.relpath(path, folder): Source(path) for path in paths}
         return self.read[crate]
 
-    def seen_from(self, crate):
+    def seen_from(self, crate: str) -> Seen:
         """All words of the crate and of those below it, and what each type, trait, room and crate has."""
         if crate not in self.seen:
             crates = [crate, *below(crate, self.uses)]
@@ -138,20 +149,22 @@ class Names:
             self.seen[crate] = set().union(*(source.words for _, source in all_of_them)), owners
         return self.seen[crate]
 
-    def unknown(self, crate, edit):
+    def unknown(self, crate: str, edit: Edit) -> list[str]:
         """The words of the edit's new texts that stand nowhere where they can be seen from."""
         words, owners = self.seen_from(crate)
         known = words | OF_THE_KIT
         news = [code_of(new) for _, _, new in edit.pairs]
         own = {*self.uses[crate], *EVERYWHERE}.union(*map(declared, news))
-        found = []
+        found: list[str] = []
         for (file, old, _), new in zip(edit.pairs, news):
             here = own | self.sources(crate)[file].words
             found += unknown_in(new, {*words_of(code_of(old))}, here, known, owners)
         return [*dict.fromkeys(found)]
 
 
-def unknown_in(new, old, here, known, owners):
+def unknown_in(
+    new: str, old: Collection[str], here: Collection[str], known: set[str], owners: dict[str, set[str]]
+) -> Iterator[str]:
     """The words of a new text that can't be seen, by what stands before and behind each."""
     for it in WORD.finditer(new):
         word, before, behind = it[0], new[: it.start()].rstrip(), new[it.end() :].lstrip()

@@ -16,11 +16,14 @@ in another folder than that of its module, where a crate has edits and each run 
 where a line of the record has another form, stands twice or out of its order, or names no edit. A stale or
 missing line is no fault.
 """
+from __future__ import annotations
+
 import argparse
 import fcntl
 import os
 import re
 import sys
+from typing import Optional
 
 sys.dont_write_bytecode = True
 
@@ -34,22 +37,30 @@ RECORD = f"{ROOT}/tests/wrong_bodies/record"
 LINE = re.compile(r"(\w+/[\w.-]+) ([0-9a-f]{32}) (\S+)")
 
 
+# Of an edit that was seen refused: the hash of what it was tried on, and the function; and all of these by the edits.
+Line = tuple[str, str]
+Lines = dict[str, Line]
+
+
 class Basis:
     """What edits are tried on in a tree: a hash for each crate, made once."""
 
-    def __init__(self, root):
-        self.root, self.kit, self.uses, self.made = root, toolchain(), crates(), {}
+    def __init__(self, root: str):
+        self.root, self.kit, self.uses = root, toolchain(), crates()
+        self.made: dict[str, str] = {}
 
-    def sum(self, crate, text):
+    def sum(self, crate: str, text: str) -> str:
         """The hash for an edit of the crate that has this text."""
         if crate not in self.made:
             self.made[crate] = basis(self.root, crate, self.uses, self.kit)
         return sum_of([self.made[crate], text])
 
 
-def read_record():
+def read_record() -> tuple[Lines, list[str]]:
     """The lines of the record by their edits, and what is wrong with them."""
-    found, wrong, last = {}, [], ""
+    found: Lines = {}
+    wrong: list[str] = []
+    last = ""
     lines = read(RECORD).splitlines() if os.path.exists(RECORD) else []
     for number, line in enumerate(lines, 1):
         it = LINE.fullmatch(line)
@@ -65,31 +76,31 @@ def read_record():
     return found, wrong
 
 
-def all_edits():
+def all_edits() -> dict[str, list[str]]:
     """The names of all edits, as CRATE/NAME, each with the files that have it."""
     of_each = {crate: files_of(crate) for crate in crates()}
     return {f"{crate}/{name}": files for crate, of in of_each.items() for name, files in of.items()}
 
 
-def update(seen):
+def update(seen: dict[str, Optional[Line]]) -> None:
     """Writes the lines of edits that were tried, None for one that wasn't refused, and takes away
     those of edits that are gone. Another run may write its own meanwhile."""
     folder = os.open(os.path.dirname(RECORD), os.O_RDONLY)
     try:
         fcntl.flock(folder, fcntl.LOCK_EX)
-        lines = {**read_record()[0], **seen}
+        lines: dict[str, Optional[Line]] = {**read_record()[0], **seen}
         there = all_edits()
-        kept = sorted(name for name, line in lines.items() if line and name in there)
-        texts = [f"{name} {lines[name][0]} {lines[name][1]}\n" for name in kept]
+        kept = sorted((name, *line) for name, line in lines.items() if line and name in there)
+        texts = [" ".join(line) + "\n" for line in kept]
         write(f"{RECORD}.new", "".join(texts))
         os.replace(f"{RECORD}.new", RECORD)
     finally:
         os.close(folder)
 
 
-def lost_edits():
+def lost_edits() -> list[str]:
     """What lies on the shelves, and no command would try."""
-    wrong = []
+    wrong: list[str] = []
     shelf = f"{ROOT}/tests/wrong_bodies"
     for name in sorted(os.listdir(shelf)):
         if name not in ("record", "each_run", *crates()):
@@ -102,7 +113,7 @@ def lost_edits():
     return wrong
 
 
-def misplaced(file, crate, edit):
+def misplaced(file: str, crate: str, edit: Edit) -> list[str]:
     """What is wrong with the place of an edit, if anything."""
     first, _ = shelves(crate)
     folder = os.path.dirname(file)
@@ -111,16 +122,17 @@ def misplaced(file, crate, edit):
     return [] if folder == wanted else [wrong]
 
 
-def state_of(name, edit, lines, tried_on):
+def state_of(name: str, edit: Edit, lines: Lines, tried_on: Basis) -> str:
     """What the record says of an edit: current, stale, or missing."""
     if name not in lines:
         return "missing"
     return "current" if lines[name][0] == tried_on.sum(name.partition("/")[0], edit.text) else "stale"
 
 
-def states(lines):
+def states(lines: Lines) -> tuple[dict[str, str], list[str]]:
     """What the record says of each edit, by its name, and what is wrong with the edits."""
-    found, wrong, tried_on = {}, lost_edits(), Basis(ROOT)
+    found: dict[str, str] = {}
+    wrong, tried_on = lost_edits(), Basis(ROOT)
     for name, files in sorted(all_edits().items()):
         crate = name.partition("/")[0]
         try:
@@ -133,10 +145,11 @@ def states(lines):
     return found, wrong
 
 
-def gone_names(found):
+def gone_names(found: dict[str, str]) -> list[str]:
     """The edits that can't be compiled, since they name what isn't there. One with a current line was
     refused on these very sources, so it can, whatever it names."""
-    wrong, names, there = [], Names(ROOT, crates()), all_edits()
+    wrong: list[str] = []
+    names, there = Names(ROOT, crates()), all_edits()
     for name in [name for name, state in found.items() if state != "current"]:
         crate = name.partition("/")[0]
         gone = names.unknown(crate, Edit(there[name][0], f"{ROOT}/crates/{crate}"))
@@ -144,19 +157,19 @@ def gone_names(found):
     return wrong
 
 
-def wanting():
+def wanting() -> list[str]:
     """The edits that have no line, or a stale one."""
     return [name for name, state in states(read_record()[0])[0].items() if state != "current"]
 
 
-def tried_by_each_run():
+def tried_by_each_run() -> list[str]:
     """The edits that each run of the gate tries, those of `rt ci` among them."""
     first = {shelves(crate)[0] for crate in crates()}
     of_rt = [it for it, files in all_edits().items() if os.path.dirname(files[0]) in first]
     return [*of_rt, *of_each_run()[0]]
 
 
-def faults_of_the_list():
+def faults_of_the_list() -> list[str]:
     """What is wrong with the list of the edits that each run tries, and which crates lack one."""
     tried = {name.partition("/")[0] for name in tried_by_each_run()}
     wrong = [f"tests/wrong_bodies/each_run: {it} is no edit and its function" for it in of_each_run()[1]]
@@ -164,7 +177,7 @@ def faults_of_the_list():
     return wrong + [f"no run of the gate would try a wrong body of {crate}" for crate in lacking]
 
 
-def faults():
+def faults() -> tuple[list[str], dict[str, str]]:
     """What is wrong with the record and with the edits, and what the record says of each edit."""
     lines, wrong = read_record()
     found, more = states(lines)
@@ -174,7 +187,7 @@ def faults():
     return of_record + faults_of_the_list() + more + gone_names(found), found
 
 
-def main():
+def main() -> int:
     words = argparse.ArgumentParser(description="Looks at the record of the wrong bodies that were tried.")
     words.add_argument("--tried", action="store_true", help="this run has tried those that each run tries")
     asked = words.parse_args()

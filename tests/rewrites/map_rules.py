@@ -97,7 +97,7 @@ def one_module(program: str, output: str) -> None:
     found = tool(program, "why", output).splitlines()
     is_so = found[:1] == [f"lines of {script}"]
     judged("whose lines are told", is_so, f"{found[:1]}")
-    sent = next((line.split("  sent")[0].split() for line in found if "sent v_server" in line), [])
+    sent = next((line.split("  sent")[0].split() for line in found if "sent v_server" in line), ["nothing"])
     judged("why, of one module", sent == ["34", "->", "24"], f"{sent}")
 
 

@@ -15,13 +15,16 @@
 
 Each prints what is wrong and ends with status 1, or prints nothing and ends with status 0.
 """
+from __future__ import annotations
+
 import argparse
 import os
 import random
 import re
 import subprocess
 import sys
-from collections.abc import Callable
+from collections.abc import Callable, Iterable, Sequence
+from typing import NamedTuple, Optional, TypeVar
 
 ROOT = os.path.dirname(os.path.dirname(os.path.dirname(os.path.realpath(__file__))))
 sys.dont_write_bytecode = True
@@ -31,8 +34,8 @@ from generator import some_script
 from judge import MOST_STATES, acted, hurry, is_over, state, wanted_by
 from tpr_tools.model.bodies import TestCase, Tried
 from tpr_tools.model.reading import TOKENS, Reader
-from tpr_tools.model.run import Act, Run
-from tpr_tools.model.tree import Control
+from tpr_tools.model.run import Act, Message, Run
+from tpr_tools.model.tree import Choice, Control, Guard, Setverdict, Variable
 from tpr_tools.report.reader import read_report
 from tpr_tools.report.report import NotAReport
 from tpr_tools.script.case import Case
@@ -43,7 +46,32 @@ from tpr_tools.why.reasons import reasons_of
 from tpr_tools.why.walk import DoesNotFit
 from tpr_tools.why.ways import Ways
 
+Made = TypeVar("Made")
+
 RECEIVED = ("took", "found", "dropped", "left")
+
+
+# The lines of statements, receiving operations and `[else]`, by what they are in the model.
+Lines = dict[object, int]
+# A message by its receiver, its port, its sender and its number.
+Key = tuple[str, str, str, int]
+
+
+class ModelRow(NamedTuple):
+    """Of an entry of the model's report its line in the script, and that of the message's other end."""
+
+    text: str
+    line: Optional[int]
+    other: str
+
+
+class ToolRow(NamedTuple):
+    """The same as the tool says it, with its arrow. The other end may be one of several lines."""
+
+    text: str
+    line: Optional[int]
+    arrow: str
+    other: str
 
 
 class Word(str):
@@ -52,7 +80,7 @@ class Word(str):
     line = 0
 
 
-def worded(text, line):
+def worded(text: str, line: int) -> Word:
     word = Word(text)
     word.line = line
     return word
@@ -61,8 +89,9 @@ def worded(text, line):
 # A script of the model, and the lines of its statements
 
 
-def lined_tokens(text):
-    tokens, place, line = [], 0, 1
+def lined_tokens(text: str) -> list[str]:
+    tokens: list[str] = []
+    place, line = 0, 1
     while place < len(text):
         found = TOKENS.match(text, place)
         assert found is not None, text[place:]
@@ -76,31 +105,31 @@ def lined_tokens(text):
 class LinedReader(Reader):
     """Keeps the line of each statement, receiving operation and `[else]` that it reads."""
 
-    def __init__(self, tokens):
+    def __init__(self, tokens: list[str]):
         super().__init__(tokens)
-        self.lines = {}
-        self.elses = []
+        self.lines: Lines = {}
+        self.elses: list[int] = []
 
-    def keep(self, read):
+    def keep(self, read: Callable[[], Made]) -> Made:
         line = getattr(self.ahead(), "line", 0)
         made = read()
         if made is not None:
             self.lines[id(made)] = line
         return made
 
-    def statement(self):
+    def statement(self) -> object:
         return self.keep(super().statement)
 
-    def guard(self):
+    def guard(self) -> Guard:
         return self.keep(super().guard)
 
-    def choice(self):
+    def choice(self) -> Choice:
         self.elses.append(0)
         made = super().choice()
         self.lines["else", id(made)] = self.elses.pop()
         return made
 
-    def accept(self, *wanted):
+    def accept(self, *wanted: str) -> bool:
         line = getattr(self.ahead(), "line", 0)
         accepted = super().accept(*wanted)
         if accepted and wanted == ("[", "else", "]"):
@@ -111,23 +140,23 @@ class LinedReader(Reader):
 class LinedRun(Run):
     """A run of the model, each line of which knows its line in the script."""
 
-    def __init__(self, case, lines):
+    def __init__(self, case: TestCase, lines: Lines):
         self.lines = lines
-        self.guard = None
-        self.discarded = {}  # by receiver, port, sender and number
+        self.guard: Optional[Guard] = None
+        self.discarded: dict[Key, int] = {}
         super().__init__(case)
 
-    def copy(self):
+    def copy(self) -> LinedRun:
         other = super().copy()
         assert isinstance(other, LinedRun)
         other.discarded = self.discarded.copy()
         return other
 
-    def wants(self, who, guard, top):
+    def wants(self, who: int, guard: Guard, top: Message) -> bool:
         self.guard = guard
         return super().wants(who, guard, top)
 
-    def carry_out(self, who, statement):
+    def carry_out(self, who: int, statement: Variable | Setverdict | Control) -> None:
         if isinstance(statement, Control) and statement.operation in ("start", "clear"):
             for port in self.case.bodies[who].ports if statement.port is None else (statement.port,):
                 for it in self.components[who].ports[port].queue:
@@ -135,7 +164,7 @@ class LinedRun(Run):
                     self.discarded[key] = self.lines[id(statement)]
         super().carry_out(who, statement)
 
-    def act(self, who):
+    def act(self, who: int) -> Act:
         statement, lines = self.statement(who), self.components[who].lines
         before = len(lines)
         made = super().act(who)
@@ -143,23 +172,23 @@ class LinedRun(Run):
             lines[place] = worded(lines[place], self.line_of(statement, lines[place]))
         return made
 
-    def line_of(self, statement, text):
+    def line_of(self, statement: object, text: str) -> int:
         if not isinstance(statement, Tried):
             return self.lines[id(statement)]
         return self.lines["else", id(statement.choice)] if text == "else" else self.lines[id(self.guard)]
 
-    def line_of_wait(self, who):
+    def line_of_wait(self, who: int) -> Optional[int]:
         statement = self.statement(who)
         return None if statement is None else self.lines[id(statement.choice)]
 
 
-def lined_case(text):
+def lined_case(text: str) -> tuple[TestCase, Lines]:
     reader = LinedReader(lined_tokens(text))
     script = reader.module()
     return TestCase(script), reader.lines
 
 
-def run_by_chance(run, chance):
+def run_by_chance(run: LinedRun, chance: random.Random) -> LinedRun:
     """Acts by chance, to the end."""
     while True:
         living = [who for who in range(len(run.components)) if run.statement(who) is not None]
@@ -168,12 +197,12 @@ def run_by_chance(run, chance):
             return run
 
 
-def run_with_report(run, report):
+def run_with_report(begun: LinedRun, report: str) -> Optional[LinedRun]:
     """A run that has this report, as judge.py looks for one."""
-    wanted = wanted_by(run.case, report)
+    wanted = wanted_by(begun.case, report)
     assert wanted is not None, report
     seen: set[object] = set()
-    open_runs = [run]
+    open_runs: list[Run] = [begun]
     while open_runs and len(seen) <= MOST_STATES:
         run = open_runs.pop()
         hurry(run, wanted)
@@ -182,61 +211,70 @@ def run_with_report(run, report):
         seen.add(key)
         after = [it for who in range(len(run.components)) if (it := acted(run, who, wanted)) is not None]
         if not after and run.report() == report and is_over(run):
+            assert isinstance(run, LinedRun)
             return run
         open_runs += after
     return None
 
 
-def rows_of_model(run):
+def rows_of_model(run: LinedRun) -> list[ModelRow]:
     """For each entry, and each message that is left, its line and that of the message's other end."""
-    sent, gone = {}, dict(run.discarded)
+    sent: dict[Key, int] = {}
+    gone = dict(run.discarded)
     for name, component in zip(run.case.names, run.components):
         for line in component.lines:
             word, *rest = line.split(" ", 3)
             if word == "sent":
-                sent[name, *rest[0].split("."), int(rest[1])] = line.line
+                receiver, port = rest[0].split(".")
+                sent[receiver, port, name, int(rest[1])] = line_in_script(line)
             elif word in ("took", "dropped"):
-                gone[name, rest[0], rest[1], int(rest[2].split(" ")[0])] = line.line
-    rows = []
+                gone[name, rest[0], rest[1], int(rest[2].split(" ")[0])] = line_in_script(line)
+    rows: list[ModelRow] = []
     for who, (name, component) in enumerate(zip(run.case.names, run.components)):
         for line in component.lines:
-            rows.append((line, line.line, other_end(name, line, sent, gone)))
+            rows.append(ModelRow(line, line_in_script(line), other_end(name, line, sent, gone)))
         if run.line_of_wait(who) is not None:
-            rows.append(("end waiting", run.line_of_wait(who), ""))
+            rows.append(ModelRow("end waiting", run.line_of_wait(who), ""))
         left = [line for line in run.lines_of(who) if line.startswith("left ")]
-        rows += [(line, None, other_end(name, line, sent, gone)) for line in left]
+        rows += [ModelRow(line, None, other_end(name, line, sent, gone)) for line in left]
     return rows
 
 
-def other_end(name, line, sent, gone):
+def line_in_script(line: str) -> int:
+    """That of a line of a history, which a run gave it."""
+    assert isinstance(line, Word), line
+    return line.line
+
+
+def other_end(name: str, line: str, sent: dict[Key, int], gone: dict[Key, int]) -> str:
     word, *rest = line.split(" ", 4)
     if word == "sent":
         receiver, port = rest[0].split(".")
         return str(gone.get((receiver, port, name, int(rest[1])), "left"))
     if word in RECEIVED:
-        return str(sent[rest[1], name, rest[0], int(rest[2])])
+        return str(sent[name, rest[0], rest[1], int(rest[2])])
     return ""
 
 
 # What the tool says
 
 
-def ways_of(script, report):
+def ways_of(script: bytes, report: bytes) -> Ways:
     text = Text(script)
     return Ways(Case(text, check_script(text)), read_report(report))
 
 
-def rows_of_tool(script, report):
+def rows_of_tool(script: bytes, report: bytes) -> list[ToolRow]:
     """For each line of the report its line in the script, and what stands for the message's other end."""
     listed = listing_of(ways_of(script, report)).splitlines()[1:]
     lines = report.decode("latin-1").splitlines()
     must(len(listed) == len(lines), "there isn't a line for each of the report")
-    rows = []
+    rows: list[ToolRow] = []
     for told, line in zip(listed, lines):
         must(told.endswith(f"  {line}"), f"{told!r} isn't of {line!r}")
         found = re.fullmatch(r" *([0-9]*) *(->|<-|) *(.*?) *", told[: len(told) - len(line)])
         assert found is not None, told
-        rows.append((line, int(found[1]) if found[1] else None, found[2], found[3]))
+        rows.append(ToolRow(line, int(found[1]) if found[1] else None, found[2], found[3]))
     return rows
 
 
@@ -244,12 +282,12 @@ class Wrong(Exception):
     """A rule is broken."""
 
 
-def must(holds, text):
+def must(holds: bool, text: str) -> None:
     if not holds:
         raise Wrong(text)
 
 
-def same_rows(told, modelled):
+def same_rows(told: Sequence[ToolRow], modelled: Sequence[ModelRow]) -> None:
     """The lines are the same. Of several lines by one of which a message was discarded, one is the model's."""
     told = [row for row in told if is_modelled(row)]
     must(len(told) == len(modelled), "the entries aren't those of the model")
@@ -260,15 +298,15 @@ def same_rows(told, modelled):
         must(arrow == {"sent": "->"}.get(text.split(" ")[0], "<-" if model_other else ""), f"{text!r}: {arrow}")
 
 
-def is_modelled(row):
-    text = row[0]
+def is_modelled(row: ToolRow) -> bool:
+    text = row.text
     return not text.startswith(("component ", "verdict ", "result ")) and text != "end done" and "end error" not in text
 
 
 # The rules
 
 
-def examples_rule(*reports):
+def examples_rule(*reports: str) -> None:
     for file in reports:
         with open(script_of(file), "rb") as opened:
             script = opened.read()
@@ -276,18 +314,19 @@ def examples_rule(*reports):
             report = opened.read()
         case, lines = lined_case(script.decode("latin-1"))
         run = run_with_report(LinedRun(case, lines), report.decode("latin-1"))
-        must(run is not None, f"{file}: the model has no such run")
+        if run is None:
+            raise Wrong(f"{file}: the model has no such run")
         try:
             same_rows(rows_of_tool(script, report), rows_of_model(run))
         except Wrong as wrong:
             raise Wrong(f"{file}: {wrong}") from None
 
 
-def script_of(report):
+def script_of(report: str) -> str:
     return re.sub(r"\.expected(\.[0-9]+)?$", ".ttcn", report)
 
 
-def random_rule(number, seed="1"):
+def random_rule(number: str, seed: str = "1") -> None:
     chance = random.Random(int(seed))
     entries = discarded = lacking = 0
     for turn in range(int(number)):
@@ -308,10 +347,10 @@ def random_rule(number, seed="1"):
 DOES = re.compile(r" *([pq]\.send\(.*|([pq]|all port)\.(start|stop|halt|clear);|setverdict\(.*)")
 
 
-def without_a_statement(text, report, rows, chance):
+def without_a_statement(text: str, report: str, rows: Iterable[ModelRow], chance: random.Random) -> bool:
     """Whether there was a statement to leave out by which something was done."""
     lines = text.split("\n")
-    done = {line for entry, line, _ in rows if line and not entry.startswith("failed ")}
+    done = {it.line for it in rows if it.line and not it.text.startswith("failed ")}
     done = {line for line in done if DOES.fullmatch(lines[line - 1])}
     if not done:
         return False
@@ -354,7 +393,7 @@ KNOWN = (
 )
 
 
-def discarded_rule(number):
+def discarded_rule(number: str) -> None:
     chance = random.Random(7)
     told = [0, 0]  # where it is known by which one it was discarded, and where that is open
     for turn in range(int(number)):
@@ -372,10 +411,10 @@ def discarded_rule(number):
     must(min(told) >= int(number), f"too little was discarded: {told}")
 
 
-def discarded_in_runs(case, lines):
+def discarded_in_runs(case: TestCase, lines: Lines) -> dict[str, dict[Key, set[int]]]:
     """For each report the lines by which each message is discarded in some run that has it."""
     seen: set[object] = set()
-    found: dict[str, dict[object, set[object]]] = {}
+    found: dict[str, dict[Key, set[int]]] = {}
     open_runs = [LinedRun(case, lines)]
     while open_runs:
         run = open_runs.pop()
@@ -387,12 +426,12 @@ def discarded_in_runs(case, lines):
         open_runs += [after for after, act in tried if act is not Act.WAITS]
         if all(act is Act.WAITS for _, act in tried):
             of_report = found.setdefault(run.report(), {})
-            for key, line in run.discarded.items():
-                of_report.setdefault(key, set()).add(line)
+            for message, line in run.discarded.items():
+                of_report.setdefault(message, set()).add(line)
     return found
 
 
-def table_rule(table, *reports):
+def table_rule(table: str, *reports: str) -> None:
     """The table has a name of a report in each odd line, and what is told of its lines in the next one."""
     with open(table, encoding="ascii") as opened:
         rows = [line for line in opened.read().splitlines() if line and not line.startswith("#")]
@@ -404,14 +443,14 @@ def table_rule(table, *reports):
         must(told == wanted.split(), f"{name}: {' '.join(told)}\nand by hand: {wanted}")
 
 
-def in_short(row):
+def in_short(row: ToolRow) -> str:
     """`24>9`, `9<24`, `<26`, `10`, or `-` for a line of which nothing is told."""
     _, line, arrow, other = row
     sign = {"->": ">", "<-": "<", "": ""}[arrow]
     return f"{line or ''}{sign}{other.replace(' or ', '|')}" or "-"
 
 
-def causes_rule(program, *scripts):
+def causes_rule(program: str, *scripts: str) -> None:
     for script in scripts:
         base = script.removesuffix(".ttcn")
         with open(script, "rb") as opened, open(f"{base}.why", encoding="ascii") as why:

@@ -127,7 +127,7 @@ class Evaluator:
         if isinstance(node, tree.FieldOf):
             whole = self.type_of(node.value, scope)
             return next((it.type.word for it in self.program.fields_of(whole) if it.name == node.word), None)
-        word = node.called.word if isinstance(node, tree.Call) else getattr(node, "word", "")
+        word = getattr(node.called if isinstance(node, tree.Call) else node, "word", "")
         cell = scope.find(word) if isinstance(node, tree.Name) else None
         if cell is not None:
             return cell.type

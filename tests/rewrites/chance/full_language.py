@@ -215,6 +215,7 @@ class Behaviour(Evaluator):
             raise Leaves("stop")
         else:
             call = statement.arguments[0]
+            assert isinstance(call, tree.Call), call
             function = self.function_of(call)
             if function is None or act != "start":
                 raise Fault("start")
