@@ -28,8 +28,8 @@ from typing import NamedTuple, Optional
 
 ROOT = os.path.dirname(os.path.dirname(os.path.dirname(os.path.realpath(__file__))))
 LIST = f"{ROOT}/tests/gate/parts"
-# What these try must be built: TPR names no other program to them.
-OF_THE_BUILT = ("refused_memory", "refused_in_tests", "refused_in_runs", "filled_templates")
+# What this tries must be built: TPR names no other program to it.
+OF_THE_BUILT, BUILT = "refused_in_tests", f"{ROOT}/crates/tp_tests/out/tp_tests_tests"
 OF_ORDERED = ("orders", "forced_orders", "exploring", "soak")
 ITSELF = "planted_faults"
 MOST_SECONDS_OF_SOME = 30
@@ -110,7 +110,7 @@ def untold(fault: Fault, program: str, ordered: str) -> Optional[str]:
 
 
 def why_left_out(fault: Fault, ordered: str) -> Optional[str]:
-    if fault.part in OF_THE_BUILT and not os.access(f"{ROOT}/crates/tpr/out/tpr", os.X_OK):
+    if fault.part == OF_THE_BUILT and not os.access(BUILT, os.X_OK):
         return "nothing is built"
     if fault.part in OF_ORDERED and not os.access(ordered, os.X_OK):
         return "there is no tpr_ordered"

@@ -1,20 +1,20 @@
 #!/usr/bin/env python3
 """Each call of a kind refused in turn: what the program answers, and whether the tests of a crate pass.
 
-    refused_calls.py program LIBRARY    each allocation of the program, and each read and write of its judge: it answers
-                                        that it was refused and nothing else, or what it answers with ample memory
-    refused_calls.py tests LIBRARY      each allocation of the tests that are right under refused memory: they pass
+    refused_calls.py program LIBRARY PROGRAM    each allocation of the program, and each read and write of its judge: it
+                                                answers that it was refused and nothing else, or what it answers with
+                                                ample memory
+    refused_calls.py tests LIBRARY PROGRAM      each allocation of the tests that are right under refused memory: they
+                                                pass, whatever program there is
 
 LIBRARY is that of refused.c. It prints `passed REFUSED NAME` or `FAILED: NAME: ..` for each case.
 """
 from __future__ import annotations
 
-import argparse
 import functools
 import os
 import subprocess
 import sys
-import tempfile
 from collections.abc import Iterator
 from pathlib import Path
 from typing import NamedTuple
@@ -22,7 +22,7 @@ from typing import NamedTuple
 sys.dont_write_bytecode = True
 
 import example_files
-from refusing import NO_MEMORY, NO_READ, PROGRAM, ROOT, Case, Ran, Refusing, Wrong, try_each
+from refusing import NO_MEMORY, NO_READ, ROOT, Case, Ran, Refusing, Wrong, try_one_of
 
 sys.path.append(str(ROOT / "tests" / "traces"))
 
@@ -49,8 +49,8 @@ class Asked(NamedTuple):
     status: int
     answer: bytes
 
-    def words(self) -> list[str]:
-        return [str(PROGRAM), self.mode, str(self.file)]
+    def words(self, program: str) -> list[str]:
+        return [program, self.mode, str(self.file)]
 
     def is_answered(self, ran: Ran) -> bool:
         return ran.is_so(self.status, self.answer)
@@ -87,7 +87,7 @@ def traces(folder: Path) -> Iterator[Asked]:
 def each_allocation(refusing: Refusing, asked: Asked) -> None:
     """Where one is refused, that is the answer, or the one with ample memory."""
     refusals = 0
-    for number, ran in refusing.each(asked.words(), "MEMORY", MOST_CALLS):
+    for number, ran in refusing.each(asked.words(refusing.program), "MEMORY", MOST_CALLS):
         is_told = "MEMORY" in ran.refused and ran.is_fault(NO_MEMORY)
         if not is_told and not asked.is_answered(ran):
             raise ran.wrong(f"with allocation {number} refused")
@@ -98,7 +98,7 @@ def each_allocation(refusing: Refusing, asked: Asked) -> None:
 
 def each_read(refusing: Refusing, asked: Asked) -> None:
     """Where one is refused, the answer is 2."""
-    for number, ran in refusing.each(asked.words(), "READ", MOST_CALLS):
+    for number, ran in refusing.each(asked.words(refusing.program), "READ", MOST_CALLS):
         if "READ" in ran.refused and not ran.is_so(2, NO_READ):
             raise ran.wrong(f"with read {number} refused")
     if number == 1 or not asked.is_answered(ran):
@@ -107,7 +107,7 @@ def each_read(refusing: Refusing, asked: Asked) -> None:
 
 def each_write(refusing: Refusing, asked: Asked) -> None:
     """Where one is refused, the status is 3, and what was written before is the beginning."""
-    for number, ran in refusing.each(asked.words(), "WRITE", MOST_CALLS):
+    for number, ran in refusing.each(asked.words(refusing.program), "WRITE", MOST_CALLS):
         is_cut = ran.status == 3 and asked.answer.startswith(ran.printed) and ran.said == b""
         if "WRITE" in ran.refused and not is_cut:
             raise ran.wrong(f"with write {number} refused")
@@ -115,13 +115,13 @@ def each_write(refusing: Refusing, asked: Asked) -> None:
         raise ran.wrong(f"{number - 1} writes, and the last run")
 
 
-def of_the_program(refusing: Refusing, folder: Path) -> Iterator[Case]:
+def of_the_program(refusing: Refusing) -> Iterator[Case]:
     asked = [example("queue", f"{it}.queue") for it in QUEUES]
     asked += [example("check", f"{it}.ttcn") for it in SCRIPTS]
     asked.append(verdicts_of("broadcast_is_overtaken_by_an_answer.ttcn"))
     for it in asked:
         yield f"each allocation of {it.mode} {it.file.name}", functools.partial(each_allocation, refusing, it)
-    for it in traces(folder):
+    for it in traces(refusing.folder):
         for name, attempt in (("allocation", each_allocation), ("read", each_read), ("write", each_write)):
             yield f"each {name} of judge {it.file.name}", functools.partial(attempt, refusing, it)
 
@@ -153,14 +153,7 @@ def of_the_tests(refusing: Refusing) -> Iterator[Case]:
 
 
 def main() -> int:
-    words = argparse.ArgumentParser(description="Each call of a kind refused in turn.")
-    words.add_argument("what", choices=("program", "tests"))
-    words.add_argument("library", metavar="LIBRARY", help="the library of refused.c")
-    asked = words.parse_args()
-    with tempfile.TemporaryDirectory() as name:
-        refusing = Refusing(asked.library, Path(name))
-        cases = of_the_program(refusing, Path(name)) if asked.what == "program" else of_the_tests(refusing)
-        return try_each(cases, refusing)
+    return try_one_of({"program": of_the_program, "tests": of_the_tests}, "Each call of a kind refused in turn.")
 
 
 if __name__ == "__main__":

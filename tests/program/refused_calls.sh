@@ -5,5 +5,5 @@ compile_refusals() {
 }
 
 refused_calls() { # WHAT
-    told_of_runs refused_of_all tests/program/refused_calls.py "$1" "$room_of_all/refused.so"
+    told_of_runs refused_of_all tests/program/refused_calls.py "$1" "$room_of_all/refused.so" "$tpr"
 }

@@ -1,17 +1,18 @@
 """Runs in which a call is refused, by the library of refused.c, which is loaded before the C library.
 
-The program is the built one itself, since a shell before it would be refused calls too.
+The program is no script, since the shell that runs it would be refused calls too.
 """
 from __future__ import annotations
 
+import argparse
 import os
 import subprocess
+import tempfile
 from collections.abc import Callable, Iterable, Iterator, Mapping, Sequence
 from pathlib import Path
 from typing import NamedTuple, Optional
 
 ROOT = Path(__file__).resolve().parents[2]
-PROGRAM = ROOT / "crates" / "tpr" / "out" / "tpr"
 MOST_SECONDS = 20
 SHOWN = 400  # of what was printed, where it is wrong
 NO_MEMORY, NO_THREAD, NO_READ = b"fault 50 Memory\n", b"fault 51 NoThread\n", b"refused 2 Read\n"
@@ -60,10 +61,11 @@ def run(words: Sequence[str], before: Before = None, more: Optional[Mapping[str,
 
 
 class Refusing:
-    """Runs commands with calls refused, and counts the runs in which one was."""
+    """Runs commands with calls refused, and counts the runs in which one was. The folder is for whatever is written."""
 
-    def __init__(self, library: str, folder: Path):
-        self.library, self.marks, self.refused = library, folder / "marks", 0
+    def __init__(self, library: str, program: str, folder: Path):
+        self.library, self.program, self.folder = library, os.path.abspath(program), folder
+        self.marks, self.refused = folder / "marks", 0
         self.marks.mkdir()
 
     def run(self, words: Sequence[str], **calls: int) -> Ran:
@@ -87,6 +89,18 @@ class Refusing:
 
 
 Case = tuple[str, Callable[[], None]]
+
+
+def try_one_of(kinds: Mapping[str, Callable[[Refusing], Iterable[Case]]], description: str) -> int:
+    """Tries the cases of the kind that the command line names, with its library and its program."""
+    words = argparse.ArgumentParser(description=description)
+    words.add_argument("what", choices=kinds)
+    words.add_argument("library", metavar="LIBRARY", help="the library of tests/program/refused.c")
+    words.add_argument("program", metavar="PROGRAM")
+    asked = words.parse_args()
+    with tempfile.TemporaryDirectory() as folder:
+        refusing = Refusing(asked.library, asked.program, Path(folder))
+        return try_each(kinds[asked.what](refusing), refusing)
 
 
 def try_each(cases: Iterable[Case], refusing: Refusing) -> int:

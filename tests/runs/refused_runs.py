@@ -1,17 +1,16 @@
 #!/usr/bin/env python3
 """Runs of examples with calls refused, and how often a template is filled.
 
-    refused_runs.py runs LIBRARY         each allocation, start of a thread and read of runs refused in turn
-    refused_runs.py templates LIBRARY    a template in which no loop variable stands is filled once for a behaviour
+    refused_runs.py runs LIBRARY PROGRAM         each allocation, start of a thread and read of runs refused in turn
+    refused_runs.py templates LIBRARY PROGRAM    a template in which no loop variable stands is filled once for a
+                                                 behaviour
 
 LIBRARY is that of tests/program/refused.c. It prints `passed REFUSED NAME` or `FAILED: NAME: ..` for each case.
 """
 from __future__ import annotations
 
-import argparse
 import functools
 import sys
-import tempfile
 from collections.abc import Iterator
 from pathlib import Path
 
@@ -19,7 +18,7 @@ sys.dont_write_bytecode = True
 sys.path.append(str(Path(__file__).resolve().parents[1] / "program"))
 
 from examples import is_report, reports, script
-from refusing import NO_MEMORY, NO_READ, NO_THREAD, PROGRAM, Case, Ran, Refusing, try_each
+from refusing import NO_MEMORY, NO_READ, NO_THREAD, Case, Ran, Refusing, try_one_of
 
 MOST_CALLS = 5000
 OF_EACH_ALLOCATION = (
@@ -53,7 +52,7 @@ class Example:
     """An example in a mode, `run` or `trace`."""
 
     def __init__(self, refusing: Refusing, mode: str, name: str):
-        self.refusing, self.mode, self.words = refusing, mode, [str(PROGRAM), mode, script(name)]
+        self.refusing, self.mode, self.words = refusing, mode, [refusing.program, mode, script(name)]
         self.reports = reports(name)
 
     def is_report(self, ran: Ran) -> bool:
@@ -119,25 +118,23 @@ def of_runs(refusing: Refusing) -> Iterator[Case]:
     yield "each thread of a trace", functools.partial(trace.each_thread, 4)
 
 
-def fills_once(refusing: Refusing, folder: Path) -> None:
+def fills_once(refusing: Refusing) -> None:
     """500 turns, each with an alt over a template of 100 lists: with a loop variable in it, and without."""
     for element, is_often in (("turn", True), ("2", False)):
-        file = folder / f"{element}.ttcn"
+        file = refusing.folder / f"{element}.ttcn"
         file.write_text(TURNS.replace("LISTS", "{1, 2}," * 99).replace("ELEMENT", element), encoding="ascii")
-        ran = refusing.run([str(PROGRAM), "run", str(file)], MEMORY=MANY_ALLOCATIONS)
+        ran = refusing.run([refusing.program, "run", str(file)], MEMORY=MANY_ALLOCATIONS)
         if ("MEMORY" in ran.refused) != is_often or not is_often and ran.status != 0:
             raise ran.wrong(f"500 turns over a template with {element}, with allocation {MANY_ALLOCATIONS} refused")
 
 
+def of_templates(refusing: Refusing) -> Iterator[Case]:
+    yield "a template that is filled once", functools.partial(fills_once, refusing)
+
+
 def main() -> int:
-    words = argparse.ArgumentParser(description="Runs with calls refused, and how often a template is filled.")
-    words.add_argument("what", choices=("runs", "templates"))
-    words.add_argument("library", metavar="LIBRARY", help="the library of tests/program/refused.c")
-    asked = words.parse_args()
-    with tempfile.TemporaryDirectory() as name:
-        refusing = Refusing(asked.library, Path(name))
-        once: Case = ("a template that is filled once", functools.partial(fills_once, refusing, Path(name)))
-        return try_each(of_runs(refusing) if asked.what == "runs" else [once], refusing)
+    kinds = {"runs": of_runs, "templates": of_templates}
+    return try_one_of(kinds, "Runs with calls refused, and how often a template is filled.")
 
 
 if __name__ == "__main__":

@@ -5,5 +5,5 @@ free_runs() { # WAY
 }
 
 refused_runs() { # WHAT
-    told_of_runs refused_of_all tests/runs/refused_runs.py "$1" "$room_of_all/refused.so"
+    told_of_runs refused_of_all tests/runs/refused_runs.py "$1" "$room_of_all/refused.so" "$tpr"
 }
