@@ -105,13 +105,7 @@ class Behaviour(Chooser):
     def activate(self, node: tree.Activate, path: Path, scope: Optional[Scope]) -> Form:
         if self.is_looking:
             refuse(node.at, "a default is activated at each look at the branches")
-        call = node.call
-        called = call.called if isinstance(call, tree.Call) else call
-        word = called.word if isinstance(called, (tree.Name, tree.FieldOf)) else ""
-        altstep = self.program.altsteps.get(word)
-        if altstep is None:
-            refuse(node.at, f"`{word}` is no altstep that is known")
-        arguments = call.arguments if isinstance(call, tree.Call) else []
+        altstep, arguments = self.altstep_of(node.call, node.at)
         bound = self.bind(altstep.parameters, arguments, node.at, path, scope)
         for name, slot in bound:
             is_timer = slot.type is not None and slot.type.kind is Kind.TIMER
@@ -210,7 +204,7 @@ class Behaviour(Chooser):
         if len(statement.arguments) != 1 or not isinstance(statement.arguments[0], tree.Call):
             refuse(statement.at, "a component is started with the call of a function")
         call = statement.arguments[0]
-        word = call.called.word if isinstance(call.called, (tree.Name, tree.FieldOf)) else ""
+        word = tree.word_called(call)
         body = self.program.functions.get(word) or self.program.altsteps.get(word)
         if body is None or (isinstance(body, tree.Function) and body.body is None):
             refuse(call.at, f"`{word}` is no function of the script")

@@ -1,12 +1,14 @@
 """A place in the tokens of a file, and what each reader asks there."""
 from __future__ import annotations
 
-from typing import NoReturn
+from typing import Callable, NoReturn, TypeVar
 
 from ..script.constructs import Construct
 
 from .tokens import Kind, Refused, Source, Token, refused_at
 from .tree import Expression
+
+Read = TypeVar("Read")
 
 MOST_NESTED = 80
 
@@ -66,6 +68,27 @@ class Cursor:
         if not self.is_at(word):
             self.fail(f"`{word}` is wanted here")
         return self.take()
+
+    def listed(self, read: Callable[[], Read], end: str) -> list[Read]:
+        """What stands before the `end`, with commas between, and the `end`."""
+        found: list[Read] = []
+        while not self.is_at(end):
+            found.append(read())
+            if not self.accept(","):
+                break
+        self.expect(end)
+        return found
+
+    def up_to_brace(self, read: Callable[[], Read]) -> list[Read]:
+        """What stands before a `}`, with `;` between or not, and the `}`."""
+        found: list[Read] = []
+        while not self.is_at("}"):
+            if self.token.kind is Kind.END:
+                self.fail("`}` is wanted here")
+            if not self.accept(";"):
+                found.append(read())
+        self.expect("}")
+        return found
 
     def name(self, what: str = "a name") -> Token:
         if self.token.kind is not Kind.NAME:

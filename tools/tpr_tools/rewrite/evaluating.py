@@ -353,8 +353,7 @@ class Evaluator(BracesReader):
     # Calls
 
     def _call(self, node: tree.Call, path: Path, scope: Optional[Scope]) -> Form:
-        called = node.called
-        word = called.word if isinstance(called, (tree.Name, tree.FieldOf)) else ""
+        word = tree.word_called(node)
         if word in PREDEFINED:
             values = [self.evaluate(item.value, path, scope) for item in node.arguments]
             for value in values:
@@ -366,7 +365,7 @@ class Evaluator(BracesReader):
             return self._by_template(word, node.arguments, node.at, path, scope)
         if word in self.program.functions:
             return self.called_value(node, path, scope)
-        if isinstance(called, tree.Name) and self.find(word, scope, path) is not None:
+        if isinstance(node.called, tree.Name) and self.find(word, scope, path) is not None:
             refuse(node.at, f"`{word}` is called through a variable")
         refuse(node.at, f"the function `{word}` isn't evaluated")
 

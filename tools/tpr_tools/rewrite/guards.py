@@ -103,16 +103,19 @@ class Expander(Messages):
         else:
             refuse(event.at, "this isn't an operation that a branch can wait for")
 
+    def altstep_of(self, call: Expression, at: Token) -> tuple[tree.Altstep, list[tree.Argument]]:
+        """The altstep that is called, and with what."""
+        word = tree.word_called(call)
+        altstep = self.program.altsteps.get(word)
+        if altstep is None:
+            refuse(at, f"`{word}` is no altstep that is known")
+        return altstep, call.arguments if isinstance(call, tree.Call) else []
+
     def _add_altstep(
         self, call: Expression, path: Path, scope: Scope, bodies: list[Body], found: Expansion
     ) -> None:
-        called = call.called if isinstance(call, tree.Call) else call
-        word = called.word if isinstance(called, (tree.Name, tree.FieldOf)) else ""
-        altstep = self.program.altsteps.get(word)
-        if altstep is None:
-            refuse(call.at, f"`{word}` is no altstep that is known")
+        altstep, arguments = self.altstep_of(call, call.at)
         self.look_at_runs_on(altstep.runs_on, call.at)
-        arguments = call.arguments if isinstance(call, tree.Call) else []
         bound = self.bind(altstep.parameters, arguments, call.at, path, scope)
         inner = self.new_scope(self.root if altstep.runs_on else None)
         for name, slot in bound:

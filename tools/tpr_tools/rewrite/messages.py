@@ -49,11 +49,7 @@ class Messages(Follower):
 
     def message(self, node: Expression, port: str, path: Path, scope: Scope) -> Message:
         """What is sent there, with its type."""
-        listed = self.sent_types(port)
-        type = self._type_in(node, listed, path, scope)
-        form = self.evaluate(node, path, scope, type)
-        if form is Mark.LOST:
-            raise Refusal(node.at, "")
+        type, form = self._evaluated(node, self.sent_types(port), path, scope)
         if isinstance(form, Received) and form.steps == ():
             if form.symbol.type is not type.root:
                 refuse(node.at, "what was received is sent as another type")
@@ -70,6 +66,14 @@ class Messages(Follower):
             refuse(at, "this has no value yet")
         if not is_value(form):
             refuse(at, "this is no value, so that it can't be sent")
+
+    def _evaluated(self, node: Expression, listed: list[Type], path: Path, scope: Scope) -> tuple[Type, Form]:
+        """Which of these types it has, and what it comes to."""
+        type = self._type_in(node, listed, path, scope)
+        form = self.evaluate(node, path, scope, type)
+        if form is Mark.LOST:
+            raise Refusal(node.at, "")
+        return type, form
 
     def _type_in(self, node: Expression, listed: list[Type], path: Path, scope: Scope) -> Type:
         declared = self.type_of(node, path, scope)
@@ -164,11 +168,7 @@ class Messages(Follower):
     # What is received
 
     def wanted(self, node: Expression, port: str, path: Path, scope: Scope) -> Message:
-        listed = self.received_types(port)
-        type = self._type_in(node, listed, path, scope)
-        form = self.evaluate(node, path, scope, type)
-        if form is Mark.LOST:
-            raise Refusal(node.at, "")
+        type, form = self._evaluated(node, self.received_types(port), path, scope)
         if has_received(form):
             refuse(node.at, "this template is computed from what was received")
         if not is_template(form):

@@ -173,11 +173,7 @@ class ExpressionReader(Cursor):
 
     def _braces(self) -> Expression:
         braces = tree.Braces(self.expect("{"), [], [])
-        while not self.is_at("}"):
-            self._item(braces)
-            if not self.accept(","):
-                break
-        self.expect("}")
+        self.listed(lambda: self._item(braces), "}")
         return braces
 
     def _item(self, braces: tree.Braces) -> None:
@@ -307,14 +303,9 @@ class ExpressionReader(Cursor):
 
     def arguments(self) -> list[tree.Argument]:
         self.expect("(")
-        found: list[tree.Argument] = []
         self.deeper()
-        while not self.is_at(")"):
-            found.append(self._argument())
-            if not self.accept(","):
-                break
+        found = self.listed(self._argument, ")")
         self.shallower()
-        self.expect(")")
         return found
 
     def _argument(self) -> tree.Argument:

@@ -138,13 +138,7 @@ class ModuleReader(StatementReader):
 
     def _parameters(self) -> list[Parameter]:
         self.expect("(")
-        found: list[Parameter] = []
-        while not self.is_at(")"):
-            found.append(self._parameter())
-            if not self.accept(","):
-                break
-        self.expect(")")
-        return found
+        return self.listed(self._parameter, ")")
 
     def _parameter(self) -> Parameter:
         at = self.token
@@ -166,16 +160,21 @@ class ModuleReader(StatementReader):
         self.expect("on")
         return self.type_name().word
 
+    def _runs_on_alone(self) -> Optional[str]:
+        """Behind it may stand the types of `mtc` and of `system`, of which nothing is asked here."""
+        runs_on = self._runs_on()
+        while self.is_at("mtc", "system"):
+            self.take()
+            self.type_name()
+        return runs_on
+
     def _function(self, module: tree.Module) -> None:
         self.take()
         while self.token.kind is Kind.MODIFIER:
             self.note(Construct.MODIFIER, self.take())
         name = self.name("the name of the function")
         parameters = self._parameters()
-        runs_on = self._runs_on()
-        while self.is_at("mtc", "system"):
-            self.take()
-            self.type_name()
+        runs_on = self._runs_on_alone()
         if runs_on is None:
             self.note(Construct.NO_RUNS_ON, name)
         self._note_parameters(parameters)
@@ -205,10 +204,7 @@ class ModuleReader(StatementReader):
         self.note(Construct.ALTSTEP, at)
         name = self.name("the name of the altstep")
         parameters = self._parameters()
-        runs_on = self._runs_on()
-        while self.is_at("mtc", "system"):
-            self.take()
-            self.type_name()
+        runs_on = self._runs_on_alone()
         declarations, branches = self._altstep_body()
         module.definitions.append(
             tree.Altstep(
@@ -221,14 +217,7 @@ class ModuleReader(StatementReader):
         declarations: list[tree.Declaration] = []
         while self.is_at("var", "const", "timer", "template"):
             declarations.append(self.declaration())
-        branches: list[tree.Branch] = []
-        while not self.is_at("}"):
-            if self.token.kind is Kind.END:
-                self.fail("`}` is wanted here")
-            if not self.accept(";"):
-                branches.append(self._branch())
-        self.expect("}")
-        return declarations, branches
+        return declarations, self.up_to_brace(self._branch)
 
     def _testcase(self, module: tree.Module) -> None:
         self.take()

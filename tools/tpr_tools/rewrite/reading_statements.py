@@ -25,13 +25,7 @@ class StatementReader(OperationReader):
         start = self.place
         self.deeper()
         at = self.expect("{")
-        statements: list[Statement] = []
-        while not self.is_at("}"):
-            if self.token.kind is Kind.END:
-                self.fail("`}` is wanted here")
-            if not self.accept(";"):
-                statements.append(self._recovered())
-        self.expect("}")
+        statements = self.up_to_brace(self._recovered)
         self.shallower()
         return Block(at, statements, (start, self.place))
 
@@ -331,13 +325,7 @@ class StatementReader(OperationReader):
     def branches(self) -> list[tree.Branch]:
         self.deeper()
         self.expect("{")
-        found: list[tree.Branch] = []
-        while not self.is_at("}"):
-            if self.token.kind is Kind.END:
-                self.fail("`}` is wanted here")
-            if not self.accept(";"):
-                found.append(self._branch())
-        self.expect("}")
+        found = self.up_to_brace(self._branch)
         self.shallower()
         return found
 

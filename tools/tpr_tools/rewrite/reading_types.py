@@ -132,13 +132,7 @@ class TypeReader(ExpressionReader):
 
     def _fields(self) -> list[tree.FieldType]:
         self.expect("{")
-        fields: list[tree.FieldType] = []
-        while not self.is_at("}"):
-            fields.append(self._field())
-            if not self.accept(","):
-                break
-        self.expect("}")
-        return fields
+        return self.listed(self._field, "}")
 
     def _field(self) -> tree.FieldType:
         at = self.token
@@ -160,15 +154,13 @@ class TypeReader(ExpressionReader):
 
     def _enumerated_names(self) -> list[str]:
         self.expect("{")
-        names: list[str] = []
-        while not self.is_at("}"):
-            names.append(self.name().text)
-            if self.is_at("("):
-                self.skip_brackets()
-            if not self.accept(","):
-                break
-        self.expect("}")
-        return names
+        return self.listed(self._enumerated_name, "}")
+
+    def _enumerated_name(self) -> str:
+        name = self.name().text
+        if self.is_at("("):
+            self.skip_brackets()
+        return name
 
     def _port(self, at: Token) -> tree.TypeDefinition:
         self.take()

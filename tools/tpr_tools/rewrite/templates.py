@@ -75,7 +75,7 @@ class Shaper:
         return self.types.of(found.type, node.word) if found else None
 
     def _type_of_call(self, node: tree.Call, path: Path, scope: Optional[Scope]) -> Optional[Type]:
-        word = node.called.word if isinstance(node.called, (tree.Name, tree.FieldOf)) else ""
+        word = tree.word_called(node)
         if word in self.program.templates:
             return self.types.of(self.program.templates[word].type, word)
         function = self.program.functions.get(word)

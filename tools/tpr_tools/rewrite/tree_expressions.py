@@ -176,6 +176,12 @@ Expression = Union[
 ]
 
 
+def word_called(call: Expression) -> str:
+    """The name of what is called, with brackets behind it or without; nothing where it has none."""
+    called = call.called if isinstance(call, Call) else call
+    return called.word if isinstance(called, (Name, FieldOf)) else ""
+
+
 # Types
 
 
