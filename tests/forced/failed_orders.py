@@ -13,25 +13,17 @@ import argparse
 import os
 import subprocess
 import sys
-import tempfile
 from collections.abc import Callable, Iterator
 from typing import NamedTuple
 
-from forced import MOST_SECONDS, SCRIPTS, UNREAD, Ended, answers_of, bytes_of
+from forced import MOST_SECONDS, ROOT, SCRIPTS, UNREAD, Ended, answers_of, bytes_of
 
-MOST_CALLS = 5000
-MEMORY, NO_THREAD = b"fault 50 Memory\n", b"fault 51 NoThread\n"
+sys.path.append(f"{ROOT}/tests/program")
+
+from refusing import MOST_CALLS, NO_MEMORY, NO_THREAD, Wrong, must, refused_calls
+
 SCRIPT = f"{SCRIPTS}/receive_beside_a_send.ttcn"
 FREE, IN_TURN, _ = answers_of(bytes_of(f"{SCRIPTS}/receive_beside_a_send.answers"))
-
-
-class Wrong(Exception):
-    """A case isn't as it must be."""
-
-
-def must(holds: object, text: str) -> None:
-    if not holds:
-        raise Wrong(text)
 
 
 class Given(NamedTuple):
@@ -46,9 +38,7 @@ class Given(NamedTuple):
         path = f"{self.folder}/orders_of_failures"
         with open(path, "wb") as file:
             file.write(orders)
-        with tempfile.TemporaryDirectory() as marks:
-            more = {f"REFUSED_{kind}": str(number) for kind, number in refusals.items()}
-            more |= {"REFUSED_MARKS": marks, "LD_PRELOAD": self.refused}
+        with refused_calls(self.refused, refusals) as (more, came):
             done = subprocess.run(
                 [self.ordered, SCRIPT, path],
                 stdin=subprocess.DEVNULL,
@@ -57,8 +47,7 @@ class Given(NamedTuple):
                 check=False,
                 env={**os.environ, **more},
             )
-            came = [*refusals][-1].lower() in os.listdir(marks)
-        return Ended(done.returncode, done.stdout, done.stderr), came
+        return Ended(done.returncode, done.stdout, done.stderr), [*refusals][-1] in came
 
     def in_turn(self, kind: str, orders: bytes, more: dict[str, int]) -> Iterator[tuple[int, Ended]]:
         """What comes of each call of the kind refused, by its number. In the run that has no such call more all is
@@ -110,14 +99,14 @@ def opens_that_fail(given: Given) -> None:
 
 def allocations_that_fail(given: Given) -> None:
     """The line of the fault stands in place of the report of that run, or of all, with status 3."""
-    fault = Ended(3, MEMORY)
-    allowed = {fault, Ended(3, b"", b"orders: " + MEMORY), Ended(0, FREE + FREE)}
-    of_runs = [b"order \n" + line + b"\n" for line in (MEMORY, NO_THREAD)]
+    fault = Ended(3, NO_MEMORY)
+    allowed = {fault, Ended(3, b"", b"orders: " + NO_MEMORY), Ended(0, FREE + FREE)}
+    of_runs = [b"order \n" + line + b"\n" for line in (NO_MEMORY, NO_THREAD)]
     allowed |= {Ended(0, answer) for it in of_runs for answer in (it + FREE, FREE + it)}
     found = [ended for _, ended in given.in_turn("MEMORY", b"\n\n", {})]
     for number, ended in enumerate(found, 1):
         must(ended in allowed, f"allocation {number}: {ended}")
-    for it in (fault, Ended(3, b"", b"orders: " + MEMORY), *(Ended(0, of_runs[0] + FREE), Ended(0, FREE + of_runs[0]))):
+    for it in (fault, Ended(3, b"", b"orders: " + NO_MEMORY), *(Ended(0, of_runs[0] + FREE), Ended(0, FREE + of_runs[0]))):
         must(it in found, f"no allocation comes to {it}")
 
 

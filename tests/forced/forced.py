@@ -14,7 +14,6 @@ import argparse
 import glob
 import os
 import subprocess
-import sys
 from collections.abc import Callable, Iterator
 from typing import NamedTuple, Optional
 

@@ -23,7 +23,7 @@ FOLDERS = {
     "tests/checking": (),
     "tests/documents": (),
     "tests/exploring": ("orders",),
-    "tests/forced": (),
+    "tests/forced": ("program",),
     "tests/gate": ("checking", "program"),
     "tests/orders": (),
     "tests/program": ("traces",),

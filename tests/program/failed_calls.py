@@ -13,7 +13,8 @@ import os
 from collections.abc import Callable, Iterator
 from typing import NamedTuple
 
-from from_outside import UNREAD, Case, Ended, Program, Wrong, must, try_each
+from from_outside import Case, Ended, Program, try_each
+from refusing import NO_READ, Wrong, must
 
 # The modes whose answers to the texts of a program are written in several pieces. That of mode queue is as long, and
 # goes past the buffer in one.
@@ -33,10 +34,10 @@ def read_that_fails(taken: int) -> Callable[[Program, str], None]:
             ended, came = program.run_with(refusals, mode, stdin=file)
             place = os.lseek(file.fileno(), 0, os.SEEK_CUR)
         must("READ" in came and place == taken, f"{place} bytes were read")
-        ended.must_be(2, UNREAD)
+        ended.must_be(2, NO_READ)
         ended, came = program.run_with(refusals, mode, path)
         must("READ" in came, "no read of the file was refused")
-        ended.must_be(2, UNREAD)
+        ended.must_be(2, NO_READ)
 
     return fails
 

@@ -16,16 +16,16 @@ import resource
 import signal
 import subprocess
 import sys
-import tempfile
 import termios
 import time
 from collections.abc import Callable, Iterable, Iterator
 from typing import IO, Any, NamedTuple, Optional, Union
 
+from refusing import NO_MEMORY, NO_READ, NO_THREAD, Wrong, must, refused_calls
+
 MOST_SECONDS = 20
 ENDING = (signal.SIGINT, signal.SIGTERM, signal.SIGHUP)
 NOBODY = 65534
-MEMORY, NO_THREAD, UNREAD = b"fault 50 Memory\n", b"fault 51 NoThread\n", b"refused 2 Read\n"
 
 SENDS_TO_ITSELF = """module Sends {
     type port P message { inout integer; }
@@ -62,17 +62,8 @@ WAITS_LONG = f"""module Waits {{
 """
 
 
-class Wrong(Exception):
-    """A case isn't as it must be."""
-
-
 class LeftOut(Exception):
     """A case that can't be tried here."""
-
-
-def must(holds: object, text: str) -> None:
-    if not holds:
-        raise Wrong(text)
 
 
 class Ended(NamedTuple):
@@ -131,11 +122,9 @@ class Program:
         """Runs it with the call of this number refused, of each kind. To which kinds it came."""
         if self.refused is None:
             raise LeftOut("there is no library that refuses calls")
-        with tempfile.TemporaryDirectory() as marks:
-            more = {f"REFUSED_{kind}": str(number) for kind, number in refusals.items()}
-            more |= {"REFUSED_MARKS": marks, "LD_PRELOAD": self.refused}
+        with refused_calls(self.refused, refusals) as (more, came):
             ended = self.run(*words, env={**os.environ, **more}, **files)
-            return ended, {mark.upper() for mark in os.listdir(marks)}
+        return ended, came
 
     def must_be_cut(self, mode: str, printed: bytes) -> None:
         """What was printed is the beginning of the answer, and doesn't look whole."""
@@ -274,7 +263,7 @@ def limit_on_memory(program: Program, mode: str) -> None:
             ended.must_be(0, ended.printed)
         elif ended.status == 3:
             refusals += 1
-            ended.must_be(3, NO_THREAD if mode in ("run", "trace") and ended.printed == NO_THREAD else MEMORY)
+            ended.must_be(3, NO_THREAD if mode in ("run", "trace") and ended.printed == NO_THREAD else NO_MEMORY)
         else:
             must(ended.printed == b"" and not ended.status == 0, f"{kib} KiB: status {ended.status}")
     must(refusals > 0, "memory was refused in no run")
@@ -288,7 +277,7 @@ def no_file_more(program: Program, mode: str) -> None:
             must(number > 1, "nothing was opened")
             return ended.must_be(0, program.answers[mode])
         if ended != Ended(0, program.answers[mode], b""):
-            ended.must_be(2, UNREAD)
+            ended.must_be(2, NO_READ)
     raise Wrong("20 files are opened")
 
 

@@ -22,13 +22,13 @@ from typing import NamedTuple
 sys.dont_write_bytecode = True
 
 import example_files
-from refusing import NO_MEMORY, NO_READ, ROOT, Case, Ran, Refusing, Wrong, try_one_of
+from refusing import MOST_CALLS, NO_MEMORY, NO_READ, ROOT, Case, Ran, Refusing, Wrong, try_one_of
 
 sys.path.append(str(ROOT / "tests" / "traces"))
 
 from oracle import answer_of
 
-MOST_CALLS, MOST_CALLS_OF_A_TEST = 5000, 500
+MOST_CALLS_OF_A_TEST = 500
 QUEUES = (
     "clear_keeps_the_port_halted",
     "trigger_discards_what_does_not_match",
@@ -98,21 +98,17 @@ def each_allocation(refusing: Refusing, asked: Asked) -> None:
 
 def each_read(refusing: Refusing, asked: Asked) -> None:
     """Where one is refused, the answer is 2."""
-    for number, ran in refusing.each(asked.words(refusing.program), "READ", MOST_CALLS):
-        if "READ" in ran.refused and not ran.is_so(2, NO_READ):
-            raise ran.wrong(f"with read {number} refused")
-    if number == 1 or not asked.is_answered(ran):
-        raise ran.wrong(f"{number - 1} reads, and the last run")
+    words = asked.words(refusing.program)
+    refusing.each_is_told(words, "READ", lambda ran: ran.is_so(2, NO_READ), asked.is_answered)
 
 
 def each_write(refusing: Refusing, asked: Asked) -> None:
     """Where one is refused, the status is 3, and what was written before is the beginning."""
-    for number, ran in refusing.each(asked.words(refusing.program), "WRITE", MOST_CALLS):
-        is_cut = ran.status == 3 and asked.answer.startswith(ran.printed) and ran.said == b""
-        if "WRITE" in ran.refused and not is_cut:
-            raise ran.wrong(f"with write {number} refused")
-    if number == 1 or not asked.is_answered(ran):
-        raise ran.wrong(f"{number - 1} writes, and the last run")
+
+    def is_cut(ran: Ran) -> bool:
+        return ran.status == 3 and asked.answer.startswith(ran.printed) and ran.said == b""
+
+    refusing.each_is_told(asked.words(refusing.program), "WRITE", is_cut, asked.is_answered)
 
 
 def of_the_program(refusing: Refusing) -> Iterator[Case]:

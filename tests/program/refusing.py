@@ -9,17 +9,34 @@ import os
 import subprocess
 import tempfile
 from collections.abc import Callable, Iterable, Iterator, Mapping, Sequence
+from contextlib import contextmanager
 from pathlib import Path
 from typing import NamedTuple, Optional
 
 ROOT = Path(__file__).resolve().parents[2]
-MOST_SECONDS = 20
+MOST_SECONDS, MOST_CALLS = 20, 5000
 SHOWN = 400  # of what was printed, where it is wrong
 NO_MEMORY, NO_THREAD, NO_READ = b"fault 50 Memory\n", b"fault 51 NoThread\n", b"refused 2 Read\n"
 
 
 class Wrong(Exception):
     """A case isn't as it must be."""
+
+
+def must(holds: object, text: str) -> None:
+    if not holds:
+        raise Wrong(text)
+
+
+@contextmanager
+def refused_calls(library: str, calls: Mapping[str, int]) -> Iterator[tuple[dict[str, str], set[str]]]:
+    """The variables by which the call of each number is refused, of its kind: MEMORY, THREAD, READ, WRITE and the
+    others of refused.c. In the end the set has the kinds of which it came to that."""
+    came: set[str] = set()
+    with tempfile.TemporaryDirectory() as marks:
+        numbers = {f"REFUSED_{kind}": str(number) for kind, number in calls.items()}
+        yield {**numbers, "REFUSED_MARKS": marks, "LD_PRELOAD": library}, came
+        came.update(mark.upper() for mark in os.listdir(marks))
 
 
 class Ran(NamedTuple):
@@ -64,19 +81,14 @@ class Refusing:
     """Runs commands with calls refused, and counts the runs in which one was. The folder is for whatever is written."""
 
     def __init__(self, library: str, program: str, folder: Path):
-        self.library, self.program, self.folder = library, os.path.abspath(program), folder
-        self.marks, self.refused = folder / "marks", 0
-        self.marks.mkdir()
+        self.library, self.program, self.folder, self.refused = library, os.path.abspath(program), folder, 0
 
     def run(self, words: Sequence[str], **calls: int) -> Ran:
-        """Runs it with the call of this number refused, of each kind: MEMORY, THREAD, READ, WRITE."""
-        more = {f"REFUSED_{kind}": str(number) for kind, number in calls.items()}
-        ran = run(words, more={**more, "REFUSED_MARKS": str(self.marks), "LD_PRELOAD": self.library})
-        refused = frozenset(mark.name.upper() for mark in self.marks.iterdir())
-        for mark in self.marks.iterdir():
-            mark.unlink()
-        self.refused += bool(refused)
-        return ran._replace(refused=refused)
+        """Runs it with the call of this number refused, of each kind."""
+        with refused_calls(self.library, calls) as (more, came):
+            ran = run(words, more=more)
+        self.refused += bool(came)
+        return ran._replace(refused=frozenset(came))
 
     def each(self, words: Sequence[str], kind: str, most: int, **others: int) -> Iterator[tuple[int, Ran]]:
         """Runs it with each call of a kind refused in turn. The last run is the first that made fewer of them."""
@@ -86,6 +98,16 @@ class Refusing:
             if kind not in ran.refused:
                 return
         raise Wrong(f"{most} calls of the kind {kind}")
+
+    def each_is_told(
+        self, words: Sequence[str], kind: str, is_told: Callable[[Ran], bool], is_whole: Callable[[Ran], bool]
+    ) -> None:
+        """Where one is refused, that is told; where none is, the answer is whole."""
+        for number, ran in self.each(words, kind, MOST_CALLS):
+            if kind in ran.refused and not is_told(ran):
+                raise ran.wrong(f"with {kind.lower()} {number} refused")
+        if number == 1 or not is_whole(ran):
+            raise ran.wrong(f"{number - 1} of the kind {kind}, and the last run")
 
 
 Case = tuple[str, Callable[[], None]]

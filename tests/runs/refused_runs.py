@@ -18,9 +18,8 @@ sys.dont_write_bytecode = True
 sys.path.append(str(Path(__file__).resolve().parents[1] / "program"))
 
 from examples import is_report, reports, script
-from refusing import NO_MEMORY, NO_READ, NO_THREAD, Case, Ran, Refusing, try_one_of
+from refusing import MOST_CALLS, NO_MEMORY, NO_READ, NO_THREAD, Case, Ran, Refusing, try_one_of
 
-MOST_CALLS = 5000
 OF_EACH_ALLOCATION = (
     "trigger_skips_to_what_matches",
     "two_senders_to_one_that_ended",
@@ -90,11 +89,7 @@ class Example:
 
     def each_read(self) -> None:
         """The answer is 2, and nothing is run."""
-        for number, ran in self.refusing.each(self.words, "READ", MOST_CALLS):
-            if "READ" in ran.refused and not (ran.status == 2 and ran.printed == NO_READ):
-                raise ran.wrong(f"with read {number} refused")
-        if number == 1 or not self.is_report(ran):
-            raise ran.wrong(f"{number - 1} reads, and the last run")
+        self.refusing.each_is_told(self.words, "READ", lambda ran: ran.is_so(2, NO_READ), self.is_report)
 
 
 def of_runs(refusing: Refusing) -> Iterator[Case]:
