@@ -215,7 +215,7 @@ FITTING = (
 
 def judged_answers() -> None:
     taken = {text: (answer := read_answer(text)) is not None and answer.fault() is None for text in REFUSED}
-    read = {text: (answer := read_answer(text)) == wanted and wanted.fault() is None for text, wanted in READ}
+    read = {text: read_answer(text) == wanted and wanted.fault() is None for text, wanted in READ}
     fits = {str(row[:4]): (difference(*row[:4]) is None) == row[4] for row in FITTING}
     for what, well in [*((text, not it) for text, it in taken.items()), *read.items(), *fits.items()]:
         print(f"{'passed' if well else 'FAILED: judged wrongly:'} {what!r}")

@@ -86,21 +86,27 @@ def shape_of(name: str, script: Script, parts: list[Part]) -> Shape:
     return Shape(f"{name}_of_{len(script.names)}", script.text(), (*lines, f"result {result}"))
 
 
+def passed_round(script: Script, turns: int) -> list[list[str]]:
+    """Connects all to a ring, and tells the history of each where a token is passed so many times round."""
+    histories = []
+    for place, name in enumerate(script.names):
+        following, before = script.names[(place + 1) % len(script.names)], script.names[place - 1]
+        script.connect(f"{name}:p", f"{following}:q")
+        history: list[str] = []
+        for turn in range(turns):
+            sent, took = f"sent {following}.q {turn} integer:{turn}", f"took q {before} {turn} integer:{turn}"
+            history += [sent, took] if place == 0 else [took, sent]
+        histories.append(history)
+    return histories
+
+
 def ring(count: int, turns: int = 100) -> Shape:
     """A token is passed so many times round. Nothing is open."""
     names = names_of(count)
     functions = {"passes": [loop(turns, "q.receive(integer:turn);", "p.send(integer:turn);"), "setverdict(pass);"]}
     body = [loop(turns, "p.send(integer:turn);", "q.receive(integer:turn);"), "setverdict(pass);"]
     script = Script(names, functions, dict.fromkeys(names, "passes"), body)
-    parts = []
-    for place, name in enumerate(names):
-        following = names[(place + 1) % count]
-        script.connect(f"{name}:p", f"{following}:q")
-        history = []
-        for turn in range(turns):
-            sent, took = f"sent {following}.q {turn} integer:{turn}", f"took q {names[place - 1]} {turn} integer:{turn}"
-            history += [sent, took] if place == 0 else [took, sent]
-        parts.append(Part([*history, "set pass"]))
+    parts = [Part([*history, "set pass"]) for history in passed_round(script, turns)]
     return shape_of("ring", script, parts)
 
 
@@ -203,15 +209,10 @@ def all_wait(count: int, turns: int = 5) -> Shape:
     body = [loop(turns, "p.send(integer:turn);", "q.receive(integer:turn);"), "q.receive;"]
     ender = names[count // 2]
     script = Script(names, functions, dict.fromkeys(names, "waits") | {ender: "ends"}, body)
-    parts = []
-    for place, name in enumerate(names):
-        following = names[(place + 1) % count]
-        script.connect(f"{name}:p", f"{following}:q")
-        history = []
-        for turn in range(turns):
-            sent, took = f"sent {following}.q {turn} integer:{turn}", f"took q {names[place - 1]} {turn} integer:{turn}"
-            history += [sent, took] if place == 0 else [took, sent]
-        parts.append(Part([*history, "set pass"]) if name == ender else Part(history, "waiting", "none"))
+    parts = [
+        Part([*history, "set pass"]) if name == ender else Part(history, "waiting", "none")
+        for name, history in zip(names, passed_round(script, turns))
+    ]
     return shape_of("all_wait", script, parts)
 
 

@@ -3,7 +3,7 @@ from __future__ import annotations
 
 from typing import Union
 
-from .cursor import A_DEFINITION, A_NAME, MOST_BRACKETS, THE_END, GrammarFault
+from .cursor import A_DEFINITION, MOST_BRACKETS, THE_END, GrammarFault
 from .statements import StatementReader
 from .tokens import Text, is_name
 from .tree import (
