@@ -9,7 +9,6 @@
 
 Each prints what is wrong and ends with status 1, or prints nothing and ends with status 0.
 """
-import argparse
 import json
 import os
 import re
@@ -21,24 +20,11 @@ ROOT = os.path.dirname(os.path.dirname(os.path.dirname(os.path.realpath(__file__
 sys.dont_write_bytecode = True
 sys.path.insert(0, os.path.join(ROOT, "tools"))
 
+from rule_cases import must, read, try_one_of
 from tpr_tools.refusals import SEND_FAULTS, Refusal
 from tpr_tools.script.constructs import Construct
 from tpr_tools.script.refusal_rules import BEYOND_SCRIPTS, RULES_OF
 from tpr_tools.words import RESERVED, RESERVED_ELSEWHERE
-
-
-class Wrong(Exception):
-    """A rule is broken."""
-
-
-def must(holds: object, text: str) -> None:
-    if not holds:
-        raise Wrong(text)
-
-
-def read(file: str) -> str:
-    with open(file, encoding="utf-8") as opened:
-        return opened.read()
 
 
 def told_in(file: str) -> dict[str, dict[str, Any]]:
@@ -157,15 +143,7 @@ CHECKS: dict[str, Callable[..., None]] = {
 
 
 def main() -> None:
-    words = argparse.ArgumentParser(description="The rules on what tools/explain says.")
-    words.add_argument("rule", choices=CHECKS)
-    words.add_argument("words", metavar="WORD", nargs=argparse.REMAINDER, help="what the rule is asked of")
-    asked = words.parse_args()
-    try:
-        CHECKS[asked.rule](*asked.words)
-    except (Wrong, ValueError, KeyError, IndexError) as wrong:
-        told = " ".join([asked.rule, *asked.words])[:200]
-        sys.exit(f"{told}: {type(wrong).__name__} {str(wrong)[:600]}")
+    try_one_of(CHECKS, "The rules on what tools/explain says.", (ValueError, KeyError, IndexError))
 
 
 if __name__ == "__main__":

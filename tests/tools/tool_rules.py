@@ -16,7 +16,6 @@
 
 Each prints what is wrong and ends with status 1, or prints nothing and ends with status 0.
 """
-import argparse
 import functools
 import os
 import pty
@@ -37,6 +36,7 @@ sys.path[:0] = [os.path.join(ROOT, "tools"), os.path.dirname(os.path.realpath(__
 from pages import report_of_many
 from played import Played, Small, Unplayable, changed, has_order
 from random_reports import Run
+from rule_cases import Wrong, must, read, try_one_of
 from tpr_tools.chart.letters import letters_of
 from tpr_tools.chart.part import Asked, part_of
 from tpr_tools.chart.sequence import Sequence, sequence_of
@@ -49,20 +49,6 @@ from tpr_tools.report.report import NotAReport
 
 SVG = "{http://www.w3.org/2000/svg}"
 ENDS = ("took", "found", "dropped", "left")
-
-
-class Wrong(Exception):
-    """A rule is broken."""
-
-
-def must(holds: object, text: str) -> None:
-    if not holds:
-        raise Wrong(text)
-
-
-def read(file: str) -> str:
-    with open(file, encoding="utf-8") as opened:
-        return opened.read()
 
 
 def check_charts(*files: str) -> None:
@@ -386,14 +372,7 @@ CHECKS: dict[str, Callable[..., None]] = {
 
 
 def main() -> None:
-    words = argparse.ArgumentParser(description="The rules on what the tools print.")
-    words.add_argument("rule", choices=CHECKS)
-    words.add_argument("words", metavar="WORD", nargs=argparse.REMAINDER, help="what the rule is asked of")
-    asked = words.parse_args()
-    try:
-        CHECKS[asked.rule](*asked.words)
-    except (Wrong, NotAReport, xml.ParseError) as wrong:
-        sys.exit(f"{' '.join([asked.rule, *asked.words])[:200]}: {wrong}")
+    try_one_of(CHECKS, "The rules on what the tools print.", (NotAReport, xml.ParseError))
 
 
 if __name__ == "__main__":

@@ -17,7 +17,6 @@ Each prints what is wrong and ends with status 1, or prints nothing and ends wit
 """
 from __future__ import annotations
 
-import argparse
 import os
 import random
 import re
@@ -31,7 +30,8 @@ sys.dont_write_bytecode = True
 sys.path[:0] = [os.path.join(ROOT, "tools"), os.path.join(ROOT, "tests", "orders")]
 
 from generator import some_script
-from judge import MOST_STATES, acted, hurry, is_over, state, wanted_by
+from judge import run_of
+from rule_cases import Wrong, must, try_one_of
 from tpr_tools.model.bodies import TestCase, Tried
 from tpr_tools.model.reading import TOKENS, Reader
 from tpr_tools.model.run import Act, Message, Run
@@ -197,26 +197,6 @@ def run_by_chance(run: LinedRun, chance: random.Random) -> LinedRun:
             return run
 
 
-def run_with_report(begun: LinedRun, report: str) -> Optional[LinedRun]:
-    """A run that has this report, as judge.py looks for one."""
-    wanted = wanted_by(begun.case, report)
-    assert wanted is not None, report
-    seen: set[object] = set()
-    open_runs: list[Run] = [begun]
-    while open_runs and len(seen) <= MOST_STATES:
-        run = open_runs.pop()
-        hurry(run, wanted)
-        if (key := state(run)) in seen:
-            continue
-        seen.add(key)
-        after = [it for who in range(len(run.components)) if (it := acted(run, who, wanted)) is not None]
-        if not after and run.report() == report and is_over(run):
-            assert isinstance(run, LinedRun)
-            return run
-        open_runs += after
-    return None
-
-
 def rows_of_model(run: LinedRun) -> list[ModelRow]:
     """For each entry, and each message that is left, its line and that of the message's other end."""
     sent: dict[Key, int] = {}
@@ -278,15 +258,6 @@ def rows_of_tool(script: bytes, report: bytes) -> list[ToolRow]:
     return rows
 
 
-class Wrong(Exception):
-    """A rule is broken."""
-
-
-def must(holds: bool, text: str) -> None:
-    if not holds:
-        raise Wrong(text)
-
-
 def same_rows(told: Sequence[ToolRow], modelled: Sequence[ModelRow]) -> None:
     """The lines are the same. Of several lines by one of which a message was discarded, one is the model's."""
     told = [row for row in told if is_modelled(row)]
@@ -313,8 +284,8 @@ def examples_rule(*reports: str) -> None:
         with open(file, "rb") as opened:
             report = opened.read()
         case, lines = lined_case(script.decode("latin-1"))
-        run = run_with_report(LinedRun(case, lines), report.decode("latin-1"))
-        if run is None:
+        run = run_of(LinedRun(case, lines), report.decode("latin-1"))
+        if not isinstance(run, LinedRun):
             raise Wrong(f"{file}: the model has no such run")
         try:
             same_rows(rows_of_tool(script, report), rows_of_model(run))
@@ -473,18 +444,5 @@ RULES: dict[str, Callable[..., None]] = {
 }
 
 
-def main() -> int:
-    words = argparse.ArgumentParser(description="The rules on what tools/why says.")
-    words.add_argument("rule", choices=RULES)
-    words.add_argument("words", metavar="WORD", nargs=argparse.REMAINDER, help="what the rule is asked of")
-    asked = words.parse_args()
-    try:
-        RULES[asked.rule](*asked.words)
-    except Wrong as wrong:
-        print(wrong)
-        return 1
-    return 0
-
-
 if __name__ == "__main__":
-    sys.exit(main())
+    try_one_of(RULES, "The rules on what tools/why says.")
