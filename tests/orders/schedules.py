@@ -1,6 +1,8 @@
 """The verdicts that a script can come to, over all orders of its acts, by the model in tools/tpr_tools/model/."""
 from __future__ import annotations
 
+from collections.abc import Callable, Hashable, Iterator
+
 from tpr_tools.model.bodies import TestCase
 from tpr_tools.model.reading import read_script
 from tpr_tools.model.run import Act, Run
@@ -8,24 +10,36 @@ from tpr_tools.model.run import Act, Run
 MOST_STATES = 100_000
 
 
+class TooMany(Exception):
+    """There are more states than are looked at."""
+
+
 def verdicts_of(script: str) -> set[str]:
     """All verdicts; `many` is among them where there are more states than are looked at."""
-    seen: set[str] = set()
     found: set[str] = set()
-    waiting = [Run(TestCase(read_script(script)))]
+    try:
+        for run in ends_of(Run(TestCase(read_script(script))), state_of, MOST_STATES):
+            found.add(run.report().split()[-1])
+    except TooMany:
+        found.add("many")
+    return found
+
+
+def ends_of(begun: Run, state: Callable[[Run], Hashable], most_states: int) -> Iterator[Run]:
+    """The runs that end, of all that go on from this one. Of those with the same state one is followed."""
+    seen: set[Hashable] = set()
+    waiting = [begun]
     while waiting:
         run = waiting.pop()
         following = followers(run)
         if not following:
-            found.add(run.report().split()[-1])
+            yield run
         for after in following:
-            state = state_of(after)
-            if state not in seen:
-                seen.add(state)
+            if (key := state(after)) not in seen:
+                seen.add(key)
                 waiting.append(after)
-        if len(seen) > MOST_STATES:
-            return found | {"many"}
-    return found
+        if len(seen) > most_states:
+            raise TooMany
 
 
 def followers(run: Run) -> list[Run]:

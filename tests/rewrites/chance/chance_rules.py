@@ -17,9 +17,10 @@ ROOT = os.path.dirname(os.path.dirname(os.path.dirname(HERE)))
 sys.path[:0] = [HERE, os.environ.get("REWRITING", f"{ROOT}/tools"), f"{ROOT}/tests/orders"]
 
 from full_expressions import Fault
-from full_runs import Outcome, Runs, TooMany
+from full_runs import Outcome, Runs
 from profile_runs import outcomes_of
 from programs import program_of
+from schedules import TooMany
 from tpr_tools.rewrite.rewriting import rewrite
 from tpr_tools.rewrite.tokens import Source
 
