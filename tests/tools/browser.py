@@ -130,12 +130,6 @@ class Browser:
         self.ask("Input.insertText", text=text)
         self.drawn()
 
-    def picture(self, file: str) -> None:
-        import base64
-
-        with open(file, "wb") as opened:
-            opened.write(base64.b64decode(self.ask("Page.captureScreenshot")["data"]))
-
     def end(self) -> None:
         try:
             self.session = None

@@ -20,7 +20,6 @@ MOST_CALLS = 60
 _EXITS = {
     Leaving.BREAK: Exit.BREAK, Leaving.CONTINUE: Exit.CONTINUE, Leaving.REPEAT: Exit.REPEAT, Leaving.STOP: Exit.END,
 }
-_OF_CALLS = (tree.Activate, tree.Create)
 
 
 class Follower(ListFollower):
