@@ -2,7 +2,7 @@
 
     tests/rewrites/map_rules.py PROGRAM
 
-`mapped/why` was worked out by hand. It prints a line `passed ..` or `FAILED: ..` for each case.
+`mapped/why` and what ends with `annotated` there were worked out by hand. It prints a line `passed ..` or `FAILED: ..` for each case.
 """
 from __future__ import annotations
 
@@ -23,10 +23,15 @@ def judged(name: str, is_so: bool, why: str) -> None:
     print(f"passed {name}" if is_so else f"FAILED: {name}: {why}")
 
 
-def tool(program: str, *words: str) -> str:
+def read(file: str) -> str:
+    with open(file, encoding="utf-8") as opened:
+        return opened.read()
+
+
+def tool(program: str, *words: str, beside: str = f"{FOLDER}/mapped") -> str:
     """What a tool prints and says, asked beside the modules."""
     run = subprocess.run(
-        [f"{ROOT}/tools/{words[0]}", *words[1:]], cwd=f"{FOLDER}/mapped", check=False, text=True,
+        [f"{ROOT}/tools/{words[0]}", *words[1:]], cwd=beside, check=False, text=True,
         stdout=subprocess.PIPE, stderr=subprocess.STDOUT, env={**os.environ, "TPR": program},
     )
     return run.stdout
@@ -40,19 +45,47 @@ def main() -> None:
         with open(f"{folder}/report", "w", encoding="utf-8") as opened:
             subprocess.run([program, "run", output], stdout=opened, check=False)
         look_at_why(program, output, f"{folder}/report")
+        look_at_annotated(program, output)
         look_at_chart(program, output, f"{folder}/report")
         look_at_explain(program, output)
         look_at_another(program, output)
         one_module(program, f"{folder}/login.ttcn")
+        parted(program, folder)
     look_at_partings()
     look_at_lines()
 
 
 def look_at_why(program: str, output: str, report: str) -> None:
-    with open(f"{FOLDER}/mapped/why", encoding="utf-8") as opened:
-        wanted = opened.read()
     found = tool(program, "why", output, report)
-    judged("why, of two modules", found == wanted, found)
+    judged("why, of two modules", found == read(f"{FOLDER}/mapped/why"), found)
+
+
+def look_at_annotated(program: str, output: str) -> None:
+    found = tool(program, "why", "--annotate", output)
+    judged("what was done in two modules", found == read(f"{FOLDER}/mapped/annotated"), found)
+    summary = "10 statements, 3 never reached: line 15 of kitchen.ttcn and line 13 of types.ttcn"
+    found = tool(program, "why", "--summary", output)
+    wanted = f"{output}  {summary}\n1 script: 10 statements, 3 never reached\n"
+    judged("a summary of two modules", found == wanted, found)
+    found = tool(program, "why", "--annotate", output, beside=ROOT)
+    told = "why: types.ttcn can't be read: No such file or directory\n"
+    judged("modules that aren't where they were", found == told, found)
+
+
+def parted(program: str, folder: str) -> None:
+    """A statement that was written several times is reached where one of them is, and in all as often as they were."""
+    module, output = f"{folder}/parted.ttcn", f"{folder}/out.ttcn"
+    text = read(f"{FOLDER}/mapped/parted.ttcn")
+    with open(module, "w", encoding="utf-8") as opened:
+        opened.write(text)
+    tool(program, "rewrite", "parted.ttcn", "-o", output, beside=folder)
+    found = tool(program, "why", "--annotate", output, beside=folder)
+    judged("what was done where the ways part", found == read(f"{FOLDER}/mapped/parted.annotated"), found)
+    with open(module, "w", encoding="utf-8") as opened:
+        opened.write(text.replace("\n\n", "\n", 1))
+    found = tool(program, "why", "--annotate", output, beside=folder)
+    told = "why: parted.ttcn:8:11: the map has a statement there, and nothing stands there; rewrite it anew\n"
+    judged("a module that was changed", found == told, found)
 
 
 def look_at_chart(program: str, output: str, report: str) -> None:

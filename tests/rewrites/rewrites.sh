@@ -15,7 +15,7 @@ rows 109
 faults 37
 PARTS
     at_least 484 told "$room/rewrites_by_chance" tests/rewrites/chance/chance_rules.py
-    at_least 12 told "$room/rewrites_maps" tests/rewrites/map_rules.py "$tpr"
+    at_least 17 told "$room/rewrites_maps" tests/rewrites/map_rules.py "$tpr"
     observe env -u TPR "$root/tools/rewrite" --help
     tool_must "rewrite tells its words" 0 grep -q -- '--case NAME' "$room/printed"
     observe "$root/tools/rewrite" --tpr "$tpr" "$room/nothing.ttcn"

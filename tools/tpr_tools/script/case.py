@@ -68,6 +68,12 @@ class Case:
         """The line that it comes from: of a script that tools/rewrite wrote, one of what that was given."""
         return self._told[self._lines[place]]
 
+    def source(self, place: int) -> tuple[Line, int]:
+        """What the statement or branch at a token comes from: a line, and the column there, or where it comes from
+        nothing else the token itself."""
+        row = self.origins.row(self._lines[place])
+        return self.line(place), row.column if row else place
+
     def bodies(self) -> list[Body]:
         """All that is written, the functions that nothing is started with too."""
         return [it for it in self.names.module.definitions if isinstance(it, (Function, TestCase))]

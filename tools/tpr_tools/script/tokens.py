@@ -111,8 +111,13 @@ class Text:
 
     def shown_lines(self) -> list[str]:
         """All lines, so that they can be shown."""
-        lines = self.data.split(b"\n")
-        return [_shown(line) for line in (lines if lines[-1] else lines[:-1])]
+        return shown_lines(self.data)
+
+
+def shown_lines(data: bytes) -> list[str]:
+    """The lines of a text, so that they can be shown."""
+    lines = data.split(b"\n")
+    return [_shown(line) for line in (lines if lines[-1] else lines[:-1])]
 
 
 def _shown(line: bytes) -> str:

@@ -1,16 +1,22 @@
-"""What the components did at each line of a script, and which statements none of them came to."""
+"""What the components did at each line of a script, and which statements none of them came to.
+
+Of a script that tools/rewrite wrote they are the lines and statements of what that was given. One of these may have been
+written several times, and it is reached where one of them is.
+"""
 from __future__ import annotations
 
 from collections import Counter
 from dataclasses import dataclass, field
 from typing import Iterable, Iterator
 
-from ..origins import Line, lines_told
+from ..command import REFUSED, Stop, read_bytes
+from ..origins import Line, Origins, lines_told
 from ..report.report import Entry, Failed, Operation, Otherwise, Received, Sent, VerdictSet
 from ..script.case import Case
+from ..script.tokens import shown_lines
 from ..script.tree import Alt, Statement
-from ..words import counted
-from .standing import statements_in
+from ..words import counted, shown
+from .standing import blocks_of
 from .walk import StopKind, Walk
 
 _MOST_TOLD = 4  # components beside one line
@@ -19,19 +25,19 @@ _WIDEST = 80  # what is told of longer lines stands directly behind them
 
 @dataclass
 class LineDone:
-    """A line with statements: the tokens of these and of its branches, how often the components came to
-    each, and what they did."""
+    """A line with statements: where these and its branches stand, how often the components came to each, and
+    what they did."""
 
-    tokens: set[int] = field(default_factory=set)
+    statements: set[int] = field(default_factory=set)
     times: Counter[int] = field(default_factory=Counter)
     did: dict[str, Counter[str]] = field(default_factory=dict)
 
     def never(self) -> int:
-        return sum(token not in self.times for token in self.tokens)
+        return sum(statement not in self.times for statement in self.statements)
 
     def mark(self) -> str:
         """How often, or that no component came to it, or not to all of it."""
-        if self.never() == len(self.tokens):
+        if self.never() == len(self.statements):
             return "never"
         return "partly" if self.never() else str(max(self.times.values()))
 
@@ -50,64 +56,94 @@ class Done:
 
     def __init__(self, case: Case, walks: list[Walk]):
         self.case = case
-        self.lines: dict[int, LineDone] = {}
+        self.lines: dict[Line, LineDone] = {}
+        # What stands within what was written for the same statement: who comes to it was counted there.
+        self.inner: set[int] = set()
         for body in case.bodies():
-            for token in tokens_in(body.statements):
-                self.lines.setdefault(case.own_line(token), LineDone()).tokens.add(token)
+            for token, around in tokens_in(body.statements):
+                line, statement = case.source(token)
+                self.lines.setdefault(line, LineDone()).statements.add(statement)
+                if (line, statement) in map(case.source, around):
+                    self.inner.add(token)
         for walk in walks:
             self._add(walk)
 
     def _add(self, walk: Walk) -> None:
         for token, times in walk.visits.items():
-            self.lines[self.case.own_line(token)].times[token] += times
+            line, statement = self.case.source(token)
+            self.lines[line].times[statement] += 0 if token in self.inner else times
         for entry, origin in zip(walk.component.entries, walk.origins):
-            line = self.lines[self.case.own_line(origin.start)]
-            if origin.start not in line.times:
-                line.times[origin.start] = 0  # a branch that discards, and isn't chosen
-            line.did.setdefault(walk.player.name, Counter())[_word(entry)] += 1
+            line, statement = self.case.source(origin.start)
+            self.lines[line].times[statement] += 0  # a branch that discards, and isn't chosen
+            self._note(walk, line, _word(entry))
         if walk.stop is not None and walk.stop.kind is StopKind.WAITS:
-            line = self.lines[self.case.own_line(walk.stop.start)]
-            line.did.setdefault(walk.player.name, Counter())["waits for good"] += 1
+            self._note(walk, self.case.line(walk.stop.start), "waits for good")
+
+    def _note(self, walk: Walk, line: Line, word: str) -> None:
+        self.lines[line].did.setdefault(walk.player.name, Counter())[word] += 1
 
     def statements(self) -> int:
-        return sum(len(line.tokens) for line in self.lines.values())
+        return sum(len(line.statements) for line in self.lines.values())
 
     def never(self) -> int:
         return sum(line.never() for line in self.lines.values())
 
-    def never_lines(self) -> list[int]:
-        return sorted(number for number, line in self.lines.items() if line.never())
-
     def annotated(self) -> str:
-        """The script, with the marks to the left and what was done to the right."""
-        shown = [text.expandtabs() for text in self.case.text.shown_lines()]
-        width = min(max(map(len, shown), default=0), _WIDEST)
-        rows = [f"{'times':>6} {'line':>5}"]
-        for number, text in enumerate(shown, 1):
-            line = self.lines.get(number)
+        """The script, or all files that it comes from, with the marks to the left and what was done to the right."""
+        origins = self.case.origins
+        if not origins.files:
+            return f"{self._annotated('', self.case.text.shown_lines())}{self.summary()}\n"
+        has_several = len(origins.files) > 1
+        texts = [self._annotated(file if has_several else "", lines_in(file, origins), file) for file in origins.files]
+        return "\n".join(texts) + f"{self.summary()}\n"
+
+    def _annotated(self, file: str, lines: list[str], heading: str = "") -> str:
+        texts = [text.expandtabs() for text in lines]
+        width = min(max(map(len, texts), default=0), _WIDEST)
+        rows = [f"{'times':>6} {'line':>5}  {shown(heading)}"]
+        for number, text in enumerate(texts, 1):
+            line = self.lines.get(Line(file, number))
             mark = line.mark() if line else ""
             told = f"  | {line.told()}" if line and line.did else ""
             rows.append(f"{mark:>6} {number:5}  {text:{width if told else 0}}{told}")
-        return "\n".join(row.rstrip() for row in rows) + f"\n{self.summary()}\n"
+        return "".join(row.rstrip() + "\n" for row in rows)
 
     def summary(self) -> str:
-        never, lines = self.never(), self.never_lines()
+        never = self.never()
         of = counted(self.statements(), "statement")
         if not self.lines:
             return "no statements"
         if not never:
             return f"{of}, all of them reached"
-        told = lines_told(Line("", line) for line in lines)
-        return f"{of}, {never} never reached: {told}"
+        return f"{of}, {never} never reached: {lines_told(line for line, done in self.lines.items() if done.never())}"
 
 
-def tokens_in(statements: Iterable[Statement]) -> Iterator[int]:
-    """The tokens of all statements, and of the branches among them."""
-    for statement in statements_in(statements):
-        yield statement.start
+def tokens_in(statements: Iterable[Statement], around: tuple[int, ...] = ()) -> Iterator[tuple[int, tuple[int, ...]]]:
+    """The tokens of all statements, and of the branches among them, each with those around it."""
+    for statement in statements:
+        yield statement.start, around
+        inner = (*around, statement.start)
         if isinstance(statement, Alt):
-            yield from (branch.receive.start for branch in statement.branches)
-            yield from [statement.otherwise.start] if statement.otherwise else []
+            branches = [(branch.receive.start, branch.block) for branch in statement.branches]
+            branches += [(statement.otherwise.start, statement.otherwise.block)] if statement.otherwise else []
+            for start, block in branches:
+                yield start, inner
+                yield from tokens_in(block, (*inner, start))
+        else:
+            for block in blocks_of(statement):
+                yield from tokens_in(block, inner)
+
+
+def lines_in(file: str, origins: Origins) -> list[str]:
+    """The lines of a file that the script comes from, as it is named there. One that has nothing where a statement came
+    from is another file by now."""
+    lines = shown_lines(read_bytes(file))
+    for row in (row for row in origins.rows if row.file == file):
+        text = lines[row.line - 1] if row.line <= len(lines) else ""
+        if not text[row.column - 1 : row.column].strip():
+            place = f"{shown(file)}:{row.line}:{row.column}"
+            raise Stop(REFUSED, f"{place}: the map has a statement there, and nothing stands there; rewrite it anew")
+    return lines
 
 
 def _word(entry: Entry) -> str:
