@@ -17,9 +17,9 @@ import shutil
 import subprocess
 import sys
 import tempfile
+from collections import Counter
 from concurrent.futures import ThreadPoolExecutor
-from functools import partial
-from typing import Callable, NamedTuple
+from typing import NamedTuple
 
 ROOT = os.path.dirname(os.path.dirname(os.path.dirname(os.path.realpath(__file__))))
 REWRITE = f"{ROOT}/tools/rewrite"
@@ -173,7 +173,7 @@ def is_map(script: str, output: str) -> bool:
         if found is None or found[4] != script:
             return False
         number, line, column = (int(found[place]) for place in (1, 2, 3))
-        if not written[number - 1].endswith(f"// {line}") or not lines[line - 1][column - 1 :].strip():
+        if not written[number - 1].endswith(f"// {line}") or not lines[line - 1][column - 1 : column].strip():
             return False
     return len(rows) >= 5
 
@@ -217,43 +217,64 @@ def same(program: str) -> None:
             judged(name, "no value yet" in ended.said or "component is meant" in ended.said, ended.said)
 
 
+# What is broken: scripts, whether they need --encode, and how many tokens they have from the module's last bracket on.
+BROKEN = (
+    ("natural/login_with_templates", False, 8),
+    ("encoded/registration_with_a_union", True, 1),
+    ("encoded/frames_of_octets", True, 1),
+)
+
+
 def broken(program: str) -> None:
     """Cut behind each token, or with bytes by chance: an answer with a line, and never a traceback."""
+    for name, encodes, behind in BROKEN:
+        with open(f"{FOLDER}/{name}.ttcn", "rb") as opened:
+            cut_and_changed(os.path.basename(name), opened.read(), encodes, behind)
     chance = random.Random(53)
-    with open(f"{FOLDER}/natural/login_with_templates.ttcn", "rb") as opened:
-        whole = opened.read()
-    from tpr_tools.rewrite.rewriting import rewrite
-    from tpr_tools.rewrite.tokens import Source
+    noise = [chance.randbytes(chance.randrange(400)) for _ in range(100)]
+    deep = b"module M { const integer c := " + b"(" * 20_000
+    for encodes in (False, True):
+        how = ", with --encode" if encodes else ""
+        answers = [answer_to(data, encodes) for data in noise]
+        judged(f"bytes by chance alone{how}", set(answers) == {"refused"}, f"{set(answers)}")
+        answer = answer_to(deep, encodes)
+        judged(f"brackets without end{how}", answer == "refused", answer)
+    large(program)
 
-    def answer(data: bytes) -> bool:
-        found = rewrite([Source("x", data)])
-        return bool(found.refused) and all(one.line >= 1 and one.reason for one in found.refused)
 
+def cut_and_changed(name: str, whole: bytes, encodes: bool, behind: int) -> None:
+    """What is cut before the module's last bracket is refused. Of what has other bytes that isn't known."""
+    chance = random.Random(53)
     ends = [found.end() for found in re.finditer(rb"[A-Za-z0-9_]+|[^\sA-Za-z0-9_]", whole)]
-    cut = [end for end in ends[:-9] if not tells(lambda: answer(whole[:end]))]
-    judged("cut behind each token", not cut, f"at {cut[:3]}")
+    answers = [answer_to(whole[:end], encodes) for end in ends[:-behind]]
+    wrong = [(end, answer) for end, answer in zip(ends, answers) if answer != "refused"]
+    judged(f"{name}, cut behind each token", not wrong and len(answers) > 200, f"{wrong[:3]}")
     signs = [bytes([byte]) for byte in range(256)] + [b"{", b"}", b"(", b"alt {", b"[]", b"-> value", b"template"]
-    wrong = 0
+    counts: Counter[str] = Counter()
     for _ in range(300):
         data = bytearray(whole)
         for _ in range(chance.randrange(1, 6)):
             place = chance.randrange(len(data))
             data[place : place + chance.randrange(3)] = chance.choice(signs)
-        wrong += not tells(lambda: answer(bytes(data)) or True)
-    judged("bytes by chance in a script", wrong == 0, f"{wrong} of 300")
-    noise = [chance.randbytes(chance.randrange(400)) for _ in range(100)]
-    judged("bytes by chance alone", all(tells(partial(answer, data)) for data in noise), "no answer")
-    deep = b"module M { const integer c := " + b"(" * 20_000
-    judged("brackets without end", tells(lambda: answer(deep)), "no answer")
-    large(program)
+        counts[answer_to(bytes(data), encodes)] += 1
+    is_so = counts.keys() == {"refused", "written"} and counts["refused"] > 200
+    judged(f"{name}, with bytes by chance", is_so, f"{counts}")
 
 
-def tells(asked: Callable[[], bool]) -> bool:
+def answer_to(data: bytes, encodes: bool) -> str:
+    """`written`; `refused`, with places in the text and reasons; or what is wrong with the answer."""
+    from tpr_tools.rewrite.rewriting import rewrite
+    from tpr_tools.rewrite.tokens import Source
+
     try:
-        return asked()
+        found = rewrite([Source("x", data)], encodes=encodes)
     except Exception as error:  # A traceback of whatever kind is what this looks for.
-        print(f"{type(error).__name__}: {error}")
-        return False
+        return f"{type(error).__name__}: {error}"
+    if not found.refused:
+        return "written" if found.text.startswith("// ") and found.text.endswith("}\n") else "a script that is cut"
+    lines = len(data.split(b"\n"))
+    well = all(1 <= one.line <= lines and one.column >= 1 and one.reason for one in found.refused)
+    return "refused" if well else f"{found.refused}"
 
 
 def seconds_of_others() -> float:

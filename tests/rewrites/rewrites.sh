@@ -9,7 +9,7 @@ rewrites() {
 table 80
 natural 50
 same 59
-broken 6
+broken 12
 listed 39
 rows 109
 faults 37
