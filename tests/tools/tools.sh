@@ -271,7 +271,7 @@ comparisons_of_examples() {
 words_that_nobody_gets() {
     local tool
     unset -v PYTHONUNBUFFERED
-    for tool in chart compare explain explore release suite titan why; do
+    for tool in chart compare explain explore release rewrite suite titan why; do
         "$root/tools/$tool" --help >/dev/full 2>"$room/said"
         status=$?
         : >"$room/printed"
@@ -311,5 +311,5 @@ tools() {
     at_least 6 comparisons
     at_least 5 comparisons_of_two_senders
     at_least $((open_examples + 2)) comparisons_of_examples
-    at_least 26 words_that_nobody_gets
+    at_least 29 words_that_nobody_gets
 }
