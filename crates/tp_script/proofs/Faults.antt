@@ -7,9 +7,10 @@ use Rattle.tp_token.specs.declared.fault.ScriptFault.TheVariants as script_fault
 use Rattle.tp_tree.specs.declared.tree.Module.{Module}
 use Rattle.tp_name.specs.declared.fault.ModuleFault.{ModuleFault}
 use Rattle.tp_name.specs.declared.fault.ModuleFault.TheVariants as module_fault
-use Rattle.tp_name.specs.Refused.{Breaks}
+use Rattle.tp_name.specs.Refused.{Breaks, Tells}
 use Rattle.tp_syntax.specs.Refusals.{IsUnread}
 use Rattle.tp_script.specs.declared.fault.TestCaseFault.{TestCaseFault}
+use Rattle.tp_script.specs.BrokenModules.{ModuleBreaks}
 use Rattle.tp_script.specs.Scripts.{IsModuleOf, IsScriptFaultOf}
 use Rattle.tp_script.specs.TestCases.{WellFormed}
 use Rattle.tp_script.specs.Told.{of_module, of_text}
@@ -25,14 +26,15 @@ unread_fault r f text is h =
     let p = err_from_is_err_and r is in
     rw (p.1, p.2) (of_reading f text h)
 
-of_checking : (f : ModuleFault) (text : List ℕ) (parsed : Module) → IsModuleOf text parsed → Breaks (WellFormed parsed) f → IsScriptFaultOf text (of_module f)
-of_checking (module_fault.Refused rule line) text parsed read (inl e) = absurd (cc)
-of_checking (module_fault.Refused rule line) text parsed read (inr broken) = (parsed, read, broken)
-of_checking (module_fault.Memory m) text parsed read broken = tt
+of_checking : (f : ModuleFault) (text : List ℕ) (parsed : Module) → IsModuleOf text parsed → Breaks (WellFormed parsed) f
+    → Tells (ModuleBreaks parsed) f → IsScriptFaultOf text (of_module f)
+of_checking (module_fault.Refused rule line) text parsed read (inl e) told = absurd (cc)
+of_checking (module_fault.Refused rule line) text parsed read (inr broken) told = (parsed, read, broken, told)
+of_checking (module_fault.Memory m) text parsed read broken told = tt
 
 -- what the checks refuse was read as a module, which doesn't obey the rules, or memory was wanting
 pub checked_fault : {A : Type 0} (r : Result A TestCaseFault) (f : ModuleFault) (text : List ℕ) (parsed : Module) → IsErrAnd r (λ y. y ≡ of_module f)
-    → IsModuleOf text parsed → Breaks (WellFormed parsed) f → IfErr r (IsScriptFaultOf text)
-checked_fault r f text parsed is read broken =
+    → IsModuleOf text parsed → Breaks (WellFormed parsed) f → Tells (ModuleBreaks parsed) f → IfErr r (IsScriptFaultOf text)
+checked_fault r f text parsed is read broken told =
     let p = err_from_is_err_and r is in
-    rw (p.1, p.2) (of_checking f text parsed read broken)
+    rw (p.1, p.2) (of_checking f text parsed read broken told)

@@ -20,3 +20,4 @@ pub mod SameStatements
 pub mod SameDefinitions
 pub mod SameSetups
 pub mod SameModules
+pub mod ModulesTold

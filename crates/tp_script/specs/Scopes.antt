@@ -1,5 +1,5 @@
 -- What the bodies of a module may speak of.
-use Rattle.std.specs.Prelude.{◌≡◌, ◌≤◌, ℕ, List, [], Some, All, length, map, slice_get, string_bytes, if◌then◌else◌}
+use Rattle.std.specs.Prelude.{◌≡◌, ◌≤◌, ℕ, List, [], Some, All, Contains, length, map, slice_get, string_bytes, if◌then◌else◌}
 use Rattle.std.specs.List.{AllZip}
 use Rattle.std.specs.Str.{bytes_eq}
 use Rattle.tp_tree.specs.declared.tree.Definition.{Definition}
@@ -16,7 +16,7 @@ use Rattle.tp_config.specs.Setup.{PortDecl}
 use Rattle.tp_config.specs.Shape.{ports_of}
 use Rattle.tp_name.specs.Tables.{AreDistinct, IsNumbered, place_of}
 use Rattle.tp_setup.specs.Definitions.{declared, inner_names}
-use Rattle.tp_setup.specs.Rules.{sut}
+use Rattle.tp_setup.specs.Rules.{AreComponentTypesKnown, sut}
 use Rattle.tp_play.specs.declared.body.Body.{Body}
 use Rattle.tp_body.specs.declared.scope.BehaviourKind.{BehaviourKind}
 use Rattle.tp_body.specs.declared.scope.BehaviourKind.TheVariants as behaviour_kind
@@ -81,6 +81,16 @@ pub record IsSoundKnown (known : Known) : Type 0 where
   pub few_ports : All (λ (ports : List PortDecl). length ports ≤ 64) known.ports
   pub own_names : (u : Ty) (fields : List Field) → named known.types u ≡ Some (type_def.Record fields)
       → AreDistinct (field_names fields)
+
+-- a behaviour may run on the component type of this name
+pub record CanRun (known : Known) (name : List ℕ) : Type 0 where
+  pub there : Contains known.component_types name
+  pub typed : length known.component_types ≡ length known.ports
+
+-- the component types that these definitions name are known
+pub record CanAllRun (known : Known) (definitions : List Definition) : Type 0 where
+  pub there : All (λ (x : Definition). AreComponentTypesKnown known.component_types x.defined) definitions
+  pub typed : length known.component_types ≡ length known.ports
 
 -- within each definition no two fields, ports or parameters have one name
 abbrev pub HaveOwnNames : List Definition → Type 0

@@ -10,6 +10,7 @@ use Rattle.tp_play.specs.TestCases.{Made}
 use Rattle.tp_script.specs.declared.fault.ScriptRule.TheVariants as script_rule
 use Rattle.tp_script.specs.declared.fault.TestCaseFault.{TestCaseFault}
 use Rattle.tp_script.specs.declared.fault.TestCaseFault.TheVariants as test_case_fault
+use Rattle.tp_script.specs.BrokenModules.{ModuleBreaks}
 use Rattle.tp_script.specs.TestCases.{IsTestCaseOf, WellFormed}
 
 -- the text is read as this module of the grammar, within the limits: of the text, of names and numbers, and of open
@@ -28,10 +29,10 @@ pub record IsScriptOf (text : List ℕ) (made : Made) : Type 0 where
   pub test_case : IsTestCaseOf parsed made
 
 -- the text is refused so: for a rule of texts, as `parse` may tell it; or it is read as a module, within the limits,
--- that doesn't obey the rules of modules; or memory was refused
+-- that doesn't obey the rules of modules, and breaks this one at this line; or memory was refused
 abbrev pub IsScriptFaultOf : List ℕ → TestCaseFault → Type 0
 IsScriptFaultOf text (test_case_fault.Refused (script_rule.Text rule) line) =
     IsUnread text (script_fault.Refused rule line)
 IsScriptFaultOf text (test_case_fault.Refused (script_rule.Module rule) line) =
-    (parsed : Module) × IsModuleOf text parsed × ¬ WellFormed parsed
+    (parsed : Module) × IsModuleOf text parsed × (¬ WellFormed parsed) × ModuleBreaks parsed rule line
 IsScriptFaultOf text (test_case_fault.Memory m) = Unit {0}

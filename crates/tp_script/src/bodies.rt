@@ -1,12 +1,13 @@
 //! The fourth pass of the checks: the bodies.
-ghost use Rattle.std.specs.Prelude.{◌≡◌, IfErr, IfOk, List, map};
+ghost use Rattle.std.specs.Prelude.{◌≡◌, IfErr, IfOk, List, map, string_bytes};
 ghost use Rattle.std.specs.List.{AllZip};
-ghost use Rattle.tp_name.specs.Refused.{Breaks};
+ghost use Rattle.tp_name.specs.Refused.{Breaks, Tells};
 ghost use Rattle.tp_name.specs.Tables.{IsNumbered};
 ghost use Rattle.tp_play.specs.declared.body.Body.{Body};
 ghost use Rattle.tp_setup.specs.Definitions.{among, declared, function_of, functions};
 ghost use Rattle.tp_script.specs.Instances.{known_in};
-ghost use Rattle.tp_script.specs.Scopes.{HasBodies, HaveOwnNames, IsFunctionBody, IsMainBody, IsSoundKnown, plays_of};
+ghost use Rattle.tp_script.specs.BrokenModules.{BodiesBreak, FunctionBreaks, FunctionsBreak, MainBreaks};
+ghost use Rattle.tp_script.specs.Scopes.{CanAllRun, CanRun, HasBodies, HaveOwnNames, IsFunctionBody, IsMainBody, IsSoundKnown, plays_of};
 
 use crate::scopes::{parameter_names, scope_of};
 use std::alloc::Global;
@@ -37,6 +38,10 @@ fn resolve_main(alloc: Global, prepared: &Prepared) -> Result<Body, ModuleFault>
     ensures body { IfOk result (IsMainBody (known_in prepared.now) prepared.now.case.case.now) }
     ensures refused { IsSoundKnown (known_in prepared.now) → IfErr result (Breaks ((body : Body)
         × IsMainBody (known_in prepared.now) prepared.now.case.case.now body)) }
+    ensures told { IsSoundKnown (known_in prepared.now)
+        → CanRun (known_in prepared.now) (string_bytes prepared.now.case.case.now.runs_on)
+        → IfErr result (Tells (MainBreaks (known_in prepared.now) prepared.now.case.case.now
+        prepared.now.case.line)) }
 {
     let case = prepared.case.case;
     let line = prepared.case.line;
@@ -64,6 +69,10 @@ fn resolve_function<'m>(
         → IsNumbered (map (λ p. declared p.name) function.now.parameters.items)
         → IfErr result (Breaks ((body : Body)
         × IsFunctionBody (known_in prepared.now) function.now body)) }
+    ensures told { IsSoundKnown (known_in prepared.now)
+        → IsNumbered (map (λ p. declared p.name) function.now.parameters.items)
+        → CanRun (known_in prepared.now) (string_bytes function.now.runs_on) → IfErr result (
+        Tells (FunctionBreaks (known_in prepared.now) function.now line)) }
 {
     let parameters = parameter_names(alloc, &function.parameters)?;
     let runs_on = function.runs_on.as_str();
@@ -88,6 +97,9 @@ fn resolve_functions<'m>(
     ensures refused { IsSoundKnown (known_in prepared.now) → HaveOwnNames definitions.now
         → IfErr result (Breaks ((bodies : List Body) × AllZip
         (IsFunctionBody (known_in prepared.now)) (among function_of definitions.now) bodies)) }
+    ensures told { IsSoundKnown (known_in prepared.now) → HaveOwnNames definitions.now
+        → CanAllRun (known_in prepared.now) definitions.now → IfErr result (
+        Tells (FunctionsBreak (known_in prepared.now) definitions.now)) }
 {
     let mut bodies = Vec::new(alloc);
     for definition in definitions {
@@ -119,6 +131,12 @@ pub fn resolve_bodies<'m>(
     ensures refused { IsSoundKnown (known_in prepared.now)
         → HaveOwnNames parsed.now.definitions.items → IfErr result (Breaks (HasBodies
         (known_in prepared.now) prepared.now.case.case.now (functions parsed.now))) }
+    ensures told { IsSoundKnown (known_in prepared.now)
+        → HaveOwnNames parsed.now.definitions.items
+        → CanRun (known_in prepared.now) (string_bytes prepared.now.case.case.now.runs_on)
+        → CanAllRun (known_in prepared.now) parsed.now.definitions.items → IfErr result (
+        Tells (BodiesBreak (known_in prepared.now) prepared.now.case.case.now
+        prepared.now.case.line parsed.now.definitions.items)) }
 {
     let main = resolve_main(alloc, prepared)?;
     let functions = resolve_functions(alloc, &parsed.definitions, prepared)?;

@@ -1,7 +1,8 @@
 //! The checks of a module, pass by pass.
 ghost use Rattle.std.specs.Prelude.{◌≡◌, ◌≤◌, IfErr, IfOk, OnOk, length, map, sum};
 ghost use Rattle.std.specs.List.{AllZip};
-ghost use Rattle.tp_name.specs.Refused.{Breaks};
+ghost use Rattle.tp_name.specs.Refused.{Breaks, Tells};
+ghost use Rattle.tp_script.specs.BrokenModules.{ModuleBreaks};
 ghost use Rattle.tp_setup.specs.Definitions.{functions};
 ghost use Rattle.tp_setup.specs.Prepared.{IsPreparedOf, IsWellDeclared};
 ghost use Rattle.tp_play.specs.Behaviours.{size_of_behaviour};
@@ -39,6 +40,8 @@ fn resolve_behaviours<'m>(
         sum (map size_of_behaviour (map (behaviour_of b.bodies) b.instances.items)) ≤ 100000) }
     ensures refused { IsPreparedOf parsed.now prepared.now → IsWellDeclared parsed.now
         → IfErr result (Breaks (WellFormed parsed.now)) }
+    ensures told { IsPreparedOf parsed.now prepared.now → IsWellDeclared parsed.now
+        → IfErr result (Tells (ModuleBreaks parsed.now)) }
 {
     let bodies = resolve_bodies(alloc, parsed, prepared)?;
     let instances = make_instances(alloc, prepared)?;
@@ -78,6 +81,7 @@ pub fn check(alloc: Global, parsed: &Module) -> Result<TestCase, ModuleFault>
     ensures well_formed { OnOk result (WellFormed parsed.now) }
     ensures made { IfOk result (IsTestCaseOf parsed.now) }
     ensures refused { IfErr result (Breaks (WellFormed parsed.now)) }
+    ensures told { IfErr result (Tells (ModuleBreaks parsed.now)) }
 {
     let prepared = prepare(alloc, parsed)?;
     let behaviours = resolve_behaviours(alloc, parsed, &prepared)?;

@@ -6,7 +6,7 @@ ghost use Rattle.tp_name.specs.Refused.{Breaks};
 ghost use Rattle.tp_name.specs.Tables.{IsNumbered};
 ghost use Rattle.tp_setup.specs.Definitions.{declared};
 ghost use Rattle.tp_script.specs.Instances.{known_in};
-ghost use Rattle.tp_script.specs.Scopes.{IsScope};
+ghost use Rattle.tp_script.specs.Scopes.{CanRun, IsScope};
 
 use std::alloc::Global;
 use tp_body::scope::{BehaviourKind, Scope};
@@ -49,6 +49,7 @@ pub fn scope_of<'m>(
         (known_in prepared.now) behaviour runs_on.now parameters.now) }
     ensures refused { IfErr result (Breaks ((scope : Scope)
         × IsScope (known_in prepared.now) behaviour runs_on.now parameters.now scope)) }
+    ensures unknown { IfErr result (λ _. CanRun (known_in prepared.now) runs_on.now → ⊥) }
 {
     let Some(place) = prepared.sorted.component_names.find(runs_on) else {
         return Err(refused(ModuleRule::Unknown, line));

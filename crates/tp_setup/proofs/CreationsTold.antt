@@ -17,7 +17,7 @@ use Rattle.tp_name.specs.declared.fault.ModuleRule.TheVariants as module_rule
 use Rattle.tp_name.specs.declared.fault.ModuleFault.{ModuleFault}
 use Rattle.tp_name.specs.declared.fault.ModuleFault.TheVariants as module_fault
 use Rattle.tp_name.specs.Refused.{TellsAt}
-use Rattle.tp_setup.specs.Additions.{AdditionBreaks, AwaitsInterface, HasRoom, InterfaceBreaks, StopsAt, addition_many, addition_taken, addition_unknown, interface_named}
+use Rattle.tp_setup.specs.Additions.{AdditionBreaks, AwaitsInterface, HasRoomForVariables, InterfaceBreaks, StopsCreating, addition_many, addition_taken, addition_unknown, interface_named}
 use Rattle.tp_setup.specs.BrokenNames.{NameBreaks, already_given, crowded}
 use Rattle.tp_setup.specs.BrokenSetup.{CreationBreaks, component, taken}
 use Rattle.tp_setup.specs.Components.{AddsAll, Declared, HasSoundVariables, IsSoundVariable, created, creation_of, creations, variable, variables}
@@ -50,7 +50,7 @@ module _ (types ports others names : List (List ℕ)) (most : ℕ) (c : Creation
   taken_told small rule (crowded new many) = absurd (omega (arith, small, many))
 
   -- a component that can't be added, though its variable is sound
-  pub component_told : (s : Setup) → HasRoom types others names most s → IsSoundVariable types ports names most c → (rule : ModuleRule)
+  pub component_told : (s : Setup) → HasRoomForVariables types others names most s → IsSoundVariable types ports names most c → (rule : ModuleRule)
       → AdditionBreaks types (created c) s rule → CreationBreaks types ports others names most c rule
   component_told s room sound rule (addition_unknown absent) = absurd (absent sound.known)
   component_told s room sound rule (addition_taken (inl there)) =
@@ -74,8 +74,8 @@ module _ (types ports others names : List (List ℕ)) (most : ℕ) (c : Creation
 
 -- the room that is left behind the components of some statements
 pub room_more : (types ports others names : List (List ℕ)) (most : ℕ) (before : List Creation) (start now : Setup) → names ≡ map variable before
-    → HasSoundVariables types ports most before → AddsAll types (map created before) start now → HasRoom types others [] most start
-    → HasRoom types others names most now
+    → HasSoundVariables types ports most before → AddsAll types (map created before) start now → HasRoomForVariables types others [] most start
+    → HasRoomForVariables types others names most now
 room_more types ports others names most before start now named sound added room = record {
   typed = room.typed ∙ ap length (sym added.types_stay);
   named = added.names_more ∙ ap (λ l. l ++ map (λ (x : Declared). x.name) (map created before)) (room.named ∙ append-nil others)
@@ -88,7 +88,7 @@ room_more types ports others names most before start now named sound added room 
 pub stops_told : (types ports others names : List (List ℕ)) (most : ℕ) (xs : List SetupStatement) (i : ℕ) (x : SetupStatement) (c : Creation) (f : ModuleFault)
     → i < length xs → x ≡ get_or xs i x → Some c ≡ creation_of x → names ≡ variables (take i xs)
     → HasSoundVariables types ports most (creations (take i xs)) → TellsAt x.line (CreationBreaks types ports others names most c) f
-    → StopsAt types ports others most xs (take i xs) f
+    → StopsCreating types ports others most xs (take i xs) f
 stops_told types ports others names most xs i x c f lt is makes named sound told = record {
   statement = x;
   creation = c;

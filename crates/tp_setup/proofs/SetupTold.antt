@@ -12,7 +12,7 @@ use Rattle.tp_name.specs.declared.fault.ModuleRule.{ModuleRule}
 use Rattle.tp_name.specs.declared.fault.ModuleFault.{ModuleFault}
 use Rattle.tp_name.specs.Refused.{Tells}
 use Rattle.tp_name.specs.Tables.{IsNumbered}
-use Rattle.tp_setup.specs.Additions.{AwaitsInterface, HasRoom, InterfaceBreaks, StopsAt, interface_named}
+use Rattle.tp_setup.specs.Additions.{AwaitsInterface, HasRoomForVariables, InterfaceBreaks, StopsCreating, interface_named}
 use Rattle.tp_setup.specs.BrokenSetup.{CarriesOut, CaseSetupBreaks, CreationBreaks, PairBreaks, PairsBreak, SetupBreaks, StartsWith, a_pair, a_var, interface_behind, interface_taken}
 use Rattle.tp_setup.specs.Components.{AddsAll, CanAdd, HasPorts, HasSoundVariables, created, creation_of, creations, interface, main_component, variable, variables}
 use Rattle.tp_setup.specs.Configuring.{HavePorts, Makes, most_variables}
@@ -71,7 +71,7 @@ small_variables names ports case xs sound = record {
 
 -- there is room for the components of a test case behind `mtc`
 pub room_first : (names : List (List ℕ)) (case : TestCase) (types : List (List PortDecl)) (s : Setup) (most : ℕ) → HavePorts names s.types
-    → AddsAll names (main_component case ∷ []) (empty_setup types) s → most ≡ most_variables case → HasRoom names (codes "mtc" ∷ []) [] most s
+    → AddsAll names (main_component case ∷ []) (empty_setup types) s → most ≡ most_variables case → HasRoomForVariables names (codes "mtc" ∷ []) [] most s
 room_first names case types s most have main limit = record {
   typed = have.typed;
   named = main.names_more;
@@ -148,7 +148,7 @@ module _ (names ports : List (List ℕ)) (types : List (List PortDecl)) (case : 
         (subst (λ n. PairBreaks b.config (variables b.before) n b.statement.action rule) numbered b.breaks))) told
 
     -- the statements before the `var` at which making the components stopped are carried out, and it is refused
-    pub stopped_told : (t : Setup) (f : ModuleFault) → StopsAt names ports (codes "mtc" ∷ []) (most_variables case) case.setups.items made f
+    pub stopped_told : (t : Setup) (f : ModuleFault) → StopsCreating names ports (codes "mtc" ∷ []) (most_variables case) case.setups.items made f
         → Makes system s made t → Tells (SetupBreaks names ports types case line) f
     stopped_told t f stops makes =
         tells_from stops.statement.line (CreationBreaks names ports (codes "mtc" ∷ []) (variables made) (most_variables case) stops.creation)

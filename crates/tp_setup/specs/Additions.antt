@@ -25,7 +25,7 @@ pub data AdditionBreaks (types : List (List ℕ)) (x : Declared) (s : Setup) : M
 
 -- a configuration has the components of these names and of these variables, and there is room for as many variables as
 -- may be
-pub record HasRoom (types others variables : List (List ℕ)) (most : ℕ) (s : Setup) : Type 0 where
+pub record HasRoomForVariables (types others variables : List (List ℕ)) (most : ℕ) (s : Setup) : Type 0 where
   pub typed : length types ≡ length s.types
   pub named : names s ≡ others ++ variables
   pub few : length variables ≤ most
@@ -44,7 +44,7 @@ pub record AwaitsInterface (types : List (List ℕ)) (case : TestCase) (s : Setu
 
 -- the `var` at which making the components stopped: those of the statements before it obey the rules on variables, and
 -- it breaks the rule that is told at its line
-pub record StopsAt (types ports others : List (List ℕ)) (most : ℕ) (list before : List SetupStatement)
+pub record StopsCreating (types ports others : List (List ℕ)) (most : ℕ) (list before : List SetupStatement)
     (fault : ModuleFault) : Type 0 where
   pub statement : SetupStatement
   pub creation : Creation

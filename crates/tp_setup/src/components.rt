@@ -4,7 +4,7 @@ ghost use Rattle.std.specs.Option.{option_copied};
 ghost use Rattle.tp_name.specs.Tables.{AreDistinct, IsNumbered, place_of};
 ghost use Rattle.tp_name.specs.Refused.{Breaks, TellsAt};
 ghost use Rattle.tp_setup.specs.Components.{Adds, AddsAll, AreNumbered, CanAdd, CanAddAll, HasPorts, HasSoundVariables, HasStopped, IsSoundVariable, component_number, created, creation_of, creations, interface, variable, variables};
-ghost use Rattle.tp_setup.specs.Additions.{AdditionBreaks, AwaitsInterface, HasRoom, InterfaceBreaks, StopsAt};
+ghost use Rattle.tp_setup.specs.Additions.{AdditionBreaks, AwaitsInterface, HasRoomForVariables, InterfaceBreaks, StopsCreating};
 ghost use Rattle.tp_setup.specs.BrokenSetup.{CreationBreaks};
 ghost use Rattle.tp_setup.specs.Sorted.{AreComponentsNamed, component_types_in};
 
@@ -200,7 +200,7 @@ fn create<'m>(
         at.entry.creation.now
         × CanAdd rules.now.types.now (created at.entry.creation.now) config.old)) }
     ensures told { (others : List (List ℕ))
-        → HasRoom rules.now.types.now others variables.old rules.now.most config.old
+        → HasRoomForVariables rules.now.types.now others variables.old rules.now.most config.old
         → IfErr result (TellsAt at.entry.line (CreationBreaks rules.now.types.now
         rules.now.ports.now others variables.old rules.now.most at.entry.creation.now)) }
 {
@@ -238,8 +238,8 @@ pub(crate) fn create_components<'m>(
         (creations setups.now)
         × CanAddAll rules.now.types.now (variables setups.now) config.old) stopped.fault) }
     ensures told { (others : List (List ℕ))
-        → HasRoom rules.now.types.now others [] rules.now.most config.old
-        → IfErr result (λ stopped. StopsAt rules.now.types.now rules.now.ports.now others
+        → HasRoomForVariables rules.now.types.now others [] rules.now.most config.old
+        → IfErr result (λ stopped. StopsCreating rules.now.types.now rules.now.ports.now others
         rules.now.most setups.now stopped.before.now stopped.fault) }
 {
     let mut variables = NameSet::new(alloc);

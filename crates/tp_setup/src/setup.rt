@@ -5,7 +5,7 @@ ghost use Rattle.tp_name.specs.Tables.{IsNumbered};
 ghost use Rattle.tp_config.specs.declared.port_type.PortRef.{PortRef};
 ghost use Rattle.tp_config.specs.Setup.{Setup, empty_setup};
 ghost use Rattle.tp_config.specs.Shape.{ports_of};
-ghost use Rattle.tp_setup.specs.Additions.{StopsAt};
+ghost use Rattle.tp_setup.specs.Additions.{StopsCreating};
 ghost use Rattle.tp_setup.specs.BrokenSetup.{CaseSetupBreaks, ConnectBreaks, EndsBreak, MapBreaks, PairBreaks, PairsBreak, SetupBreaks};
 ghost use Rattle.tp_setup.specs.Rules.{AreComponentTypesKnown};
 ghost use Rattle.tp_tree.specs.declared.tree.Defined.{Defined};
@@ -249,7 +249,7 @@ fn first_fault(
         case.entry.case.now) result }
     ensures told { HavePorts rules.now.types.now config.old.types
         → AreComponentTypesKnown rules.now.types.now (Defined.TestCase case.entry.case.now)
-        → StopsAt rules.now.types.now rules.now.ports.now (codes "mtc" ∷ [])
+        → StopsCreating rules.now.types.now rules.now.ports.now (codes "mtc" ∷ [])
         (most_variables case.entry.case.now) case.entry.case.now.setups.items
         stopped.entry.before.now stopped.entry.fault
         → Tells (SetupBreaks rules.now.types.now rules.now.ports.now config.old.types

@@ -4,6 +4,11 @@ use Rattle.tp_setup.specs.Definitions.{declared}
 use Rattle.tp_script.specs.Instances.{known_in}
 use Rattle.tp_script.specs.Scopes.{plays_of}
 use Rattle.tp_script.proofs.BodyRules.{body_refused}
+use Rattle.tp_name.specs.Refused.{Tells}
+use Rattle.tp_name.specs.Tables.{IsNumbered}
+use Rattle.tp_setup.proofs.Telling.{handed, memory_left, tells_memory}
+use Rattle.tp_script.specs.BrokenModules.{FunctionBreaks}
+use Rattle.tp_script.proofs.ModulesTold.{body_told}
 use Rattle.tp_script.proofs.bodies.resolve_function.Goals as goal
 
 pub returns-clause-refused : goal.returns-clause-refused
@@ -14,3 +19,26 @@ returns-clause-refused c = λ sound own.
     c.resolve_body.result c.plays.ensures c.as_str-runs_on.ensures.value
     (c.in_ok-parameters.ensures.names ∙ ap (map (λ p. declared p.name)) c.deref.ensures.value) c.deref-2.ensures.value c.deref-3.ensures.value sound
     c.in_ok-scope.ensures.scope c.resolve_body.ensures.refused
+
+pub returns-in_err-parameters-clause-told : goal.returns-in_err-parameters-clause-told
+returns-in_err-parameters-clause-told c = λ sound own can.
+    let f = c.args.function.now in
+    let P = FunctionBreaks (known_in c.args.prepared.now) f c.args.line in
+    handed (Tells P) c.from_residual.result _ c.from_residual.ensures.1
+    (tells_memory P c.in_err-parameters.field-0.0
+    (memory_left (IsNumbered (map (λ p. declared p.name) f.parameters.items)) c.in_err-parameters.field-0.0
+    (rw c.deref.ensures.value at c.in_err-parameters.ensures.refused) own))
+
+pub returns-in_err-scope-clause-told : goal.returns-in_err-scope-clause-told
+returns-in_err-scope-clause-told c = λ sound own can.
+    handed (Tells (FunctionBreaks (known_in c.args.prepared.now) c.args.function.now c.args.line)) c.from_residual-in_err-scope.result _
+    c.from_residual-in_err-scope.ensures.1 (absurd (c.in_err-scope.ensures.unknown (rw c.as_str-runs_on.ensures.value can)))
+
+pub returns-clause-told : goal.returns-clause-told
+returns-clause-told c = λ sound own can.
+    let f = c.args.function.now in
+    body_told (known_in c.args.prepared.now) c.plays.result (plays_of f) c.as_str-runs_on.result.now (string_bytes f.runs_on) c.in_ok-parameters.parameters
+    (map (λ p. declared p.name) f.parameters.items) c.args.line c.in_ok-scope.scope c.deref-2.result.now f.variables.items c.deref-3.result.now
+    f.statements.items c.resolve_body.result c.plays.ensures c.as_str-runs_on.ensures.value
+    (c.in_ok-parameters.ensures.names ∙ ap (map (λ p. declared p.name)) c.deref.ensures.value) c.deref-2.ensures.value c.deref-3.ensures.value sound
+    c.in_ok-scope.ensures.scope c.resolve_body.ensures.told

@@ -3,8 +3,12 @@ use Rattle.std.proofs.Common.{arith, sym, subst}
 use Rattle.std.specs.List.{AllZip}
 use Rattle.tp_script.specs.Instances.{known_in}
 use Rattle.tp_script.specs.Scopes.{IsFunctionBody}
-use Rattle.tp_script.proofs.Functions.{no_function, one_function, one_refused}
+use Rattle.tp_script.proofs.Functions.{no_function, one_function, one_refused, own_parameters}
 use Rattle.tp_script.proofs.Refusing.{handed_on}
+use Rattle.tp_name.specs.Refused.{Tells}
+use Rattle.tp_setup.proofs.Telling.{handed}
+use Rattle.tp_script.specs.BrokenModules.{FunctionsBreak}
+use Rattle.tp_script.proofs.ModulesTold.{can_run, function_told}
 use Rattle.tp_script.proofs.bodies.resolve_functions.Goals as goal
 
 pub loop-definition-preserved-in_default : goal.loop-definition-preserved-in_default
@@ -26,3 +30,16 @@ returns-in_err-body-clause-refused c = λ sound own.
     handed_on c.from_residual.result fault c.from_residual.ensures.1 (λ all. all)
     (one_refused (known_in c.args.prepared.now) c.args.definitions.now c.loop-definition.definition-index c.definition-item.result c.in-Some.function.now
     (omega arith) c.definition-item.is c.in-Some.ensures own fault (c.in_err-body.ensures.refused sound))
+
+pub returns-in_err-body-clause-told : goal.returns-in_err-body-clause-told
+returns-in_err-body-clause-told c = λ sound own run.
+    let known = known_in c.args.prepared.now in
+    let xs = c.args.definitions.now in
+    let i = c.loop-definition.definition-index in
+    let x = c.definition-item.result in
+    let f = c.in-Some.function.now in
+    let fault = c.in_err-body.field-0.0 in
+    handed (Tells (FunctionsBreak known xs)) c.from_residual.result fault c.from_residual.ensures.1
+    (function_told known xs i x f (omega arith) c.definition-item.is c.in-Some.ensures c.loop-definition.bodies.items fault c.loop-definition.invariant
+    (c.in_err-body.ensures.told sound (own_parameters known xs i x f (omega arith) c.definition-item.is c.in-Some.ensures own)
+    (can_run known xs i x f (omega arith) c.definition-item.is c.in-Some.ensures run)))

@@ -3,6 +3,10 @@ use Rattle.std.proofs.Common.{[], refl, string_bytes}
 use Rattle.tp_body.specs.declared.scope.BehaviourKind.TheVariants as behaviour_kind
 use Rattle.tp_script.specs.Instances.{known_in}
 use Rattle.tp_script.proofs.BodyRules.{body_refused}
+use Rattle.tp_name.specs.Refused.{Tells}
+use Rattle.tp_setup.proofs.Telling.{handed}
+use Rattle.tp_script.specs.BrokenModules.{MainBreaks}
+use Rattle.tp_script.proofs.ModulesTold.{body_told}
 use Rattle.tp_script.proofs.bodies.resolve_main.Goals as goal
 
 pub returns-clause-refused : goal.returns-clause-refused
@@ -12,3 +16,18 @@ returns-clause-refused c = λ sound.
     c.new-parameters.result [] c.in_ok-scope.scope c.deref.result.now case.variables.items c.deref-2.result.now case.statements.items c.resolve_body.result
     refl c.as_str-runs_on.ensures.value c.new-parameters.ensures.empty c.deref.ensures.value c.deref-2.ensures.value sound c.in_ok-scope.ensures.scope
     c.resolve_body.ensures.refused
+
+pub returns-in_err-scope-clause-told : goal.returns-in_err-scope-clause-told
+returns-in_err-scope-clause-told c = λ sound can.
+    let p = c.args.prepared.now in
+    handed (Tells (MainBreaks (known_in p) p.case.case.now p.case.line)) c.from_residual.result _ c.from_residual.ensures.1
+    (absurd (c.in_err-scope.ensures.unknown (rw c.as_str-runs_on.ensures.value can)))
+
+pub returns-clause-told : goal.returns-clause-told
+returns-clause-told c = λ sound can.
+    let p = c.args.prepared.now in
+    let case = p.case.case.now in
+    body_told (known_in p) behaviour_kind.TestCase behaviour_kind.TestCase c.as_str-runs_on.result.now (string_bytes case.runs_on) c.new-parameters.result []
+    p.case.line c.in_ok-scope.scope c.deref.result.now case.variables.items c.deref-2.result.now case.statements.items c.resolve_body.result refl
+    c.as_str-runs_on.ensures.value c.new-parameters.ensures.empty c.deref.ensures.value c.deref-2.ensures.value sound c.in_ok-scope.ensures.scope
+    c.resolve_body.ensures.told

@@ -6,6 +6,10 @@ use Rattle.tp_script.specs.Scopes.{IsMainBody, IsFunctionBody}
 use Rattle.tp_script.specs.TestCases.{IsTestCaseOf, size_of_test_case}
 use Rattle.tp_script.proofs.Assembling.{kinds, known_is, test_case_of}
 use Rattle.tp_script.proofs.Readiness.{ready}
+use Rattle.tp_name.specs.Refused.{Tells}
+use Rattle.tp_setup.specs.Broken.{DeclarationsBreak}
+use Rattle.tp_setup.proofs.Telling.{handed, tells_map}
+use Rattle.tp_script.specs.BrokenModules.{ModuleBreaks, declarations}
 use Rattle.tp_script.proofs.checking.check.Goals as goal
 
 -- the module obeys the rules, so that its test case can be executed
@@ -49,3 +53,15 @@ returns-clause-well_formed c =
         few = subst (λ t. size_of_test_case t ≤ 100000) (sym c.assemble.ensures) c.in_ok-behaviours.ensures.few;
       };
     }
+
+pub returns-in_err-prepared-clause-told : goal.returns-in_err-prepared-clause-told
+returns-in_err-prepared-clause-told c =
+    let m = c.args.parsed.now in
+    handed (Tells (ModuleBreaks m)) c.from_residual.result _ c.from_residual.ensures.1
+    (tells_map (DeclarationsBreak m) (ModuleBreaks m) c.in_err-prepared.field-0.0 (λ rule line b. declarations rule line b)
+    c.in_err-prepared.ensures.told)
+
+pub returns-in_err-behaviours-clause-told : goal.returns-in_err-behaviours-clause-told
+returns-in_err-behaviours-clause-told c =
+    handed (Tells (ModuleBreaks c.args.parsed.now)) c.from_residual-in_err-behaviours.result _ c.from_residual-in_err-behaviours.ensures.1
+    (c.in_err-behaviours.ensures.told c.in_ok-prepared.ensures.made c.in_ok-prepared.ensures.rules)

@@ -9,6 +9,12 @@ use Rattle.tp_script.proofs.Declared.{own_names}
 use Rattle.tp_script.proofs.Refusing.{handed_on, no_memory}
 use Rattle.tp_script.proofs.Sound.{sound_known}
 use Rattle.tp_script.proofs.Whole.{are_few, has_bodies, is_small}
+use Rattle.std.proofs.Common.{◌≡◌, ◌<◌}
+use Rattle.tp_name.specs.Refused.{Tells, TellsAt}
+use Rattle.tp_name.specs.declared.fault.ModuleRule.TheVariants as module_rule
+use Rattle.tp_setup.proofs.Telling.{handed, tells_memory}
+use Rattle.tp_script.specs.BrokenModules.{ModuleBreaks}
+use Rattle.tp_script.proofs.ModulesTold.{all_run, bodies_told, main_runs, size_told}
 use Rattle.tp_script.proofs.checking.resolve_behaviours.Goals as goal
 
 pub returns-in_err-bodies-clause-refused : goal.returns-in_err-bodies-clause-refused
@@ -32,3 +38,31 @@ returns-in_err-check_size-clause-refused c = λ of rules.
     c.in_ok-instances.ensures.instances c.in_ok-instances.ensures.count)
     (subst (λ (l : List (Option Instance)). Breaks (sum (map size_of_behaviour (map (behaviour_of bodies) l)) ≤ 100000) c.in_err-check_size.field-0.0)
     c.deref.ensures.value c.in_err-check_size.ensures.refused)
+
+pub returns-in_err-bodies-clause-told : goal.returns-in_err-bodies-clause-told
+returns-in_err-bodies-clause-told c = λ of rules.
+    let m = c.args.parsed.now in
+    let p = c.args.prepared.now in
+    let own = own_names m rules in
+    handed (Tells (ModuleBreaks m)) c.from_residual.result c.in_err-bodies.field-0.0 c.from_residual.ensures.1
+    (bodies_told m p of rules c.in_err-bodies.field-0.0
+    (c.in_err-bodies.ensures.told (sound_known m p of own) own (main_runs m p of rules) (all_run m p of rules)))
+
+pub returns-in_err-instances-clause-told : goal.returns-in_err-instances-clause-told
+returns-in_err-instances-clause-told c = λ of rules.
+    let m = c.args.parsed.now in
+    handed (Tells (ModuleBreaks m)) c.from_residual-in_err-instances.result c.in_err-instances.field-0.0 c.from_residual-in_err-instances.ensures.1
+    (tells_memory (ModuleBreaks m) c.in_err-instances.field-0.0
+    (c.in_err-instances.ensures.refused (are_few m c.args.prepared.now of rules)))
+
+pub returns-in_err-check_size-clause-told : goal.returns-in_err-check_size-clause-told
+returns-in_err-check_size-clause-told c = λ of rules.
+    let m = c.args.parsed.now in
+    let p = c.args.prepared.now in
+    let bodies = c.in_ok-bodies.bodies in
+    let fault = c.in_err-check_size.field-0.0 in
+    handed (Tells (ModuleBreaks m)) c.from_residual-in_err-check_size.result fault c.from_residual-in_err-check_size.ensures.1
+    (size_told m p of rules bodies c.in_ok-bodies.ensures.main c.in_ok-bodies.ensures.functions c.in_ok-instances.instances.items
+    c.in_ok-instances.ensures.instances c.in_ok-instances.ensures.count fault
+    (subst (λ (l : List (Option Instance)). TellsAt p.case.line (λ rule. (rule ≡ module_rule.Limit)
+    × (100000 < sum (map size_of_behaviour (map (behaviour_of bodies) l)))) fault) c.deref.ensures.value c.in_err-check_size.ensures.told))

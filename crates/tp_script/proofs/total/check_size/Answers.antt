@@ -4,6 +4,9 @@ use Rattle.tp_play.specs.Sizes.{capped, size_of_body}
 use Rattle.tp_play.specs.Behaviours.{size_of_behaviour}
 use Rattle.tp_play.specs.Instances.{behaviour_of}
 use Rattle.tp_script.proofs.Totals.{sums, few, many}
+use Rattle.std.proofs.Common.{◌<◌, refl}
+use Rattle.tp_name.specs.Refused.{TellsAt}
+use Rattle.tp_script.proofs.ModulesTold.{above}
 use Rattle.tp_script.proofs.total.check_size.Goals as goal
 
 pub returns-clause-few : goal.returns-clause-few
@@ -23,3 +26,12 @@ returns-then-count_instances-ge-COUNTED-clause-refused c =
     c.count_instances.ensures ∙ sums bodies c.count_body-main.result c.deref-2.result.now c.count_body-main.ensures
     (c.deref-2.ensures.value ∙ c.in_ok-functions.ensures.sizes ∙ ap (map (λ b. capped (size_of_body b))) c.deref.ensures.value) c.args.instances.now in
     inr (many total (omega (arith, is, c.if-count_instances-ge-COUNTED.true)))
+
+pub returns-then-count_instances-ge-COUNTED-clause-told : goal.returns-then-count_instances-ge-COUNTED-clause-told
+returns-then-count_instances-ge-COUNTED-clause-told c =
+    let bodies = c.args.bodies.now in
+    let total = sum (map size_of_behaviour (map (behaviour_of bodies) c.args.instances.now)) in
+    let is : c.count_instances.result ≡ capped total =
+    c.count_instances.ensures ∙ sums bodies c.count_body-main.result c.deref-2.result.now c.count_body-main.ensures
+    (c.deref-2.ensures.value ∙ c.in_ok-functions.ensures.sizes ∙ ap (map (λ b. capped (size_of_body b))) c.deref.ensures.value) c.args.instances.now in
+    rw c.refused.ensures (refl, (refl, above total (many total (omega (arith, is, c.if-count_instances-ge-COUNTED.true)))))

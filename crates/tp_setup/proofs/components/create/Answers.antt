@@ -2,7 +2,7 @@
 use Rattle.std.proofs.Common.{◌≤◌, arith, length, subst}
 use Rattle.tp_name.specs.Refused.{TellsAt}
 use Rattle.tp_name.specs.Tables.{IsNumbered}
-use Rattle.tp_setup.specs.Additions.{AdditionBreaks, HasRoom}
+use Rattle.tp_setup.specs.Additions.{AdditionBreaks, HasRoomForVariables}
 use Rattle.tp_setup.specs.BrokenSetup.{CreationBreaks}
 use Rattle.tp_setup.specs.Components.{created}
 use Rattle.tp_setup.proofs.CreationsTold.{component_told}
@@ -10,13 +10,13 @@ use Rattle.tp_setup.proofs.Telling.{at_map, handed}
 use Rattle.tp_setup.proofs.components.create.Goals as goal
 
 pub returns-in_err-check_variable-clause-told : goal.returns-in_err-check_variable-clause-told
-returns-in_err-check_variable-clause-told c = λ others (room : HasRoom _ _ _ _ _).
+returns-in_err-check_variable-clause-told c = λ others (room : HasRoomForVariables _ _ _ _ _).
     let rules = c.args.rules.now in
     handed (TellsAt c.args.at.line (CreationBreaks rules.types.now rules.ports.now others c.args.variables.now rules.most c.args.at.creation.now))
     c.from_residual.result _ c.from_residual.ensures.1 (c.in_err-check_variable.ensures.told others (omega (arith, room.few, room.room)))
 
 pub returns-in_err-add_component-clause-told : goal.returns-in_err-add_component-clause-told
-returns-in_err-add_component-clause-told c = λ others (room : HasRoom _ _ _ _ _).
+returns-in_err-add_component-clause-told c = λ others (room : HasRoomForVariables _ _ _ _ _).
     let rules = c.args.rules.now in
     let one = c.args.at.creation.now in
     let names = c.args.variables.now in

@@ -5,7 +5,7 @@ use Rattle.tp_setup.proofs.Ready.{beside_can, has_first}
 use Rattle.tp_setup.proofs.Refusing.{breaks_part}
 use Rattle.std.proofs.Common.{codes, sym, ◌∷◌, []}
 use Rattle.tp_name.specs.Refused.{Tells}
-use Rattle.tp_setup.specs.Additions.{StopsAt}
+use Rattle.tp_setup.specs.Additions.{StopsCreating}
 use Rattle.tp_setup.specs.BrokenSetup.{SetupBreaks}
 use Rattle.tp_setup.proofs.SetupTold.{room_first}
 use Rattle.tp_setup.proofs.setup.create_beside.Goals as goal
@@ -28,7 +28,7 @@ returns-in-Err-clause-told c = λ have known.
     let names = c.args.types.now in
     let case = c.args.case.case.now in
     let stay = c.in-Err.ensures.stopped.added.types_stay in
-    let stops : StopsAt names c.args.ports.now (codes "mtc" ∷ []) c.most_variables.result c.deref.result.now c.in-Err.stopped.before.now
+    let stops : StopsCreating names c.args.ports.now (codes "mtc" ∷ []) c.most_variables.result c.deref.result.now c.in-Err.stopped.before.now
     c.in-Err.stopped.fault =
     c.in-Err.ensures.told (codes "mtc" ∷ [])
     (room_first names case c.args.config.now.types c.args.config.now c.most_variables.result have c.requires.main c.most_variables.ensures) in

@@ -5,7 +5,7 @@ use Rattle.tp_setup.specs.Configuring.{HaveOwnPorts}
 use Rattle.tp_setup.proofs.Ready.{interface_can}
 use Rattle.tp_setup.proofs.Refusing.{breaks_part}
 use Rattle.tp_setup.proofs.Stopping.{before_can}
-use Rattle.tp_setup.specs.Additions.{InterfaceBreaks, StopsAt}
+use Rattle.tp_setup.specs.Additions.{InterfaceBreaks, StopsCreating}
 use Rattle.tp_setup.specs.BrokenSetup.{SetupBreaks}
 use Rattle.tp_setup.proofs.SetupTold.{awaits, interface_breaks, pairs_told, small_variables, stopped_told}
 use Rattle.tp_setup.proofs.Telling.{tells_from}
@@ -32,7 +32,7 @@ returns-clause-broken c = λ have.
     ]
 
 pub returns-in-Err-clause-told : goal.returns-in-Err-clause-told
-returns-in-Err-clause-told c = λ have known (stops : StopsAt _ _ _ _ _ _ _).
+returns-in-Err-clause-told c = λ have known (stops : StopsCreating _ _ _ _ _ _ _).
     let rules = c.args.rules.now in
     let case = c.args.case.case.now in
     let line = c.args.case.line in
@@ -44,7 +44,7 @@ returns-in-Err-clause-told c = λ have known (stops : StopsAt _ _ _ _ _ _ _).
     (c.in-Err.ensures.told (awaits rules.types.now rules.ports.now s.types case line before stops.sound s first.added have known))
 
 pub returns-clause-told : goal.returns-clause-told
-returns-clause-told c = λ have known (stops : StopsAt _ _ _ _ _ _ _).
+returns-clause-told c = λ have known (stops : StopsCreating _ _ _ _ _ _ _).
     let rules = c.args.rules.now in
     let case = c.args.case.case.now in
     let line = c.args.case.line in

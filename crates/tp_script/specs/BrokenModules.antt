@@ -1,0 +1,84 @@
+-- Which rule a module breaks, and at which line: on its declarations, its bodies or its size.
+use Rattle.std.specs.Prelude.{◌≡◌, ◌<◌, ℕ, List, [], ◌∷◌, ◌++◌, Some, Contains, length, map, string_bytes}
+use Rattle.std.specs.List.{AllZip}
+use Rattle.tp_tree.specs.declared.tree.Module.{Module}
+use Rattle.tp_tree.specs.declared.tree.Definition.{Definition}
+use Rattle.tp_tree.specs.declared.tree.Function.{Function}
+use Rattle.tp_tree.specs.declared.tree.Statement.{Statement}
+use Rattle.tp_tree.specs.declared.tree.TestCase.{TestCase}
+use Rattle.tp_tree.specs.declared.tree.Variable.{Variable}
+use Rattle.tp_value.specs.declared.types.Types.{Types}
+use Rattle.tp_config.specs.Setup.{Setup}
+use Rattle.tp_name.specs.declared.fault.ModuleRule.{ModuleRule}
+use Rattle.tp_name.specs.declared.fault.ModuleRule.TheVariants.{Limit}
+use Rattle.tp_setup.specs.Broken.{DeclarationsBreak}
+use Rattle.tp_setup.specs.Definitions.{BeginsAmong, among, declared, function_of, test_cases}
+use Rattle.tp_setup.specs.Prepared.{IsConfigOf, IsWellDeclared}
+use Rattle.tp_setup.specs.Resolved.{AreTypes}
+use Rattle.tp_play.specs.declared.body.Body.{Body}
+use Rattle.tp_play.specs.TestCases.{Made}
+use Rattle.tp_body.specs.declared.scope.BehaviourKind.{BehaviourKind}
+use Rattle.tp_body.specs.declared.scope.BehaviourKind.TheVariants as behaviour_kind
+use Rattle.tp_body.specs.declared.scope.Scope.{Scope}
+use Rattle.tp_body.specs.BrokenBodies.{BodyBreaks}
+use Rattle.tp_script.specs.Scopes.{IsFunctionBody, IsMainBody, IsScope, Known, plays_of}
+use Rattle.tp_script.specs.TestCases.{HasSoundBodies, IsTestCaseOf, known_of, size_of_test_case}
+
+-- these variables and statements break a rule on bodies in such a scope, where their definition begins at this line
+pub record BreaksIn (known : Known) (plays : BehaviourKind) (runs_on : List ℕ) (parameters : List (List ℕ)) (begins : ℕ)
+    (variables : List Variable) (statements : List Statement) (rule : ModuleRule) (line : ℕ) : Type 0 where
+  pub scope : Scope
+  pub is_scope : IsScope known plays runs_on parameters scope
+  pub breaks : BodyBreaks scope begins variables statements rule line
+
+-- the test case's own body does
+abbrev pub MainBreaks : Known → TestCase → ℕ → ModuleRule → ℕ → Type 0
+MainBreaks known case begins rule line =
+    BreaksIn known behaviour_kind.TestCase (string_bytes case.runs_on) [] begins case.variables.items
+    case.statements.items rule line
+
+-- the body of a function does
+abbrev pub FunctionBreaks : Known → Function → ℕ → ModuleRule → ℕ → Type 0
+FunctionBreaks known f begins rule line =
+    BreaksIn known (plays_of f) (string_bytes f.runs_on) (map (λ p. declared p.name) f.parameters.items) begins
+    f.variables.items f.statements.items rule line
+
+-- the body of one of the functions does, and those of the functions before it obey the rules
+pub record FunctionsBreak (known : Known) (list : List Definition) (rule : ModuleRule) (line : ℕ) : Type 0 where
+  pub before : List Definition
+  pub definition : Definition
+  pub after : List Definition
+  pub function : Function
+  pub bodies : List Body
+  pub split : list ≡ before ++ definition ∷ after
+  pub is : function_of definition.defined ≡ Some function
+  pub obey : AllZip (IsFunctionBody known) (among function_of before) bodies
+  pub breaks : FunctionBreaks known function definition.line rule line
+
+-- a body breaks a rule: the test case's own, which begins at this line, or else the first of the functions that does
+pub data BodiesBreak (known : Known) (case : TestCase) (begins : ℕ) (definitions : List Definition)
+    : ModuleRule → ℕ → Type 0 where
+  in_main : (rule : ModuleRule) (line : ℕ) → MainBreaks known case begins rule line
+      → BodiesBreak known case begins definitions rule line
+  in_function : (main : Body) (rule : ModuleRule) (line : ℕ) → IsMainBody known case main
+      → FunctionsBreak known definitions rule line → BodiesBreak known case begins definitions rule line
+
+-- the test case of the module, which begins at this line, with its configuration and the module's types
+pub record IsCaseOf (m : Module) (case : TestCase) (begins : ℕ) (config : Setup) (types : Types) : Type 0 where
+  pub one_test_case : test_cases m ≡ case ∷ []
+  pub begins_at : BeginsAmong m.definitions.items case begins
+  pub config_is : IsConfigOf m case config
+  pub types_are : AreTypes m types
+
+-- the module breaks a rule of the passes, each of which is made where those before it found nothing
+pub data ModuleBreaks (m : Module) : ModuleRule → ℕ → Type 0 where
+  -- on names, definitions, setup and starts
+  declarations : (rule : ModuleRule) (line : ℕ) → DeclarationsBreak m rule line → ModuleBreaks m rule line
+  -- on bodies
+  bodies : (case : TestCase) (begins : ℕ) (config : Setup) (types : Types) (rule : ModuleRule) (line : ℕ)
+      → IsWellDeclared m → IsCaseOf m case begins config types
+      → BodiesBreak (known_of m case config types) case begins m.definitions.items rule line → ModuleBreaks m rule line
+  -- on size: all components together have more than 100,000 statements to carry out (15)
+  size : (case : TestCase) (begins : ℕ) (made : Made) → IsWellDeclared m → HasSoundBodies m
+      → IsCaseOf m case begins made.config made.types → IsTestCaseOf m made → 100000 < size_of_test_case made
+      → ModuleBreaks m Limit begins
