@@ -76,14 +76,18 @@ def cases(names: list[str]) -> Iterator[tuple[Path, str]]:
                 yield from ((text, mode) for mode in modes)
 
 
-def main() -> None:
+def main() -> int:
     words = argparse.ArgumentParser(description="What the program prints of each example.")
     words.add_argument("program", metavar="PROGRAM")
     words.add_argument("names", metavar="NAME", nargs="*", help="of the examples; all without one")
     asked = words.parse_args()
+    lines = [f"FAILED: there is no example {it}" for it in asked.names if not [*cases([it])]]
+    print(*lines, sep="\n", end="\n" if lines else "", flush=True)
     for text, mode in cases(asked.names):
-        print(told(asked.program, text, mode), flush=True)
+        lines.append(told(asked.program, text, mode))
+        print(lines[-1], flush=True)
+    return 1 if any(line.startswith("FAILED: ") for line in lines) else 0
 
 
 if __name__ == "__main__":
-    main()
+    sys.exit(main())
