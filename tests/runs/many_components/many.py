@@ -151,6 +151,8 @@ def main() -> None:
     words.add_argument("names", metavar="NAME", nargs="*", help="of the scripts; all without one")
     asked = words.parse_args()
     shapes = [shape for shape in all_shapes() if not asked.names or shape.name in asked.names]
+    if unknown := {*asked.names} - {shape.name for shape in shapes}:
+        words.error(f"there is no script {', '.join(sorted(unknown))}")
     print(f"many components: {run_all(asked.program, asked.runs, shapes)} runs of {len(shapes)} scripts")
 
 
