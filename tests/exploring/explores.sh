@@ -1,5 +1,5 @@
-# tools/explore: on each script of tests/orders/ the classes of reports that it finds are those of all orders, and so
-# on scripts made by chance; each rule of its reduction that is left out is told; what it says, and how it ends.
+# tools/explore: on each script of tests/orders/, and on scripts made by chance, each verdict that `tpr verdicts` names has
+# a run and a report; what it says, and how it ends.
 
 # The first script of each pair has a verdict that hangs on the schedule, and the second is its repaired twin.
 explored_pairs=(
@@ -17,45 +17,21 @@ explored_pairs=(
     relayed_message_is_overtaken relayed_message_is_confirmed
 )
 
-# Small scripts of tests/orders/ on which rules of the reduction are left out.
-explored_planted=(ports/clear_between_two_sends ports/cleared_message_is_waited_for_in_vain
-    halts/halt_between_the_sends_of_one halts/halted_port_is_waited_at_in_vain
-    halts/own_sendings_are_ahead_of_the_mark halts/two_send_to_each_other messages/receive_waits_for_each_sender
-    halts/system_talks_to_two messages/check_waits_and_leaves_the_message messages/alt_waits_at_two_ports)
-
-# Scripts of tests/exploring/acts/ on which the looks of an alt are taken for one step.
-explored_by_looks=(else_is_chosen_behind_a_discard.ttcn message_comes_between_two_looks.ttcn
-    two_triggers_discard_in_turn.ttcn)
+# How many scripts are made by chance.
+explored_of_chance=8
 
 run_explore() { # WORDS..
-    observe env TPR_ORDERED="$ordered" "$root/tools/explore" "$@"
+    observe env TPR="$tpr" TPR_ORDERED="$ordered" "$root/tools/explore" "$@"
 }
 
-# The classes of all orders, and at most a tenth of the runs.
-explored_orders() {
-    told "$room/explored" tests/exploring/explored.py each "$ordered" tests/orders/*/*.ttcn
-}
-
-explored_orders_are_few() {
-    local all run
-    all=$(sum_of 2 "$room/explored")
-    run=$(sum_of 3 "$room/explored")
-    echo "exploring: $run runs for the $all orders of $(grep -c '^passed ' "$room/explored") scripts"
-    ((run > 0 && run * 10 <= all))
-}
-
-# Scripts in which others act between two acts of one step, and a larger one: the classes of all orders of acts.
-explored_acts() {
-    told "$room/explored_acts" tests/exploring/explored.py acts "$ordered" tests/exploring/acts/*.ttcn
-}
-
-explored_rules() {
-    told "$room/explored_rules" tests/exploring/explored.py planted "${explored_planted[@]/%/.ttcn}"
-    told "$room/explored_looks" tests/exploring/explored.py looks "${explored_by_looks[@]/#/tests/exploring/acts/}"
+# Scripts with every kind of step, and those in which others act between two messages of a send, or two looks.
+explored_scripts() {
+    told "$room/explored" tests/exploring/explored.py each "$tpr" "$ordered" tests/orders/*/*.ttcn \
+        tests/exploring/acts/*.ttcn
 }
 
 explored_by_chance() {
-    told "$room/explored_by_chance" tests/exploring/explored.py random 1 40
+    told "$room/explored_by_chance" tests/exploring/explored.py random "$tpr" "$ordered" 1 "$explored_of_chance"
 }
 
 # The first line of what was printed.
@@ -173,19 +149,20 @@ prints_in_short() { # LINE LINE
     says_nothing && [[ $(head -n 2 -- "$room/printed") == "$1"$'\n'"$2" ]]
 }
 
-explored_bounds() {
+explored_larger() {
     make_senders 16 1 "$room/explored_twins.ttcn"
     run_explore "$room/explored_twins.ttcn"
-    tool_must "sixteen senders that can't be told apart" 0 prints_in_short "always pass" "1 run, 1 class"
+    tool_must "sixteen senders that can't be told apart" 0 prints_in_short "always pass" "states 589825"
     make_senders 4 at "$room/explored_four.ttcn"
     run_explore "$room/explored_four.ttcn"
-    tool_must "four senders of different numbers" 0 prints_in_short "always pass" "18 runs, 1 class"
-    run_explore "$room/explored_four.ttcn" --runs 5 --seed 7
-    tool_must "five runs of 18" 4 prints_in_short "pass, not all orders tried" "5 runs, 1 class"
+    tool_must "four senders of different numbers" 0 begins_with "always pass"
     run_explore tests/golden/receiving/trigger_in_an_alt_comes_before_else.ttcn
     tool_must "an alt between the discards of which others may act" 0 begins_with "always inconc"
     run_explore tests/exploring/acts/message_comes_between_two_looks.ttcn
     tool_must "a verdict that hangs on what comes between two looks" 1 tells_parting_at_two_ports
+    make_stars "$room/explored_stars.ttcn"
+    observe env TPR="$tpr" TPR_ORDERED="$ordered" timeout 60 "$root/tools/explore" "$room/explored_stars.ttcn"
+    tool_must "templates of 20 stars, and long values" 0 begins_with "always pass"
 }
 
 # Both messages are of one sender, in one order: it is the look that comes before or behind the second.
@@ -196,42 +173,132 @@ tells_parting_at_two_ports() {
         '  nothing makes line 16 wait for line 8, nor line 8 for line 16'
 }
 
-# An interrupt comes once there were some runs: 10 senders have more orders than are tried in two minutes. On a
-# machine with much other work it is tried again, later.
-explored_interrupted() { # SIGNAL
-    local seconds
-    for seconds in 4 12 36; do
-        TPR_ORDERED=$ordered "${takes_signals[@]}" timeout --foreground --preserve-status -s "$1" -k 60 "$seconds" \
-            "$root/tools/explore" "$room/explored_ten.ttcn" --minutes 2 >"$room/printed" 2>"$room/said"
-        status=$?
-        if ! grep -q '^0 runs' "$room/printed"; then break; fi
-    done
-    tool_must "an exploration that is interrupted by $1" 130 begins_with "pass, not all orders tried"
-    tool_must "why its orders weren't all tried" 130 grep -qx '  it was interrupted' "$room/printed"
+# A pattern and a list of 20 stars, and values that they almost match.
+make_stars() { # FILE
+    local at stars='' members=''
+    for ((at = 0; at < 20; at += 1)); do stars+='*a' members+='*, 1, '; done
+    {
+        echo 'module Stars { type record of integer L; type port P message { inout charstring, L; }'
+        echo 'type component C { port P p; } testcase t() runs on C { connect(self:p, self:p);'
+        printf 'p.send(charstring:"%s"); p.send(L:{%s 1});' "$(printf 'a%.0s' {1..400})" "$(printf '1, %.0s' {1..400})"
+        echo "alt { [] p.receive(charstring:pattern \"$stars*b\") {} [] p.receive(charstring:?) {} }"
+        echo "alt { [] p.receive(L:{$members *, 2}) {} [] p.receive(L:?) { setverdict(pass); } } all component.done; } }"
+    } >"$1"
 }
 
+# A program that says this, with this status, whatever it is asked.
+make_saying() { # FILE STATUS TEXT
+    printf '#!/usr/bin/env bash\nprintf %%s %q\nexit %d\n' "$3" "$2" >"$1"
+    chmod +x -- "$1"
+}
+
+# What tools/explore says where `tpr verdicts` says this, with this status.
+explored_of_answer() { # STATUS TEXT SCRIPT
+    make_saying "$room/explored_answer" "$1" "$2"
+    observe env TPR="$room/explored_answer" TPR_ORDERED="$ordered" "$root/tools/explore" "$3"
+}
+
+explored_of_answers() {
+    local script=examples/broadcast_is_overtaken_by_an_answer.ttcn
+    local both=$'pass: mtc a mtc a b b b\nfail: mtc a a mtc b b b\n'
+    explored_of_answer 3 $'undecided\nseen pass\nstates 9\npass: mtc a mtc a b b b\n' "$script"
+    tool_must "where one verdict is seen" 4 tells_one_seen
+    explored_of_answer 3 $'undecided\nseen pass fail\nstates 9\n'"$both" "$script"
+    tool_must "where two are seen" 1 prints_in_short "undecided, seen pass or fail" "states 9"
+    explored_of_answer 3 $'undecided\nstates 0\n' "$script"
+    tool_must "where nothing is seen" 4 prints $'undecided\nstates 0\n'
+    explored_of_answer 3 $'fault 50 Memory\n' "$script"
+    tool_must "where memory is refused" 3 prints $'fault 50 Memory\n'
+    explored_of_answer 2 $'pass or fail\nstates 9\npass: mtc a a mtc b b b\nfail: mtc a mtc a b b b\n' "$script"
+    tool_must "an order that comes to another verdict" 1 tells_faults \
+        "pass: a fault of tpr or of its tools: by its order the model of runs comes to fail" \
+        "fail: a fault of tpr or of its tools: by its order the model of runs comes to pass"
+    explored_of_answer 2 $'pass or fail\nstates 9\npass: mtc a mtc a b b b\nfail: mtc a a mtc b b\n' "$script"
+    tool_must "an order that comes to no end" 1 tells_faults \
+        "fail: a fault of tpr or of its tools: by its order the model of runs comes to no end: b has a step behind the order"
+    explored_of_answer 2 $'pass or fail\nstates 9\npass: mtc a mtc a b b b\nfail: mtc b a mtc b b b\n' "$script"
+    tool_must "an order of which a step can't be" 1 tells_faults \
+        "fail: a fault of tpr or of its tools: by its order the model of runs comes to no end: b, name 2 of the order, has no step there"
+}
+
+tells_one_seen() {
+    prints_in_short "undecided, seen pass" "states 9" &&
+        grep -q '^A run that comes to pass; again: ' "$room/printed" && ! grep -q '^What parts ' "$room/printed"
+}
+
+# Behind the first two lines stand these, and nothing parts the runs.
+tells_faults() { # LINE..
+    says_nothing && ! grep -q '^What parts ' "$room/printed" &&
+        cmp -s -- <(printf '%s\n' "$@") <(sed -n '3,$p' -- "$room/printed" | sed '/^$/,$d')
+}
+
+# Reports are left out where nothing runs orders, and said to be.
+explored_without_reports() {
+    local script=examples/broadcast_is_overtaken_by_an_answer
+    observe env TPR="$tpr" TPR_ORDERED="$room/nowhere" "$root/tools/explore" "$script.ttcn"
+    tool_must "where two runs part, without reports" 1 tells_parting
+    tool_must "the orders and why there are no reports" 1 prints_orders_of "$script.verdicts"
+    observe env TPR="$tpr" TPR_ORDERED="$room/nowhere" "$root/tools/explore" "$script.ttcn" --json
+    tool_must "the same as an object" 1 grep -q '^      "missing": "they want tpr_ordered, ' "$room/printed"
+    observe env TPR="$tpr" TPR_ORDERED="$room/nowhere" "$root/tools/explore" examples/ping_pong.ttcn
+    tool_must "one verdict alone, without a report" 0 prints "$("$tpr" verdicts examples/ping_pong.ttcn)"$'\n'
+    observe env TPR="$tpr" TPR_ORDERED="$room/nowhere" "$root/tools/explore" "$script.ttcn" --order /dev/null
+    tool_must "orders, and nothing to run them" 1 says_alone "explore: there is no program $room/nowhere"
+}
+
+prints_orders_of() { # FILE
+    cmp -s -- <(cat -- "$1") <(sed '3d; /^What parts/,$d' "$room/printed" | sed '/^$/d') &&
+        grep -q '^No reports: they want tpr_ordered, ' "$room/printed"
+}
+
+# An interrupt comes while a program is asked: the first of them has printed nothing, and the other is ended with it.
+explored_interrupted() { # SIGNAL
+    printf '#!/bin/sh\necho $$ >%q; sleep 60\n' "$room/explored_asleep" >"$room/explored_sleeper"
+    printf '#!/bin/sh\nif test -s "$2"; then echo $$ >%q; sleep 60; fi\n' "$room/explored_asleep" >"$room/explored_holding"
+    chmod +x -- "$room"/explored_{sleeper,holding}
+    interrupts "$1" "$room/explored_sleeper" "$ordered"
+    tool_must "tpr verdicts that is interrupted by $1" 130 prints_nothing
+    set_up "it is ended too" is_ended && count 0
+    interrupts "$1" "$tpr" "$room/explored_holding"
+    tool_must "runs that are interrupted by $1" 130 begins_with "pass or fail"
+    tool_must "why they have no reports" 130 grep -qx 'No reports: it was interrupted' "$room/printed"
+    set_up "they are ended too" is_ended && count 0
+}
+
+# Sends the signal to a tool once one of its programs is asleep.
+interrupts() { # SIGNAL TPR ORDERED
+    local tool
+    rm -f -- "$room/explored_asleep"
+    TPR=$2 TPR_ORDERED=$3 "${takes_signals[@]}" "$root/tools/explore" \
+        examples/broadcast_is_overtaken_by_an_answer.ttcn >"$room/printed" 2>"$room/said" &
+    tool=$!
+    for ((at = 0; at < 600; at += 1)); do
+        if [[ -s $room/explored_asleep ]]; then break; fi
+        sleep 0.1
+    done
+    kill -s "$1" "$tool"
+    wait "$tool"
+    status=$?
+}
+
+is_ended() { ! kill -0 "$(<"$room/explored_asleep")" 2>/dev/null; }
+
 all_explored_interrupted() {
-    make_senders 10 at "$room/explored_ten.ttcn"
     explored_interrupted INT
     explored_interrupted TERM
 }
 
-# The line of progress on a terminal; a component that waits for good; the order of a run that is told, run again.
+# A component that waits for good; the order of a run that is told, run again.
 explored_as_told() {
     local script=examples/broadcast_is_overtaken_by_an_answer.ttcn again
-    make_senders 10 at "$room/explored_ten.ttcn" # of which three seconds are no end
-    observe env TPR_ORDERED="$ordered" python3 "$root/tests/tools/tool_rules.py" terminal "$root/tools/explore" \
-        "$room/explored_ten.ttcn" --minutes 0.05
-    tool_must "a line of progress on a terminal" 0 \
-        grep -q 'runs\?, [0-9]* class\(es\)\?, ways not tried yet: [1-9]' "$room/printed"
     run_explore tests/orders/messages/all_wait_for_each_other.ttcn
-    tool_must "components that wait for good" 0 grep -q '^error, 1 run: .* none, which waits for good' "$room/printed"
+    tool_must "components that wait for good" 0 grep -q '^error: .* none, which waits for good' "$room/printed"
     run_explore "$script"
     again=$(sed -n 's/^A run that comes to fail; again: //p' "$room/printed")
     sed -n '/^A run that comes to fail/,$ { s/^  //p }' "$room/printed" >"$room/explored_report"
     TPR_ORDERED=$ordered observe bash -c "$again"
     tool_must "the order of a run that is told" 0 prints_file "$room/explored_report"
-    TPR_ORDERED=$ordered "$root/tools/explore" "$script" >/dev/full 2>"$room/said"
+    TPR=$tpr TPR_ORDERED=$ordered "$root/tools/explore" "$script" >/dev/full 2>"$room/said"
     status=$?
     : >"$room/printed"
     tool_must "an answer that can't be written" 3 says_alone "explore: the answer can't be written"
@@ -260,31 +327,50 @@ sys.exit(0 if [f"{name} {it.get('value')}" for name, it in explored if it is not
 EOF
 }
 
-# A program that holds no order, one that answers nothing, some that aren't what is asked for, and none at all.
+# A program that holds no order, some that come to another verdict or report, some that aren't what is asked for.
 explored_other_programs() {
     local script=examples/ping_pong.ttcn
-    printf '%s\n' '#!/usr/bin/env bash' 'while read -r line; do printf "order %s\nnot held\n\n" "$line"; done <"$2"' \
-        >"$room/explored_holder"
-    chmod +x -- "$room/explored_holder"
-    observe env TPR_ORDERED="$room/explored_holder" "$root/tools/explore" "$script"
-    tool_must "a program that holds no order" 4 begins_with "no verdict, not all orders tried"
-    printf '%s\n' '#!/usr/bin/env bash' 'cat -- "$2" >/dev/null' >"$room/explored_mute"
-    chmod +x -- "$room/explored_mute"
-    observe env TPR_ORDERED="$room/explored_mute" "$root/tools/explore" "$script"
-    tool_must "a program that answers nothing" 1 says_alone "explore: $room/explored_mute ended with status 0: "
-    explored_by_a_program 'echo a file; exit 7' "ended with status 7: a file"
-    explored_by_a_program 'kill -9 $$' "came to no end of its own: "
-    explored_by_a_program 'printf "component mtc\n\n"' "ended with status 0: component mtc"
-    observe env TPR_ORDERED="$room/nowhere" "$root/tools/explore" "$script"
-    tool_must "no program" 1 says_alone "explore: there is no program $room/nowhere"
+    explored_by_a_program 'while read -r line; do printf "order %s\nnot held\n\n" "$line"; done <"$2"'
+    tool_must "a program that holds no order" 0 grep -qx "no report: the order couldn't be held" "$room/printed"
+    explored_by_a_program "$(printf '%q "$@" | sed "s/^result pass/result fail/"' "$ordered")"
+    tool_must "a program that comes to another verdict" 1 tells_faults \
+        "pass: a fault of tpr or of its tools: the run of its order came to fail"
+    explored_by_a_program "$(printf '%q "$@" | sed "s/^took /found /"' "$ordered")"
+    tool_must "a program that comes to another report" 1 tells_faults \
+        "pass: a fault of tpr or of its tools: the run of its order came to another report than the model of runs"
+    explored_by_a_program 'printf "refused 15 Limit line 0\n"; exit 2'
+    tool_must "a program that refuses what is run" 0 begins_with "always pass"
+    breaks_off 'cat -- "$2" >/dev/null' "ended with status 0: "
+    breaks_off 'echo a file; exit 7' "ended with status 7: a file"
+    breaks_off 'kill -9 $$' "came to no end of its own: "
+    breaks_off 'printf "component mtc\n\n"' "ended with status 0: component mtc"
 }
 
-# What is said of a program that does so, whatever it is asked.
-explored_by_a_program() { # LINE SAID
-    printf '%s\n' '#!/bin/sh' "$1" >"$room/explored_other"
+# What is said where orders are run by a program of this line.
+explored_by_a_program() { # LINE
+    printf '%s\n' '#!/usr/bin/env bash' "$1" >"$room/explored_other"
     chmod +x -- "$room/explored_other"
-    observe env TPR_ORDERED="$room/explored_other" "$root/tools/explore" examples/ping_pong.ttcn
+    observe env TPR="$tpr" TPR_ORDERED="$room/explored_other" "$root/tools/explore" examples/ping_pong.ttcn
+}
+
+breaks_off() { # LINE SAID
+    explored_by_a_program "$1"
     tool_must "a program of the line $1" 1 says_alone "explore: $room/explored_other $2"
+}
+
+# The same of what is asked for the verdicts.
+explored_no_answers() {
+    local script=examples/ping_pong.ttcn said="explore: $room/explored_answer verdicts"
+    explored_of_answer 0 $'always pass\n' "$script"
+    tool_must "an answer that is none" 1 says_alone "$said ended with status 0: always pass"
+    explored_of_answer 2 $'always pass\nstates 9\n' "$script"
+    tool_must "an answer with another status" 1 says_alone "$said ended with status 2: always pass states 9"
+    explored_of_answer 4 '' "$script"
+    tool_must "a program without the mode" 1 says_alone "$said ended with status 4: "
+    explored_of_answer 1 '' "$script"
+    tool_must "a program that can't be built" 1 says_alone "explore: $room/explored_answer can't be built"
+    observe env TPR="$room/nowhere" TPR_ORDERED="$ordered" "$root/tools/explore" "$script"
+    tool_must "no program" 1 says_alone "explore: $room/nowhere can't be run: No such file or directory"
 }
 
 explored_refusals() {
@@ -294,24 +380,24 @@ explored_refusals() {
     tool_must "a script that isn't there" 2 says_alone "explore: $room/nowhere.ttcn can't be read"
     run_explore
     tool_must "no script" 4 prints_nothing
-    run_explore examples/ping_pong.ttcn --runs 0
-    tool_must "no run" 4 prints_nothing
+    run_explore examples/ping_pong.ttcn --runs 5
+    tool_must "an option that is gone" 4 prints_nothing
 }
 
 explores() {
     set_up "tpr_ordered is built" [ -x "$ordered" ] || return
-    at_least "$small_scripts" explored_orders
-    set_up "a tenth of the orders is run at most" explored_orders_are_few
-    at_least 7 explored_acts
-    at_least 9 explored_rules
-    at_least 1 explored_by_chance
+    at_least $((small_scripts + 7)) explored_scripts
+    at_least $((explored_of_chance + 1)) explored_by_chance
     at_least 24 all_explored_pairs
     at_least 7 explored_again
     at_least 1 explored_in_documents
-    at_least 5 explored_bounds
-    at_least 4 all_explored_interrupted
-    at_least 4 explored_as_told
+    at_least 5 explored_larger
+    at_least 7 explored_of_answers
+    at_least 5 explored_without_reports
+    at_least 10 all_explored_interrupted
+    at_least 3 explored_as_told
     at_least 2 explored_in_a_suite
-    at_least 6 explored_other_programs
+    at_least 8 explored_other_programs
+    at_least 5 explored_no_answers
     at_least 4 explored_refusals
 }

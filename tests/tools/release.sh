@@ -42,9 +42,7 @@ tar_entries() {
 in_the_tree() {
     printf 'x tpr\nf GATE\n'
     (cd tree && find CHANGELOG.md LICENSE README.md VERSION docs examples tools ! -name '.*' \
-        ! -path 'tools/release' ! -path tools/costs.py ! -path tools/explore \
-        ! -path 'tools/tpr_tools/release*' ! -path 'tools/tpr_tools/explore*' ! -path 'tools/tpr_tools/model*' \
-        -printf '%y %p\n') |
+        ! -path 'tools/release' ! -path tools/costs.py ! -path 'tools/tpr_tools/release*' -printf '%y %p\n') |
         sed -E 's!^f (tools/[a-z]+)$!x \1!'
 }
 
@@ -276,8 +274,10 @@ uses_installed() {
     tool_must "tpr-explain, installed" 2 grep -q '^broken.ttcn:26:19: refused 14 Direction: ' "$room/printed"
     installed tpr-suite --jobs 1 "$examples"
     tool_must "tpr-suite, installed" 0 grep -q '; all as wanted$' "$room/printed"
-    installed tpr-suite --explore --junit explored.xml "$examples"
-    tool_must "tpr-suite --explore, installed" 4 prints_nothing
+    installed tpr-explore "$examples/broadcast_is_overtaken_by_an_answer.ttcn"
+    tool_must "tpr-explore, installed" 1 grep -q '^  line 13: b took charstring:"begin" from mtc ' "$room/printed"
+    installed tpr-suite --explore --junit explored.xml "$examples/$bell.ttcn"
+    tool_must "tpr-suite --explore, installed" 0 grep -q 'name="explored" value="always pass"' explored.xml
 }
 
 # The libraries that the program is linked with come from packages that it depends on, and the tools' python3 too.
@@ -326,7 +326,7 @@ package_is_installed() {
 archive_is_used() {
     look_at made
     mkdir unpacked && tar -xzf "$archive" -C unpacked || return
-    observe diff -r -x '.*' -x crates -x out -x 'releas*' -x costs.py -x explore -x model tree "unpacked/tpr-$version"
+    observe diff -r -x '.*' -x crates -x out -x 'releas*' -x costs.py tree "unpacked/tpr-$version"
     printf "Only in unpacked/tpr-$version: %s\n" GATE tpr >to_be_said
     tool_must "what is unpacked" 1 cmp -- to_be_said "$room/printed"
     observe cmp -- "$tpr" "unpacked/tpr-$version/tpr"

@@ -319,8 +319,9 @@ suites_that_are_interrupted() {
         "$room/printed"
     tool_must "its status" 0 grep -qx 'status 130' "$room/printed"
     tool_must "its JUnit file" 0 rules_hold junit cut.xml 2 0 0
-    printf '#!/bin/sh\ntouch %q; sleep 5\n' "$room/odd/explores" >ordered && chmod +x ordered
-    TPR=$room/another TPR_ORDERED=$PWD/ordered observe python3 "$root/tests/tools/tool_rules.py" interrupted explores \
+    printf '#!/bin/sh\nif test "$1" = verdicts; then touch %q; sleep 5; fi\nexec %q "$@"\n' "$room/odd/explores" \
+        "$room/another" >asked && chmod +x asked
+    TPR=$PWD/asked observe python3 "$root/tests/tools/tool_rules.py" interrupted explores \
         "$root/tools/suite" a.ttcn --explore --junit explored.xml
     tool_must "the status of a suite that is interrupted while it explores" 0 grep -qx 'status 130' "$room/printed"
     tool_must "its JUnit file, without what wasn't explored" 0 rules_hold junit explored.xml 1 0 0

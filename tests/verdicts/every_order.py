@@ -1,16 +1,16 @@
-"""All verdicts that a script can come to, over every order of its acts in the model of runs (tools/tpr_tools/model/),
-and whether an order of steps comes to a verdict in it. No order is left out.
+"""All verdicts that a script can come to, over every order of its acts in the model of runs (tools/tpr_tools/model/). No
+order is left out.
 """
 from __future__ import annotations
 
 import time
-from collections.abc import Hashable, Iterable, Iterator
+from collections.abc import Hashable, Iterator
 from dataclasses import dataclass, field
 from typing import NamedTuple
 
-from tpr_tools.model.bodies import Begun, TestCase
+from tpr_tools.explore.following import result_of
+from tpr_tools.model.bodies import TestCase
 from tpr_tools.model.run import Act, Component, Run
-from tpr_tools.model.tree import Variable
 
 State = tuple[int, ...]
 
@@ -77,28 +77,3 @@ def all_that_counts(component: Component) -> Hashable:
     failed = component.failed is not None
     held = tuple(component.loops.items()), tuple(component.variables.items())
     return component.place, component.sent, failed, component.verdict, held, ports
-
-
-def result_of(run: Run) -> str:
-    """The result where no component can go on."""
-    return run.report().split()[-1]
-
-
-# One order
-
-
-def end_of(case: TestCase, names: Iterable[str]) -> str:
-    """The result of the run in which the components take their steps in this order, or why there is none."""
-    run = Run(case)
-    for at, name in enumerate(names, 1):
-        if not steps(run, case.places[name]):
-            return f"no end: {name}, name {at} of the order, has no step there"
-    able = [name for name, who in case.places.items() if steps(run, who)]
-    return f"no end: {able[0]} has a step behind the order" if able else result_of(run)
-
-
-def steps(run: Run, who: int) -> bool:
-    """Carries out the component's next step, if it has one. Declarations and the begin of a loop are none."""
-    while isinstance(run.statement(who), (Begun, Variable)):
-        run.act(who)
-    return run.statement(who) is not None and run.act(who) is not Act.WAITS

@@ -31,9 +31,10 @@ sys.dont_write_bytecode = True
 ROOT = Path(__file__).resolve().parents[2]
 sys.path[:0] = [str(ROOT / it) for it in ("tools", "tests/orders")]
 
-from answers import MOST_STATES, Answer, read_answer
-from every_order import EveryOrder, end_of
+from every_order import EveryOrder
 from generator import some_script
+from tpr_tools.explore.answers import MOST_STATES, Answer, read_answer
+from tpr_tools.explore.following import end_by
 from tpr_tools.model.bodies import TestCase
 from tpr_tools.model.reading import read_script
 
@@ -75,7 +76,7 @@ def printed_of(program: str, path: Path) -> tuple[int, str]:
 
 def wrong_order(case: TestCase, answer: Answer) -> str | None:
     """The first order by which the model doesn't come to its verdict."""
-    ends = ((verdict, names, end_of(case, names)) for verdict, names in answer.orders)
+    ends = ((verdict, names, end_by(case, names)) for verdict, names in answer.orders)
     wrong = ((verdict, names, end) for verdict, names, end in ends if end != verdict)
     return next((f"by {' '.join(names)} it comes to {end}, not to {verdict}" for verdict, names, end in wrong), None)
 

@@ -1,1 +1,1 @@
-"""Finds the orders of a script's steps that differ in what matters, and runs them."""
+"""Shows a run of each verdict that `tpr verdicts` names, and where two runs part."""

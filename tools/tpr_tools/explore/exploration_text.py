@@ -2,66 +2,54 @@
 from __future__ import annotations
 
 import shlex
+from typing import Optional
 
 from ..origins import Origins, origins_of
-from ..words import counted
-from .exploration import Exploration, RunClass
-
-MOST_CLASSES = 20  # of one verdict, in the text
+from .answers import Answer
+from .exploration import Exploration, Parted, Shown
 
 
-def first_line(exploration: Exploration) -> str:
-    """The verdicts that were seen, and whether all orders were tried."""
-    verdicts = exploration.found.verdicts()
-    told = " or ".join(verdicts) or "no verdict"
-    if exploration.why_not_all():
-        return f"{told}, not all orders tried"
-    return f"always {told}" if len(verdicts) == 1 else told
+def first_line(answer: Answer) -> str:
+    """The verdicts, and whether there are others."""
+    told = " or ".join(answer.verdicts)
+    if answer.decided:
+        return told if len(answer.verdicts) > 1 else f"always {told}"
+    return f"undecided, seen {told}" if told else "undecided"
 
 
 def text_of(exploration: Exploration, script: str) -> str:
-    found = exploration.found
-    pieces = [first_line(exploration)]
-    pieces.append(counts_of(exploration))
-    pieces += [f"  {reason}" for reason in exploration.why_not_all()]
-    pieces += ["", "\n".join(_lines_of_classes(exploration))]
-    if len(found.verdicts()) > 1:
-        pieces += [_text_of_partings(exploration, origins_of(script))]
-        pieces += [_text_of_verdict(exploration, verdict, script) for verdict in found.verdicts()]
-    return "\n".join(pieces) + "\n"
+    answer, shown = exploration.answer, exploration.shown
+    pieces = [first_line(answer), f"states {answer.states}", *exploration.faults()]
+    lines = [line for it in shown for line in _lines_of(it, bool(answer.orders))]
+    pieces += ["", *lines] if lines else []
+    if partings := exploration.partings():
+        pieces.append(_text_of_partings(partings, origins_of(script)))
+    if answer.orders:
+        pieces += [_text_of_report(it, script) for it in shown if it.report]
+    if exploration.no_reports and (answer.orders or exploration.interrupted):
+        pieces.append(f"No reports: {exploration.no_reports}")
+    return "\n".join(pieces).rstrip("\n") + "\n"
 
 
-def counts_of(exploration: Exploration) -> str:
-    found = exploration.found
-    return f"{counted(len(found.runs), 'run')}, {_classes(len(found.classes))}"
+def _lines_of(shown: Shown, has_order: bool) -> list[str]:
+    """How each component ended, and what is left; without a report the order of `tpr verdicts`, and why."""
+    if shown.report:
+        parts = parts_of(shown.report)
+        ends = ", ".join(_end_of(*part) for part in parts)
+        left = [f"  {name}: {line}" for name, lines in parts for line in lines if _is_left(line)]
+        return [f"{shown.verdict}: {ends}", *left]
+    order = [f"{shown.verdict}: {' '.join(shown.order)}"] if has_order else []
+    return [*order, *([f"{'  ' if order else ''}no report: {shown.missing}"] if shown.missing else [])]
 
 
-def _classes(number: int) -> str:
-    return "1 class" if number == 1 else f"{number} classes"
-
-
-def _lines_of_classes(exploration: Exploration) -> list[str]:
-    """A line for each class, the best verdict first; of many classes with one verdict not all."""
-    told = []
-    for verdict in exploration.found.verdicts():
-        classes = exploration.found.of(verdict)
-        for it in classes[:MOST_CLASSES]:
-            ends = ", ".join(_end_of(*part) for part in parts_of(it.lines))
-            told.append(f"{verdict}, {counted(it.runs, 'run')}: {ends}")
-            told += [f"  {name}: {line}" for name, lines in parts_of(it.lines) for line in lines if _is_left(line)]
-        if len(classes) > MOST_CLASSES:
-            told.append(f"{verdict}, {_classes(len(classes) - MOST_CLASSES)} more, which --json tells")
-    return told
-
-
-def parts_of(lines: tuple[str, ...]) -> list[tuple[str, list[str]]]:
-    """The lines of a class by components."""
+def parts_of(report: str) -> list[tuple[str, list[str]]]:
+    """By components the lines of a report that tell what they came to."""
     parts: list[tuple[str, list[str]]] = []
-    for line in lines[:-1]:
-        word, rest = line.split(" ", 1)
+    for line in report.splitlines()[:-1]:
+        word, rest = line.split(" ", 1) if " " in line else (line, "")
         if word == "component":
             parts.append((rest, []))
-        else:
+        elif word in ("end", "verdict", "left"):
             parts[-1][1].append(line)
     return parts
 
@@ -76,24 +64,29 @@ def _end_of(name: str, lines: list[str]) -> str:
     return f"{name} {verdict}{waits}"
 
 
-def _text_of_partings(exploration: Exploration, origins: Origins) -> str:
+def _text_of_partings(partings: list[Parted], origins: Origins) -> str:
     pieces = [f"\n{origins.heading()}"] if origins.files else []
-    for better, worse, first, second, parting in exploration.partings():
-        pieces.append(f"\nWhat parts {better} from {worse}:\n")
-        pieces.append("  nothing that a component did\n" if parting is None else _indented(parting.text(origins)))
-        pieces += [f"  {word}: {exploration.line_of(it)}\n" for word, it in ((better, first), (worse, second))]
+    for it in partings:
+        pieces.append(f"\nWhat parts {it.better.verdict} from {it.worse.verdict}:\n")
+        where = "nothing that a component did\n" if it.where is None else it.where.text(origins)
+        pieces.append(_indented(where))
+        if it.better.report and it.worse.report:
+            pieces += [f"  {shown.verdict}: {_order_of(shown)}\n" for shown in (it.better, it.worse)]
     return "".join(pieces)
+
+
+def _order_of(shown: Shown) -> Optional[str]:
+    """The order that is forced."""
+    return None if shown.told is None else shown.told.order()
 
 
 def _indented(text: str) -> str:
     return "".join(f"  {line}\n" for line in text.splitlines())
 
 
-def _text_of_verdict(exploration: Exploration, verdict: str, script: str) -> str:
-    shown: RunClass = exploration.found.of(verdict)[0]
-    order = exploration.line_of(shown.order)
-    again = f"echo {shlex.quote(order)} | tools/explore {shlex.quote(script)} --order /dev/stdin"
-    return f"A run that comes to {verdict}; again: {again}\n{_indented(shown.report)}"
+def _text_of_report(shown: Shown, script: str) -> str:
+    again = f"echo {shlex.quote(_order_of(shown) or '')} | tools/explore {shlex.quote(script)} --order /dev/stdin"
+    return f"A run that comes to {shown.verdict}; again: {again}\n{_indented(shown.report)}"
 
 
 def json_of(exploration: Exploration, script: str) -> str:
@@ -103,32 +96,37 @@ def json_of(exploration: Exploration, script: str) -> str:
 
 
 def as_json(exploration: Exploration, script: str) -> dict[str, object]:
-    found = exploration.found
+    answer = exploration.answer
     return {
         "script": script,
-        "answer": first_line(exploration),
-        "verdicts": found.verdicts(),
-        "all_orders_tried": not exploration.why_not_all(),
-        "reasons": exploration.why_not_all(),
-        "runs": len(found.runs),
-        "not_run": {it.name.lower(): number for it, number in found.failed.items()},
-        "classes": [_class_as_json(exploration, it) for verdict in found.verdicts() for it in found.of(verdict)],
+        "answer": first_line(answer),
+        "verdicts": list(answer.verdicts),
+        "decided": answer.decided,
+        "states": answer.states,
+        "faults": exploration.faults(),
+        "runs": [_shown_as_json(it, exploration.no_reports) for it in exploration.shown],
         "partings": [
             {
-                "first": {"verdict": better, "order": exploration.line_of(first)},
-                "second": {"verdict": worse, "order": exploration.line_of(second)},
-                "where": None if parting is None else parting.as_json(),
+                "first": {"verdict": it.better.verdict, "order": _order_of(it.better)},
+                "second": {"verdict": it.worse.verdict, "order": _order_of(it.worse)},
+                "where": None if it.where is None else it.where.as_json(),
             }
-            for better, worse, first, second, parting in exploration.partings()
+            for it in exploration.partings()
         ],
     }
 
 
-def _class_as_json(exploration: Exploration, it: RunClass) -> dict[str, object]:
+def _shown_as_json(shown: Shown, no_reports: str) -> dict[str, object]:
     components = []
-    for name, lines in parts_of(it.lines):
+    for name, lines in parts_of(shown.report) if shown.report else []:
         end, verdict = (line.split(" ", 1)[1] for line in lines[:2])
         left = [line.removeprefix("left ") for line in lines if _is_left(line)]
         components.append({"name": name, "end": end, "verdict": verdict, "left": left})
-    order = exploration.line_of(it.order)
-    return {"verdict": it.result(), "runs": it.runs, "order": order, "components": components, "report": it.report}
+    return {
+        "verdict": shown.verdict,
+        "steps": " ".join(shown.order),
+        "order": _order_of(shown),
+        "report": shown.report or None,
+        "missing": None if shown.report else shown.missing or shown.fault or no_reports,
+        "components": components,
+    }

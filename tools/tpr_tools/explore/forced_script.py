@@ -36,11 +36,10 @@ class ForcedScript:
         return "".join(pieces) + "\n"
 
 
-def forced_script(data: bytes, split: bool = True) -> ForcedScript:
-    """The script to run in the place of one that is accepted. Without `split` each send to all stays whole."""
+def forced_script(data: bytes) -> ForcedScript:
+    """The script to run in the place of one that is accepted."""
     writer = _Writer(placed_tokens(data))
-    if split:
-        writer.split_sends()
+    writer.split_sends()
     return writer.script()
 
 

@@ -6,11 +6,13 @@ from dataclasses import dataclass
 from typing import Optional
 
 from ..model.bodies import Tried
-from ..model.run import Message, Run
-from ..model.tree import Control
+from ..model.run import Message, Run, alike
+from ..model.tree import Control, Send
 from ..origins import Line, Origins
+from .forced_order import carry_out, finish, words_of
 from .placed import PlacedCase
-from .touching import Name, Steps, components_of, name_of
+
+Name = tuple[int, str, int, int]  # of a message: where it is put, its sender and its number
 
 
 @dataclass(frozen=True)
@@ -25,7 +27,7 @@ class Done:
     touched: tuple[tuple[str, Message], ...]
 
     def names(self) -> dict[Name, Message]:
-        return {name_of((self.who, port), it): it for port, it in self.touched}
+        return {(self.who, port, it.sender, it.number): it for port, it in self.touched}
 
     def sign(self) -> tuple[object, ...]:
         return self.line, self.lines, tuple(self.names())
@@ -71,32 +73,37 @@ def _unordered(one: Line, other: Line) -> str:
 
 
 class Told:
-    """A run in an order, step by step."""
+    """A run of the forced script in an order, step by step, and the order as the program that forces it reads it."""
 
     def __init__(self, case: PlacedCase, components: tuple[int, ...]):
         self.case = case
+        self.components = components
         self.steps: list[Done] = []
         self.of_each: list[list[Done]] = [[] for _ in case.names]
         self.sent: dict[Name, int] = {}  # of each message the line of its send
         self.put: dict[Name, int] = {}  # and how many steps came before it
-        self.next_steps = Steps()
-        run = Run(case)
+        self.words: list[str] = []
+        self.run = Run(case)
         for who in components:
-            run = self.follow(run, who)
-        self.last = run
+            self.follow(who)
+        finish(self.run)
 
-    def follow(self, run: Run, who: int) -> Run:
-        step, after = self.next_steps.step(run, who), self.next_steps.after(run, who)
-        assert step is not None
-        statement = run.statement(who)
-        line = self.line_of(run, after, who)
-        for name in step.touch.put:
+    def order(self) -> str:
+        return " ".join(self.words)
+
+    def follow(self, who: int) -> None:
+        """Carries out the component's next step."""
+        run, before, length = self.run, before_step(self.run, who), len(self.run.components[who].lines)
+        names = names_of_send(run, who)
+        self.words.append(words_of(run, who))
+        carry_out(run, who)
+        line = self.line_of(before, run, who)
+        for name in names:
             self.sent[name], self.put[name] = line, len(self.steps)
-        lines = tuple(after.components[who].lines[len(run.components[who].lines) :])
-        told = Done(who, statement, line, lines, tuple(touched_by(run, after, who)))
+        lines = tuple(run.components[who].lines[length:])
+        told = Done(who, before.statement(who), line, lines, tuple(touched_by(before, run, who)))
         self.steps.append(told)
         self.of_each[who].append(told)
-        return after
 
     def line_of(self, run: Run, after: Run, who: int) -> int:
         """The line of the statement; of an `alt` that of the branch that was chosen, or that discarded last."""
@@ -113,8 +120,32 @@ class Told:
 
     def waits_at(self, who: int) -> Optional[int]:
         """The line at which the component waits for good."""
-        statement = self.last.statement(who)
+        statement = self.run.statement(who)
         return (self.case.line(statement) or 0) if isinstance(statement, Tried) else None
+
+    def failed_at(self, who: int) -> Optional[int]:
+        """The line of the send that failed."""
+        component = self.run.components[who]
+        return None if component.failed is None else self.case.line(self.case.bodies[who].code[component.place])
+
+
+def before_step(run: Run, who: int) -> Run:
+    """The run as it stands, for when the component has carried out its next step. It shares the component's lines."""
+    before, component = alike(run), alike(run.components[who])
+    component.ports = {name: port.copy() for name, port in component.ports.items()}
+    component.loops = component.loops.copy()
+    before.components = run.components[:]
+    before.components[who] = component
+    return before
+
+
+def names_of_send(run: Run, who: int) -> list[Name]:
+    """The messages that the component puts at ports in its next step."""
+    send = run.statement(who)
+    if not isinstance(send, Send):
+        return []
+    numbers = run.components[who].numbers
+    return [(*route, who, numbers.get(route, 0)) for route in run.routes(who, send)]
 
 
 def chosen_guard(run: Run, who: int, tried: Tried, after: Run) -> object:
@@ -153,21 +184,20 @@ def touched_by(run: Run, after: Run, who: int) -> list[tuple[str, Message]]:
     return messages + ([(last[1], got(run, after, who, last[1], False))] if last[0] == "found" else [])
 
 
-def parting_of(case: PlacedCase, first: tuple[int, ...], second: tuple[int, ...]) -> Optional[Parting]:
-    """Where the run of one order parts from that of the other."""
-    one, other = Told(case, first), Told(case, second)
+def parting_of(one: Told, other: Told) -> Optional[Parting]:
+    """Where the one run parts from the other."""
     found = _first_unlike(one, other) or _first_unlike(other, one)
     if found is None:
         return None
     who, at = found
     deeds = _deed(one, who, at), _deed(other, who, at)
-    return Parting(case.names[who], *deeds, _unordered_lines(one, other, who, at))
+    return Parting(one.case.names[who], *deeds, _unordered_lines(one, other, who, at))
 
 
 def _first_unlike(one: Told, other: Told) -> Optional[tuple[int, int]]:
     """The first step, in the order of one run, that the other hasn't at its place: its component, and which of
     its steps it is."""
-    counts = [0 for _ in components_of(one.case)]
+    counts = [0 for _ in one.case.names]
     for step in one.steps:
         at = counts[step.who]
         counts[step.who] += 1
@@ -202,6 +232,8 @@ def _deed(told: Told, who: int, at: int) -> Deed:
     steps = told.of_each[who]
     if at < len(steps):
         return Deed(steps[at].line, _words(told, steps[at]))
+    if (line := told.failed_at(who)) is not None:
+        return Deed(line, f"ended by {told.run.end(who)}")
     line = told.waits_at(who)
     return Deed(line, "came to its end" if line is None else "waits for good")
 
@@ -232,4 +264,4 @@ def _look(told: Told, step: Done) -> str:
 
 def _message(told: Told, name: Name, message: Message) -> str:
     sender = told.case.names[message.sender]
-    return f"{told.last.text(message)} from {sender} at port {name[1]}, sent at line {told.sent[name]}"
+    return f"{told.run.text(message)} from {sender} at port {name[1]}, sent at line {told.sent[name]}"

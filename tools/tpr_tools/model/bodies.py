@@ -1,4 +1,6 @@
 """What the components of a test case have and do: statements in one list each, routes, names."""
+from __future__ import annotations
+
 from dataclasses import dataclass
 from typing import Any
 

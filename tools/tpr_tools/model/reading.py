@@ -3,6 +3,8 @@
 It is for scripts that `tpr check` accepts: it looks for no fault, and what it can't read is an
 error of its own.
 """
+from __future__ import annotations
+
 import re
 from collections.abc import Callable
 from typing import TypeVar

@@ -6,6 +6,8 @@ A step is what a gate counts (docs/DECISIONS.md, "The steps that a gate counts")
 between two acts another component may act. A send on one route is an act, so is one look at the branches of
 an `alt`, and so is an operation on all ports.
 """
+from __future__ import annotations
+
 from collections.abc import Iterable
 from dataclasses import dataclass, field
 from enum import Enum

@@ -1,4 +1,6 @@
 """A script as plain lists: its definitions, statements, values and templates."""
+from __future__ import annotations
+
 from dataclasses import dataclass, field
 from typing import Any
 

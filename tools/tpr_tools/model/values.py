@@ -2,7 +2,9 @@
 ES 201 873-1, Annex B). A value is an int, a bool, a str, or a tuple of the fields of a record in declared
 order or of the elements of a record of. What it is, its type says.
 """
-import re
+from __future__ import annotations
+
+from collections.abc import Callable
 from typing import Any
 
 from .tree import Either, Form, Name, Pattern, Range, Script, Wild
@@ -29,39 +31,46 @@ def filled(form: Form, type_name: str, script: Script, loops: dict[str, int]) ->
 
 def matches(form: Form, value: Any, type_name: str, script: Script, loops: dict[str, int]) -> bool:
     """Whether the value, of this type, matches the template."""
-    match form:
-        case Name():
-            return bool(value == loops[form.name])
-        case Wild():
-            return True
-        case Either():
-            return form.some == any(matches(it, value, type_name, script, loops) for it in form.members)
-        case Range():
-            return (form.lower is None or form.lower <= value) and (form.upper is None or value <= form.upper)
-        case Pattern():
-            wanted = "".join({"?": ".", "*": ".*"}.get(it, re.escape(it)) for it in form.text)
-            return re.fullmatch(wanted, value, re.S) is not None
-        case tuple() if type_name in script.lists:
-            return matches_list(form, value, script.lists[type_name], script, loops)
-        case tuple() | dict():
-            members = fields_of(form, type_name, script)
-            return all(matches(it, of_it, of, script, loops) for (it, of), of_it in zip(members, value))
-    return bool(form == value)
+
+    def is_matched(member: Form, of_it: Any, of: str) -> bool:
+        return matches(member, of_it, of, script, loops)
+
+    if isinstance(form, Name):
+        return bool(value == loops[form.name])
+    if isinstance(form, Wild):
+        return True
+    if isinstance(form, Either):
+        return form.some == any(is_matched(it, value, type_name) for it in form.members)
+    if isinstance(form, Range):
+        return (form.lower is None or form.lower <= value) and (form.upper is None or value <= form.upper)
+    if isinstance(form, Pattern):
+        return can_be_cut(form.text, value, "*", lambda sign, letter: sign in ("?", letter))
+    if not isinstance(form, (tuple, dict)):
+        return bool(form == value)
+    if type_name in script.lists:
+        element = script.lists[type_name]
+        return can_be_cut(form, value, Wild("*"), lambda member, of_it: is_matched(member, of_it, element))
+    members = fields_of(form, type_name, script)
+    return all(is_matched(it, of_it, of) for (it, of), of_it in zip(members, value))
 
 
-def matches_list(
-    forms: tuple[Form, ...], values: tuple[Any, ...], type_name: str, script: Script, loops: dict[str, int]
-) -> bool:
-    """Whether the list can be cut into pieces, one for each member: any piece for `*`, else one element."""
-    if not forms:
-        return not values
-    if forms[0] == Wild("*"):
-        return any(matches_list(forms[1:], values[cut:], type_name, script, loops) for cut in range(len(values) + 1))
-    return (
-        len(values) > 0
-        and matches(forms[0], values[0], type_name, script, loops)
-        and matches_list(forms[1:], values[1:], type_name, script, loops)
-    )
+def can_be_cut(wanted: Any, given: Any, any_piece: Form, matches_one: Callable[[Any, Any], bool]) -> bool:
+    """Whether a text or a list can be cut into pieces, one for each that is wanted: any for `any_piece`, else one
+    that matches. Each `any_piece` takes as little as it can, which leaves the most to what stands behind it."""
+    at = place = behind = 0
+    last: int | None = None
+    while place < len(given):
+        if at < len(wanted) and wanted[at] == any_piece:
+            last, behind = at, place
+            at += 1
+        elif at < len(wanted) and matches_one(wanted[at], given[place]):
+            at, place = at + 1, place + 1
+        elif last is not None:
+            behind += 1
+            at, place = last + 1, behind
+        else:
+            return False
+    return all(it == any_piece for it in wanted[at:])
 
 
 def written(value: Any, type_name: str, script: Script) -> str:

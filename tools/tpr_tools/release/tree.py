@@ -11,9 +11,7 @@ from .gate import git
 
 # What of the repository is handed out, and what of that isn't: it is for whoever changes tpr.
 _PLACES = ("CHANGELOG.md", "LICENSE", "README.md", "VERSION", "docs", "examples", "tools")
-# tools/explore asks a program for tests, which isn't handed out.
-_KEPT_BACK = ("examples/.gitattributes", "tools/costs.py", "tools/explore", "tools/release")
-_PARTS_KEPT_BACK = tuple(f"tools/tpr_tools/{part}/" for part in ("explore", "model", "release"))
+_KEPT_BACK = ("examples/.gitattributes", "tools/costs.py", "tools/release", "tools/tpr_tools/release/")
 
 MANUAL = "docs/tpr.1"
 
@@ -46,7 +44,7 @@ def release_of(root: str, program: bytes, said: str) -> Release:
     """The program, with what of the repository belongs to it, and what the gate said."""
     time, maintainer = git(root, "log", "-1", "--format=%ct %an <%ae>").strip().split(" ", 1)
     tracked = git(root, "ls-files", "-z", *_PLACES).split("\0")
-    paths = [path for path in tracked if path and not path.startswith(_KEPT_BACK + _PARTS_KEPT_BACK)]
+    paths = [path for path in tracked if path and not path.startswith(_KEPT_BACK)]
     if MANUAL not in paths:
         raise Stop(REFUSED, f"there is no {MANUAL}")
     entries = [Entry("GATE", said.encode()), Entry("tpr", program, 0o755)]

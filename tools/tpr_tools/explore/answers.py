@@ -1,17 +1,17 @@
-"""What `tpr verdicts` answered, read to the last byte: a line that isn't of its form is a fault."""
+"""What `tpr verdicts` answers, read to the last byte: a line that isn't of its form is a fault."""
 from __future__ import annotations
 
 import re
 from dataclasses import dataclass
+from typing import Optional
 
-from tpr_tools.model.run import VERDICTS
+from ..words import VERDICTS
 
 MOST_STATES = 4_194_304
-WORD = f"(?:{'|'.join(VERDICTS)})"
-FORM = re.compile(
-    rf"(?:always (?P<always>{WORD})|(?P<several>{WORD}(?: or {WORD})+)|undecided(?:\nseen(?P<seen>(?: {WORD})+))?)\n"
-    rf"states (?P<states>0|[1-9][0-9]*)\n(?P<orders>(?:{WORD}:(?: [A-Za-z]\w*)*\n)*)",
-    re.A,
+_WORD = f"(?:{'|'.join(VERDICTS)})"
+_FORM = (
+    rf"(?:always (?P<always>{_WORD})|(?P<several>{_WORD}(?: or {_WORD})+)|undecided(?:\nseen(?P<seen>(?: {_WORD})+))?)\n"
+    rf"states (?P<states>0|[1-9][0-9]*)\n(?P<orders>(?:{_WORD}:(?: [A-Za-z]\w*)*\n)*)"
 )
 
 
@@ -31,7 +31,7 @@ class Answer:
             return 3
         return 0 if len(self.verdicts) == 1 else 2
 
-    def fault(self) -> str | None:
+    def fault(self) -> Optional[str]:
         """What of it can't be, whatever the script is."""
         if list(self.verdicts) != [it for it in VERDICTS if it in self.verdicts]:
             return "the verdicts aren't in their order, each once"
@@ -43,9 +43,9 @@ class Answer:
         return None
 
 
-def read_answer(printed: str) -> Answer | None:
+def read_answer(printed: str) -> Optional[Answer]:
     """The answer, None where the text isn't one."""
-    found = FORM.fullmatch(printed)
+    found = re.fullmatch(_FORM, printed, re.A)
     if found is None:
         return None
     one, several, seen = found["always"], found["several"], found["seen"]

@@ -1,0 +1,109 @@
+"""Asks a program, in a session of its own, so that an interrupt in a terminal comes to the tool alone."""
+from __future__ import annotations
+
+import contextlib
+import os
+import re
+import signal
+import subprocess
+from typing import IO, Iterator, Optional, Sequence, Union
+
+from ..command import NOT_BUILT, NOT_WRITTEN, REFUSED, Stop
+from .answers import Answer, read_answer
+
+
+class HandedFile:
+    """A file in memory, for the programs to which it is handed. Nothing of it is left behind, whatever ends the tool;
+    and `tempfile` takes long to be read."""
+
+    def __init__(self, name: str):
+        self.file = open(os.memfd_create(name), "wb")
+        self.path = f"/proc/self/fd/{self.file.fileno()}"
+
+    def write(self, data: bytes) -> None:
+        """Writes it anew. It is read from its beginning."""
+        self.file.seek(0)
+        self.file.truncate()
+        self.file.write(data)
+        self.file.flush()
+
+
+def printed_by(
+    command: Sequence[str],
+    reads: Union[int, IO[bytes]] = subprocess.DEVNULL,
+    says: Optional[int] = None,
+    handed: Sequence[int] = (),
+    most_seconds: Optional[float] = None,
+) -> tuple[Optional[int], str]:
+    """The status, None where it came to no end of its own, and what was printed."""
+    process: Optional[subprocess.Popen[bytes]] = None
+    try:
+        with _interrupts_held():
+            process = subprocess.Popen(
+                command, stdin=reads, stdout=subprocess.PIPE, stderr=says, start_new_session=True, pass_fds=handed
+            )
+        return _end_of(process, most_seconds)
+    except OSError as error:
+        raise Stop(NOT_BUILT, f"{command[0]} can't be run: {error.strerror}") from None
+    finally:
+        if process is not None and process.returncode is None:
+            _kill(process)
+            process.wait()
+
+
+def _end_of(process: subprocess.Popen[bytes], most_seconds: Optional[float]) -> tuple[Optional[int], str]:
+    is_late = False
+    try:
+        printed, _ = process.communicate(timeout=most_seconds)
+    except subprocess.TimeoutExpired:
+        is_late = True
+        _kill(process)
+        printed, _ = process.communicate()
+    status = process.wait()
+    return None if is_late or status < 0 else status, printed.decode("latin-1")
+
+
+def broken(program: str, status: Optional[int], printed: str) -> Stop:
+    """The end of the tool, where the program doesn't do what is asked of it."""
+    ended = "came to no end of its own" if status is None else f"ended with status {status}"
+    return Stop(NOT_BUILT, f"{program} {ended}: {' '.join(printed[-200:].split())}")
+
+
+def verdicts_by(program: str, data: bytes) -> Union[Answer, tuple[int, str]]:
+    """What `tpr verdicts` answers of the script; else the status and the line by which it refuses the script, or
+    tells that memory was refused."""
+    handed = HandedFile("script.ttcn")
+    handed.write(data)
+    with open(handed.path, "rb") as script:
+        status, printed = printed_by([program, "verdicts"], script)
+    answer = read_answer(printed)
+    if answer is not None and answer.fault() is None and answer.status() == status:
+        return answer
+    if status in (REFUSED, NOT_WRITTEN) and re.fullmatch(r"(refused|fault) .*\n", printed):
+        return status, printed
+    if status == NOT_BUILT:
+        raise Stop(NOT_BUILT, f"{program} can't be built")
+    raise broken(f"{program} verdicts", status, printed)
+
+
+@contextlib.contextmanager
+def _interrupts_held() -> Iterator[None]:
+    """An interrupt that comes meanwhile is raised behind it: so a program that has begun is known, and can be ended."""
+    came: list[int] = []
+    heard = [it for it in (signal.SIGINT, signal.SIGTERM) if callable(signal.getsignal(it))]
+    before = [signal.signal(it, lambda number, _: came.append(number)) for it in heard]
+    try:
+        yield
+    finally:
+        for number, handler in zip(heard, before):
+            signal.signal(number, handler)
+    if came:
+        raise KeyboardInterrupt
+
+
+def _kill(process: subprocess.Popen[bytes]) -> None:
+    """Ends it with all that it has started."""
+    try:
+        os.killpg(process.pid, signal.SIGKILL)
+    except (ProcessLookupError, PermissionError):
+        pass
