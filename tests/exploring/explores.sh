@@ -18,7 +18,7 @@ explored_pairs=(
 )
 
 # How many scripts are made by chance.
-explored_of_chance=8
+explored_of_chance=300
 
 run_explore() { # WORDS..
     observe env TPR="$tpr" TPR_ORDERED="$ordered" "$root/tools/explore" "$@"
@@ -150,9 +150,9 @@ prints_in_short() { # LINE LINE
 }
 
 explored_larger() {
-    make_senders 16 1 "$room/explored_twins.ttcn"
-    run_explore "$room/explored_twins.ttcn"
-    tool_must "sixteen senders that can't be told apart" 0 prints_in_short "always pass" "states 589825"
+    make_senders 10 1 "$room/explored_ten.ttcn"
+    run_explore "$room/explored_ten.ttcn"
+    tool_must "ten senders that can't be told apart" 0 begins_with "always pass"
     make_senders 4 at "$room/explored_four.ttcn"
     run_explore "$room/explored_four.ttcn"
     tool_must "four senders of different numbers" 0 begins_with "always pass"
@@ -179,8 +179,9 @@ make_stars() { # FILE
     for ((at = 0; at < 20; at += 1)); do stars+='*a' members+='*, 1, '; done
     {
         echo 'module Stars { type record of integer L; type port P message { inout charstring, L; }'
-        echo 'type component C { port P p; } testcase t() runs on C { connect(self:p, self:p);'
-        printf 'p.send(charstring:"%s"); p.send(L:{%s 1});' "$(printf 'a%.0s' {1..400})" "$(printf '1, %.0s' {1..400})"
+        echo 'type component C { port P p; } function sends() runs on C {'
+        printf 'p.send(charstring:"%s"); p.send(L:{%s 1}); }' "$(printf 'a%.0s' {1..400})" "$(printf '1, %.0s' {1..400})"
+        echo 'testcase t() runs on C { var C a := C.create; connect(self:p, a:p); a.start(sends());'
         echo "alt { [] p.receive(charstring:pattern \"$stars*b\") {} [] p.receive(charstring:?) {} }"
         echo "alt { [] p.receive(L:{$members *, 2}) {} [] p.receive(L:?) { setverdict(pass); } } all component.done; } }"
     } >"$1"
