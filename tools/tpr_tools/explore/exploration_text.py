@@ -20,7 +20,7 @@ def first_line(answer: Answer) -> str:
 def text_of(exploration: Exploration, script: str) -> str:
     answer, shown = exploration.answer, exploration.shown
     pieces = [first_line(answer), f"states {answer.states}", *exploration.faults()]
-    lines = [line for it in shown for line in _lines_of(it, bool(answer.orders))]
+    lines = [line for it in shown for line in _lines_of(it, dict(answer.orders).get(it.verdict))]
     pieces += ["", *lines] if lines else []
     if partings := exploration.partings():
         pieces.append(_text_of_partings(partings, origins_of(script)))
@@ -31,14 +31,14 @@ def text_of(exploration: Exploration, script: str) -> str:
     return "\n".join(pieces).rstrip("\n") + "\n"
 
 
-def _lines_of(shown: Shown, has_order: bool) -> list[str]:
+def _lines_of(shown: Shown, steps: Optional[tuple[str, ...]]) -> list[str]:
     """How each component ended, and what is left; without a report the order of `tpr verdicts`, and why."""
     if shown.report:
         parts = parts_of(shown.report)
         ends = ", ".join(_end_of(*part) for part in parts)
         left = [f"  {name}: {line}" for name, lines in parts for line in lines if _is_left(line)]
         return [f"{shown.verdict}: {ends}", *left]
-    order = [f"{shown.verdict}: {' '.join(shown.order)}"] if has_order else []
+    order = [] if steps is None else [f"{shown.verdict}: {' '.join(steps)}"]
     return [*order, *([f"{'  ' if order else ''}no report: {shown.missing}"] if shown.missing else [])]
 
 
