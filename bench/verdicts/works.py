@@ -1,96 +1,118 @@
-"""The scripts whose verdicts `bench/verdicts/run` has the program find."""
+"""The works whose verdicts `bench/verdicts/run` has the programs find."""
 from __future__ import annotations
 
+from collections.abc import Sequence
+from typing import NamedTuple
+
+from statements import Alt, End, For, Operate, Program, Send, SetVerdict, Statement, Take, Variables, text_of
+
 HEADER = "module Work { type port P message { inout integer; } type component C { port P p, q; }"
+PASS = SetVerdict("pass")
 
 
-def script(functions: list[str], links: list[str], body: list[str]) -> str:
-    """A component for each function, started with it; `mtc` carries out the body."""
-    lines = [HEADER]
-    lines += [f"function f{at}() runs on C {{ {it} }}" for at, it in enumerate(functions)]
-    lines.append("testcase t() runs on C {")
-    lines += [f"var C c{at} := C.create;" for at in range(len(functions))]
-    lines += links
-    lines += [f"c{at}.start(f{at}());" for at in range(len(functions))]
-    return "\n".join([*lines, *body, "all component.done; } }"])
+class Work(NamedTuple):
+    """What `mtc`, component 0, and the components that it starts carry out, and which ports are connected."""
+
+    mtc: Sequence[Statement]
+    others: Sequence[Sequence[Statement]]
+    links: list[tuple[End, End]]
+
+    def script(self) -> str:
+        """A component for each body, started with it; `mtc` carries out its own."""
+        lines = [HEADER]
+        lines += [f"function f{at}() runs on C {{ {text_of(it)} }}" for at, it in enumerate(self.others)]
+        lines.append("testcase t() runs on C {")
+        lines += [f"var C c{at} := C.create;" for at in range(len(self.others))]
+        names = ["self", *(f"c{at}" for at in range(len(self.others)))]
+        lines += [f"connect({', '.join(f'{names[number]}:{port}' for number, port in pair)});" for pair in self.links]
+        lines += [f"c{at}.start(f{at}());" for at in range(len(self.others))]
+        return "\n".join([*lines, text_of(self.mtc), "all component.done; } }"])
+
+    def program(self) -> str:
+        """The same for plain.rs, which reads no scripts."""
+        program = Program(self.links)
+        for number, statements in enumerate([self.mtc, *self.others]):
+            program.add_component(number, statements)
+        return program.text()
 
 
-def repeated(turns: int, block: str, name: str = "i") -> str:
-    return f"for (var integer {name} := 0; {name} < {turns}; {name} := {name} + 1) {{ {block} }}"
+def to_mtc(number: int) -> list[tuple[End, End]]:
+    return [((0, "p"), (at, "p")) for at in range(1, number + 1)]
 
 
-def to_mtc(number: int) -> list[str]:
-    return [f"connect(self:p, c{at}:p);" for at in range(number)]
-
-
-def senders(number: int, same: bool) -> str:
+def senders(number: int, same: bool) -> Work:
     """Each sends `mtc` one message, the same or its number; `mtc` takes all, with a branch by value."""
-    takes = repeated(number, "alt { [] p.receive(integer:1) { } [] p.receive { } }")
-    sends = [f"p.send(integer:{1 if same else at});" for at in range(number)]
-    return script(sends, to_mtc(number), [takes, "setverdict(pass);"])
+    takes = For(number, [Alt([Take(1), Take()])])
+    return Work([takes, PASS], [[Send(1 if same else at)] for at in range(number)], to_mtc(number))
 
 
-def pairs(number: int, turns: int) -> str:
+def pairs(number: int, turns: int) -> Work:
     """Pairs that play ping-pong."""
-    ask = repeated(turns, "p.send(integer:1); p.receive(integer:2);") + " setverdict(pass);"
-    answer = repeated(turns, "p.receive(integer:1); p.send(integer:2);")
-    links = [f"connect(c{2 * at}:p, c{2 * at + 1}:p);" for at in range(number)]
-    return script([ask, answer] * number, links, [])
+    ask: list[Statement] = [For(turns, [Send(1), Take(2)]), PASS]
+    answer: list[Statement] = [For(turns, [Take(1), Send(2)])]
+    return Work([], [ask, answer] * number, [((2 * at + 1, "p"), (2 * at + 2, "p")) for at in range(number)])
 
 
-def star(number: int) -> str:
+def star(number: int) -> Work:
     """`mtc` asks all workers and collects their answers."""
-    body = ["p.send(integer:1) to all component;", repeated(number, "p.receive(integer:2);"), "setverdict(pass);"]
-    return script(["p.receive(integer:1); p.send(integer:2);"] * number, to_mtc(number), body)
+    body: list[Statement] = [Send(1, "all component"), For(number, [Take(2)]), PASS]
+    return Work(body, [[Take(1), Send(2)]] * number, to_mtc(number))
 
 
-def two_phase_commit(number: int) -> str:
+def two_phase_commit(number: int) -> Work:
     """All vote yes (1), and are told to commit (3)."""
-    vote = (
-        "p.receive(integer:0); p.send(integer:1); "
-        "alt { [] p.receive(integer:3) { setverdict(pass); } [] p.receive { setverdict(fail); } }"
-    )
-    count = repeated(number, "alt { [] p.receive(integer:1) { } [] p.receive { setverdict(inconc); } }")
-    body = ["p.send(integer:0) to all component;", count, "p.send(integer:3) to all component;"]
-    return script([vote] * number, to_mtc(number), body)
+    vote: list[Statement] = [Take(0), Send(1), Alt([Take(3, [PASS]), Take(block=[SetVerdict("fail")])])]
+    count = For(number, [Alt([Take(1), Take(block=[SetVerdict("inconc")])])])
+    return Work([Send(0, "all component"), count, Send(3, "all component")], [vote] * number, to_mtc(number))
 
 
-def collector(number: int, messages: int) -> str:
+def collector(number: int, messages: int) -> Work:
     """Each sends so many messages, and `mtc` takes all."""
-    sends = repeated(messages, "p.send(integer:1);")
-    body = [repeated(number, repeated(messages, "p.receive;", "j")), "setverdict(pass);"]
-    return script([sends] * number, to_mtc(number), body)
+    takes = For(number, [For(messages, [Take()], "j")])
+    return Work([takes, PASS], [[For(messages, [Send(1)])] for _ in range(number)], to_mtc(number))
 
 
-def token_round(number: int, rounds: int) -> str:
+def token_round(number: int, rounds: int) -> Work:
     """A token goes so often round the components, `mtc` among them."""
-    others = number - 1
-    links = ["connect(self:p, c0:q);"]
-    links += [f"connect(c{at}:p, c{at + 1}:q);" for at in range(others - 1)]
-    links.append(f"connect(c{others - 1}:p, self:q);")
-    passes = repeated(rounds, "q.receive(integer:1); p.send(integer:1);")
-    return script([passes] * others, links, [repeated(rounds, "p.send(integer:1); q.receive;"), "setverdict(pass);"])
+    links = [((at, "p"), ((at + 1) % number, "q")) for at in range(number)]
+    passes = [For(rounds, [Take(1, port="q"), Send(1)])]
+    return Work([For(rounds, [Send(1), Take(port="q")]), PASS], [passes] * (number - 1), links)
 
 
-def fixed_order(number: int) -> str:
+def fixed_order(number: int) -> Work:
     """Each sends its number, and `mtc` waits for them in one order: it is `pass` or `error`."""
-    takes = repeated(number, "p.receive(integer:i);")
-    return script([f"p.send(integer:{at});" for at in range(number)], to_mtc(number), [takes, "setverdict(pass);"])
+    return Work([For(number, [Take("i")]), PASS], [[Send(at)] for at in range(number)], to_mtc(number))
 
 
-def answered_by_name(number: int) -> str:
+def answered_by_name(number: int) -> Work:
     """Each sends one message, and `mtc` answers its sender."""
-    answers = repeated(number, "p.receive -> sender w; p.send(integer:2) to w;")
-    asks = ["p.send(integer:1); p.receive(integer:2);"] * number
-    return script(asks, to_mtc(number), ["var C w;", answers, "setverdict(pass);"])
+    answers = For(number, [Take(into="w"), Send(2, "w")])
+    return Work([Variables("w"), answers, PASS], [[Send(1), Take(2)]] * number, to_mtc(number))
 
 
-def alone(turns: int) -> str:
+def halted(number: int) -> Work:
+    """Each sends two numbers, and `mtc` looks for them beside operations on its port."""
+    asks = [[Send(at), Send(9)] for at in range(number)]
+    echo: list[Statement] = [Take(into="nw"), Send("n", "w")]
+    body: list[Statement] = [
+        Variables("nw"),
+        Alt([Take(0, echo, kind="check"), Take(1, echo, kind="check")], [SetVerdict("inconc")]),
+        Take(9, kind="trigger"),
+        Operate("halt"),
+        For(number, [Alt([Take(into="nw", block=[Send("n", "w")])], [])]),
+        Operate("start"),
+        Alt([Take(9, [PASS])], [Operate("clear")]),
+        Operate("stop", "all port"),
+    ]
+    return Work(body, asks, to_mtc(number))
+
+
+def alone(turns: int) -> Work:
     """`mtc` sends itself so many messages, and takes each before the next: there is one order."""
-    body = [repeated(turns, "p.send(integer:1); q.receive;"), "setverdict(pass);"]
-    return script([], ["connect(self:p, self:q);"], body)
+    return Work([For(turns, [Send(1), Take(port="q")]), PASS], [], [((0, "p"), (0, "q"))])
 
 
+NOTHING = Work([PASS], [], [])
 WORKS = {
     "12 senders of one message": senders(12, True),
     "16 senders of one message": senders(16, True),
@@ -104,6 +126,8 @@ WORKS = {
     "a token 10 times round 62 components": token_round(62, 10),
     "8 senders, taken in one order": fixed_order(8),
     "12 senders, taken in one order": fixed_order(12),
+    "60 senders, taken in one order": fixed_order(60),
     "8 senders, answered by name": answered_by_name(8),
     "12 senders, answered by name": answered_by_name(12),
+    "4 senders, a halted port": halted(4),
 }
