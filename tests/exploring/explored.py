@@ -8,7 +8,7 @@ that the script may have.
 `each` looks at what is shown of each script: each verdict has a report with this result, which the judge of
 tests/orders allows, and where two runs part is told. It prints a line `passed VERDICTS SCRIPT` for each script. `random`
 does so with scripts made by chance that have few components, and with orders of their steps by chance: each is forced,
-and comes to the report that the model of runs has. A fortieth of them must have several verdicts. `told` reads what
+and comes to the report that the model of runs has. A hundredth of them must have several verdicts. `told` reads what
 `tools/explore SCRIPT --json` printed: its answer is ANSWER, its verdicts are those of SCRIPT's expected files, and its
 reports are among these.
 
@@ -176,7 +176,7 @@ def by_chance(programs: Programs, seed: str, number: int) -> None:
     with tempfile.TemporaryDirectory() as folder:
         looked = tell_each(partial(looked_at_by_chance, programs), made_by_chance(seed, number, folder))
     several = sum(it.verdicts > 1 for it in looked)
-    word = "FAILED: only" if several < number // 40 else "passed"
+    word = "FAILED: only" if several < number // 100 else "passed"
     print(f"{word} {several} of {number} scripts by chance have several verdicts")
 
 

@@ -1,13 +1,11 @@
 -- What is told of a part is told of the module.
-use Rattle.std.proofs.Common.{◌≡◌, ◌<◌, ◌≤◌, ◌⊎◌, inl, inr, ℕ, ◌+◌, List, [], ◌∷◌, ◌++◌, Option, Some, All, Result, IfErr, length, map, sum, take, drop, get_or, string_bytes, sym, ap, ◌∙◌, subst, arith}
+use Rattle.std.proofs.Common.{◌≡◌, ◌<◌, ◌≤◌, ◌⊎◌, inl, inr, ℕ, ◌+◌, List, Option, Some, Result, IfErr, length, map, sum, take, drop, get_or, string_bytes, sym, ap, subst, arith}
 use Rattle.std.specs.List.{AllZip}
 use Rattle.std.proofs.lemmas.Bool.{cases_lt}
 use Rattle.std.proofs.lemmas.List.{length-map}
-use Rattle.std.proofs.lemmas.List.Elements.{All-contains}
 use Rattle.std.proofs.lemmas.Result.{IfErr-weaker}
 use Rattle.std.proofs.lemmas.Slice.Zip.{AllZip-long}
 use Rattle.tp_tree.specs.declared.tree.ComponentType.{ComponentType}
-use Rattle.tp_tree.specs.declared.tree.Defined.{Defined}
 use Rattle.tp_tree.specs.declared.tree.Definition.{Definition}
 use Rattle.tp_tree.specs.declared.tree.Function.{Function}
 use Rattle.tp_tree.specs.declared.tree.Module.{Module}
@@ -20,7 +18,7 @@ use Rattle.tp_name.specs.declared.fault.ModuleRule.TheVariants as module_rule
 use Rattle.tp_name.specs.declared.fault.ModuleFault.{ModuleFault}
 use Rattle.tp_name.specs.Refused.{Tells, TellsAt}
 use Rattle.tp_setup.specs.declared.prepared.Prepared.{Prepared}
-use Rattle.tp_setup.specs.Definitions.{among, component_type_names, component_types, function_of, functions, port_type_names, port_types, type_names}
+use Rattle.tp_setup.specs.Definitions.{among, component_types, function_of, functions, port_types, type_names}
 use Rattle.tp_setup.specs.Prepared.{IsPreparedOf, IsWellDeclared}
 use Rattle.tp_setup.specs.Resolved.{IsComponentType}
 use Rattle.tp_setup.specs.Rules.{AreComponentTypesKnown}

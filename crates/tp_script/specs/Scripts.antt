@@ -4,6 +4,7 @@ use Rattle.tp_tree.specs.declared.tree.Module.{Module}
 use Rattle.tp_token.specs.declared.fault.ScriptFault.TheVariants as script_fault
 use Rattle.tp_syntax.specs.Definitions.{IsReadAs}
 use Rattle.tp_syntax.specs.Grammar.{IsGrammatical}
+use Rattle.tp_syntax.specs.Lines.{HasLines}
 use Rattle.tp_syntax.specs.Nesting.{module_depth}
 use Rattle.tp_syntax.specs.Refusals.{HasTokens, IsUnread}
 use Rattle.tp_play.specs.TestCases.{Made}
@@ -20,6 +21,8 @@ pub record IsModuleOf (text : List ℕ) (parsed : Module) : Type 0 where
   pub within : HasTokens text
   pub nested : module_depth parsed ≤ 32
   pub grammatical : IsGrammatical parsed
+  -- the lines that it notes are those of the text
+  pub lines : HasLines text parsed
 
 -- the text is a script of this test case: it is read as a module that obeys the rules and has that test case
 pub record IsScriptOf (text : List ℕ) (made : Made) : Type 0 where

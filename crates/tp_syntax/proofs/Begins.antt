@@ -1,10 +1,10 @@
 -- With which tokens parts begin.
-use Rattle.std.proofs.Common.{inl, inr, ap, ◌≡◌, true, List, [], ◌∷◌, ◌++◌, Some, refl, string_bytes}
+use Rattle.std.proofs.Common.{inl, inr, ap, ◌≡◌, true, false, List, [], ◌∷◌, ◌++◌, Some, refl, string_bytes}
 use Rattle.tp_token.specs.declared.token.Symbol.TheVariants.{Assign, Dot, LeftParen, RightBrace, RightParen}
 use Rattle.tp_token.specs.declared.token.Placed.{Placed}
 use Rattle.tp_token.specs.declared.word.Word.TheVariants as w
 use Rattle.tp_token.specs.Lexeme.{Lexeme, name, word, symbol}
-use Rattle.tp_syntax.specs.Ahead.{ahead, is_name_in}
+use Rattle.tp_syntax.specs.Ahead.{ahead, is_name_in, starts_zero}
 use Rattle.tp_tree.specs.declared.message.TypeName.{TypeName}
 use Rattle.tp_tree.specs.declared.message.TypeName.TheVariants as type_name
 use Rattle.tp_tree.specs.declared.tree.FieldType.{FieldType}
@@ -68,6 +68,23 @@ defined_begins (defined.Port t) e r = refl
 defined_begins (defined.Component t) e r = refl
 defined_begins (defined.Function t) e r = refl
 defined_begins (defined.TestCase t) e r = refl
+
+-- what is defined doesn't begin with the number 0
+pub defined_no_zero : (x : Defined) (r : List Lexeme) → starts_zero (defined_lexemes x ++ r) ≡ false
+unfolding defined_lexemes record_type_lexemes list_type_lexemes port_type_lexemes component_type_lexemes function_lexemes test_case_lexemes
+defined_no_zero (defined.Record t) r = refl
+defined_no_zero (defined.List t) r = refl
+defined_no_zero (defined.Port t) r = refl
+defined_no_zero (defined.Component t) r = refl
+defined_no_zero (defined.Function t) r = refl
+defined_no_zero (defined.TestCase t) r = refl
+
+-- a setup action doesn't begin with the number 0
+pub setup_no_zero : (x : SetupAction) (r : List Lexeme) → starts_zero (setup_action_lexemes x ++ r) ≡ false
+unfolding setup_action_lexemes
+setup_no_zero (setup_action.Create c) r = refl
+setup_no_zero (setup_action.Connect a b) r = refl
+setup_no_zero (setup_action.Map a b) r = refl
 
 pub definition_begins : (x : Definition) (r : List Lexeme) → is_begin (first (definition_lexemes x ++ r)) ≡ true
 definition_begins x r = defined_begins x.defined (end_lexemes x.has_semicolon) r

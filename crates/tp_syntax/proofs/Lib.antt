@@ -5,7 +5,9 @@ pub mod Commas
 pub mod DefinitionReading
 pub mod Entries
 pub mod Grammar
+pub mod Lines
 pub mod Nesting
+pub mod Notes
 pub mod OperationReading
 pub mod Ranges
 pub mod Reading
@@ -16,6 +18,7 @@ pub mod Signs
 pub mod Standing
 pub mod Starts
 pub mod StatementContents
+pub mod StatementGiven
 pub mod StatementParts
 pub mod StatementReading
 pub mod StatementTokens

@@ -23,7 +23,7 @@ use Rattle.tp_tree.specs.declared.tree.Branch.{Branch}
 use Rattle.tp_tree.specs.declared.tree.ElseBranch.{ElseBranch}
 use Rattle.tp_tree.specs.declared.tree.Counted.{Counted}
 use Rattle.tp_tree.specs.declared.tree.Statement.{Statement, out-Statement}
-use Rattle.tp_syntax.specs.Ahead.{ahead}
+use Rattle.tp_syntax.specs.Ahead.{ahead, starts_zero}
 use Rattle.tp_syntax.specs.Sequences.{braced, end_lexemes}
 use Rattle.tp_syntax.specs.Statements.{send_lexemes, receive_lexemes, control_lexemes, all_ports_lexemes, set_verdict_lexemes, for_lexemes, action_lexemes, body_lexemes, branch_lexemes, counted_lexemes, statement_lexemes, branches_lexemes, otherwise_lexemes}
 use Rattle.tp_syntax.specs.Grammar.{Part, are_parts, has_one, is_sent, is_template_part, action_part, body_part, counted_part, branches_parts, otherwise_parts}
@@ -182,6 +182,20 @@ statement_kind x r =
     let k = kind_of (out-Statement x).action in
     let e = end_lexemes (out-Statement x).has_semicolon in
     (k.0, e ++ r, ap (λ (l : List Lexeme). l ++ r) (tokens.statement_out x ∙ ap (λ (l : List Lexeme). l ++ e) k.1) ∙ append_assoc (kind_lexemes k.0) e r)
+
+kind_no_zero : (k : Kind) (r : List Lexeme) → starts_zero (kind_lexemes k ++ r) ≡ false
+unfolding send_lexemes receive_lexemes control_lexemes all_ports_lexemes set_verdict_lexemes
+kind_no_zero (sends x) r = refl
+kind_no_zero (receives x) r = refl
+kind_no_zero (controls x) r = refl
+kind_no_zero (all_controls x) r = refl
+kind_no_zero (sets x) r = refl
+kind_no_zero (chooses xs e) r = refl
+kind_no_zero (counts x) r = ap starts_zero (counted_opens x r).1
+
+-- what a statement does doesn't begin with the number 0
+pub action_no_zero : (x : Action) (r : List Lexeme) → starts_zero (action_lexemes x ++ r) ≡ false
+action_no_zero x r = let k = kind_of x in ap (λ (l : List Lexeme). starts_zero (l ++ r)) k.1 ∙ kind_no_zero k.0 r
 
 -- a statement doesn't begin with a `;` or a `}`
 pub statement_begins : (x : Statement) (r : List Lexeme) → is_begin (first (statement_lexemes x ++ r)) ≡ true

@@ -1,7 +1,9 @@
 pub mod Ahead
 pub mod Contents
 pub mod Definitions
+pub mod Forward
 pub mod Grammar
+pub mod Lines
 pub mod Nesting
 pub mod Passing
 pub mod Reading

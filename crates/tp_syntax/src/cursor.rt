@@ -4,6 +4,7 @@ ghost use Rattle.std.specs.Bool.{OnTrue, OnFalse};
 ghost use Rattle.tp_token.specs.declared.fault.TextRule.TheVariants.{Limit};
 ghost use Rattle.tp_token.specs.Lexeme.{Lexeme, name, symbol, word, lexeme_of};
 ghost use Rattle.tp_syntax.specs.Ahead.{ahead, before, is_name_in, is_number_in, symbol_in, token_at, word_in};
+ghost use Rattle.tp_syntax.specs.Forward.{GoesForward, next_line};
 ghost use Rattle.tp_syntax.specs.Passing.{Passes};
 ghost use Rattle.tp_syntax.specs.Reading.{Reads, Stands, first};
 ghost use Rattle.tp_syntax.specs.Sequences.{end_lexemes};
@@ -42,6 +43,7 @@ impl<'a, 't> Parser<'a, 't> {
             ahead self.old.rest.now ≡ before (lexeme_of p.now.token) self.new.rest.now) }
         ensures next { IfOk result (λ p. self.old.rest.now ≡ p.now ∷ self.new.rest.now) }
         ensures shorter { OnOk result (length self.new.rest.now + 1 ≡ length self.old.rest.now) }
+        ensures forward { OnOk result (GoesForward self.old self.new) }
         ensures last { OnErr result (self.old.rest.now ≡ []) }
         ensures fault { IfErr result IsOfGrammar }
     {
@@ -58,6 +60,7 @@ impl<'a, 't> Parser<'a, 't> {
         ensures tokens { OnOk result
             (ahead self.old.rest.now ≡ before (symbol want) self.new.rest.now) }
         ensures shorter { OnOk result (length self.new.rest.now + 1 ≡ length self.old.rest.now) }
+        ensures forward { OnOk result (GoesForward self.old self.new) }
         ensures reads { (more : List Lexeme) →
             Reads self.old (symbol want ∷ []) more result self.new }
         ensures fault { IfErr result IsOfGrammar }
@@ -75,6 +78,7 @@ impl<'a, 't> Parser<'a, 't> {
         ensures tokens { OnOk result
             (ahead self.old.rest.now ≡ before (symbol want) self.new.rest.now) }
         ensures shorter { OnOk result (length self.new.rest.now + 1 ≡ length self.old.rest.now) }
+        ensures forward { OnOk result (GoesForward self.old self.new) }
         ensures inner { IfOk result (λ inner. inner + 1 ≡ left) }
         ensures reads { (more : List Lexeme) →
             0 < left →
@@ -91,6 +95,7 @@ impl<'a, 't> Parser<'a, 't> {
         ensures tokens { OnOk result
             (ahead self.old.rest.now ≡ word want ∷ ahead self.new.rest.now) }
         ensures shorter { OnOk result (length self.new.rest.now + 1 ≡ length self.old.rest.now) }
+        ensures forward { OnOk result (GoesForward self.old self.new) }
         ensures reads { (more : List Lexeme) →
             Reads self.old (word want ∷ []) more result self.new }
         ensures fault { IfErr result IsOfGrammar }
@@ -107,6 +112,7 @@ impl<'a, 't> Parser<'a, 't> {
         ensures tokens { IfOk result (λ n.
             ahead self.old.rest.now ≡ name (string_bytes n) ∷ ahead self.new.rest.now) }
         ensures shorter { OnOk result (length self.new.rest.now + 1 ≡ length self.old.rest.now) }
+        ensures forward { OnOk result (GoesForward self.old self.new) }
         ensures reads { (spelling : List ℕ) (more : List Lexeme) →
             Reads self.old (name spelling ∷ []) more result self.new }
         ensures fault { IfErr result IsOfGrammar }
@@ -123,6 +129,7 @@ impl<'a, 't> Parser<'a, 't> {
         ensures tokens { OnOk result
             (ahead self.old.rest.now ≡ name (string_bytes want.now) ∷ ahead self.new.rest.now) }
         ensures shorter { OnOk result (length self.new.rest.now + 1 ≡ length self.old.rest.now) }
+        ensures forward { OnOk result (GoesForward self.old self.new) }
         ensures reads { (more : List Lexeme) →
             Reads self.old (name (string_bytes want.now) ∷ []) more result self.new }
         ensures fault { IfErr result IsOfGrammar }
@@ -139,6 +146,7 @@ impl<'a, 't> Parser<'a, 't> {
         ensures yes { OnTrue result
             (ahead self.old.rest.now ≡ before (symbol want) self.new.rest.now) }
         ensures shorter { OnTrue result (length self.new.rest.now + 1 ≡ length self.old.rest.now) }
+        ensures forward { GoesForward self.old self.new }
         ensures no { OnFalse result (self.new ≡ self.old) }
         ensures other { OnFalse result (first (ahead self.old.rest.now) ≢ Some (symbol want)) }
     {
@@ -160,6 +168,7 @@ impl<'a, 't> Parser<'a, 't> {
         ensures yes { OnTrue result
             (ahead self.old.rest.now ≡ word want ∷ ahead self.new.rest.now) }
         ensures shorter { OnTrue result (length self.new.rest.now + 1 ≡ length self.old.rest.now) }
+        ensures forward { GoesForward self.old self.new }
         ensures no { OnFalse result (self.new ≡ self.old) }
         ensures other { OnFalse result (first (ahead self.old.rest.now) ≢ Some (word want)) }
     {
@@ -177,7 +186,9 @@ impl<'a, 't> Parser<'a, 't> {
     }
 
     /// The line of the next token, or of the text's end.
-    pub fn line(&self) -> u32 {
+    pub fn line(&self) -> u32
+        ensures { result ≡ next_line self.now.rest.now self.now.last_line }
+    {
         let tokens = self.rest;
         if tokens.is_empty() {
             self.last_line
@@ -266,6 +277,7 @@ impl<'a, 't> Parser<'a, 't> {
         ensures tokens { IfOk result (λ e. Passes self.old (end_lexemes e) self.new) }
         ensures grammatical { IfOk result (λ e. IsEnd (is_closed || e) self.new) }
         ensures shorter { OnOk result (length self.new.rest.now ≤ length self.old.rest.now) }
+        ensures forward { OnOk result (GoesForward self.old self.new) }
         ensures reads { (e : Bool) (more : List Lexeme) →
             Stands (is_closed || e) more →
             Reads self.old (end_lexemes e) more result self.new }

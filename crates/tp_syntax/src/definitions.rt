@@ -4,6 +4,8 @@ ghost use Rattle.tp_token.specs.Lexeme.{Lexeme, symbol};
 ghost use Rattle.tp_syntax.specs.Definitions.{parameter_lexemes, parameters_lexemes, function_lexemes, defined_lexemes, definition_lexemes, definitions_lexemes, module_lexemes};
 ghost use Rattle.tp_syntax.specs.Grammar.{defined_part, definition_part, IsGrammatical};
 ghost use Rattle.tp_syntax.specs.Nesting.{defined_depth, definitions_depth, module_depth};
+ghost use Rattle.tp_syntax.specs.Forward.{PassesLines};
+ghost use Rattle.tp_syntax.specs.Lines.{noted_in_order, noted_by_commas, parameter_notes, function_notes, defined_notes, definition_notes, module_notes};
 ghost use Rattle.tp_syntax.specs.Passing.{Passes};
 ghost use Rattle.tp_syntax.specs.Reading.{AllStand, IsPlaced, Reads, first};
 ghost use Rattle.tp_syntax.specs.Refusals.{IsOfGrammar};
@@ -29,6 +31,7 @@ impl<'a, 't> Parser<'a, 't> {
     fn parameter(&mut self, alloc: Global) -> Result<Parameter, ScriptFault>
         ensures tokens { IfOk result (λ x. Passes self.old (parameter_lexemes x) self.new) }
         ensures shorter { OnOk result (length self.new.rest.now < length self.old.rest.now) }
+        ensures lines { IfOk result (λ x. PassesLines self.old (parameter_notes x) self.new) }
         ensures reads { (x : Parameter) (more : List Lexeme) →
             Reads self.old (parameter_lexemes x) more result self.new }
         ensures fault { IfErr result IsOfGrammar }
@@ -42,6 +45,8 @@ impl<'a, 't> Parser<'a, 't> {
     fn parameters(&mut self, alloc: Global) -> Result<Vec<Parameter>, ScriptFault>
         ensures tokens { IfOk result (λ x. Passes self.old (parameters_lexemes x.items) self.new) }
         ensures shorter { OnOk result (length self.new.rest.now ≤ length self.old.rest.now) }
+        ensures lines { IfOk result (λ x.
+            PassesLines self.old (noted_by_commas (map parameter_notes x.items)) self.new) }
         ensures reads { (xs : List Parameter) (more : List Lexeme) →
             first more ≡ Some (symbol Symbol.RightParen) →
             Reads self.old (parameters_lexemes xs) more result self.new }
@@ -65,6 +70,7 @@ impl<'a, 't> Parser<'a, 't> {
     fn function(&mut self, alloc: Global, left: u32) -> Result<Function, ScriptFault>
         ensures tokens { IfOk result (λ x. Passes self.old (function_lexemes x) self.new) }
         ensures shorter { OnOk result (length self.new.rest.now < length self.old.rest.now) }
+        ensures lines { IfOk result (λ x. PassesLines self.old (function_notes x) self.new) }
         ensures nested { IfOk result (λ x. defined_depth (Defined.Function x) ≤ left) }
         ensures grammatical { IfOk result (λ x.
             IsTrue (defined_part (Defined.Function x)).is_right) }
@@ -100,6 +106,7 @@ impl<'a, 't> Parser<'a, 't> {
     fn defined(&mut self, alloc: Global, left: u32) -> Result<Defined, ScriptFault>
         ensures tokens { IfOk result (λ x. Passes self.old (defined_lexemes x) self.new) }
         ensures shorter { OnOk result (length self.new.rest.now < length self.old.rest.now) }
+        ensures lines { IfOk result (λ x. PassesLines self.old (defined_notes x) self.new) }
         ensures nested { IfOk result (λ x. defined_depth x ≤ left) }
         ensures grammatical { IfOk result (λ x. IsTrue (defined_part x).is_right) }
         ensures reads { (x : Defined) (more : List Lexeme) →
@@ -124,6 +131,7 @@ impl<'a, 't> Parser<'a, 't> {
     fn definition(&mut self, alloc: Global, left: u32) -> Result<Definition, ScriptFault>
         ensures tokens { IfOk result (λ x. Passes self.old (definition_lexemes x) self.new) }
         ensures shorter { OnOk result (length self.new.rest.now < length self.old.rest.now) }
+        ensures lines { IfOk result (λ x. PassesLines self.old (definition_notes x) self.new) }
         ensures nested { IfOk result (λ x. defined_depth x.defined ≤ left) }
         ensures grammatical { IfOk result (λ x. HasPassed (definition_part x) self.new) }
         ensures reads { (x : Definition) (more : List Lexeme) →
@@ -147,6 +155,8 @@ impl<'a, 't> Parser<'a, 't> {
     fn definitions(&mut self, alloc: Global, left: u32) -> Result<Vec<Definition>, ScriptFault>
         ensures tokens { IfOk result (λ x. Passes self.old (definitions_lexemes x.items) self.new) }
         ensures shorter { OnOk result (length self.new.rest.now ≤ length self.old.rest.now) }
+        ensures lines { IfOk result (λ x.
+            PassesLines self.old (noted_in_order (map definition_notes x.items)) self.new) }
         ensures nested { IfOk result (λ x. definitions_depth x.items ≤ left) }
         ensures grammatical { IfOk result (λ x.
             GoesOver self.old (map definition_part x.items) self.new) }
@@ -170,6 +180,7 @@ impl<'a, 't> Parser<'a, 't> {
     pub fn module(&mut self, alloc: Global, left: u32) -> Result<Module, ScriptFault>
         ensures tokens { IfOk result (λ x. Passes self.old (module_lexemes x) self.new) }
         ensures shorter { OnOk result (length self.new.rest.now < length self.old.rest.now) }
+        ensures lines { IfOk result (λ x. PassesLines self.old (module_notes x) self.new) }
         ensures nested { IfOk result (λ x. module_depth x ≤ left) }
         ensures grammatical { IfOk result IsGrammatical }
         ensures reads { (x : Module) (more : List Lexeme) →

@@ -2,6 +2,7 @@
 ghost use Rattle.std.specs.Prelude.{[], true, ◌↔◌, ◌≢◌, List, Option, Some, ◌≡◌, ◌+◌, ◌<◌, ◌≤◌, ◌∷◌, ◌++◌, IsTrue, length, IfErr, IfOk, OnOk};
 ghost use Rattle.tp_token.specs.Lexeme.{Lexeme, symbol, word};
 ghost use Rattle.tp_syntax.specs.Ahead.{ahead, is_name_in, token_at};
+ghost use Rattle.tp_syntax.specs.Forward.{GoesForward};
 ghost use Rattle.tp_syntax.specs.Passing.{Passes};
 ghost use Rattle.tp_syntax.specs.Statements.{component_lexemes, sent_lexemes, to_lexemes, send_lexemes, template_part, from_lexemes, named_part, redirect_lexemes, receive_lexemes, port_operation_lexeme, control_lexemes, all_ports_lexemes};
 ghost use Rattle.tp_syntax.specs.Grammar.{is_sent, is_template_part};
@@ -31,6 +32,7 @@ impl<'a, 't> Parser<'a, 't> {
     pub fn component(&mut self, alloc: Global) -> Result<ComponentName, ScriptFault>
         ensures tokens { IfOk result (λ c. Passes self.old (component_lexemes c) self.new) }
         ensures shorter { OnOk result (length self.new.rest.now < length self.old.rest.now) }
+        ensures forward { OnOk result (GoesForward self.old self.new) }
         ensures reads { (x : ComponentName) (more : List Lexeme) →
             Reads self.old (component_lexemes x) more result self.new }
         ensures fault { IfErr result IsOfGrammar }
@@ -59,6 +61,7 @@ impl<'a, 't> Parser<'a, 't> {
     fn sent(&mut self, alloc: Global, left: u32) -> Result<Sent, ScriptFault>
         ensures tokens { IfOk result (λ s. Passes self.old (sent_lexemes s) self.new) }
         ensures shorter { OnOk result (length self.new.rest.now < length self.old.rest.now) }
+        ensures forward { OnOk result (GoesForward self.old self.new) }
         ensures nested { IfOk result (λ s. sent_depth s ≤ left) }
         ensures grammatical { IfOk result (λ s. IsTrue (is_sent s)) }
         ensures reads { (x : Sent) (more : List Lexeme) →
@@ -80,6 +83,7 @@ impl<'a, 't> Parser<'a, 't> {
     fn to_part(&mut self, alloc: Global) -> Result<Option<Destination>, ScriptFault>
         ensures tokens { IfOk result (λ d. Passes self.old (to_lexemes d) self.new) }
         ensures shorter { OnOk result (length self.new.rest.now ≤ length self.old.rest.now) }
+        ensures forward { OnOk result (GoesForward self.old self.new) }
         ensures reads { (x : Option Destination) (more : List Lexeme) →
             Stops more →
             Reads self.old (to_lexemes x) more result self.new }
@@ -101,6 +105,7 @@ impl<'a, 't> Parser<'a, 't> {
     pub fn send(&mut self, alloc: Global, left: u32) -> Result<Send, ScriptFault>
         ensures tokens { IfOk result (λ s. Passes self.old (send_lexemes s) self.new) }
         ensures shorter { OnOk result (length self.new.rest.now < length self.old.rest.now) }
+        ensures forward { OnOk result (GoesForward self.old self.new) }
         ensures nested { IfOk result (λ s. sent_depth s.sent + 1 ≤ left) }
         ensures grammatical { IfOk result (λ s. IsTrue (is_sent s.sent)) }
         ensures reads { (x : Send) (more : List Lexeme) →
@@ -129,6 +134,7 @@ impl<'a, 't> Parser<'a, 't> {
     ) -> Result<Option<MessageTemplate>, ScriptFault>
         ensures tokens { IfOk result (λ t. Passes self.old (template_part t) self.new) }
         ensures shorter { OnOk result (length self.new.rest.now ≤ length self.old.rest.now) }
+        ensures forward { OnOk result (GoesForward self.old self.new) }
         ensures nested { IfOk result (λ t. part_depth t ≤ left) }
         ensures grammatical { IfOk result (λ t. IsTrue (is_template_part t)) }
         ensures reads { (x : Option MessageTemplate) (more : List Lexeme) →
@@ -151,6 +157,7 @@ impl<'a, 't> Parser<'a, 't> {
     fn from_part(&mut self, alloc: Global) -> Result<Option<ComponentName>, ScriptFault>
         ensures tokens { IfOk result (λ c. Passes self.old (from_lexemes c) self.new) }
         ensures shorter { OnOk result (length self.new.rest.now ≤ length self.old.rest.now) }
+        ensures forward { OnOk result (GoesForward self.old self.new) }
         ensures reads { (x : Option ComponentName) (more : List Lexeme) →
             first more ≢ Some (word Word.From) →
             Reads self.old (from_lexemes x) more result self.new }
@@ -167,6 +174,7 @@ impl<'a, 't> Parser<'a, 't> {
     fn named_part(&mut self, alloc: Global, want: Word) -> Result<Option<String>, ScriptFault>
         ensures tokens { IfOk result (λ n. Passes self.old (named_part want n) self.new) }
         ensures shorter { OnOk result (length self.new.rest.now ≤ length self.old.rest.now) }
+        ensures forward { OnOk result (GoesForward self.old self.new) }
         ensures reads { (x : MaybeName) (more : List Lexeme) →
             first more ≢ Some (word want) →
             Reads self.old (named_part want x) more result self.new }
@@ -184,6 +192,7 @@ impl<'a, 't> Parser<'a, 't> {
     fn redirect(&mut self, alloc: Global) -> Result<Redirect, ScriptFault>
         ensures tokens { IfOk result (λ r. Passes self.old (redirect_lexemes r) self.new) }
         ensures shorter { OnOk result (length self.new.rest.now ≤ length self.old.rest.now) }
+        ensures forward { OnOk result (GoesForward self.old self.new) }
         ensures reads { (x : Redirect) (more : List Lexeme) →
             Stops more →
             Reads self.old (redirect_lexemes x) more result self.new }
@@ -219,6 +228,7 @@ impl<'a, 't> Parser<'a, 't> {
             ≡ template_part r.template ++ (from_lexemes r.sender
             ++ (redirect_lexemes r.redirect ++ ahead self.new.rest.now))) }
         ensures shorter { OnOk result (length self.new.rest.now ≤ length self.old.rest.now) }
+        ensures forward { OnOk result (GoesForward self.old self.new) }
         ensures nested { IfOk result (λ r. part_depth r.template ≤ left) }
         ensures grammatical { IfOk result (λ r. IsTrue (is_template_part r.template)) }
         ensures reads { (t : Option MessageTemplate) (s : Option ComponentName) (d : Redirect)
@@ -245,6 +255,7 @@ impl<'a, 't> Parser<'a, 't> {
     pub fn receive(&mut self, alloc: Global, left: u32) -> Result<Receive, ScriptFault>
         ensures tokens { IfOk result (λ r. Passes self.old (receive_lexemes r) self.new) }
         ensures shorter { OnOk result (length self.new.rest.now < length self.old.rest.now) }
+        ensures forward { OnOk result (GoesForward self.old self.new) }
         ensures nested { IfOk result (λ r. receive_depth r ≤ left) }
         ensures grammatical { IfOk result (λ r. IsTrue (is_template_part r.template)) }
         ensures reads { (x : Receive) (more : List Lexeme) →
@@ -295,6 +306,7 @@ impl<'a, 't> Parser<'a, 't> {
         ensures tokens { IfOk result (λ o.
             ahead self.old.rest.now ≡ port_operation_lexeme o ∷ ahead self.new.rest.now) }
         ensures shorter { OnOk result (length self.new.rest.now < length self.old.rest.now) }
+        ensures forward { OnOk result (GoesForward self.old self.new) }
         ensures reads { (x : PortOperation) (more : List Lexeme) →
             Reads self.old (port_operation_lexeme x ∷ []) more result self.new }
         ensures fault { IfErr result IsOfGrammar }
@@ -314,6 +326,7 @@ impl<'a, 't> Parser<'a, 't> {
     pub fn control(&mut self, alloc: Global) -> Result<Control, ScriptFault>
         ensures tokens { IfOk result (λ c. Passes self.old (control_lexemes c) self.new) }
         ensures shorter { OnOk result (length self.new.rest.now < length self.old.rest.now) }
+        ensures forward { OnOk result (GoesForward self.old self.new) }
         ensures reads { (x : Control) (more : List Lexeme) →
             Reads self.old (control_lexemes x) more result self.new }
         ensures fault { IfErr result IsOfGrammar }
@@ -329,6 +342,7 @@ impl<'a, 't> Parser<'a, 't> {
     pub fn all_ports(&mut self) -> Result<PortOperation, ScriptFault>
         ensures tokens { IfOk result (λ o. Passes self.old (all_ports_lexemes o) self.new) }
         ensures shorter { OnOk result (length self.new.rest.now < length self.old.rest.now) }
+        ensures forward { OnOk result (GoesForward self.old self.new) }
         ensures reads { (x : PortOperation) (more : List Lexeme) →
             Reads self.old (all_ports_lexemes x) more result self.new }
         ensures fault { IfErr result IsOfGrammar }

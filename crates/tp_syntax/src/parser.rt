@@ -2,6 +2,7 @@
 ghost use Rattle.std.specs.Prelude.{◌≡◌, ◌≤◌, IfErr, IfOk, OnOk, length};
 ghost use Rattle.tp_syntax.specs.Definitions.{IsReadAs};
 ghost use Rattle.tp_syntax.specs.Grammar.{IsGrammatical};
+ghost use Rattle.tp_syntax.specs.Lines.{HasLines};
 ghost use Rattle.tp_syntax.specs.Nesting.{module_depth};
 ghost use Rattle.tp_syntax.specs.Refusals.{HasTokens, IsUnread};
 
@@ -17,7 +18,8 @@ const BRACKETS: u32 = 32;
 /// The module that the text spells, all of the text: its tokens are those of the text, none left
 /// out, added or moved, but for a `-` directly before the number 0, which is left out. It is one of
 /// the grammar: what may not be empty isn't, patterns have plain characters, and a `;` is missing
-/// only where it may. Its brackets nest at most 32 deep.
+/// only where it may. Its brackets nest at most 32 deep. Each line that it notes is that of the
+/// first token of what it is noted of.
 ///
 /// It makes the whole text into tokens first, by `lex` of `tp_token`, whose refusals come before
 /// those of the grammar. Of these the first in the text is answered:
@@ -33,6 +35,7 @@ const BRACKETS: u32 = 32;
 /// module of the grammar whose brackets nest at most 32 deep, it is read, or 50 is answered.
 pub fn parse(alloc: Global, text: &[u8]) -> Result<Module, ScriptFault>
     ensures read { IfOk result (IsReadAs text.now) }
+    ensures lines { IfOk result (HasLines text.now) }
     ensures within { OnOk result (HasTokens text.now) }
     ensures nested { IfOk result (λ m. module_depth m ≤ 32) }
     ensures grammatical { IfOk result IsGrammatical }

@@ -3,6 +3,8 @@ ghost use Rattle.std.specs.Prelude.{ℤ, [], ◌≢◌, false, List, Some, Match
 ghost use Rattle.tp_token.specs.Lexeme.{Lexeme, number, symbol, word};
 ghost use Rattle.tp_token.specs.Fault.{IsMemory};
 ghost use Rattle.tp_syntax.specs.Ahead.{ahead};
+ghost use Rattle.tp_syntax.specs.Forward.{GoesForward, PassesLines};
+ghost use Rattle.tp_syntax.specs.Lines.{noted_in_order, variable_notes};
 ghost use Rattle.tp_syntax.specs.Passing.{Passes};
 ghost use Rattle.tp_syntax.specs.Values.{int_lexemes};
 ghost use Rattle.tp_syntax.specs.Statements.{step_lexemes, turns_lexemes, verdict_lexeme, set_verdict_lexemes, variable_lexemes, variables_lexemes};
@@ -24,6 +26,7 @@ impl<'a, 't> Parser<'a, 't> {
         ensures tokens { IfOk result (λ v.
             ahead self.old.rest.now ≡ verdict_lexeme v ∷ ahead self.new.rest.now) }
         ensures shorter { OnOk result (length self.new.rest.now < length self.old.rest.now) }
+        ensures forward { OnOk result (GoesForward self.old self.new) }
         ensures reads { (x : VerdictName) (more : List Lexeme) →
             Reads self.old (verdict_lexeme x ∷ []) more result self.new }
         ensures fault { IfErr result IsOfGrammar }
@@ -44,6 +47,7 @@ impl<'a, 't> Parser<'a, 't> {
     pub fn set_verdict(&mut self, left: u32) -> Result<VerdictName, ScriptFault>
         ensures tokens { IfOk result (λ v. Passes self.old (set_verdict_lexemes v) self.new) }
         ensures shorter { OnOk result (length self.new.rest.now < length self.old.rest.now) }
+        ensures forward { OnOk result (GoesForward self.old self.new) }
         ensures nested { OnOk result (1 ≤ left) }
         ensures reads { (x : VerdictName) (more : List Lexeme) →
             0 < left →
@@ -62,6 +66,7 @@ impl<'a, 't> Parser<'a, 't> {
     fn variable(&mut self, alloc: Global) -> Result<Variable, ScriptFault>
         ensures tokens { IfOk result (λ v. Passes self.old (variable_lexemes v) self.new) }
         ensures shorter { OnOk result (length self.new.rest.now < length self.old.rest.now) }
+        ensures lines { IfOk result (λ v. PassesLines self.old (variable_notes v) self.new) }
         ensures grammatical { IfOk result (λ v. HasPassed (variable_part v) self.new) }
         ensures reads { (x : Variable) (more : List Lexeme) →
             IsPlaced (variable_part x) more →
@@ -85,6 +90,8 @@ impl<'a, 't> Parser<'a, 't> {
     pub fn variables(&mut self, alloc: Global) -> Result<Vec<Variable>, ScriptFault>
         ensures tokens { IfOk result (λ v. Passes self.old (variables_lexemes v.items) self.new) }
         ensures shorter { OnOk result (length self.new.rest.now ≤ length self.old.rest.now) }
+        ensures lines { IfOk result (λ v.
+            PassesLines self.old (noted_in_order (map variable_notes v.items)) self.new) }
         ensures grammatical { IfOk result (λ v.
             GoesOver self.old (map variable_part v.items) self.new) }
         ensures reads { (xs : List Variable) (more : List Lexeme) →
@@ -108,6 +115,7 @@ impl<'a, 't> Parser<'a, 't> {
         ensures tokens { IfOk result (λ x.
             ahead self.old.rest.now ≡ turns_lexemes x (ahead self.new.rest.now)) }
         ensures shorter { OnOk result (length self.new.rest.now < length self.old.rest.now) }
+        ensures forward { OnOk result (GoesForward self.old self.new) }
         ensures nested { OnOk result (1 ≤ left) }
         ensures reads { (x : Turns) (more : List Lexeme) →
             IsTrue (is_integer x.first) → IsTrue (is_integer x.bound) → 0 < left →
@@ -136,6 +144,7 @@ impl<'a, 't> Parser<'a, 't> {
             ahead self.old.rest.now
             ≡ step_lexemes (string_bytes variable.now) (int_lexemes z) (ahead self.new.rest.now)) }
         ensures shorter { OnOk result (length self.new.rest.now < length self.old.rest.now) }
+        ensures forward { OnOk result (GoesForward self.old self.new) }
         ensures reads { (z : ℤ) (more : List Lexeme) →
             IsTrue (is_integer z) →
             ahead self.old.rest.now
@@ -163,6 +172,7 @@ impl<'a, 't> Parser<'a, 't> {
         ensures tokens { OnOk result
             (ahead self.old.rest.now ≡ number 1 ∷ ahead self.new.rest.now) }
         ensures shorter { OnOk result (length self.new.rest.now < length self.old.rest.now) }
+        ensures forward { OnOk result (GoesForward self.old self.new) }
         ensures reads { (more : List Lexeme) →
             Reads self.old (number 1 ∷ []) more result self.new }
         ensures fault { IfErr result IsOfGrammar }
@@ -181,6 +191,7 @@ impl<'a, 't> Parser<'a, 't> {
             ≡ symbol Symbol.LeftBracket ∷ word Word.Else ∷ symbol Symbol.RightBracket
             ∷ ahead self.new.rest.now) }
         ensures shorter { OnOk result (length self.new.rest.now < length self.old.rest.now) }
+        ensures forward { OnOk result (GoesForward self.old self.new) }
         ensures nested { OnOk result (1 ≤ left) }
         ensures reads { (more : List Lexeme) →
             0 < left →

@@ -5,6 +5,8 @@ ghost use Rattle.tp_queue.specs.declared.operation.PortOperation.{PortOperation}
 ghost use Rattle.tp_queue.specs.declared.operation.ReceiveKind.{ReceiveKind};
 ghost use Rattle.tp_token.specs.Lexeme.{Lexeme, symbol, word};
 ghost use Rattle.tp_syntax.specs.Ahead.{is_name_in, token_at};
+ghost use Rattle.tp_syntax.specs.Forward.{PassesLines};
+ghost use Rattle.tp_syntax.specs.Lines.{noted_braced, action_notes, body_notes, branch_notes, branches_notes, counted_notes, otherwise_notes, statement_notes, statements_notes};
 ghost use Rattle.tp_syntax.specs.Passing.{Passes};
 ghost use Rattle.tp_syntax.specs.Sequences.{braced};
 ghost use Rattle.tp_syntax.specs.Statements.{port_operation_lexeme, action_lexemes, branch_lexemes, body_lexemes, counted_lexemes, otherwise_lexemes, statement_lexemes, statements_lexemes, branches_lexemes};
@@ -110,6 +112,7 @@ impl<'a, 't> Parser<'a, 't> {
     fn statement(&mut self, alloc: Global, left: u32) -> Result<Statement, ScriptFault>
         ensures tokens { IfOk result (λ s. Passes self.old (statement_lexemes s) self.new) }
         ensures shorter { OnOk result (length self.new.rest.now < length self.old.rest.now) }
+        ensures lines { IfOk result (λ s. PassesLines self.old (statement_notes s) self.new) }
         ensures nested { IfOk result (λ s. statement_depth s ≤ left) }
         ensures grammatical { IfOk result (λ s. HasPassed (statement_part s) self.new) }
         ensures reads { (x : Statement) (more : List Lexeme) →
@@ -134,6 +137,7 @@ impl<'a, 't> Parser<'a, 't> {
     fn action(&mut self, alloc: Global, left: u32) -> Result<Action, ScriptFault>
         ensures tokens { IfOk result (λ a. Passes self.old (action_lexemes a) self.new) }
         ensures shorter { OnOk result (length self.new.rest.now < length self.old.rest.now) }
+        ensures lines { IfOk result (λ a. PassesLines self.old (action_notes a) self.new) }
         ensures nested { IfOk result (λ a. action_depth a ≤ left) }
         ensures grammatical { IfOk result (λ a. IsTrue (action_part a).is_right) }
         ensures reads { (x : Action) (more : List Lexeme) →
@@ -178,6 +182,7 @@ impl<'a, 't> Parser<'a, 't> {
     fn alt(&mut self, alloc: Global, left: u32) -> Result<Action, ScriptFault>
         ensures tokens { IfOk result (λ a. Passes self.old (action_lexemes a) self.new) }
         ensures shorter { OnOk result (length self.new.rest.now < length self.old.rest.now) }
+        ensures lines { IfOk result (λ a. PassesLines self.old (action_notes a) self.new) }
         ensures nested { IfOk result (λ a. action_depth a ≤ left) }
         ensures grammatical { IfOk result (λ a. IsTrue (action_part a).is_right) }
         ensures reads { (xs : List Branch) (x : Option ElseBranch) (more : List Lexeme) →
@@ -204,6 +209,7 @@ impl<'a, 't> Parser<'a, 't> {
     fn branches(&mut self, alloc: Global, left: u32) -> Result<Vec<Branch>, ScriptFault>
         ensures tokens { IfOk result (λ v. Passes self.old (branches_lexemes v.items) self.new) }
         ensures shorter { OnOk result (length self.new.rest.now ≤ length self.old.rest.now) }
+        ensures lines { IfOk result (λ v. PassesLines self.old (branches_notes v.items) self.new) }
         ensures nested { IfOk result (λ v. branches_depth v.items ≤ left) }
         ensures grammatical { IfOk result (λ v.
             GoesOver self.old (branches_parts v.items) self.new) }
@@ -237,6 +243,7 @@ impl<'a, 't> Parser<'a, 't> {
     fn branch(&mut self, alloc: Global, left: u32) -> Result<Branch, ScriptFault>
         ensures tokens { IfOk result (λ b. Passes self.old (branch_lexemes b) self.new) }
         ensures shorter { OnOk result (length self.new.rest.now < length self.old.rest.now) }
+        ensures lines { IfOk result (λ b. PassesLines self.old (branch_notes b) self.new) }
         ensures nested { IfOk result (λ b. branch_depth b ≤ left) }
         ensures grammatical { IfOk result (λ b. HasPassed (branch_part b) self.new) }
         ensures reads { (x : Branch) (more : List Lexeme) →
@@ -265,6 +272,7 @@ impl<'a, 't> Parser<'a, 't> {
     fn body(&mut self, alloc: Global, left: u32) -> Result<BranchBody, ScriptFault>
         ensures tokens { IfOk result (λ b. Passes self.old (body_lexemes b) self.new) }
         ensures shorter { OnOk result (length self.new.rest.now ≤ length self.old.rest.now) }
+        ensures lines { IfOk result (λ b. PassesLines self.old (body_notes b) self.new) }
         ensures nested { IfOk result (λ b. body_depth b ≤ left) }
         ensures grammatical { IfOk result (λ b. IsTrue (body_part b).is_right) }
         ensures reads { (x : BranchBody) (more : List Lexeme) →
@@ -287,6 +295,7 @@ impl<'a, 't> Parser<'a, 't> {
     fn otherwise(&mut self, alloc: Global, left: u32) -> Result<Option<ElseBranch>, ScriptFault>
         ensures tokens { IfOk result (λ e. Passes self.old (otherwise_lexemes e) self.new) }
         ensures shorter { OnOk result (length self.new.rest.now ≤ length self.old.rest.now) }
+        ensures lines { IfOk result (λ e. PassesLines self.old (otherwise_notes e) self.new) }
         ensures nested { IfOk result (λ e. otherwise_depth e ≤ left) }
         ensures grammatical { IfOk result (λ e. GoesOver self.old (otherwise_parts e) self.new) }
         ensures reads { (x : Option ElseBranch) (more : List Lexeme) →
@@ -316,6 +325,7 @@ impl<'a, 't> Parser<'a, 't> {
     fn counted(&mut self, alloc: Global, left: u32) -> Result<Counted, ScriptFault>
         ensures tokens { IfOk result (λ f. Passes self.old (counted_lexemes f) self.new) }
         ensures shorter { OnOk result (length self.new.rest.now < length self.old.rest.now) }
+        ensures lines { IfOk result (λ f. PassesLines self.old (counted_notes f) self.new) }
         ensures nested { IfOk result (λ f. counted_depth f ≤ left) }
         ensures grammatical { IfOk result (λ f. IsTrue (counted_part f).is_right) }
         ensures reads { (x : Counted) (more : List Lexeme) →
@@ -336,6 +346,8 @@ impl<'a, 't> Parser<'a, 't> {
         ensures tokens { IfOk result (λ v.
             Passes self.old (braced (statements_lexemes v.items)) self.new) }
         ensures shorter { OnOk result (length self.new.rest.now < length self.old.rest.now) }
+        ensures lines { IfOk result (λ v.
+            PassesLines self.old (noted_braced (statements_notes v.items)) self.new) }
         ensures nested { IfOk result (λ v. statements_depth v.items + 1 ≤ left) }
         ensures grammatical { IfOk result (λ v. IsTrue (are_parts (statements_parts v.items))) }
         ensures reads { (xs : List Statement) (more : List Lexeme) →
@@ -360,6 +372,8 @@ impl<'a, 't> Parser<'a, 't> {
     ) -> Result<Vec<Statement>, ScriptFault>
         ensures tokens { IfOk result (λ v. Passes self.old (statements_lexemes v.items) self.new) }
         ensures shorter { OnOk result (length self.new.rest.now ≤ length self.old.rest.now) }
+        ensures lines { IfOk result (λ v.
+            PassesLines self.old (statements_notes v.items) self.new) }
         ensures nested { IfOk result (λ v. statements_depth v.items ≤ left) }
         ensures grammatical { IfOk result (λ v.
             GoesOver self.old (statements_parts v.items) self.new) }

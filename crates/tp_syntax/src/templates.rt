@@ -3,6 +3,7 @@ ghost use Rattle.std.specs.Prelude.{ℕ, ℤ, ◌↔◌, [], List, Option, Some,
 ghost use Rattle.std.specs.List.{list_all};
 ghost use Rattle.tp_token.specs.Lexeme.{Lexeme, symbol, text, word};
 ghost use Rattle.tp_syntax.specs.Ahead.{ahead, token_at};
+ghost use Rattle.tp_syntax.specs.Forward.{GoesForward};
 ghost use Rattle.tp_syntax.specs.Passing.{Passes};
 ghost use Rattle.tp_syntax.specs.Sequences.{by_commas, parenthesised};
 ghost use Rattle.tp_syntax.specs.Templates.{low_lexemes, high_lexemes, template_lexemes, template_field_lexemes, message_template_lexemes};
@@ -47,6 +48,7 @@ impl<'a, 't> Parser<'a, 't> {
     ) -> Result<MessageTemplate, ScriptFault>
         ensures tokens { IfOk result (λ m. Passes self.old (message_template_lexemes m) self.new) }
         ensures shorter { OnOk result (length self.new.rest.now < length self.old.rest.now) }
+        ensures forward { OnOk result (GoesForward self.old self.new) }
         ensures nested { IfOk result (λ m. template_depth m.template ≤ left) }
         ensures grammatical { IfOk result (λ m. IsTrue (is_template m.template)) }
         ensures reads { (x : MessageTemplate) (more : List Lexeme) →
@@ -76,6 +78,7 @@ impl<'a, 't> Parser<'a, 't> {
     fn low(&mut self) -> Result<Option<i64>, ScriptFault>
         ensures tokens { IfOk result (λ b. Passes self.old (low_lexemes b) self.new) }
         ensures shorter { OnOk result (length self.new.rest.now < length self.old.rest.now) }
+        ensures forward { OnOk result (GoesForward self.old self.new) }
         ensures reads { (x : Option ℤ) (more : List Lexeme) →
             IsTrue (is_bound x) →
             Reads self.old (low_lexemes x) more result self.new }
@@ -95,6 +98,7 @@ impl<'a, 't> Parser<'a, 't> {
     fn high(&mut self) -> Result<Option<i64>, ScriptFault>
         ensures tokens { IfOk result (λ b. Passes self.old (high_lexemes b) self.new) }
         ensures shorter { OnOk result (length self.new.rest.now < length self.old.rest.now) }
+        ensures forward { OnOk result (GoesForward self.old self.new) }
         ensures reads { (x : Option ℤ) (more : List Lexeme) →
             IsTrue (is_bound x) →
             Reads self.old (high_lexemes x) more result self.new }
@@ -127,6 +131,7 @@ impl<'a, 't> Parser<'a, 't> {
             word Word.Pattern ∷ ahead self.old.rest.now
             ≡ template_lexemes t ++ ahead self.new.rest.now) }
         ensures shorter { OnOk result (length self.new.rest.now < length self.old.rest.now) }
+        ensures forward { OnOk result (GoesForward self.old self.new) }
         ensures nested { IfOk result (λ t. template_depth t ≡ 0) }
         ensures grammatical { IfOk result (λ t. IsTrue (is_template t)) }
         ensures reads { (cs : List ℕ) (more : List Lexeme) →
@@ -150,6 +155,7 @@ impl<'a, 't> Parser<'a, 't> {
     pub fn template(&mut self, alloc: Global, left: u32) -> Result<Template, ScriptFault>
         ensures tokens { IfOk result (λ t. Passes self.old (template_lexemes t) self.new) }
         ensures shorter { OnOk result (length self.new.rest.now < length self.old.rest.now) }
+        ensures forward { OnOk result (GoesForward self.old self.new) }
         ensures nested { IfOk result (λ t. template_depth t ≤ left) }
         ensures grammatical { IfOk result (λ t. IsTrue (is_template t)) }
         ensures reads { (x : Template) (more : List Lexeme) →
@@ -202,6 +208,7 @@ impl<'a, 't> Parser<'a, 't> {
             symbol Symbol.LeftParen ∷ ahead self.old.rest.now
             ≡ template_lexemes t ++ ahead self.new.rest.now) }
         ensures shorter { OnOk result (length self.new.rest.now < length self.old.rest.now) }
+        ensures forward { OnOk result (GoesForward self.old self.new) }
         ensures nested { IfOk result (λ t. template_depth t ≤ left + 1) }
         ensures grammatical { IfOk result (λ t. IsTrue (is_template t)) }
         ensures reads_range { (low : Option ℤ) (high : Option ℤ) (more : List Lexeme) →
@@ -236,6 +243,7 @@ impl<'a, 't> Parser<'a, 't> {
             word Word.Complement ∷ ahead self.old.rest.now
             ≡ template_lexemes t ++ ahead self.new.rest.now) }
         ensures shorter { OnOk result (length self.new.rest.now < length self.old.rest.now) }
+        ensures forward { OnOk result (GoesForward self.old self.new) }
         ensures nested { IfOk result (λ t. template_depth t ≤ left) }
         ensures grammatical { IfOk result (λ t. IsTrue (is_template t)) }
         ensures reads { (xs : List Template) (more : List Lexeme) →
@@ -259,6 +267,7 @@ impl<'a, 't> Parser<'a, 't> {
             symbol Symbol.LeftBrace ∷ ahead self.old.rest.now
             ≡ template_lexemes t ++ ahead self.new.rest.now) }
         ensures shorter { OnOk result (length self.new.rest.now < length self.old.rest.now) }
+        ensures forward { OnOk result (GoesForward self.old self.new) }
         ensures nested { IfOk result (λ t. template_depth t ≤ left + 1) }
         ensures grammatical { IfOk result (λ t. IsTrue (is_template t)) }
         ensures reads_list { (xs : List Template) (more : List Lexeme) →
@@ -293,6 +302,7 @@ impl<'a, 't> Parser<'a, 't> {
         ensures tokens { IfOk result (λ v.
             Passes self.old (by_commas (map template_lexemes v.items)) self.new) }
         ensures shorter { OnOk result (length self.new.rest.now < length self.old.rest.now) }
+        ensures forward { OnOk result (GoesForward self.old self.new) }
         ensures nested { IfOk result (λ v. deepest (map template_depth v.items) ≤ left) }
         ensures grammatical { IfOk result (λ v. IsTrue (one_and_each (map is_template v.items))) }
         ensures reads { (xs : List Template) (more : List Lexeme) →
@@ -322,6 +332,7 @@ impl<'a, 't> Parser<'a, 't> {
         ensures tokens { IfOk result (λ v.
             Passes self.old (by_commas (map template_field_lexemes v.items)) self.new) }
         ensures shorter { OnOk result (length self.new.rest.now < length self.old.rest.now) }
+        ensures forward { OnOk result (GoesForward self.old self.new) }
         ensures nested { IfOk result (λ v. deepest (map template_field_depth v.items) ≤ left) }
         ensures grammatical { IfOk result (λ v.
             IsTrue (one_and_each (map is_template_field v.items))) }
@@ -348,6 +359,7 @@ impl<'a, 't> Parser<'a, 't> {
     fn template_field(&mut self, alloc: Global, left: u32) -> Result<TemplateField, ScriptFault>
         ensures tokens { IfOk result (λ f. Passes self.old (template_field_lexemes f) self.new) }
         ensures shorter { OnOk result (length self.new.rest.now < length self.old.rest.now) }
+        ensures forward { OnOk result (GoesForward self.old self.new) }
         ensures nested { IfOk result (λ f. template_field_depth f ≤ left) }
         ensures grammatical { IfOk result (λ f. IsTrue (is_template_field f)) }
         ensures reads { (x : TemplateField) (more : List Lexeme) →

@@ -6,6 +6,8 @@ ghost use Rattle.tp_syntax.specs.Ahead.{ahead};
 ghost use Rattle.tp_syntax.specs.Definitions.{end_component_lexeme, end_point_lexemes, ends_lexemes, setup_action_lexemes, setup_lexemes, setups_lexemes, arguments_lexemes, start_lexemes, starts_lexemes, all_done_lexemes, system_lexemes, test_case_lexemes};
 ghost use Rattle.tp_syntax.specs.Grammar.{all_done_parts, defined_part, setup_part, start_part};
 ghost use Rattle.tp_syntax.specs.Nesting.{defined_depth};
+ghost use Rattle.tp_syntax.specs.Forward.{GoesForward, PassesLines};
+ghost use Rattle.tp_syntax.specs.Lines.{noted_in_order, setup_notes, start_notes, test_case_notes};
 ghost use Rattle.tp_syntax.specs.Passing.{Passes};
 ghost use Rattle.tp_syntax.specs.Reading.{AllStand, IsPlaced, IsSetup, IsStart, MaybeName, Reads, first, is_setup_ahead, is_start_ahead};
 ghost use Rattle.tp_syntax.specs.Refusals.{IsOfGrammar};
@@ -27,6 +29,7 @@ impl<'a, 't> Parser<'a, 't> {
         ensures tokens { IfOk result (λ x.
             ahead self.old.rest.now ≡ end_component_lexeme x ∷ ahead self.new.rest.now) }
         ensures shorter { OnOk result (length self.new.rest.now < length self.old.rest.now) }
+        ensures forward { OnOk result (GoesForward self.old self.new) }
         ensures reads { (x : EndComponent) (more : List Lexeme) →
             Reads self.old (end_component_lexeme x ∷ []) more result self.new }
         ensures fault { IfErr result IsOfGrammar }
@@ -49,6 +52,7 @@ impl<'a, 't> Parser<'a, 't> {
     fn end_point(&mut self, alloc: Global) -> Result<PairEnd, ScriptFault>
         ensures tokens { IfOk result (λ x. Passes self.old (end_point_lexemes x) self.new) }
         ensures shorter { OnOk result (length self.new.rest.now < length self.old.rest.now) }
+        ensures forward { OnOk result (GoesForward self.old self.new) }
         ensures reads { (x : PairEnd) (more : List Lexeme) →
             Reads self.old (end_point_lexemes x) more result self.new }
         ensures fault { IfErr result IsOfGrammar }
@@ -64,6 +68,7 @@ impl<'a, 't> Parser<'a, 't> {
     fn ends(&mut self, alloc: Global) -> Result<(PairEnd, PairEnd), ScriptFault>
         ensures tokens { IfOk result (λ x. Passes self.old (ends_lexemes x.0 x.1) self.new) }
         ensures shorter { OnOk result (length self.new.rest.now < length self.old.rest.now) }
+        ensures forward { OnOk result (GoesForward self.old self.new) }
         ensures reads { (x : PairEnd) (y : PairEnd) (more : List Lexeme) →
             Reads self.old (ends_lexemes x y) more result self.new }
         ensures fault { IfErr result IsOfGrammar }
@@ -81,6 +86,7 @@ impl<'a, 't> Parser<'a, 't> {
     fn creation(&mut self, alloc: Global) -> Result<SetupAction, ScriptFault>
         ensures tokens { IfOk result (λ x. Passes self.old (setup_action_lexemes x) self.new) }
         ensures shorter { OnOk result (length self.new.rest.now < length self.old.rest.now) }
+        ensures forward { OnOk result (GoesForward self.old self.new) }
         ensures reads { (x : Creation) (more : List Lexeme) →
             Reads self.old (setup_action_lexemes (SetupAction.Create x)) more result self.new }
         ensures fault { IfErr result IsOfGrammar }
@@ -104,6 +110,7 @@ impl<'a, 't> Parser<'a, 't> {
     fn setup_action(&mut self, alloc: Global) -> Result<SetupAction, ScriptFault>
         ensures tokens { IfOk result (λ x. Passes self.old (setup_action_lexemes x) self.new) }
         ensures shorter { OnOk result (length self.new.rest.now < length self.old.rest.now) }
+        ensures forward { OnOk result (GoesForward self.old self.new) }
         ensures reads { (x : SetupAction) (more : List Lexeme) →
             Reads self.old (setup_action_lexemes x) more result self.new }
         ensures fault { IfErr result IsOfGrammar }
@@ -124,6 +131,7 @@ impl<'a, 't> Parser<'a, 't> {
     fn setup(&mut self, alloc: Global) -> Result<SetupStatement, ScriptFault>
         ensures tokens { IfOk result (λ x. Passes self.old (setup_lexemes x) self.new) }
         ensures shorter { OnOk result (length self.new.rest.now < length self.old.rest.now) }
+        ensures lines { IfOk result (λ x. PassesLines self.old (setup_notes x) self.new) }
         ensures grammatical { IfOk result (λ x. HasPassed (setup_part x) self.new) }
         ensures reads { (x : SetupStatement) (more : List Lexeme) →
             IsPlaced (setup_part x) more →
@@ -157,6 +165,8 @@ impl<'a, 't> Parser<'a, 't> {
     fn setups(&mut self, alloc: Global) -> Result<Vec<SetupStatement>, ScriptFault>
         ensures tokens { IfOk result (λ x. Passes self.old (setups_lexemes x.items) self.new) }
         ensures shorter { OnOk result (length self.new.rest.now ≤ length self.old.rest.now) }
+        ensures lines { IfOk result (λ x.
+            PassesLines self.old (noted_in_order (map setup_notes x.items)) self.new) }
         ensures grammatical { IfOk result (λ x.
             GoesOver self.old (map setup_part x.items) self.new) }
         ensures reads { (xs : List SetupStatement) (more : List Lexeme) →
@@ -177,6 +187,7 @@ impl<'a, 't> Parser<'a, 't> {
     fn arguments(&mut self, alloc: Global) -> Result<Vec<ComponentName>, ScriptFault>
         ensures tokens { IfOk result (λ x. Passes self.old (arguments_lexemes x.items) self.new) }
         ensures shorter { OnOk result (length self.new.rest.now ≤ length self.old.rest.now) }
+        ensures forward { OnOk result (GoesForward self.old self.new) }
         ensures reads { (xs : List ComponentName) (more : List Lexeme) →
             first more ≡ Some (symbol Symbol.RightParen) →
             Reads self.old (arguments_lexemes xs) more result self.new }
@@ -200,6 +211,7 @@ impl<'a, 't> Parser<'a, 't> {
     fn start(&mut self, alloc: Global) -> Result<ComponentStart, ScriptFault>
         ensures tokens { IfOk result (λ x. Passes self.old (start_lexemes x) self.new) }
         ensures shorter { OnOk result (length self.new.rest.now < length self.old.rest.now) }
+        ensures lines { IfOk result (λ x. PassesLines self.old (start_notes x) self.new) }
         ensures grammatical { IfOk result (λ x. HasPassed (start_part x) self.new) }
         ensures reads { (x : ComponentStart) (more : List Lexeme) →
             IsPlaced (start_part x) more →
@@ -241,6 +253,8 @@ impl<'a, 't> Parser<'a, 't> {
     fn starts(&mut self, alloc: Global) -> Result<Vec<ComponentStart>, ScriptFault>
         ensures tokens { IfOk result (λ x. Passes self.old (starts_lexemes x.items) self.new) }
         ensures shorter { OnOk result (length self.new.rest.now ≤ length self.old.rest.now) }
+        ensures lines { IfOk result (λ x.
+            PassesLines self.old (noted_in_order (map start_notes x.items)) self.new) }
         ensures grammatical { IfOk result (λ x.
             GoesOver self.old (map start_part x.items) self.new) }
         ensures reads { (xs : List ComponentStart) (more : List Lexeme) →
@@ -261,6 +275,7 @@ impl<'a, 't> Parser<'a, 't> {
     fn all_done(&mut self) -> Result<Option<AllDone>, ScriptFault>
         ensures tokens { IfOk result (λ x. Passes self.old (all_done_lexemes x) self.new) }
         ensures shorter { OnOk result (length self.new.rest.now ≤ length self.old.rest.now) }
+        ensures forward { OnOk result (GoesForward self.old self.new) }
         ensures grammatical { IfOk result (λ x. GoesOver self.old (all_done_parts x) self.new) }
         ensures reads { (x : Option AllDone) (more : List Lexeme) →
             AllStand (all_done_parts x) more →
@@ -283,6 +298,7 @@ impl<'a, 't> Parser<'a, 't> {
     fn system(&mut self, alloc: Global) -> Result<Option<String>, ScriptFault>
         ensures tokens { IfOk result (λ x. Passes self.old (system_lexemes x) self.new) }
         ensures shorter { OnOk result (length self.new.rest.now ≤ length self.old.rest.now) }
+        ensures forward { OnOk result (GoesForward self.old self.new) }
         ensures reads { (x : MaybeName) (more : List Lexeme) →
             first more ≢ Some (word Word.System) →
             Reads self.old (system_lexemes x) more result self.new }
@@ -300,6 +316,7 @@ impl<'a, 't> Parser<'a, 't> {
     pub fn test_case(&mut self, alloc: Global, left: u32) -> Result<TestCase, ScriptFault>
         ensures tokens { IfOk result (λ x. Passes self.old (test_case_lexemes x) self.new) }
         ensures shorter { OnOk result (length self.new.rest.now < length self.old.rest.now) }
+        ensures lines { IfOk result (λ x. PassesLines self.old (test_case_notes x) self.new) }
         ensures nested { IfOk result (λ x. defined_depth (Defined.TestCase x) ≤ left) }
         ensures grammatical { IfOk result (λ x.
             IsTrue (defined_part (Defined.TestCase x)).is_right) }

@@ -5,6 +5,8 @@ ghost use Rattle.tp_syntax.specs.Ahead.{ahead};
 ghost use Rattle.tp_syntax.specs.Definitions.{field_type_lexemes, field_types_lexemes, record_type_lexemes, list_type_lexemes, way_lexeme, types_lexemes, direction_lexemes, directions_lexemes, port_type_lexemes, declared_name_lexemes, declared_names_lexemes, port_declaration_lexemes, port_declarations_lexemes, component_type_lexemes, defined_lexemes};
 ghost use Rattle.tp_syntax.specs.Grammar.{defined_part, direction_part, has_one, port_declaration_part};
 ghost use Rattle.tp_syntax.specs.Nesting.{defined_depth};
+ghost use Rattle.tp_syntax.specs.Forward.{GoesForward, PassesLines};
+ghost use Rattle.tp_syntax.specs.Lines.{noted_in_order, noted_by_commas, declared_name_notes, field_type_notes, record_type_notes, port_declaration_notes, component_type_notes, defined_notes};
 ghost use Rattle.tp_syntax.specs.Passing.{Passes};
 ghost use Rattle.tp_syntax.specs.Reading.{AllStand, IsPlaced, Reads, Stops, first, is_type};
 ghost use Rattle.tp_syntax.specs.Refusals.{IsOfGrammar};
@@ -26,6 +28,7 @@ impl<'a, 't> Parser<'a, 't> {
     pub fn declared_name(&mut self, alloc: Global) -> Result<DeclaredName, ScriptFault>
         ensures tokens { IfOk result (λ x. Passes self.old (declared_name_lexemes x) self.new) }
         ensures shorter { OnOk result (length self.new.rest.now < length self.old.rest.now) }
+        ensures lines { IfOk result (λ x. PassesLines self.old (declared_name_notes x) self.new) }
         ensures reads { (spelling : List ℕ) (more : List Lexeme) →
             Reads self.old (name spelling ∷ []) more result self.new }
         ensures fault { IfErr result IsOfGrammar }
@@ -40,6 +43,7 @@ impl<'a, 't> Parser<'a, 't> {
     fn field_type(&mut self, alloc: Global) -> Result<FieldType, ScriptFault>
         ensures tokens { IfOk result (λ x. Passes self.old (field_type_lexemes x) self.new) }
         ensures shorter { OnOk result (length self.new.rest.now < length self.old.rest.now) }
+        ensures lines { IfOk result (λ x. PassesLines self.old (field_type_notes x) self.new) }
         ensures reads { (x : FieldType) (more : List Lexeme) →
             Reads self.old (field_type_lexemes x) more result self.new }
         ensures fault { IfErr result IsOfGrammar }
@@ -53,6 +57,8 @@ impl<'a, 't> Parser<'a, 't> {
     fn fields(&mut self, alloc: Global) -> Result<Vec<FieldType>, ScriptFault>
         ensures tokens { IfOk result (λ x. Passes self.old (field_types_lexemes x.items) self.new) }
         ensures shorter { OnOk result (length self.new.rest.now ≤ length self.old.rest.now) }
+        ensures lines { IfOk result (λ x.
+            PassesLines self.old (noted_by_commas (map field_type_notes x.items)) self.new) }
         ensures reads { (xs : List FieldType) (more : List Lexeme) →
             first more ≡ Some (symbol Symbol.RightBrace) →
             Reads self.old (field_types_lexemes xs) more result self.new }
@@ -76,6 +82,7 @@ impl<'a, 't> Parser<'a, 't> {
     fn record_type(&mut self, alloc: Global) -> Result<RecordType, ScriptFault>
         ensures tokens { IfOk result (λ x. Passes self.old (record_type_lexemes x) self.new) }
         ensures shorter { OnOk result (length self.new.rest.now < length self.old.rest.now) }
+        ensures lines { IfOk result (λ x. PassesLines self.old (record_type_notes x) self.new) }
         ensures reads { (x : RecordType) (more : List Lexeme) →
             Reads self.old (record_type_lexemes x) more result self.new }
         ensures fault { IfErr result IsOfGrammar }
@@ -94,6 +101,7 @@ impl<'a, 't> Parser<'a, 't> {
     fn list_type(&mut self, alloc: Global) -> Result<ListType, ScriptFault>
         ensures tokens { IfOk result (λ x. Passes self.old (list_type_lexemes x) self.new) }
         ensures shorter { OnOk result (length self.new.rest.now < length self.old.rest.now) }
+        ensures forward { OnOk result (GoesForward self.old self.new) }
         ensures reads { (x : ListType) (more : List Lexeme) →
             Reads self.old (list_type_lexemes x) more result self.new }
         ensures fault { IfErr result IsOfGrammar }
@@ -111,6 +119,7 @@ impl<'a, 't> Parser<'a, 't> {
         ensures tokens { IfOk result (λ x.
             ahead self.old.rest.now ≡ way_lexeme x ∷ ahead self.new.rest.now) }
         ensures shorter { OnOk result (length self.new.rest.now < length self.old.rest.now) }
+        ensures forward { OnOk result (GoesForward self.old self.new) }
         ensures reads { (x : Way) (more : List Lexeme) →
             Reads self.old (way_lexeme x ∷ []) more result self.new }
         ensures fault { IfErr result IsOfGrammar }
@@ -128,6 +137,7 @@ impl<'a, 't> Parser<'a, 't> {
     fn types(&mut self, alloc: Global) -> Result<Vec<TypeName>, ScriptFault>
         ensures tokens { IfOk result (λ x. Passes self.old (types_lexemes x.items) self.new) }
         ensures shorter { OnOk result (length self.new.rest.now < length self.old.rest.now) }
+        ensures forward { OnOk result (GoesForward self.old self.new) }
         ensures grammatical { IfOk result (λ x. IsTrue (has_one x.items)) }
         ensures reads { (xs : List TypeName) (more : List Lexeme) →
             IsTrue (has_one xs) →
@@ -150,6 +160,7 @@ impl<'a, 't> Parser<'a, 't> {
     fn direction(&mut self, alloc: Global) -> Result<Direction, ScriptFault>
         ensures tokens { IfOk result (λ x. Passes self.old (direction_lexemes x) self.new) }
         ensures shorter { OnOk result (length self.new.rest.now < length self.old.rest.now) }
+        ensures forward { OnOk result (GoesForward self.old self.new) }
         ensures grammatical { IfOk result (λ x. HasPassed (direction_part x) self.new) }
         ensures reads { (x : Direction) (more : List Lexeme) →
             IsPlaced (direction_part x) more →
@@ -170,6 +181,7 @@ impl<'a, 't> Parser<'a, 't> {
     fn directions(&mut self, alloc: Global) -> Result<Vec<Direction>, ScriptFault>
         ensures tokens { IfOk result (λ x. Passes self.old (directions_lexemes x.items) self.new) }
         ensures shorter { OnOk result (length self.new.rest.now ≤ length self.old.rest.now) }
+        ensures forward { OnOk result (GoesForward self.old self.new) }
         ensures grammatical { IfOk result (λ x.
             GoesOver self.old (map direction_part x.items) self.new) }
         ensures reads { (xs : List Direction) (more : List Lexeme) →
@@ -191,6 +203,7 @@ impl<'a, 't> Parser<'a, 't> {
     fn port_type(&mut self, alloc: Global) -> Result<PortType, ScriptFault>
         ensures tokens { IfOk result (λ x. Passes self.old (port_type_lexemes x) self.new) }
         ensures shorter { OnOk result (length self.new.rest.now < length self.old.rest.now) }
+        ensures forward { OnOk result (GoesForward self.old self.new) }
         ensures grammatical { IfOk result (λ x. IsTrue (defined_part (Defined.Port x)).is_right) }
         ensures reads { (x : PortType) (more : List Lexeme) →
             IsTrue (defined_part (Defined.Port x)).is_right →
@@ -215,6 +228,8 @@ impl<'a, 't> Parser<'a, 't> {
         ensures tokens { IfOk result (λ x.
             Passes self.old (declared_names_lexemes x.items) self.new) }
         ensures shorter { OnOk result (length self.new.rest.now < length self.old.rest.now) }
+        ensures lines { IfOk result (λ x.
+            PassesLines self.old (noted_by_commas (map declared_name_notes x.items)) self.new) }
         ensures grammatical { IfOk result (λ x. IsTrue (has_one x.items)) }
         ensures reads { (xs : List DeclaredName) (more : List Lexeme) →
             IsTrue (has_one xs) →
@@ -237,6 +252,8 @@ impl<'a, 't> Parser<'a, 't> {
     fn port_declaration(&mut self, alloc: Global) -> Result<PortDeclaration, ScriptFault>
         ensures tokens { IfOk result (λ x. Passes self.old (port_declaration_lexemes x) self.new) }
         ensures shorter { OnOk result (length self.new.rest.now < length self.old.rest.now) }
+        ensures lines { IfOk result (λ x.
+            PassesLines self.old (port_declaration_notes x) self.new) }
         ensures grammatical { IfOk result (λ x. HasPassed (port_declaration_part x) self.new) }
         ensures reads { (x : PortDeclaration) (more : List Lexeme) →
             IsPlaced (port_declaration_part x) more →
@@ -259,6 +276,8 @@ impl<'a, 't> Parser<'a, 't> {
         ensures tokens { IfOk result (λ x.
             Passes self.old (port_declarations_lexemes x.items) self.new) }
         ensures shorter { OnOk result (length self.new.rest.now ≤ length self.old.rest.now) }
+        ensures lines { IfOk result (λ x.
+            PassesLines self.old (noted_in_order (map port_declaration_notes x.items)) self.new) }
         ensures grammatical { IfOk result (λ x.
             GoesOver self.old (map port_declaration_part x.items) self.new) }
         ensures reads { (xs : List PortDeclaration) (more : List Lexeme) →
@@ -280,6 +299,7 @@ impl<'a, 't> Parser<'a, 't> {
     fn component_type(&mut self, alloc: Global) -> Result<ComponentType, ScriptFault>
         ensures tokens { IfOk result (λ x. Passes self.old (component_type_lexemes x) self.new) }
         ensures shorter { OnOk result (length self.new.rest.now < length self.old.rest.now) }
+        ensures lines { IfOk result (λ x. PassesLines self.old (component_type_notes x) self.new) }
         ensures grammatical { IfOk result (λ x.
             IsTrue (defined_part (Defined.Component x)).is_right) }
         ensures reads { (x : ComponentType) (more : List Lexeme) →
@@ -301,6 +321,7 @@ impl<'a, 't> Parser<'a, 't> {
     pub fn defined_type(&mut self, alloc: Global) -> Result<Defined, ScriptFault>
         ensures tokens { IfOk result (λ x. Passes self.old (defined_lexemes x) self.new) }
         ensures shorter { OnOk result (length self.new.rest.now < length self.old.rest.now) }
+        ensures lines { IfOk result (λ x. PassesLines self.old (defined_notes x) self.new) }
         ensures nested { IfOk result (λ x. defined_depth x ≡ 0) }
         ensures grammatical { IfOk result (λ x. IsTrue (defined_part x).is_right) }
         ensures reads { (x : Defined) (more : List Lexeme) →

@@ -3,6 +3,7 @@ ghost use Rattle.std.specs.Prelude.{ℤ, List, MatchResult, [], OnErr, ◌≡◌
 ghost use Rattle.tp_token.specs.Lexeme.{Lexeme, name, symbol};
 ghost use Rattle.tp_token.specs.Fault.{IsMemory};
 ghost use Rattle.tp_syntax.specs.Ahead.{ahead, before};
+ghost use Rattle.tp_syntax.specs.Forward.{GoesForward};
 ghost use Rattle.tp_syntax.specs.Passing.{Passes};
 ghost use Rattle.tp_syntax.specs.Sequences.{by_commas};
 ghost use Rattle.tp_syntax.specs.Values.{int_lexemes, type_lexemes, value_lexemes, value_field_lexemes, message_lexemes};
@@ -42,6 +43,7 @@ impl<'a, 't> Parser<'a, 't> {
             before (symbol Symbol.Minus) self.old.rest.now
             ≡ int_lexemes z ++ ahead self.new.rest.now) }
         ensures shorter { OnOk result (length self.new.rest.now + 1 ≡ length self.old.rest.now) }
+        ensures forward { OnOk result (GoesForward self.old self.new) }
         ensures reads { (z : ℤ) (more : List Lexeme) →
             int_lexemes z ++ more ≡ before (symbol Symbol.Minus) self.old.rest.now →
             IsTrue (is_integer z) →
@@ -62,6 +64,7 @@ impl<'a, 't> Parser<'a, 't> {
     pub fn integer(&mut self) -> Result<i64, ScriptFault>
         ensures tokens { IfOk result (λ z. Passes self.old (int_lexemes z) self.new) }
         ensures shorter { OnOk result (length self.new.rest.now < length self.old.rest.now) }
+        ensures forward { OnOk result (GoesForward self.old self.new) }
         ensures reads { (z : ℤ) (more : List Lexeme) →
             IsTrue (is_integer z) →
             Reads self.old (int_lexemes z) more result self.new }
@@ -80,6 +83,7 @@ impl<'a, 't> Parser<'a, 't> {
     pub fn type_name(&mut self, alloc: Global) -> Result<TypeName, ScriptFault>
         ensures tokens { IfOk result (λ t. Passes self.old (type_lexemes t) self.new) }
         ensures shorter { OnOk result (length self.new.rest.now < length self.old.rest.now) }
+        ensures forward { OnOk result (GoesForward self.old self.new) }
         ensures reads { (x : TypeName) (more : List Lexeme) →
             Reads self.old (type_lexemes x) more result self.new }
         ensures fault { IfErr result IsOfGrammar }
@@ -102,6 +106,7 @@ impl<'a, 't> Parser<'a, 't> {
     pub fn message(&mut self, alloc: Global, left: u32) -> Result<Message, ScriptFault>
         ensures tokens { IfOk result (λ m. Passes self.old (message_lexemes m) self.new) }
         ensures shorter { OnOk result (length self.new.rest.now < length self.old.rest.now) }
+        ensures forward { OnOk result (GoesForward self.old self.new) }
         ensures nested { IfOk result (λ m. value_depth m.value ≤ left) }
         ensures grammatical { IfOk result (λ m. IsTrue (is_value m.value)) }
         ensures reads { (x : Message) (more : List Lexeme) →
@@ -122,6 +127,7 @@ impl<'a, 't> Parser<'a, 't> {
     pub fn value(&mut self, alloc: Global, left: u32) -> Result<Value, ScriptFault>
         ensures tokens { IfOk result (λ v. Passes self.old (value_lexemes v) self.new) }
         ensures shorter { OnOk result (length self.new.rest.now < length self.old.rest.now) }
+        ensures forward { OnOk result (GoesForward self.old self.new) }
         ensures nested { IfOk result (λ v. value_depth v ≤ left) }
         ensures grammatical { IfOk result (λ v. IsTrue (is_value v)) }
         ensures reads { (x : Value) (more : List Lexeme) →
@@ -166,6 +172,7 @@ impl<'a, 't> Parser<'a, 't> {
             symbol Symbol.LeftBrace ∷ ahead self.old.rest.now
             ≡ value_lexemes v ++ ahead self.new.rest.now) }
         ensures shorter { OnOk result (length self.new.rest.now < length self.old.rest.now) }
+        ensures forward { OnOk result (GoesForward self.old self.new) }
         ensures nested { IfOk result (λ v. value_depth v ≤ left + 1) }
         ensures grammatical { IfOk result (λ v. IsTrue (is_value v)) }
         ensures reads_list { (xs : List Value) (more : List Lexeme) →
@@ -199,6 +206,7 @@ impl<'a, 't> Parser<'a, 't> {
         ensures tokens { IfOk result (λ v.
             Passes self.old (by_commas (map value_lexemes v.items)) self.new) }
         ensures shorter { OnOk result (length self.new.rest.now < length self.old.rest.now) }
+        ensures forward { OnOk result (GoesForward self.old self.new) }
         ensures nested { IfOk result (λ v. deepest (map value_depth v.items) ≤ left) }
         ensures grammatical { IfOk result (λ v. IsTrue (one_and_each (map is_value v.items))) }
         ensures reads { (xs : List Value) (more : List Lexeme) →
@@ -224,6 +232,7 @@ impl<'a, 't> Parser<'a, 't> {
         ensures tokens { IfOk result (λ v.
             Passes self.old (by_commas (map value_field_lexemes v.items)) self.new) }
         ensures shorter { OnOk result (length self.new.rest.now < length self.old.rest.now) }
+        ensures forward { OnOk result (GoesForward self.old self.new) }
         ensures nested { IfOk result (λ v. deepest (map value_field_depth v.items) ≤ left) }
         ensures grammatical { IfOk result (λ v.
             IsTrue (one_and_each (map is_value_field v.items))) }
@@ -250,6 +259,7 @@ impl<'a, 't> Parser<'a, 't> {
     pub fn value_field(&mut self, alloc: Global, left: u32) -> Result<ValueField, ScriptFault>
         ensures tokens { IfOk result (λ f. Passes self.old (value_field_lexemes f) self.new) }
         ensures shorter { OnOk result (length self.new.rest.now < length self.old.rest.now) }
+        ensures forward { OnOk result (GoesForward self.old self.new) }
         ensures nested { IfOk result (λ f. value_field_depth f ≤ left) }
         ensures grammatical { IfOk result (λ f. IsTrue (is_value_field f)) }
         ensures reads { (x : ValueField) (more : List Lexeme) →

@@ -52,6 +52,7 @@ def printed_by(
 
 
 def _end_of(process: subprocess.Popen[bytes], most_seconds: Optional[float]) -> tuple[Optional[int], str]:
+    """The same of a program that has begun."""
     is_late = False
     try:
         printed, _ = process.communicate(timeout=most_seconds)

@@ -4,8 +4,7 @@ use Rattle.tp_play.specs.Sizes.{capped, size_of_body}
 use Rattle.tp_play.specs.Behaviours.{size_of_behaviour}
 use Rattle.tp_play.specs.Instances.{behaviour_of}
 use Rattle.tp_script.proofs.Totals.{sums, few, many}
-use Rattle.std.proofs.Common.{◌<◌, refl}
-use Rattle.tp_name.specs.Refused.{TellsAt}
+use Rattle.std.proofs.Common.{refl}
 use Rattle.tp_script.proofs.ModulesTold.{above}
 use Rattle.tp_script.proofs.total.check_size.Goals as goal
 

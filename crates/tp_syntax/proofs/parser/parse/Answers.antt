@@ -8,19 +8,18 @@ use Rattle.tp_token.specs.declared.fault.ScriptFault.TheVariants.{Refused, Memor
 use Rattle.tp_syntax.specs.Grammar.{IsGrammatical}
 use Rattle.tp_syntax.specs.Refusals.{HasTokens, IsOfGrammar, IsUnread}
 use Rattle.tp_token.specs.declared.token.Placed.{Placed}
-use Rattle.tp_token.specs.Lexeme.{Lexeme, PlacedLexeme, lexeme_of, placed_lexeme}
-use Rattle.tp_syntax.specs.Ahead.{lexemes, plain, ahead}
+use Rattle.tp_token.specs.Lexeme.{Lexeme, PlacedLexeme, placed_lexeme}
+use Rattle.tp_syntax.specs.Ahead.{plain, ahead}
 use Rattle.tp_token.specs.Cut.{AreTokens}
 use Rattle.tp_token.proofs.Unique.{tokens_are_unique}
 use Rattle.tp_tree.specs.declared.tree.Module.{Module}
 use Rattle.tp_syntax.specs.Definitions.{IsReadAs, module_lexemes}
 use Rattle.tp_syntax.specs.Nesting.{module_depth}
+use Rattle.tp_syntax.specs.Lines.{Noted, AreNoted, module_notes}
+use Rattle.tp_syntax.specs.Forward.{placed_ahead}
+use Rattle.tp_syntax.proofs.Lines.{tokens_of_lines}
 use Rattle.tp_syntax.proofs.Reading.{none_ahead}
 use Rattle.tp_syntax.proofs.parser.parse.Goals as goal
-
-tokens_of_lines : (ps : List Placed) → map {A = PlacedLexeme} {B = Lexeme} (λ t. t.token) (map placed_lexeme ps) ≡ lexemes ps
-tokens_of_lines [] = refl
-tokens_of_lines (p ∷ ps) = ap (λ (ts : List Lexeme). lexeme_of p.token ∷ ts) (tokens_of_lines ps)
 
 nothing_left : (a b : List Lexeme) (ps : List Placed) → length ps ≡ 0 → a ≡ b ++ ahead ps → a ≡ b
 nothing_left a b [] h e = e ∙ append-nil b
@@ -33,6 +32,20 @@ returns-clause-read c =
       c.in_ok-tokens.ensures.tokens,
       ap plain (tokens_of_lines c.in_ok-tokens.tokens.items) ∙ ap ahead (sym c.deref.ensures.value)
           ∙ nothing_left (ahead c.deref.result.now) (module_lexemes c.in_ok-module.module) c.module.new.self.rest.now none c.in_ok-module.ensures.tokens,
+    )
+
+-- where no token is left, those noted are all
+all_noted : (ns : List Noted) (ts : List PlacedLexeme) (ps : List Placed) → length ps ≡ 0 → AreNoted ns ts (placed_ahead ps) → AreNoted ns ts []
+all_noted ns ts [] h are = are
+all_noted ns ts (p ∷ ps) h are = absurd (omega arith)
+
+pub returns-clause-lines : goal.returns-clause-lines
+returns-clause-lines c =
+    let none : length c.module.new.self.rest.now ≡ 0 = grind arith in (
+      map placed_lexeme c.in_ok-tokens.tokens.items,
+      c.in_ok-tokens.ensures.tokens,
+      subst (λ (ps : List Placed). AreNoted (module_notes c.in_ok-module.module) (placed_ahead ps) []) c.deref.ensures.value
+          (all_noted (module_notes c.in_ok-module.module) (placed_ahead c.deref.result.now) c.module.new.self.rest.now none c.in_ok-module.ensures.lines.are),
     )
 
 -- the tokens of the text are those of the module, and none stands behind them

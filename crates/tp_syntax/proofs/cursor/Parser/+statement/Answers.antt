@@ -1,31 +1,34 @@
 -- One more statement or branch is read behind the others; a `for` and an `[else]` have their block.
-use Rattle.std.proofs.Common.{◌<◌, ◌&&◌, not, length, inl, refl, List, ◌∷◌, ◌++◌, append_assoc, ap, sym, ◌∙◌, arith, subst, rules, ◌≤◌, ◌||◌, ◌+◌, max, [], string_bytes, true}
+use Rattle.std.proofs.Common.{◌<◌, ◌&&◌, not, length, inl, refl, List, ◌∷◌, ◌++◌, append_assoc, ap, sym, ◌∙◌, arith, subst, rules, ◌≤◌, ◌+◌, [], string_bytes, true}
 use Rattle.tp_token.specs.declared.word.Word.TheVariants as w
 use Rattle.tp_token.specs.declared.token.Symbol.TheVariants.{LeftBracket, RightBracket, LeftBrace, RightBrace}
 use Rattle.tp_token.specs.Lexeme.{Lexeme, word, symbol}
 use Rattle.tp_syntax.specs.Sequences.{braced, end_lexemes}
-use Rattle.tp_syntax.specs.Statements.{statement_lexemes, branch_lexemes, statements_lexemes, turns_lexemes, action_lexemes, body_lexemes, receive_lexemes, branches_lexemes, otherwise_lexemes}
+use Rattle.tp_syntax.specs.Statements.{statement_lexemes, branch_lexemes, statements_lexemes, turns_lexemes, receive_lexemes, otherwise_lexemes, send_lexemes, control_lexemes, all_ports_lexemes, set_verdict_lexemes}
 use Rattle.tp_syntax.proofs.StatementTokens.{counted_made, else_branch_made, for_append}
 use Rattle.tp_syntax.proofs.Commas.{push_read_all}
-use Rattle.tp_syntax.specs.Nesting.{branch_depth, statement_depth, action_depth, body_depth, receive_depth, statements_depth, branches_depth, otherwise_depth}
+use Rattle.tp_syntax.specs.Nesting.{branch_depth, statement_depth, statements_depth, branches_depth, otherwise_depth}
 use Rattle.tp_syntax.proofs.Nesting.{counted_depth_made, else_branch_depth_made, push_nests}
-use Rattle.std.proofs.lemmas.Bool.{and_from, false≢true, iff_false, and_parts}
-use Rattle.tp_syntax.specs.Grammar.{are_parts, body_part, branch_part, branches_parts, has_one, is_integer, is_template_part, otherwise_parts, statement_part, statements_parts, Part, action_part}
-use Rattle.tp_syntax.proofs.StatementTokens as tokens
-use Rattle.tp_syntax.proofs.Nesting as nesting
+use Rattle.std.proofs.lemmas.Bool.{and_from, false≢true, iff_false}
+use Rattle.tp_syntax.specs.Grammar.{are_parts, body_part, branch_part, branches_parts, has_one, is_integer, is_template_part, otherwise_parts, statement_part, statements_parts}
 use Rattle.tp_syntax.proofs.Grammar as grammar
 use Rattle.tp_syntax.proofs.Standing.{between_one, between_parts, between_push, between_then, bracket_goes_on, between_none}
 use Rattle.tp_syntax.proofs.Branches.{alt_of_branches, alt_of_else}
 use Rattle.std.proofs.lemmas.Grind.{common_steps}
 use Rattle.tp_syntax.proofs.Reading.{handed, end_at, branch_first, first_is}
 use Rattle.tp_syntax.proofs.Remaining.{RemainAll, all_next, all_last, all_deep, parts_stand}
-use Rattle.tp_syntax.specs.Reading.{is_branch_ahead, IsPlaced, Stands, may_stand}
-use Rattle.tp_syntax.proofs.StatementParts.{branch_at, ends_or, ends_blockless, body_stops, body_next, body_none, no_otherwise, otherwise_next, branches_stand, otherwise_stands, otherwise_no_branch, alt_read, zero_length, Says, Begun, kind_begun, begun}
-use Rattle.tp_syntax.proofs.StatementReading.{statement_begins, statement_goes, branch_begins, action_kind, same_ended, same_braced}
+use Rattle.tp_syntax.specs.Reading.{is_branch_ahead, Stands, may_stand}
+use Rattle.tp_syntax.proofs.StatementParts.{branch_at, body_next, body_none, no_otherwise, otherwise_next, branches_stand, otherwise_stands, otherwise_no_branch, alt_read, zero_length, Says}
+use Rattle.tp_syntax.proofs.StatementGiven.{action_given, alt_given, branch_ends, branch_given, counted_given, statement_ends, statement_given}
+use Rattle.tp_syntax.proofs.StatementReading.{statement_begins, statement_goes, branch_begins, action_no_zero}
 use Rattle.tp_tree.specs.declared.tree.Statement.{out-Statement}
 use Rattle.tp_tree.specs.declared.tree.Branch.{out-Branch}
 use Rattle.tp_tree.specs.declared.tree.Counted.{out-Counted}
 use Rattle.tp_syntax.specs.Values.{int_lexemes}
+use Rattle.tp_syntax.specs.Ahead.{starts_zero}
+use Rattle.tp_syntax.proofs.Lines.{passes_at, passes_next, passes_none, passes_one, passes_push, passes_then, passes_unnoted}
+use Rattle.tp_syntax.proofs.Notes as notes
+use Rattle.tp_syntax.specs.Lines.{branch_notes, statement_notes}
 use Rattle.tp_syntax.proofs.cursor.Parser.+statement.Goals as goal
 use Rattle.tp_syntax.proofs.cursor.Parser.+statement.Goals.{alt-else-is_empty-via-then-is_empty+else-is_none, alt-else-is_empty-via-else-is_empty}
 
@@ -41,6 +44,8 @@ statements-more-preserved t c = record {
   grammatical = rw c.in_ok-push.ensures.items
       (between_push statement_part c.more.statements.items c.in_ok-statement.statement _ _ _ c.more.invariant.grammatical c.more-test.ensures.goes_on c.in_ok-statement.ensures.grammatical);
   shorter = omega (arith, c.more.invariant.shorter, c.in_ok-statement.ensures.shorter);
+  lines = rw c.in_ok-push.ensures.items
+      (passes_push statement_notes c.more.statements.items c.in_ok-statement.statement c.more.invariant.lines c.in_ok-statement.ensures.lines);
 }
 
 pub branches-more-preserved : goal.branches-more-preserved
@@ -56,6 +61,8 @@ branches-more-preserved t c = record {
       (between_push branch_part c.more.branches.items c.in_ok-branch.branch _ _ _ c.more.invariant.grammatical
       (bracket_goes_on _ (c.more-test.ensures.0 refl).0) c.in_ok-branch.ensures.grammatical);
   shorter = omega (arith, c.more.invariant.shorter, c.in_ok-branch.ensures.shorter);
+  lines = rw c.in_ok-push.ensures.items
+      (passes_push branch_notes c.more.branches.items c.in_ok-branch.branch c.more.invariant.lines c.in_ok-branch.ensures.lines);
 }
 
 pub counted-returns-clause-tokens : goal.counted-returns-clause-tokens
@@ -149,6 +156,7 @@ statements-more-init t c = record {
   grammatical = rw c.new-statements.ensures.items (between_none _);
   reads = λ xs more stand deep ends e. (xs, all_deep statement_depth c.args.left xs deep, stand, e);
   shorter = first_of (search rules, grind (arith, common_steps));
+  lines = rw c.new-statements.ensures.items (passes_none _);
 }
 
 pub statements-returns-in_err-statement-clause-reads : goal.statements-returns-in_err-statement-clause-reads
@@ -168,6 +176,7 @@ branches-more-init t c = record {
   grammatical = rw c.new-branches.ensures.items (between_none _);
   reads = λ xs more stand deep other e. (xs, all_deep branch_depth c.args.left xs deep, stand, e);
   shorter = first_of (search rules, grind (arith, common_steps));
+  lines = rw c.new-branches.ensures.items (passes_none _);
 }
 
 pub branches-returns-in_err-branch-clause-reads : goal.branches-returns-in_err-branch-clause-reads
@@ -183,160 +192,76 @@ branches-returns-clause-reads t c =
 pub statement-returns-in_err-action-clause-reads : goal.statement-returns-in_err-action-clause-reads
 statement-returns-in_err-action-clause-reads t c =
     λ x more placed deep e.
-    let s = out-Statement x in
-    let stands : IsPlaced (record { is_right = (action_part s.action).is_right; is_ended = (action_part s.action).is_ended || s.has_semicolon }) more =
-    subst (λ (p : Part). IsPlaced p more) (grammar.statement_out x) placed in
-    let e0 = e ∙ ap (λ (l : List Lexeme). l ++ more) (tokens.statement_out x) ∙ append_assoc (action_lexemes s.action) (end_lexemes s.has_semicolon) more in
-    let fits : action_depth s.action ≤ c.args.left = rw nesting.statement_depth_out at deep in
-    handed c.from_residual.result _ _ c.from_residual.ensures.1 (c.in_err-action.ensures.reads s.action (end_lexemes s.has_semicolon ++ more) stands.0 fits (ends_or (action_part s.action).is_ended s.has_semicolon more stands.1) e0)
+    let g = statement_given c.args.left x more _ placed deep e in
+    handed c.from_residual.result _ _ c.from_residual.ensures.1 (c.in_err-action.ensures.reads (out-Statement x).action _ g.right g.fits g.ends g.read)
 
 pub statement-returns-in_err-has_semicolon-clause-reads : goal.statement-returns-in_err-has_semicolon-clause-reads
 statement-returns-in_err-has_semicolon-clause-reads t c =
     λ x more placed deep e.
-    let s = out-Statement x in
-    let stands : IsPlaced (record { is_right = (action_part s.action).is_right; is_ended = (action_part s.action).is_ended || s.has_semicolon }) more =
-    subst (λ (p : Part). IsPlaced p more) (grammar.statement_out x) placed in
-    let e0 = e ∙ ap (λ (l : List Lexeme). l ++ more) (tokens.statement_out x) ∙ append_assoc (action_lexemes s.action) (end_lexemes s.has_semicolon) more in
-    let fits : action_depth s.action ≤ c.args.left = rw nesting.statement_depth_out at deep in
-    let e1 = c.in_ok-action.ensures.reads s.action (end_lexemes s.has_semicolon ++ more) stands.0 fits (ends_or (action_part s.action).is_ended s.has_semicolon more stands.1) e0 in
-    let same = same_ended c.in_ok-action.action s.action (end_lexemes s.has_semicolon ++ more)
-    (sym (c.in_ok-action.ensures.tokens ∙ ap (λ (l : List Lexeme). action_lexemes c.in_ok-action.action ++ l) e1) ∙ e0) in
-    let ended = subst (λ b. Stands (b || s.has_semicolon) more) (sym (c.ends_in_block.ensures ∙ same)) stands.1 in
-    handed c.from_residual-in_err-has_semicolon.result _ _ c.from_residual-in_err-has_semicolon.ensures.1 (c.in_err-has_semicolon.ensures.reads s.has_semicolon more ended e1)
+    let g = statement_given c.args.left x more _ placed deep e in
+    let e1 = c.in_ok-action.ensures.reads (out-Statement x).action _ g.right g.fits g.ends g.read in
+    let ended = statement_ends c.args.left x more _ _ c.in_ok-action.action _ g c.in_ok-action.ensures.tokens e1 c.ends_in_block.ensures in
+    handed c.from_residual-in_err-has_semicolon.result _ _ c.from_residual-in_err-has_semicolon.ensures.1 (c.in_err-has_semicolon.ensures.reads (out-Statement x).has_semicolon more ended e1)
 
 pub statement-returns-clause-reads : goal.statement-returns-clause-reads
 statement-returns-clause-reads t c =
     λ x more placed deep e.
-    let s = out-Statement x in
-    let stands : IsPlaced (record { is_right = (action_part s.action).is_right; is_ended = (action_part s.action).is_ended || s.has_semicolon }) more =
-    subst (λ (p : Part). IsPlaced p more) (grammar.statement_out x) placed in
-    let e0 = e ∙ ap (λ (l : List Lexeme). l ++ more) (tokens.statement_out x) ∙ append_assoc (action_lexemes s.action) (end_lexemes s.has_semicolon) more in
-    let fits : action_depth s.action ≤ c.args.left = rw nesting.statement_depth_out at deep in
-    let e1 = c.in_ok-action.ensures.reads s.action (end_lexemes s.has_semicolon ++ more) stands.0 fits (ends_or (action_part s.action).is_ended s.has_semicolon more stands.1) e0 in
-    let same = same_ended c.in_ok-action.action s.action (end_lexemes s.has_semicolon ++ more)
-    (sym (c.in_ok-action.ensures.tokens ∙ ap (λ (l : List Lexeme). action_lexemes c.in_ok-action.action ++ l) e1) ∙ e0) in
-    let ended = subst (λ b. Stands (b || s.has_semicolon) more) (sym (c.ends_in_block.ensures ∙ same)) stands.1 in
-    c.in_ok-has_semicolon.ensures.reads s.has_semicolon more ended e1
+    let g = statement_given c.args.left x more _ placed deep e in
+    let e1 = c.in_ok-action.ensures.reads (out-Statement x).action _ g.right g.fits g.ends g.read in
+    let ended = statement_ends c.args.left x more _ _ c.in_ok-action.action _ g c.in_ok-action.ensures.tokens e1 c.ends_in_block.ensures in
+    c.in_ok-has_semicolon.ensures.reads (out-Statement x).has_semicolon more ended e1
 
 pub branch-returns-in_err-open-clause-reads : goal.branch-returns-in_err-open-clause-reads
 branch-returns-in_err-open-clause-reads t c =
     λ x more placed deep e.
-    let s = out-Branch x in
-    let stands : IsPlaced (record { is_right = is_template_part s.receive.template && (body_part s.body).is_right; is_ended = (body_part s.body).is_ended || s.has_semicolon }) more =
-    subst (λ (p : Part). IsPlaced p more) (grammar.branch_out x) placed in
-    let both = and_parts (is_template_part s.receive.template) (body_part s.body).is_right stands.0 in
-    let fits : max 1 (max (receive_depth s.receive) (body_depth s.body)) ≤ c.args.left = rw nesting.branch_depth_out at deep in
-    let room : 0 < c.args.left = omega arith in
-    let receive_fits : receive_depth s.receive ≤ c.args.left = omega arith in
-    let body_fits : body_depth s.body ≤ c.args.left = omega arith in
-    let rest = end_lexemes s.has_semicolon ++ more in
-    let e0 = e ∙ ap (λ (l : List Lexeme). l ++ more) (tokens.branch_out x)
-    ∙ ap (λ (l : List Lexeme). symbol LeftBracket ∷ symbol RightBracket ∷ l) (append_assoc (receive_lexemes s.receive) (body_lexemes s.body ++ end_lexemes s.has_semicolon) more
-    ∙ ap (λ (l : List Lexeme). receive_lexemes s.receive ++ l) (append_assoc (body_lexemes s.body) (end_lexemes s.has_semicolon) more)) in
-    handed c.from_residual.result _ _ c.from_residual.ensures.1 (c.in_err-open.ensures.reads _ room e0)
+    let g = branch_given c.args.left x more _ placed deep e in
+    handed c.from_residual.result _ _ c.from_residual.ensures.1 (c.in_err-open.ensures.reads _ g.room g.read)
 
 pub branch-returns-in_err-symbol-clause-reads : goal.branch-returns-in_err-symbol-clause-reads
 branch-returns-in_err-symbol-clause-reads t c =
     λ x more placed deep e.
-    let s = out-Branch x in
-    let stands : IsPlaced (record { is_right = is_template_part s.receive.template && (body_part s.body).is_right; is_ended = (body_part s.body).is_ended || s.has_semicolon }) more =
-    subst (λ (p : Part). IsPlaced p more) (grammar.branch_out x) placed in
-    let both = and_parts (is_template_part s.receive.template) (body_part s.body).is_right stands.0 in
-    let fits : max 1 (max (receive_depth s.receive) (body_depth s.body)) ≤ c.args.left = rw nesting.branch_depth_out at deep in
-    let room : 0 < c.args.left = omega arith in
-    let receive_fits : receive_depth s.receive ≤ c.args.left = omega arith in
-    let body_fits : body_depth s.body ≤ c.args.left = omega arith in
-    let rest = end_lexemes s.has_semicolon ++ more in
-    let e0 = e ∙ ap (λ (l : List Lexeme). l ++ more) (tokens.branch_out x)
-    ∙ ap (λ (l : List Lexeme). symbol LeftBracket ∷ symbol RightBracket ∷ l) (append_assoc (receive_lexemes s.receive) (body_lexemes s.body ++ end_lexemes s.has_semicolon) more
-    ∙ ap (λ (l : List Lexeme). receive_lexemes s.receive ++ l) (append_assoc (body_lexemes s.body) (end_lexemes s.has_semicolon) more)) in
-    let e1 = c.in_ok-open.ensures.reads _ room e0 in
+    let g = branch_given c.args.left x more _ placed deep e in
+    let e1 = c.in_ok-open.ensures.reads _ g.room g.read in
     handed c.from_residual-in_err-symbol.result _ _ c.from_residual-in_err-symbol.ensures.1 (c.in_err-symbol.ensures.reads _ e1)
 
 pub branch-returns-in_err-receive-clause-reads : goal.branch-returns-in_err-receive-clause-reads
 branch-returns-in_err-receive-clause-reads t c =
     λ x more placed deep e.
-    let s = out-Branch x in
-    let stands : IsPlaced (record { is_right = is_template_part s.receive.template && (body_part s.body).is_right; is_ended = (body_part s.body).is_ended || s.has_semicolon }) more =
-    subst (λ (p : Part). IsPlaced p more) (grammar.branch_out x) placed in
-    let both = and_parts (is_template_part s.receive.template) (body_part s.body).is_right stands.0 in
-    let fits : max 1 (max (receive_depth s.receive) (body_depth s.body)) ≤ c.args.left = rw nesting.branch_depth_out at deep in
-    let room : 0 < c.args.left = omega arith in
-    let receive_fits : receive_depth s.receive ≤ c.args.left = omega arith in
-    let body_fits : body_depth s.body ≤ c.args.left = omega arith in
-    let rest = end_lexemes s.has_semicolon ++ more in
-    let e0 = e ∙ ap (λ (l : List Lexeme). l ++ more) (tokens.branch_out x)
-    ∙ ap (λ (l : List Lexeme). symbol LeftBracket ∷ symbol RightBracket ∷ l) (append_assoc (receive_lexemes s.receive) (body_lexemes s.body ++ end_lexemes s.has_semicolon) more
-    ∙ ap (λ (l : List Lexeme). receive_lexemes s.receive ++ l) (append_assoc (body_lexemes s.body) (end_lexemes s.has_semicolon) more)) in
-    let e1 = c.in_ok-open.ensures.reads _ room e0 in
+    let g = branch_given c.args.left x more _ placed deep e in
+    let e1 = c.in_ok-open.ensures.reads _ g.room g.read in
     let e2 = c.in_ok-symbol.ensures.reads _ e1 in
-    handed c.from_residual-in_err-receive.result _ _ c.from_residual-in_err-receive.ensures.1 (c.in_err-receive.ensures.reads s.receive (body_lexemes s.body ++ rest) both.0 receive_fits (body_stops s.body s.has_semicolon more stands.1) e2)
+    handed c.from_residual-in_err-receive.result _ _ c.from_residual-in_err-receive.ensures.1 (c.in_err-receive.ensures.reads (out-Branch x).receive _ g.right g.fits g.stops e2)
 
 pub branch-returns-in_err-body-clause-reads : goal.branch-returns-in_err-body-clause-reads
 branch-returns-in_err-body-clause-reads t c =
     λ x more placed deep e.
-    let s = out-Branch x in
-    let stands : IsPlaced (record { is_right = is_template_part s.receive.template && (body_part s.body).is_right; is_ended = (body_part s.body).is_ended || s.has_semicolon }) more =
-    subst (λ (p : Part). IsPlaced p more) (grammar.branch_out x) placed in
-    let both = and_parts (is_template_part s.receive.template) (body_part s.body).is_right stands.0 in
-    let fits : max 1 (max (receive_depth s.receive) (body_depth s.body)) ≤ c.args.left = rw nesting.branch_depth_out at deep in
-    let room : 0 < c.args.left = omega arith in
-    let receive_fits : receive_depth s.receive ≤ c.args.left = omega arith in
-    let body_fits : body_depth s.body ≤ c.args.left = omega arith in
-    let rest = end_lexemes s.has_semicolon ++ more in
-    let e0 = e ∙ ap (λ (l : List Lexeme). l ++ more) (tokens.branch_out x)
-    ∙ ap (λ (l : List Lexeme). symbol LeftBracket ∷ symbol RightBracket ∷ l) (append_assoc (receive_lexemes s.receive) (body_lexemes s.body ++ end_lexemes s.has_semicolon) more
-    ∙ ap (λ (l : List Lexeme). receive_lexemes s.receive ++ l) (append_assoc (body_lexemes s.body) (end_lexemes s.has_semicolon) more)) in
-    let e1 = c.in_ok-open.ensures.reads _ room e0 in
+    let g = branch_given c.args.left x more _ placed deep e in
+    let e1 = c.in_ok-open.ensures.reads _ g.room g.read in
     let e2 = c.in_ok-symbol.ensures.reads _ e1 in
-    let e3 = c.in_ok-receive.ensures.reads s.receive (body_lexemes s.body ++ rest) both.0 receive_fits (body_stops s.body s.has_semicolon more stands.1) e2 in
-    handed c.from_residual-in_err-body.result _ _ c.from_residual-in_err-body.ensures.1 (c.in_err-body.ensures.reads s.body rest both.1 body_fits (ends_blockless (body_part s.body).is_ended s.has_semicolon more stands.1) e3)
+    let e3 = c.in_ok-receive.ensures.reads (out-Branch x).receive _ g.right g.fits g.stops e2 in
+    handed c.from_residual-in_err-body.result _ _ c.from_residual-in_err-body.ensures.1 (c.in_err-body.ensures.reads (out-Branch x).body _ g.body_right g.body_fits g.body_ends e3)
 
 pub branch-returns-in_err-has_semicolon-clause-reads : goal.branch-returns-in_err-has_semicolon-clause-reads
 branch-returns-in_err-has_semicolon-clause-reads t c =
     λ x more placed deep e.
-    let s = out-Branch x in
-    let stands : IsPlaced (record { is_right = is_template_part s.receive.template && (body_part s.body).is_right; is_ended = (body_part s.body).is_ended || s.has_semicolon }) more =
-    subst (λ (p : Part). IsPlaced p more) (grammar.branch_out x) placed in
-    let both = and_parts (is_template_part s.receive.template) (body_part s.body).is_right stands.0 in
-    let fits : max 1 (max (receive_depth s.receive) (body_depth s.body)) ≤ c.args.left = rw nesting.branch_depth_out at deep in
-    let room : 0 < c.args.left = omega arith in
-    let receive_fits : receive_depth s.receive ≤ c.args.left = omega arith in
-    let body_fits : body_depth s.body ≤ c.args.left = omega arith in
-    let rest = end_lexemes s.has_semicolon ++ more in
-    let e0 = e ∙ ap (λ (l : List Lexeme). l ++ more) (tokens.branch_out x)
-    ∙ ap (λ (l : List Lexeme). symbol LeftBracket ∷ symbol RightBracket ∷ l) (append_assoc (receive_lexemes s.receive) (body_lexemes s.body ++ end_lexemes s.has_semicolon) more
-    ∙ ap (λ (l : List Lexeme). receive_lexemes s.receive ++ l) (append_assoc (body_lexemes s.body) (end_lexemes s.has_semicolon) more)) in
-    let e1 = c.in_ok-open.ensures.reads _ room e0 in
+    let g = branch_given c.args.left x more _ placed deep e in
+    let e1 = c.in_ok-open.ensures.reads _ g.room g.read in
     let e2 = c.in_ok-symbol.ensures.reads _ e1 in
-    let e3 = c.in_ok-receive.ensures.reads s.receive (body_lexemes s.body ++ rest) both.0 receive_fits (body_stops s.body s.has_semicolon more stands.1) e2 in
-    let e4 = c.in_ok-body.ensures.reads s.body rest both.1 body_fits (ends_blockless (body_part s.body).is_ended s.has_semicolon more stands.1) e3 in
-    let same = same_braced c.in_ok-body.body s.body rest (sym (c.in_ok-body.ensures.tokens ∙ ap (λ (l : List Lexeme). body_lexemes c.in_ok-body.body ++ l) e4) ∙ e3) in
-    let ended = subst (λ b. Stands (b || s.has_semicolon) more) (sym (c.is_block.ensures ∙ same)) stands.1 in
-    handed c.from_residual-in_err-has_semicolon.result _ _ c.from_residual-in_err-has_semicolon.ensures.1 (c.in_err-has_semicolon.ensures.reads s.has_semicolon more ended e4)
+    let e3 = c.in_ok-receive.ensures.reads (out-Branch x).receive _ g.right g.fits g.stops e2 in
+    let e4 = c.in_ok-body.ensures.reads (out-Branch x).body _ g.body_right g.body_fits g.body_ends e3 in
+    let ended = branch_ends c.args.left x more _ _ _ c.in_ok-body.body _ g e3 c.in_ok-body.ensures.tokens e4 c.is_block.ensures in
+    handed c.from_residual-in_err-has_semicolon.result _ _ c.from_residual-in_err-has_semicolon.ensures.1 (c.in_err-has_semicolon.ensures.reads (out-Branch x).has_semicolon more ended e4)
 
 pub branch-returns-clause-reads : goal.branch-returns-clause-reads
 branch-returns-clause-reads t c =
     λ x more placed deep e.
-    let s = out-Branch x in
-    let stands : IsPlaced (record { is_right = is_template_part s.receive.template && (body_part s.body).is_right; is_ended = (body_part s.body).is_ended || s.has_semicolon }) more =
-    subst (λ (p : Part). IsPlaced p more) (grammar.branch_out x) placed in
-    let both = and_parts (is_template_part s.receive.template) (body_part s.body).is_right stands.0 in
-    let fits : max 1 (max (receive_depth s.receive) (body_depth s.body)) ≤ c.args.left = rw nesting.branch_depth_out at deep in
-    let room : 0 < c.args.left = omega arith in
-    let receive_fits : receive_depth s.receive ≤ c.args.left = omega arith in
-    let body_fits : body_depth s.body ≤ c.args.left = omega arith in
-    let rest = end_lexemes s.has_semicolon ++ more in
-    let e0 = e ∙ ap (λ (l : List Lexeme). l ++ more) (tokens.branch_out x)
-    ∙ ap (λ (l : List Lexeme). symbol LeftBracket ∷ symbol RightBracket ∷ l) (append_assoc (receive_lexemes s.receive) (body_lexemes s.body ++ end_lexemes s.has_semicolon) more
-    ∙ ap (λ (l : List Lexeme). receive_lexemes s.receive ++ l) (append_assoc (body_lexemes s.body) (end_lexemes s.has_semicolon) more)) in
-    let e1 = c.in_ok-open.ensures.reads _ room e0 in
+    let g = branch_given c.args.left x more _ placed deep e in
+    let e1 = c.in_ok-open.ensures.reads _ g.room g.read in
     let e2 = c.in_ok-symbol.ensures.reads _ e1 in
-    let e3 = c.in_ok-receive.ensures.reads s.receive (body_lexemes s.body ++ rest) both.0 receive_fits (body_stops s.body s.has_semicolon more stands.1) e2 in
-    let e4 = c.in_ok-body.ensures.reads s.body rest both.1 body_fits (ends_blockless (body_part s.body).is_ended s.has_semicolon more stands.1) e3 in
-    let same = same_braced c.in_ok-body.body s.body rest (sym (c.in_ok-body.ensures.tokens ∙ ap (λ (l : List Lexeme). body_lexemes c.in_ok-body.body ++ l) e4) ∙ e3) in
-    let ended = subst (λ b. Stands (b || s.has_semicolon) more) (sym (c.is_block.ensures ∙ same)) stands.1 in
-    c.in_ok-has_semicolon.ensures.reads s.has_semicolon more ended e4
+    let e3 = c.in_ok-receive.ensures.reads (out-Branch x).receive _ g.right g.fits g.stops e2 in
+    let e4 = c.in_ok-body.ensures.reads (out-Branch x).body _ g.body_right g.body_fits g.body_ends e3 in
+    let ended = branch_ends c.args.left x more _ _ _ c.in_ok-body.body _ g e3 c.in_ok-body.ensures.tokens e4 c.is_block.ensures in
+    c.in_ok-has_semicolon.ensures.reads (out-Branch x).has_semicolon more ended e4
 
 pub body-returns-then-not-is_symbol_at-clause-reads : goal.body-returns-then-not-is_symbol_at-clause-reads
 body-returns-then-not-is_symbol_at-clause-reads t c =
@@ -432,43 +357,22 @@ otherwise-returns-clause-reads t c =
 pub counted-returns-in_err-turns-clause-reads : goal.counted-returns-in_err-turns-clause-reads
 counted-returns-in_err-turns-clause-reads t c =
     λ x more right deep e.
-    let s = out-Counted x in
-    let parts = sym (ap (λ (p : Part). p.is_right) (grammar.counted_out x)) ∙ right in
-    let first_is_integer = and_parts (is_integer s.turns.first) (is_integer s.turns.bound && are_parts (statements_parts s.block.items)) parts in
-    let bound_is_integer = and_parts (is_integer s.turns.bound) (are_parts (statements_parts s.block.items)) first_is_integer.1 in
-    let fits : statements_depth s.block.items + 1 ≤ c.args.left = rw nesting.counted_depth_out at deep in
-    let room : 0 < c.args.left = omega arith in
-    let e0 = e ∙ ap (λ (l : List Lexeme). l ++ more) (tokens.counted_out x)
-    ∙ for_append (string_bytes s.turns.name) (int_lexemes s.turns.first) (int_lexemes s.turns.bound) (braced (statements_lexemes s.block.items)) more in
-    handed c.from_residual.result _ _ c.from_residual.ensures.1 (c.in_err-turns.ensures.reads s.turns (braced (statements_lexemes s.block.items) ++ more) first_is_integer.0 bound_is_integer.0 room e0)
+    let g = counted_given c.args.left x more _ right deep e in
+    handed c.from_residual.result _ _ c.from_residual.ensures.1 (c.in_err-turns.ensures.reads (out-Counted x).turns _ g.first_right g.bound_right g.room g.read)
 
 pub counted-returns-in_err-block-clause-reads : goal.counted-returns-in_err-block-clause-reads
 counted-returns-in_err-block-clause-reads t c =
     λ x more right deep e.
-    let s = out-Counted x in
-    let parts = sym (ap (λ (p : Part). p.is_right) (grammar.counted_out x)) ∙ right in
-    let first_is_integer = and_parts (is_integer s.turns.first) (is_integer s.turns.bound && are_parts (statements_parts s.block.items)) parts in
-    let bound_is_integer = and_parts (is_integer s.turns.bound) (are_parts (statements_parts s.block.items)) first_is_integer.1 in
-    let fits : statements_depth s.block.items + 1 ≤ c.args.left = rw nesting.counted_depth_out at deep in
-    let room : 0 < c.args.left = omega arith in
-    let e0 = e ∙ ap (λ (l : List Lexeme). l ++ more) (tokens.counted_out x)
-    ∙ for_append (string_bytes s.turns.name) (int_lexemes s.turns.first) (int_lexemes s.turns.bound) (braced (statements_lexemes s.block.items)) more in
-    let e1 = c.in_ok-turns.ensures.reads s.turns (braced (statements_lexemes s.block.items) ++ more) first_is_integer.0 bound_is_integer.0 room e0 in
-    handed c.from_residual-in_err-block.result _ _ c.from_residual-in_err-block.ensures.1 (c.in_err-block.ensures.reads s.block.items more bound_is_integer.1 fits e1)
+    let g = counted_given c.args.left x more _ right deep e in
+    let e1 = c.in_ok-turns.ensures.reads (out-Counted x).turns _ g.first_right g.bound_right g.room g.read in
+    handed c.from_residual-in_err-block.result _ _ c.from_residual-in_err-block.ensures.1 (c.in_err-block.ensures.reads (out-Counted x).block.items more g.right g.fits e1)
 
 pub counted-returns-clause-reads : goal.counted-returns-clause-reads
 counted-returns-clause-reads t c =
     λ x more right deep e.
-    let s = out-Counted x in
-    let parts = sym (ap (λ (p : Part). p.is_right) (grammar.counted_out x)) ∙ right in
-    let first_is_integer = and_parts (is_integer s.turns.first) (is_integer s.turns.bound && are_parts (statements_parts s.block.items)) parts in
-    let bound_is_integer = and_parts (is_integer s.turns.bound) (are_parts (statements_parts s.block.items)) first_is_integer.1 in
-    let fits : statements_depth s.block.items + 1 ≤ c.args.left = rw nesting.counted_depth_out at deep in
-    let room : 0 < c.args.left = omega arith in
-    let e0 = e ∙ ap (λ (l : List Lexeme). l ++ more) (tokens.counted_out x)
-    ∙ for_append (string_bytes s.turns.name) (int_lexemes s.turns.first) (int_lexemes s.turns.bound) (braced (statements_lexemes s.block.items)) more in
-    let e1 = c.in_ok-turns.ensures.reads s.turns (braced (statements_lexemes s.block.items) ++ more) first_is_integer.0 bound_is_integer.0 room e0 in
-    c.in_ok-block.ensures.reads s.block.items more bound_is_integer.1 fits e1
+    let g = counted_given c.args.left x more _ right deep e in
+    let e1 = c.in_ok-turns.ensures.reads (out-Counted x).turns _ g.first_right g.bound_right g.room g.read in
+    c.in_ok-block.ensures.reads (out-Counted x).block.items more g.right g.fits e1
 
 pub alt-returns-in_err-word-clause-reads : goal.alt-returns-in_err-word-clause-reads
 alt-returns-in_err-word-clause-reads t c =
@@ -487,9 +391,7 @@ alt-returns-in_err-branches-clause-reads t c =
     λ xs x more some right deep e.
     let e1 = c.in_ok-word.ensures.reads _ e in
     let room : 0 < c.args.left = omega arith in
-    let e2 = c.in_ok-inner.ensures.reads _ room e1
-    ∙ append_assoc (branches_lexemes xs ++ otherwise_lexemes x) (symbol RightBrace ∷ []) more
-    ∙ append_assoc (branches_lexemes xs) (otherwise_lexemes x) (symbol RightBrace ∷ more) in
+    let e2 = alt_given xs x more _ (c.in_ok-inner.ensures.reads _ room e1) in
     let branches_fit : branches_depth xs ≤ c.in_ok-inner.inner = omega (arith, c.in_ok-inner.ensures.inner) in
     let otherwise_fits : otherwise_depth x ≤ c.in_ok-inner.inner = omega (arith, c.in_ok-inner.ensures.inner) in
     handed c.from_residual-in_err-branches.result _ _ c.from_residual-in_err-branches.ensures.1 (c.in_err-branches.ensures.reads xs (otherwise_lexemes x ++ symbol RightBrace ∷ more) (branches_stand xs x more right) branches_fit (otherwise_no_branch x more) e2)
@@ -499,9 +401,7 @@ alt-returns-in_err-otherwise-clause-reads t c =
     λ xs x more some right deep e.
     let e1 = c.in_ok-word.ensures.reads _ e in
     let room : 0 < c.args.left = omega arith in
-    let e2 = c.in_ok-inner.ensures.reads _ room e1
-    ∙ append_assoc (branches_lexemes xs ++ otherwise_lexemes x) (symbol RightBrace ∷ []) more
-    ∙ append_assoc (branches_lexemes xs) (otherwise_lexemes x) (symbol RightBrace ∷ more) in
+    let e2 = alt_given xs x more _ (c.in_ok-inner.ensures.reads _ room e1) in
     let branches_fit : branches_depth xs ≤ c.in_ok-inner.inner = omega (arith, c.in_ok-inner.ensures.inner) in
     let otherwise_fits : otherwise_depth x ≤ c.in_ok-inner.inner = omega (arith, c.in_ok-inner.ensures.inner) in
     let e3 = c.in_ok-branches.ensures.reads xs (otherwise_lexemes x ++ symbol RightBrace ∷ more) (branches_stand xs x more right) branches_fit (otherwise_no_branch x more) e2 in
@@ -512,9 +412,7 @@ alt-returns-then-is_none-clause-reads t c =
     λ xs x more some right deep e.
     let e1 = c.in_ok-word.ensures.reads _ e in
     let room : 0 < c.args.left = omega arith in
-    let e2 = c.in_ok-inner.ensures.reads _ room e1
-    ∙ append_assoc (branches_lexemes xs ++ otherwise_lexemes x) (symbol RightBrace ∷ []) more
-    ∙ append_assoc (branches_lexemes xs) (otherwise_lexemes x) (symbol RightBrace ∷ more) in
+    let e2 = alt_given xs x more _ (c.in_ok-inner.ensures.reads _ room e1) in
     let branches_fit : branches_depth xs ≤ c.in_ok-inner.inner = omega (arith, c.in_ok-inner.ensures.inner) in
     let otherwise_fits : otherwise_depth x ≤ c.in_ok-inner.inner = omega (arith, c.in_ok-inner.ensures.inner) in
     let e3 = c.in_ok-branches.ensures.reads xs (otherwise_lexemes x ++ symbol RightBrace ∷ more) (branches_stand xs x more right) branches_fit (otherwise_no_branch x more) e2 in
@@ -527,9 +425,7 @@ alt-returns-in_err-symbol-clause-reads t c =
     λ xs x more some right deep e.
     let e1 = c.in_ok-word.ensures.reads _ e in
     let room : 0 < c.args.left = omega arith in
-    let e2 = c.in_ok-inner.ensures.reads _ room e1
-    ∙ append_assoc (branches_lexemes xs ++ otherwise_lexemes x) (symbol RightBrace ∷ []) more
-    ∙ append_assoc (branches_lexemes xs) (otherwise_lexemes x) (symbol RightBrace ∷ more) in
+    let e2 = alt_given xs x more _ (c.in_ok-inner.ensures.reads _ room e1) in
     let branches_fit : branches_depth xs ≤ c.in_ok-inner.inner = omega (arith, c.in_ok-inner.ensures.inner) in
     let otherwise_fits : otherwise_depth x ≤ c.in_ok-inner.inner = omega (arith, c.in_ok-inner.ensures.inner) in
     let e3 = c.in_ok-branches.ensures.reads xs (otherwise_lexemes x ++ symbol RightBrace ∷ more) (branches_stand xs x more right) branches_fit (otherwise_no_branch x more) e2 in
@@ -541,9 +437,7 @@ alt-returns-clause-reads t c =
     λ xs x more some right deep e.
     let e1 = c.in_ok-word.ensures.reads _ e in
     let room : 0 < c.args.left = omega arith in
-    let e2 = c.in_ok-inner.ensures.reads _ room e1
-    ∙ append_assoc (branches_lexemes xs ++ otherwise_lexemes x) (symbol RightBrace ∷ []) more
-    ∙ append_assoc (branches_lexemes xs) (otherwise_lexemes x) (symbol RightBrace ∷ more) in
+    let e2 = alt_given xs x more _ (c.in_ok-inner.ensures.reads _ room e1) in
     let branches_fit : branches_depth xs ≤ c.in_ok-inner.inner = omega (arith, c.in_ok-inner.ensures.inner) in
     let otherwise_fits : otherwise_depth x ≤ c.in_ok-inner.inner = omega (arith, c.in_ok-inner.ensures.inner) in
     let e3 = c.in_ok-branches.ensures.reads xs (otherwise_lexemes x ++ symbol RightBrace ∷ more) (branches_stand xs x more right) branches_fit (otherwise_no_branch x more) e2 in
@@ -553,103 +447,154 @@ alt-returns-clause-reads t c =
 pub action-returns-in_err-send-in-Send-clause-reads : goal.action-returns-in_err-send-in-Send-clause-reads
 action-returns-in_err-send-in-Send-clause-reads t c =
     λ x more right deep ends e.
-    let k = action_kind c.args.left x more _ right deep ends e in
     let says : Says c.args.self.now.rest.now c.beginning.result = record { alt = c.beginning.ensures.alt; for_loop = c.beginning.ensures.for_loop; set_verdict = c.beginning.ensures.set_verdict; all_ports = c.beginning.ensures.all_ports; send = c.beginning.ensures.send; receive = c.beginning.ensures.receive; control = c.beginning.ensures.control } in
-    let b = subst (Begun c.args.left more _) (sym (kind_begun k.0 more _ c.beginning.result says k.2) ∙ c.in-Send.is) (begun c.args.left more _ k.0 k.1 k.2) in
+    let b = action_given c.args.left x more _ c.beginning.result _ says c.in-Send.is right deep ends e in
     handed c.from_residual.result _ _ c.from_residual.ensures.1 (c.in_err-send-in-Send.ensures.reads b.0 more b.1.0 b.1.1 b.1.2 b.2)
 
 pub action-returns-in_ok-send-in-Send-clause-reads : goal.action-returns-in_ok-send-in-Send-clause-reads
 action-returns-in_ok-send-in-Send-clause-reads t c =
     λ x more right deep ends e.
-    let k = action_kind c.args.left x more _ right deep ends e in
     let says : Says c.args.self.now.rest.now c.beginning.result = record { alt = c.beginning.ensures.alt; for_loop = c.beginning.ensures.for_loop; set_verdict = c.beginning.ensures.set_verdict; all_ports = c.beginning.ensures.all_ports; send = c.beginning.ensures.send; receive = c.beginning.ensures.receive; control = c.beginning.ensures.control } in
-    let b = subst (Begun c.args.left more _) (sym (kind_begun k.0 more _ c.beginning.result says k.2) ∙ c.in-Send.is) (begun c.args.left more _ k.0 k.1 k.2) in
+    let b = action_given c.args.left x more _ c.beginning.result _ says c.in-Send.is right deep ends e in
     c.in_ok-send-in-Send.ensures.reads b.0 more b.1.0 b.1.1 b.1.2 b.2
 
 pub action-returns-in_err-receive-in-Receive-clause-reads : goal.action-returns-in_err-receive-in-Receive-clause-reads
 action-returns-in_err-receive-in-Receive-clause-reads t c =
     λ x more right deep ends e.
-    let k = action_kind c.args.left x more _ right deep ends e in
     let says : Says c.args.self.now.rest.now c.beginning.result = record { alt = c.beginning.ensures.alt; for_loop = c.beginning.ensures.for_loop; set_verdict = c.beginning.ensures.set_verdict; all_ports = c.beginning.ensures.all_ports; send = c.beginning.ensures.send; receive = c.beginning.ensures.receive; control = c.beginning.ensures.control } in
-    let b = subst (Begun c.args.left more _) (sym (kind_begun k.0 more _ c.beginning.result says k.2) ∙ c.in-Receive.is) (begun c.args.left more _ k.0 k.1 k.2) in
+    let b = action_given c.args.left x more _ c.beginning.result _ says c.in-Receive.is right deep ends e in
     handed c.from_residual-in_err-receive-in-Receive.result _ _ c.from_residual-in_err-receive-in-Receive.ensures.1 (c.in_err-receive-in-Receive.ensures.reads b.0 more b.1.0 b.1.1 b.1.2 b.2)
 
 pub action-returns-in_ok-receive-in-Receive-clause-reads : goal.action-returns-in_ok-receive-in-Receive-clause-reads
 action-returns-in_ok-receive-in-Receive-clause-reads t c =
     λ x more right deep ends e.
-    let k = action_kind c.args.left x more _ right deep ends e in
     let says : Says c.args.self.now.rest.now c.beginning.result = record { alt = c.beginning.ensures.alt; for_loop = c.beginning.ensures.for_loop; set_verdict = c.beginning.ensures.set_verdict; all_ports = c.beginning.ensures.all_ports; send = c.beginning.ensures.send; receive = c.beginning.ensures.receive; control = c.beginning.ensures.control } in
-    let b = subst (Begun c.args.left more _) (sym (kind_begun k.0 more _ c.beginning.result says k.2) ∙ c.in-Receive.is) (begun c.args.left more _ k.0 k.1 k.2) in
+    let b = action_given c.args.left x more _ c.beginning.result _ says c.in-Receive.is right deep ends e in
     c.in_ok-receive-in-Receive.ensures.reads b.0 more b.1.0 b.1.1 b.1.2 b.2
 
 pub action-returns-in_err-control-in-Control-clause-reads : goal.action-returns-in_err-control-in-Control-clause-reads
 action-returns-in_err-control-in-Control-clause-reads t c =
     λ x more right deep ends e.
-    let k = action_kind c.args.left x more _ right deep ends e in
     let says : Says c.args.self.now.rest.now c.beginning.result = record { alt = c.beginning.ensures.alt; for_loop = c.beginning.ensures.for_loop; set_verdict = c.beginning.ensures.set_verdict; all_ports = c.beginning.ensures.all_ports; send = c.beginning.ensures.send; receive = c.beginning.ensures.receive; control = c.beginning.ensures.control } in
-    let b = subst (Begun c.args.left more _) (sym (kind_begun k.0 more _ c.beginning.result says k.2) ∙ c.in-Control.is) (begun c.args.left more _ k.0 k.1 k.2) in
+    let b = action_given c.args.left x more _ c.beginning.result _ says c.in-Control.is right deep ends e in
     handed c.from_residual-in_err-control-in-Control.result _ _ c.from_residual-in_err-control-in-Control.ensures.1 (c.in_err-control-in-Control.ensures.reads b.0 more b.1)
 
 pub action-returns-in_ok-control-in-Control-clause-reads : goal.action-returns-in_ok-control-in-Control-clause-reads
 action-returns-in_ok-control-in-Control-clause-reads t c =
     λ x more right deep ends e.
-    let k = action_kind c.args.left x more _ right deep ends e in
     let says : Says c.args.self.now.rest.now c.beginning.result = record { alt = c.beginning.ensures.alt; for_loop = c.beginning.ensures.for_loop; set_verdict = c.beginning.ensures.set_verdict; all_ports = c.beginning.ensures.all_ports; send = c.beginning.ensures.send; receive = c.beginning.ensures.receive; control = c.beginning.ensures.control } in
-    let b = subst (Begun c.args.left more _) (sym (kind_begun k.0 more _ c.beginning.result says k.2) ∙ c.in-Control.is) (begun c.args.left more _ k.0 k.1 k.2) in
+    let b = action_given c.args.left x more _ c.beginning.result _ says c.in-Control.is right deep ends e in
     c.in_ok-control-in-Control.ensures.reads b.0 more b.1
 
 pub action-returns-in_err-operation-in-AllPorts-clause-reads : goal.action-returns-in_err-operation-in-AllPorts-clause-reads
 action-returns-in_err-operation-in-AllPorts-clause-reads t c =
     λ x more right deep ends e.
-    let k = action_kind c.args.left x more _ right deep ends e in
     let says : Says c.args.self.now.rest.now c.beginning.result = record { alt = c.beginning.ensures.alt; for_loop = c.beginning.ensures.for_loop; set_verdict = c.beginning.ensures.set_verdict; all_ports = c.beginning.ensures.all_ports; send = c.beginning.ensures.send; receive = c.beginning.ensures.receive; control = c.beginning.ensures.control } in
-    let b = subst (Begun c.args.left more _) (sym (kind_begun k.0 more _ c.beginning.result says k.2) ∙ c.in-AllPorts.is) (begun c.args.left more _ k.0 k.1 k.2) in
+    let b = action_given c.args.left x more _ c.beginning.result _ says c.in-AllPorts.is right deep ends e in
     handed c.from_residual-in_err-operation-in-AllPorts.result _ _ c.from_residual-in_err-operation-in-AllPorts.ensures.1 (c.in_err-operation-in-AllPorts.ensures.reads b.0 more b.1)
 
 pub action-returns-in_ok-operation-in-AllPorts-clause-reads : goal.action-returns-in_ok-operation-in-AllPorts-clause-reads
 action-returns-in_ok-operation-in-AllPorts-clause-reads t c =
     λ x more right deep ends e.
-    let k = action_kind c.args.left x more _ right deep ends e in
     let says : Says c.args.self.now.rest.now c.beginning.result = record { alt = c.beginning.ensures.alt; for_loop = c.beginning.ensures.for_loop; set_verdict = c.beginning.ensures.set_verdict; all_ports = c.beginning.ensures.all_ports; send = c.beginning.ensures.send; receive = c.beginning.ensures.receive; control = c.beginning.ensures.control } in
-    let b = subst (Begun c.args.left more _) (sym (kind_begun k.0 more _ c.beginning.result says k.2) ∙ c.in-AllPorts.is) (begun c.args.left more _ k.0 k.1 k.2) in
+    let b = action_given c.args.left x more _ c.beginning.result _ says c.in-AllPorts.is right deep ends e in
     c.in_ok-operation-in-AllPorts.ensures.reads b.0 more b.1
 
 pub action-returns-in_err-verdict-in-SetVerdict-clause-reads : goal.action-returns-in_err-verdict-in-SetVerdict-clause-reads
 action-returns-in_err-verdict-in-SetVerdict-clause-reads t c =
     λ x more right deep ends e.
-    let k = action_kind c.args.left x more _ right deep ends e in
     let says : Says c.args.self.now.rest.now c.beginning.result = record { alt = c.beginning.ensures.alt; for_loop = c.beginning.ensures.for_loop; set_verdict = c.beginning.ensures.set_verdict; all_ports = c.beginning.ensures.all_ports; send = c.beginning.ensures.send; receive = c.beginning.ensures.receive; control = c.beginning.ensures.control } in
-    let b = subst (Begun c.args.left more _) (sym (kind_begun k.0 more _ c.beginning.result says k.2) ∙ c.in-SetVerdict.is) (begun c.args.left more _ k.0 k.1 k.2) in
+    let b = action_given c.args.left x more _ c.beginning.result _ says c.in-SetVerdict.is right deep ends e in
     handed c.from_residual-in_err-verdict-in-SetVerdict.result _ _ c.from_residual-in_err-verdict-in-SetVerdict.ensures.1 (c.in_err-verdict-in-SetVerdict.ensures.reads b.0 more b.1 b.2)
 
 pub action-returns-in_ok-verdict-in-SetVerdict-clause-reads : goal.action-returns-in_ok-verdict-in-SetVerdict-clause-reads
 action-returns-in_ok-verdict-in-SetVerdict-clause-reads t c =
     λ x more right deep ends e.
-    let k = action_kind c.args.left x more _ right deep ends e in
     let says : Says c.args.self.now.rest.now c.beginning.result = record { alt = c.beginning.ensures.alt; for_loop = c.beginning.ensures.for_loop; set_verdict = c.beginning.ensures.set_verdict; all_ports = c.beginning.ensures.all_ports; send = c.beginning.ensures.send; receive = c.beginning.ensures.receive; control = c.beginning.ensures.control } in
-    let b = subst (Begun c.args.left more _) (sym (kind_begun k.0 more _ c.beginning.result says k.2) ∙ c.in-SetVerdict.is) (begun c.args.left more _ k.0 k.1 k.2) in
+    let b = action_given c.args.left x more _ c.beginning.result _ says c.in-SetVerdict.is right deep ends e in
     c.in_ok-verdict-in-SetVerdict.ensures.reads b.0 more b.1 b.2
 
 pub action-returns-in_err-counted-in-For-clause-reads : goal.action-returns-in_err-counted-in-For-clause-reads
 action-returns-in_err-counted-in-For-clause-reads t c =
     λ x more right deep ends e.
-    let k = action_kind c.args.left x more _ right deep ends e in
     let says : Says c.args.self.now.rest.now c.beginning.result = record { alt = c.beginning.ensures.alt; for_loop = c.beginning.ensures.for_loop; set_verdict = c.beginning.ensures.set_verdict; all_ports = c.beginning.ensures.all_ports; send = c.beginning.ensures.send; receive = c.beginning.ensures.receive; control = c.beginning.ensures.control } in
-    let b = subst (Begun c.args.left more _) (sym (kind_begun k.0 more _ c.beginning.result says k.2) ∙ c.in-For.is) (begun c.args.left more _ k.0 k.1 k.2) in
+    let b = action_given c.args.left x more _ c.beginning.result _ says c.in-For.is right deep ends e in
     handed c.from_residual-in_err-counted-in-For.result _ _ c.from_residual-in_err-counted-in-For.ensures.1 (c.in_err-counted-in-For.ensures.reads b.0 more b.1.0 b.1.1 b.2)
 
 pub action-returns-in_ok-counted-in-For-clause-reads : goal.action-returns-in_ok-counted-in-For-clause-reads
 action-returns-in_ok-counted-in-For-clause-reads t c =
     λ x more right deep ends e.
-    let k = action_kind c.args.left x more _ right deep ends e in
     let says : Says c.args.self.now.rest.now c.beginning.result = record { alt = c.beginning.ensures.alt; for_loop = c.beginning.ensures.for_loop; set_verdict = c.beginning.ensures.set_verdict; all_ports = c.beginning.ensures.all_ports; send = c.beginning.ensures.send; receive = c.beginning.ensures.receive; control = c.beginning.ensures.control } in
-    let b = subst (Begun c.args.left more _) (sym (kind_begun k.0 more _ c.beginning.result says k.2) ∙ c.in-For.is) (begun c.args.left more _ k.0 k.1 k.2) in
+    let b = action_given c.args.left x more _ c.beginning.result _ says c.in-For.is right deep ends e in
     c.in_ok-counted-in-For.ensures.reads b.0 more b.1.0 b.1.1 b.2
 
 pub action-returns-in-Alt-clause-reads : goal.action-returns-in-Alt-clause-reads
 action-returns-in-Alt-clause-reads t c =
     λ x more right deep ends e.
-    let k = action_kind c.args.left x more _ right deep ends e in
     let says : Says c.args.self.now.rest.now c.beginning.result = record { alt = c.beginning.ensures.alt; for_loop = c.beginning.ensures.for_loop; set_verdict = c.beginning.ensures.set_verdict; all_ports = c.beginning.ensures.all_ports; send = c.beginning.ensures.send; receive = c.beginning.ensures.receive; control = c.beginning.ensures.control } in
-    let b = subst (Begun c.args.left more _) (sym (kind_begun k.0 more _ c.beginning.result says k.2) ∙ c.in-Alt.is) (begun c.args.left more _ k.0 k.1 k.2) in
+    let b = action_given c.args.left x more _ c.beginning.result _ says c.in-Alt.is right deep ends e in
     c.alt.ensures.reads b.0 b.1 more b.2.0 b.2.1 b.2.2 b.3
+
+pub statement-returns-clause-lines : goal.statement-returns-clause-lines
+statement-returns-clause-lines t c =
+    let body = passes_then c.in_ok-action.ensures.lines (passes_unnoted (end_lexemes c.in_ok-has_semicolon.has_semicolon) c.in_ok-has_semicolon.ensures.forward c.in_ok-has_semicolon.ensures.tokens) in
+    rw notes.statement_out (passes_at _ _ body c.line-line.ensures (ap starts_zero c.in_ok-action.ensures.tokens ∙ action_no_zero c.in_ok-action.action _))
+
+pub action-returns-in_ok-send-in-Send-clause-lines : goal.action-returns-in_ok-send-in-Send-clause-lines
+action-returns-in_ok-send-in-Send-clause-lines t c =
+    rw notes.action_send (passes_unnoted (send_lexemes c.in_ok-send-in-Send.send) c.in_ok-send-in-Send.ensures.forward c.in_ok-send-in-Send.ensures.tokens)
+
+pub action-returns-in_ok-receive-in-Receive-clause-lines : goal.action-returns-in_ok-receive-in-Receive-clause-lines
+action-returns-in_ok-receive-in-Receive-clause-lines t c =
+    rw notes.action_receive (passes_unnoted (receive_lexemes c.in_ok-receive-in-Receive.receive) c.in_ok-receive-in-Receive.ensures.forward c.in_ok-receive-in-Receive.ensures.tokens)
+
+pub action-returns-in_ok-control-in-Control-clause-lines : goal.action-returns-in_ok-control-in-Control-clause-lines
+action-returns-in_ok-control-in-Control-clause-lines t c =
+    rw notes.action_control (passes_unnoted (control_lexemes c.in_ok-control-in-Control.control) c.in_ok-control-in-Control.ensures.forward c.in_ok-control-in-Control.ensures.tokens)
+
+pub action-returns-in_ok-operation-in-AllPorts-clause-lines : goal.action-returns-in_ok-operation-in-AllPorts-clause-lines
+action-returns-in_ok-operation-in-AllPorts-clause-lines t c =
+    rw notes.action_all_ports (passes_unnoted (all_ports_lexemes c.in_ok-operation-in-AllPorts.operation) c.in_ok-operation-in-AllPorts.ensures.forward c.in_ok-operation-in-AllPorts.ensures.tokens)
+
+pub action-returns-in_ok-verdict-in-SetVerdict-clause-lines : goal.action-returns-in_ok-verdict-in-SetVerdict-clause-lines
+action-returns-in_ok-verdict-in-SetVerdict-clause-lines t c =
+    rw notes.action_set_verdict (passes_unnoted (set_verdict_lexemes c.in_ok-verdict-in-SetVerdict.verdict) c.in_ok-verdict-in-SetVerdict.ensures.forward c.in_ok-verdict-in-SetVerdict.ensures.tokens)
+
+pub action-returns-in_ok-counted-in-For-clause-lines : goal.action-returns-in_ok-counted-in-For-clause-lines
+action-returns-in_ok-counted-in-For-clause-lines t c = rw notes.action_for c.in_ok-counted-in-For.ensures.lines
+
+pub alt-returns-clause-lines : goal.alt-returns-clause-lines
+alt-returns-clause-lines t c =
+    let body = passes_next c.in_ok-word.ensures.forward c.in_ok-word.ensures.tokens (passes_next c.in_ok-inner.ensures.forward c.in_ok-inner.ensures.tokens (passes_then (passes_then c.in_ok-branches.ensures.lines c.in_ok-otherwise.ensures.lines) (passes_one c.in_ok-symbol.ensures.forward c.in_ok-symbol.ensures.tokens))) in
+    rw notes.action_alt body
+
+pub branch-returns-clause-lines : goal.branch-returns-clause-lines
+branch-returns-clause-lines t c =
+    let body = passes_next c.in_ok-open.ensures.forward c.in_ok-open.ensures.tokens (passes_next c.in_ok-symbol.ensures.forward c.in_ok-symbol.ensures.tokens (passes_then (passes_unnoted (receive_lexemes c.in_ok-receive.receive) c.in_ok-receive.ensures.forward c.in_ok-receive.ensures.tokens) (passes_then c.in_ok-body.ensures.lines (passes_unnoted (end_lexemes c.in_ok-has_semicolon.has_semicolon) c.in_ok-has_semicolon.ensures.forward c.in_ok-has_semicolon.ensures.tokens)))) in
+    rw notes.branch_out (passes_at _ _ body c.line-line.ensures (ap starts_zero c.in_ok-open.ensures.tokens))
+
+pub body-returns-then-not-is_symbol_at-clause-lines : goal.body-returns-then-not-is_symbol_at-clause-lines
+body-returns-then-not-is_symbol_at-clause-lines t c = rw notes.body_nothing (passes_none _)
+
+pub body-returns-clause-lines : goal.body-returns-clause-lines
+body-returns-clause-lines t c = rw notes.body_block c.in_ok-block.ensures.lines
+
+pub otherwise-returns-then-not-is_symbol_at-clause-lines : goal.otherwise-returns-then-not-is_symbol_at-clause-lines
+otherwise-returns-then-not-is_symbol_at-clause-lines t c = passes_none _
+
+pub otherwise-returns-clause-lines : goal.otherwise-returns-clause-lines
+otherwise-returns-clause-lines t c =
+    let body = passes_then (passes_unnoted (symbol LeftBracket ∷ word w.Else ∷ symbol RightBracket ∷ []) c.in_ok-else_mark.ensures.forward c.in_ok-else_mark.ensures.tokens) (passes_then c.in_ok-block.ensures.lines (passes_unnoted (end_lexemes c.in_ok-has_semicolon.has_semicolon) c.in_ok-has_semicolon.ensures.forward c.in_ok-has_semicolon.ensures.tokens)) in
+    rw notes.else_branch_made (passes_at _ _ body c.line-line.ensures (ap starts_zero c.in_ok-else_mark.ensures.tokens))
+
+pub counted-returns-clause-lines : goal.counted-returns-clause-lines
+counted-returns-clause-lines t c =
+    let turns = c.in_ok-turns.turns in
+    let body =
+    passes_then (passes_unnoted (turns_lexemes turns []) c.in_ok-turns.ensures.forward
+    (c.in_ok-turns.ensures.tokens ∙ sym (for_append (string_bytes turns.name) (int_lexemes turns.first) (int_lexemes turns.bound) [] _))) c.in_ok-block.ensures.lines in
+    rw notes.counted_made body
+
+pub block-returns-clause-lines : goal.block-returns-clause-lines
+block-returns-clause-lines t c =
+    passes_next c.in_ok-inner.ensures.forward c.in_ok-inner.ensures.tokens (passes_then c.in_ok-statements.ensures.lines (passes_one c.in_ok-symbol.ensures.forward c.in_ok-symbol.ensures.tokens))

@@ -1,5 +1,5 @@
 -- The tokens passed are those read so far, no deeper than allowed; a bracket leaves one fewer.
-use Rattle.std.proofs.Common.{◌≡◌, ◌+◌, ◌*◌, ◌≤◌, ◌++◌, length, List, true, false}
+use Rattle.std.proofs.Common.{◌≡◌, ◌+◌, ◌*◌, ◌≤◌, ◌++◌, length, List, true, false, map}
 use Rattle.tp_syntax.specs.Ahead.{ahead}
 use Rattle.tp_syntax.specs.Statements.{statements_lexemes, branches_lexemes, statement_lexemes, branch_lexemes}
 use Rattle.tp_syntax.specs.Grammar.{branches_parts, statements_parts, statement_part, branch_part}
@@ -10,6 +10,8 @@ use Rattle.tp_syntax.specs.Reading.{AllStand, is_end_ahead, is_branch_ahead}
 use Rattle.tp_syntax.proofs.Remaining.{RemainAll}
 use Rattle.tp_tree.specs.declared.tree.Statement.{Statement}
 use Rattle.tp_tree.specs.declared.tree.Branch.{Branch}
+use Rattle.tp_syntax.specs.Lines.{branch_notes, noted_in_order, statement_notes}
+use Rattle.tp_syntax.specs.Forward.{PassesNoted}
 use Rattle.tp_syntax.proofs.cursor.Parser.+statement.Given as goal
 
 abbrev pub decreases-statements : goal.decreases-statements
@@ -50,6 +52,7 @@ invariant-statements-more l = record {
   reads : (xs : List Statement) (more : List Lexeme) → AllStand (statements_parts xs) more → statements_depth xs ≤ l.left → is_end_ahead l.is_case more ≡ true → ahead l.fn.self.rest.now ≡ statements_lexemes xs ++ more
       → RemainAll statement_lexemes statement_part (λ x. statement_depth x ≤ l.left) more (ahead l.self.rest.now);
   shorter : length l.self.rest.now ≤ length l.fn.self.rest.now;
+  lines : PassesNoted l.fn.self.rest.now (noted_in_order (map statement_notes l.statements.items)) l.self.rest.now;
 }
 
 abbrev pub decreases-statements-more : goal.decreases-statements-more
@@ -63,6 +66,7 @@ invariant-branches-more l = record {
   reads : (xs : List Branch) (more : List Lexeme) → AllStand (branches_parts xs) more → branches_depth xs ≤ l.left → is_branch_ahead more ≡ false → ahead l.fn.self.rest.now ≡ branches_lexemes xs ++ more
       → RemainAll branch_lexemes branch_part (λ x. branch_depth x ≤ l.left) more (ahead l.self.rest.now);
   shorter : length l.self.rest.now ≤ length l.fn.self.rest.now;
+  lines : PassesNoted l.fn.self.rest.now (noted_in_order (map branch_notes l.branches.items)) l.self.rest.now;
 }
 
 abbrev pub decreases-branches-more : goal.decreases-branches-more

@@ -40,6 +40,7 @@ templates-more-preserved t c = record {
       (push_right is_template c.more.templates.items c.in_ok-next.next c.more.invariant.grammatical c.in_ok-next.ensures.grammatical);
   some = rw c.in_ok-push-2.ensures.items (simp length-append (omega arith));
   shorter = omega (arith, c.more.invariant.shorter, c.more-test.ensures.shorter, c.in_ok-next.ensures.shorter);
+  forward = λ all tail. c.in_ok-next.ensures.forward all (c.more-test.ensures.forward all (c.more.invariant.forward all tail));
 }
 
 pub template_fields-more-preserved : goal.template_fields-more-preserved
@@ -56,6 +57,7 @@ template_fields-more-preserved t c = record {
       (push_right is_template_field c.more.fields.items c.in_ok-next.next c.more.invariant.grammatical c.in_ok-next.ensures.grammatical);
   some = rw c.in_ok-push-2.ensures.items (simp length-append (omega arith));
   shorter = omega (arith, c.more.invariant.shorter, c.more-test.ensures.shorter, c.in_ok-next.ensures.shorter);
+  forward = λ all tail. c.in_ok-next.ensures.forward all (c.more-test.ensures.forward all (c.more.invariant.forward all tail));
 }
 
 pub template-returns-in_ok-value-in-Symbol-Minus-clause-grammatical : goal.template-returns-in_ok-value-in-Symbol-Minus-clause-grammatical
@@ -114,6 +116,7 @@ templates-more-init t c = record {
       let n = comma_first template_lexemes (λ x. (is_template x ≡ true) × (template_depth x ≤ c.args.left)) xs more _ (one_right is_template template_depth c.args.left xs right deep) (one_of is_template xs right) e in
       subst (Remain template_lexemes (λ x. (is_template x ≡ true) × (template_depth x ≤ c.args.left)) more) (sym (c.in_ok-first.ensures.reads n.0 n.2 n.1.0 n.1.1 n.3)) n.4;
   shorter = first_of (search rules, grind (arith, common_steps));
+  forward = λ all tail. c.in_ok-first.ensures.forward all tail;
 }
 
 pub templates-returns-in_err-first-clause-reads : goal.templates-returns-in_err-first-clause-reads
@@ -143,6 +146,7 @@ template_fields-more-init t c = record {
       let n = comma_first template_field_lexemes (λ x. (is_template_field x ≡ true) × (template_field_depth x ≤ c.args.left)) xs more _ (one_right is_template_field template_field_depth c.args.left xs right deep) (one_of is_template_field xs right) e in
       subst (Remain template_field_lexemes (λ x. (is_template_field x ≡ true) × (template_field_depth x ≤ c.args.left)) more) (sym (c.in_ok-first.ensures.reads n.0 n.2 n.1.0 n.1.1 n.3)) n.4;
   shorter = first_of (search rules, grind (arith, common_steps));
+  forward = λ all tail. c.in_ok-first.ensures.forward all tail;
 }
 
 pub template_fields-returns-in_err-first-clause-reads : goal.template_fields-returns-in_err-first-clause-reads

@@ -10,6 +10,7 @@ use Rattle.tp_syntax.specs.Reading.{Stops}
 use Rattle.tp_syntax.proofs.Remaining.{Remain}
 use Rattle.tp_tree.specs.declared.message.Template.{Template}
 use Rattle.tp_tree.specs.declared.message.TemplateField.{TemplateField}
+use Rattle.tp_syntax.specs.Forward.{GoesForward}
 use Rattle.tp_syntax.proofs.cursor.Parser.+template.Given as goal
 
 abbrev pub decreases-template : goal.decreases-template
@@ -42,6 +43,7 @@ invariant-templates-more l = record {
   reads : (xs : List Template) (more : List Lexeme) → one_and_each (map is_template xs) ≡ true → deepest (map template_depth xs) ≤ l.left → Stops more → ahead l.fn.self.rest.now ≡ by_commas (map template_lexemes xs) ++ more
       → Remain template_lexemes (λ x. (is_template x ≡ true) × (template_depth x ≤ l.left)) more (ahead l.self.rest.now);
   shorter : length l.self.rest.now < length l.fn.self.rest.now;
+  forward : GoesForward l.fn.self l.self;
 }
 
 abbrev pub decreases-templates-more : goal.decreases-templates-more
@@ -56,6 +58,7 @@ invariant-template_fields-more l = record {
   reads : (xs : List TemplateField) (more : List Lexeme) → one_and_each (map is_template_field xs) ≡ true → deepest (map template_field_depth xs) ≤ l.left → Stops more → ahead l.fn.self.rest.now ≡ by_commas (map template_field_lexemes xs) ++ more
       → Remain template_field_lexemes (λ x. (is_template_field x ≡ true) × (template_field_depth x ≤ l.left)) more (ahead l.self.rest.now);
   shorter : length l.self.rest.now < length l.fn.self.rest.now;
+  forward : GoesForward l.fn.self l.self;
 }
 
 abbrev pub decreases-template_fields-more : goal.decreases-template_fields-more

@@ -39,6 +39,7 @@ values-more-preserved t c = record {
       (push_right is_value c.more.values.items c.in_ok-next.next c.more.invariant.grammatical c.in_ok-next.ensures.grammatical);
   some = rw c.in_ok-push-2.ensures.items (simp length-append (omega arith));
   shorter = omega (arith, c.more.invariant.shorter, c.more-test.ensures.shorter, c.in_ok-next.ensures.shorter);
+  forward = λ all tail. c.in_ok-next.ensures.forward all (c.more-test.ensures.forward all (c.more.invariant.forward all tail));
 }
 
 pub value_fields-more-preserved : goal.value_fields-more-preserved
@@ -55,6 +56,7 @@ value_fields-more-preserved t c = record {
       (push_right is_value_field c.more.fields.items c.in_ok-next.next c.more.invariant.grammatical c.in_ok-next.ensures.grammatical);
   some = rw c.in_ok-push-2.ensures.items (simp length-append (omega arith));
   shorter = omega (arith, c.more.invariant.shorter, c.more-test.ensures.shorter, c.in_ok-next.ensures.shorter);
+  forward = λ all tail. c.in_ok-next.ensures.forward all (c.more-test.ensures.forward all (c.more.invariant.forward all tail));
 }
 
 pub value-returns-in_ok-value-in-Symbol-Minus-clause-grammatical : goal.value-returns-in_ok-value-in-Symbol-Minus-clause-grammatical
@@ -97,6 +99,7 @@ values-more-init t c = record {
       let n = comma_first value_lexemes (λ x. (is_value x ≡ true) × (value_depth x ≤ c.args.left)) xs more _ (one_right is_value value_depth c.args.left xs right deep) (one_of is_value xs right) e in
       subst (Remain value_lexemes (λ x. (is_value x ≡ true) × (value_depth x ≤ c.args.left)) more) (sym (c.in_ok-first.ensures.reads n.0 n.2 n.1.0 n.1.1 n.3)) n.4;
   shorter = first_of (search rules, grind (arith, common_steps));
+  forward = λ all tail. c.in_ok-first.ensures.forward all tail;
 }
 
 pub values-returns-in_err-first-clause-reads : goal.values-returns-in_err-first-clause-reads
@@ -126,6 +129,7 @@ value_fields-more-init t c = record {
       let n = comma_first value_field_lexemes (λ x. (is_value_field x ≡ true) × (value_field_depth x ≤ c.args.left)) xs more _ (one_right is_value_field value_field_depth c.args.left xs right deep) (one_of is_value_field xs right) e in
       subst (Remain value_field_lexemes (λ x. (is_value_field x ≡ true) × (value_field_depth x ≤ c.args.left)) more) (sym (c.in_ok-first.ensures.reads n.0 n.2 n.1.0 n.1.1 n.3)) n.4;
   shorter = first_of (search rules, grind (arith, common_steps));
+  forward = λ all tail. c.in_ok-first.ensures.forward all tail;
 }
 
 pub value_fields-returns-in_err-first-clause-reads : goal.value_fields-returns-in_err-first-clause-reads

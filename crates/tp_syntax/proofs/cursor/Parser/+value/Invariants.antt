@@ -10,6 +10,7 @@ use Rattle.tp_syntax.specs.Reading.{Stops}
 use Rattle.tp_syntax.proofs.Remaining.{Remain}
 use Rattle.tp_tree.specs.declared.message.Value.{Value}
 use Rattle.tp_tree.specs.declared.message.ValueField.{ValueField}
+use Rattle.tp_syntax.specs.Forward.{GoesForward}
 use Rattle.tp_syntax.proofs.cursor.Parser.+value.Given as goal
 
 abbrev pub decreases-value : goal.decreases-value
@@ -36,6 +37,7 @@ invariant-values-more l = record {
   reads : (xs : List Value) (more : List Lexeme) → one_and_each (map is_value xs) ≡ true → deepest (map value_depth xs) ≤ l.left → Stops more → ahead l.fn.self.rest.now ≡ by_commas (map value_lexemes xs) ++ more
       → Remain value_lexemes (λ x. (is_value x ≡ true) × (value_depth x ≤ l.left)) more (ahead l.self.rest.now);
   shorter : length l.self.rest.now < length l.fn.self.rest.now;
+  forward : GoesForward l.fn.self l.self;
 }
 
 abbrev pub decreases-values-more : goal.decreases-values-more
@@ -50,6 +52,7 @@ invariant-value_fields-more l = record {
   reads : (xs : List ValueField) (more : List Lexeme) → one_and_each (map is_value_field xs) ≡ true → deepest (map value_field_depth xs) ≤ l.left → Stops more → ahead l.fn.self.rest.now ≡ by_commas (map value_field_lexemes xs) ++ more
       → Remain value_field_lexemes (λ x. (is_value_field x ≡ true) × (value_field_depth x ≤ l.left)) more (ahead l.self.rest.now);
   shorter : length l.self.rest.now < length l.fn.self.rest.now;
+  forward : GoesForward l.fn.self l.self;
 }
 
 abbrev pub decreases-value_fields-more : goal.decreases-value_fields-more

@@ -8,6 +8,7 @@ use Rattle.tp_syntax.proofs.Remaining.{Remain}
 use Rattle.tp_tree.specs.declared.tree.ComponentName.{ComponentName}
 use Rattle.tp_token.specs.declared.token.Symbol.TheVariants.{RightParen}
 use Rattle.tp_syntax.specs.Statements.{component_lexemes}
+use Rattle.tp_syntax.specs.Forward.{GoesForward}
 use Rattle.tp_syntax.proofs.cursor.Parser.arguments.Given as goal
 
 abbrev pub invariant-more : goal.invariant-more
@@ -17,6 +18,7 @@ invariant-more l = record {
   reads : (xs : List ComponentName) (more : List Lexeme) → first more ≡ Some (symbol RightParen) → ahead l.fn.self.rest.now ≡ arguments_lexemes xs ++ more
       → Remain component_lexemes (λ _. Unit {0}) more (ahead l.self.rest.now);
   shorter : length l.self.rest.now < length l.fn.self.rest.now;
+  forward : GoesForward l.fn.self l.self;
 }
 
 abbrev pub decreases-more : goal.decreases-more

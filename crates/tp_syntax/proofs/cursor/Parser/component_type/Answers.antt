@@ -5,6 +5,8 @@ use Rattle.tp_syntax.proofs.Standing.{between_parts}
 use Rattle.tp_syntax.proofs.Reading.{handed}
 use Rattle.tp_syntax.specs.Definitions.{component_type_lexemes}
 use Rattle.tp_syntax.proofs.DefinitionReading.{ports_stand}
+use Rattle.tp_syntax.specs.Lines.{component_type_notes}
+use Rattle.tp_syntax.proofs.Lines.{passes_next, passes_one, passes_then}
 use Rattle.tp_syntax.proofs.cursor.Parser.component_type.Goals as goal
 
 pub returns-clause-grammatical : goal.returns-clause-grammatical
@@ -44,3 +46,8 @@ returns-clause-reads c =
     let e4 = c.in_ok-symbol.ensures.reads _ e3 in
     let e5 = c.in_ok-ports.ensures.reads x.ports.items _ (ports_stand x more right) refl e4 in
     c.in_ok-symbol-2.ensures.reads more e5
+
+pub returns-clause-lines : goal.returns-clause-lines
+unfolding component_type_notes
+returns-clause-lines c =
+    passes_next c.in_ok-word.ensures.forward c.in_ok-word.ensures.tokens (passes_next c.in_ok-word-2.ensures.forward c.in_ok-word-2.ensures.tokens (passes_next c.in_ok-name.ensures.forward c.in_ok-name.ensures.tokens (passes_next c.in_ok-symbol.ensures.forward c.in_ok-symbol.ensures.tokens (passes_then c.in_ok-ports.ensures.lines (passes_one c.in_ok-symbol-2.ensures.forward c.in_ok-symbol-2.ensures.tokens)))))

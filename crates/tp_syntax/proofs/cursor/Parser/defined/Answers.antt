@@ -2,6 +2,7 @@
 use Rattle.std.proofs.lemmas.Bool.{iff_false}
 use Rattle.tp_syntax.proofs.CaseReading.{function_of, test_case_of, type_of}
 use Rattle.tp_syntax.proofs.Reading.{handed}
+use Rattle.tp_syntax.specs.Lines.{defined_notes}
 use Rattle.tp_syntax.proofs.cursor.Parser.defined.Goals as goal
 
 pub returns-in_err-function-clause-reads : goal.returns-in_err-function-clause-reads
@@ -33,3 +34,11 @@ returns-clause-reads c =
     λ x more right deep e.
     let is = type_of x more _ e (iff_false c.is_word_at.ensures c.if-is_word_at.false) (iff_false c.is_word_at-2.ensures c.if-is_word_at-2.false) in
     c.defined_type.ensures.reads x more is right e
+
+pub returns-then-is_word_at-clause-lines : goal.returns-then-is_word_at-clause-lines
+unfolding defined_notes
+returns-then-is_word_at-clause-lines c = c.in_ok-function.ensures.lines
+
+pub returns-then-is_word_at-2-clause-lines : goal.returns-then-is_word_at-2-clause-lines
+unfolding defined_notes
+returns-then-is_word_at-2-clause-lines c = c.in_ok-test_case.ensures.lines

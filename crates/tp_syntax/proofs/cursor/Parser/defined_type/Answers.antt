@@ -2,6 +2,9 @@
 use Rattle.std.proofs.lemmas.Bool.{iff_false}
 use Rattle.tp_syntax.proofs.DefinitionReading.{port_of, component_of, list_of, record_of}
 use Rattle.tp_syntax.proofs.Reading.{handed}
+use Rattle.tp_syntax.specs.Definitions.{port_type_lexemes, list_type_lexemes}
+use Rattle.tp_syntax.specs.Lines.{defined_notes}
+use Rattle.tp_syntax.proofs.Lines.{passes_unnoted}
 use Rattle.tp_syntax.proofs.cursor.Parser.defined_type.Goals as goal
 
 pub returns-in_err-port-clause-reads : goal.returns-in_err-port-clause-reads
@@ -51,3 +54,19 @@ returns-clause-reads c =
     λ x more is right e.
     let t = record_of x more _ is e (iff_false c.is_word_at.ensures c.if-is_word_at.false) (iff_false c.is_word_at-2.ensures c.if-is_word_at-2.false) (iff_false c.is_word_at-3.ensures c.if-is_word_at-3.false) in
     c.in_ok-record.ensures.reads t.0 more t.1
+
+pub returns-then-is_word_at-clause-lines : goal.returns-then-is_word_at-clause-lines
+unfolding defined_notes
+returns-then-is_word_at-clause-lines c = passes_unnoted (port_type_lexemes c.in_ok-port.port) c.in_ok-port.ensures.forward c.in_ok-port.ensures.tokens
+
+pub returns-then-is_word_at-2-clause-lines : goal.returns-then-is_word_at-2-clause-lines
+unfolding defined_notes
+returns-then-is_word_at-2-clause-lines c = c.in_ok-component.ensures.lines
+
+pub returns-then-is_word_at-3-clause-lines : goal.returns-then-is_word_at-3-clause-lines
+unfolding defined_notes
+returns-then-is_word_at-3-clause-lines c = passes_unnoted (list_type_lexemes c.in_ok-list.list) c.in_ok-list.ensures.forward c.in_ok-list.ensures.tokens
+
+pub returns-clause-lines : goal.returns-clause-lines
+unfolding defined_notes
+returns-clause-lines c = c.in_ok-record.ensures.lines

@@ -6,6 +6,9 @@ use Rattle.tp_syntax.specs.Definitions.{defined_lexemes}
 use Rattle.tp_syntax.specs.Reading.{Stands}
 use Rattle.tp_syntax.proofs.CaseReading.{same_closed}
 use Rattle.tp_syntax.proofs.Reading.{handed}
+use Rattle.tp_syntax.specs.Ahead.{starts_zero}
+use Rattle.tp_syntax.proofs.Lines.{passes_at, passes_then, passes_unnoted}
+use Rattle.tp_syntax.proofs.Begins.{defined_no_zero}
 use Rattle.tp_syntax.proofs.cursor.Parser.definition.Goals as goal
 
 pub returns-in_err-defined-clause-reads : goal.returns-in_err-defined-clause-reads
@@ -33,3 +36,8 @@ returns-clause-reads c =
     (sym (c.in_ok-defined.ensures.tokens ∙ ap (λ (l : List Lexeme). defined_lexemes c.in_ok-defined.defined ++ l) e1) ∙ e0) in
     let ended = subst (λ b. Stands (b || x.has_semicolon) more) (sym (c.ends_in_brace-is_closed.ensures ∙ same)) placed.1 in
     c.in_ok-has_semicolon.ensures.reads x.has_semicolon more ended e1
+
+pub returns-clause-lines : goal.returns-clause-lines
+returns-clause-lines c =
+    let body = passes_then c.in_ok-defined.ensures.lines (passes_unnoted (end_lexemes c.in_ok-has_semicolon.has_semicolon) c.in_ok-has_semicolon.ensures.forward c.in_ok-has_semicolon.ensures.tokens) in
+    passes_at _ _ body c.line-line.ensures (ap starts_zero c.in_ok-defined.ensures.tokens ∙ defined_no_zero c.in_ok-defined.defined _)

@@ -13,6 +13,8 @@ use Rattle.tp_syntax.proofs.Reading.{handed, brace_at, brace_first}
 use Rattle.tp_syntax.proofs.Remaining.{RemainAll, all_next, all_last, no_brace, all_deep}
 use Rattle.tp_syntax.proofs.Begins.{definition_begins}
 use Rattle.tp_syntax.specs.Reading.{first}
+use Rattle.tp_syntax.specs.Lines.{definition_notes}
+use Rattle.tp_syntax.proofs.Lines.{passes_none, passes_push}
 use Rattle.tp_syntax.proofs.cursor.Parser.definitions.Goals as goal
 
 pub more-preserved : goal.more-preserved
@@ -28,6 +30,8 @@ more-preserved c = record {
   grammatical = rw c.in_ok-push.ensures.items
       (between_push definition_part c.more.definitions.items c.in_ok-definition.definition _ _ _ c.more.invariant.grammatical (iff_false c.is_symbol_at.ensures c.more-test.true) c.in_ok-definition.ensures.grammatical);
   shorter = omega (arith, c.more.invariant.shorter, c.in_ok-definition.ensures.shorter);
+  lines = rw c.in_ok-push.ensures.items
+      (passes_push definition_notes c.more.definitions.items c.in_ok-definition.definition c.more.invariant.lines c.in_ok-definition.ensures.lines);
 }
 
 pub more-init : goal.more-init
@@ -37,6 +41,7 @@ more-init c = record {
   grammatical = rw c.new-definitions.ensures.items (between_none _);
   reads = λ xs more stand deep brace e. (xs, all_deep _ c.args.left xs deep, stand, e);
   shorter = first_of (search rules, grind (arith, common_steps));
+  lines = rw c.new-definitions.ensures.items (passes_none _);
 }
 
 pub returns-in_err-definition-clause-reads : goal.returns-in_err-definition-clause-reads

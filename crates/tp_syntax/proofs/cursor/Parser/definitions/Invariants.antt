@@ -10,6 +10,8 @@ use Rattle.tp_syntax.specs.Reading.{AllStand, first}
 use Rattle.tp_syntax.proofs.Remaining.{RemainAll}
 use Rattle.tp_tree.specs.declared.tree.Definition.{Definition}
 use Rattle.tp_token.specs.declared.token.Symbol.TheVariants.{RightBrace}
+use Rattle.tp_syntax.specs.Lines.{noted_in_order, definition_notes}
+use Rattle.tp_syntax.specs.Forward.{PassesNoted}
 use Rattle.tp_syntax.proofs.cursor.Parser.definitions.Given as goal
 
 abbrev pub invariant-more : goal.invariant-more
@@ -20,6 +22,7 @@ invariant-more l = record {
   reads : (xs : List Definition) (more : List Lexeme) → AllStand (map definition_part xs) more → definitions_depth xs ≤ l.left → first more ≡ Some (symbol RightBrace) → ahead l.fn.self.rest.now ≡ definitions_lexemes xs ++ more
       → RemainAll definition_lexemes definition_part (λ x. defined_depth x.defined ≤ l.left) more (ahead l.self.rest.now);
   shorter : length l.self.rest.now ≤ length l.fn.self.rest.now;
+  lines : PassesNoted l.fn.self.rest.now (noted_in_order (map definition_notes l.definitions.items)) l.self.rest.now;
 }
 
 abbrev pub decreases-more : goal.decreases-more

@@ -22,6 +22,7 @@ more-preserved c = record {
   grammatical = rw c.in_ok-push.ensures.items
       (between_push direction_part c.more.directions.items c.in_ok-direction.direction _ _ _ c.more.invariant.grammatical (iff_false c.is_symbol_at.ensures c.more-test.true) c.in_ok-direction.ensures.grammatical);
   shorter = omega (arith, c.more.invariant.shorter, c.in_ok-direction.ensures.shorter);
+  forward = λ all tail. c.in_ok-direction.ensures.forward all (c.more.invariant.forward all tail);
 }
 
 pub more-init : goal.more-init
@@ -30,6 +31,7 @@ more-init c = record {
   grammatical = rw c.new-directions.ensures.items (between_none _);
   reads = λ xs more stand brace e. (xs, all_any xs, stand, e);
   shorter = first_of (search rules, grind (arith, common_steps));
+  forward = λ all tail. tail;
 }
 
 pub returns-in_err-direction-clause-reads : goal.returns-in_err-direction-clause-reads

@@ -9,6 +9,7 @@ use Rattle.tp_syntax.specs.Reading.{AllStand, first}
 use Rattle.tp_syntax.proofs.Remaining.{RemainAll}
 use Rattle.tp_tree.specs.declared.tree.Direction.{Direction}
 use Rattle.tp_token.specs.declared.token.Symbol.TheVariants.{RightBrace}
+use Rattle.tp_syntax.specs.Forward.{GoesForward}
 use Rattle.tp_syntax.proofs.cursor.Parser.directions.Given as goal
 
 abbrev pub invariant-more : goal.invariant-more
@@ -18,6 +19,7 @@ invariant-more l = record {
   reads : (xs : List Direction) (more : List Lexeme) → AllStand (map direction_part xs) more → first more ≡ Some (symbol RightBrace) → ahead l.fn.self.rest.now ≡ directions_lexemes xs ++ more
       → RemainAll direction_lexemes direction_part (λ _. Unit {0}) more (ahead l.self.rest.now);
   shorter : length l.self.rest.now ≤ length l.fn.self.rest.now;
+  forward : GoesForward l.fn.self l.self;
 }
 
 abbrev pub decreases-more : goal.decreases-more

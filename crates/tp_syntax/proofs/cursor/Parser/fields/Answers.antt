@@ -8,6 +8,9 @@ use Rattle.tp_syntax.proofs.Remaining.{Remain, comma_first, comma_next, comma_la
 use Rattle.tp_syntax.specs.Reading.{first, is_stop}
 use Rattle.tp_syntax.proofs.Begins.{field_no_brace}
 use Rattle.std.proofs.lemmas.Bool.{iff_false}
+use Rattle.tp_syntax.specs.declared.cursor.Parser.{Parser}
+use Rattle.tp_syntax.specs.Lines.{field_type_notes}
+use Rattle.tp_syntax.proofs.Lines.{passes_comma, passes_first, passes_none, passes_one, passes_same}
 use Rattle.tp_syntax.proofs.cursor.Parser.fields.Goals as goal
 
 pub more-preserved : goal.more-preserved
@@ -20,6 +23,9 @@ more-preserved c = record {
       c.more.invariant.some c.more.invariant.tokens c.more-test.ensures.yes c.in_ok-next.ensures.tokens);
   some = rw c.in_ok-push-2.ensures.items (simp length-append (omega arith));
   shorter = omega (arith, c.more.invariant.shorter, c.more-test.ensures.shorter, c.in_ok-next.ensures.shorter);
+  lines = rw c.in_ok-push-2.ensures.items
+      (passes_comma field_type_notes c.more.fields.items c.in_ok-next.next c.more.invariant.some c.more.invariant.lines
+      (passes_one c.more-test.ensures.forward c.more-test.ensures.yes) c.in_ok-next.ensures.lines);
 }
 
 pub more-init : goal.more-init
@@ -30,6 +36,7 @@ more-init c = record {
       let n = comma_first field_type_lexemes (λ _. Unit {0}) xs more _ (all_any xs) (some_of field_type_lexemes xs more _ e (λ same. iff_false c.is_symbol_at.ensures c.if-is_symbol_at.false (brace_at _ more same close))) e in
       subst (Remain field_type_lexemes (λ _. Unit {0}) more) (sym (c.in_ok-first.ensures.reads n.0 n.2 n.3)) n.4;
   shorter = first_of (search rules, grind (arith, common_steps));
+  lines = rw (c.in_ok-push.ensures.items, c.new-fields.ensures.items) (passes_first field_type_notes c.in_ok-first.first c.in_ok-first.ensures.lines);
 }
 
 pub returns-in_err-first-clause-reads : goal.returns-in_err-first-clause-reads
@@ -53,3 +60,9 @@ pub returns-then-is_symbol_at-clause-reads : goal.returns-then-is_symbol_at-clau
 returns-then-is_symbol_at-clause-reads c =
     λ xs more close e.
     none_of field_type_lexemes xs more _ e (λ y r same. field_no_brace y r (ap first (sym same) ∙ brace_first _ (c.is_symbol_at.ensures.0 c.if-is_symbol_at.true)))
+
+pub returns-clause-lines : goal.returns-clause-lines
+returns-clause-lines c = passes_same (ap (λ (p : Parser). p.rest.now) c.more-test.ensures.no) c.more.invariant.lines
+
+pub returns-then-is_symbol_at-clause-lines : goal.returns-then-is_symbol_at-clause-lines
+returns-then-is_symbol_at-clause-lines c = rw c.new-fields.ensures.items (passes_none _)

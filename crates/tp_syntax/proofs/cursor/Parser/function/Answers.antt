@@ -7,6 +7,8 @@ use Rattle.tp_syntax.specs.Definitions.{function_lexemes}
 use Rattle.tp_syntax.proofs.CaseReading.{function_variables, function_statements, statements_no_var}
 use Rattle.tp_token.specs.Lexeme.{symbol}
 use Rattle.tp_token.specs.declared.token.Symbol.TheVariants.{RightBrace}
+use Rattle.tp_syntax.specs.Lines.{function_notes}
+use Rattle.tp_syntax.proofs.Lines.{passes_next, passes_one, passes_then}
 use Rattle.tp_syntax.proofs.cursor.Parser.function.Goals as goal
 
 pub returns-clause-grammatical : goal.returns-clause-grammatical
@@ -183,3 +185,8 @@ returns-clause-reads c =
     let e10 = c.in_ok-variables.ensures.reads x.variables.items _ (function_variables x more right) (statements_no_var x.statements.items (symbol RightBrace ∷ more) (λ h. cc h)) e9 in
     let e11 = c.in_ok-statements.ensures.reads x.statements.items _ (function_statements x more right) (omega (arith, c.in_ok-inner.ensures.inner)) refl e10 in
     c.in_ok-symbol-3.ensures.reads more e11
+
+pub returns-clause-lines : goal.returns-clause-lines
+unfolding function_notes
+returns-clause-lines c =
+    passes_next c.in_ok-word.ensures.forward c.in_ok-word.ensures.tokens (passes_next c.in_ok-name.ensures.forward c.in_ok-name.ensures.tokens (passes_next c.in_ok-symbol.ensures.forward c.in_ok-symbol.ensures.tokens (passes_then c.in_ok-parameters.ensures.lines (passes_next c.in_ok-symbol-2.ensures.forward c.in_ok-symbol-2.ensures.tokens (passes_next c.in_ok-word-2.ensures.forward c.in_ok-word-2.ensures.tokens (passes_next c.in_ok-word-3.ensures.forward c.in_ok-word-3.ensures.tokens (passes_next c.in_ok-runs_on.ensures.forward c.in_ok-runs_on.ensures.tokens (passes_next c.in_ok-inner.ensures.forward c.in_ok-inner.ensures.tokens (passes_then (passes_then c.in_ok-variables.ensures.lines c.in_ok-statements.ensures.lines) (passes_one c.in_ok-symbol-3.ensures.forward c.in_ok-symbol-3.ensures.tokens))))))))))

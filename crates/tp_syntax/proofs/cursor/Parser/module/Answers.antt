@@ -1,5 +1,5 @@
 -- Each definition but the last has its `;`, or ends in a `}`.
-use Rattle.std.proofs.Common.{map, append_assoc, append_assoc, refl, ◌∷◌, ◌++◌, arith}
+use Rattle.std.proofs.Common.{map, append_assoc, append_assoc, refl, ◌∷◌, ◌++◌, arith, ap}
 use Rattle.tp_syntax.specs.Grammar.{definition_part}
 use Rattle.tp_syntax.proofs.Standing.{between_parts}
 use Rattle.tp_syntax.proofs.Reading.{handed}
@@ -9,6 +9,8 @@ use Rattle.tp_token.specs.declared.token.Symbol.TheVariants.{RightBrace}
 use Rattle.tp_syntax.proofs.Remaining.{parts_stand}
 use Rattle.tp_syntax.specs.Sequences.{end_lexemes}
 use Rattle.tp_syntax.specs.Reading.{first}
+use Rattle.tp_syntax.specs.Ahead.{starts_zero}
+use Rattle.tp_syntax.proofs.Lines.{passes_at, passes_next, passes_one, passes_then, passes_unnoted}
 use Rattle.tp_syntax.proofs.cursor.Parser.module.Goals as goal
 
 pub returns-clause-grammatical : goal.returns-clause-grammatical
@@ -75,3 +77,8 @@ returns-clause-reads c =
     let e4 = c.in_ok-definitions.ensures.reads x.definitions.items (symbol RightBrace ∷ (end_lexemes x.has_semicolon ++ more)) (parts_stand (map definition_part x.definitions.items) (symbol RightBrace ∷ (end_lexemes x.has_semicolon ++ more)) right refl) (omega (arith, c.in_ok-inner.ensures.inner)) refl e3 in
     let e5 = c.in_ok-symbol.ensures.reads _ e4 in
     c.in_ok-has_semicolon.ensures.reads x.has_semicolon more (ended_stands (first more) other) e5
+
+pub returns-clause-lines : goal.returns-clause-lines
+returns-clause-lines c =
+    let body = passes_next c.in_ok-word.ensures.forward c.in_ok-word.ensures.tokens (passes_next c.in_ok-name.ensures.forward c.in_ok-name.ensures.tokens (passes_next c.in_ok-inner.ensures.forward c.in_ok-inner.ensures.tokens (passes_then (passes_then c.in_ok-definitions.ensures.lines (passes_one c.in_ok-symbol.ensures.forward c.in_ok-symbol.ensures.tokens)) (passes_unnoted (end_lexemes c.in_ok-has_semicolon.has_semicolon) c.in_ok-has_semicolon.ensures.forward c.in_ok-has_semicolon.ensures.tokens)))) in
+    passes_at _ _ body c.line-line.ensures (ap starts_zero c.in_ok-word.ensures.tokens)

@@ -1,10 +1,13 @@
 -- One more name of a port is read behind its comma.
-use Rattle.std.proofs.Common.{arith, length-append, sym, subst, rules, string_bytes}
+use Rattle.std.proofs.Common.{ap, arith, length-append, sym, subst, rules, string_bytes}
 use Rattle.tp_syntax.specs.Definitions.{declared_name_lexemes}
 use Rattle.tp_syntax.proofs.Commas.{push_read}
 use Rattle.std.proofs.lemmas.Grind.{common_steps}
 use Rattle.tp_syntax.proofs.Reading.{handed, same_ahead}
 use Rattle.tp_syntax.proofs.Remaining.{Remain, comma_first, comma_next, comma_last, all_any}
+use Rattle.tp_syntax.specs.declared.cursor.Parser.{Parser}
+use Rattle.tp_syntax.specs.Lines.{declared_name_notes}
+use Rattle.tp_syntax.proofs.Lines.{passes_comma, passes_first, passes_one, passes_same}
 use Rattle.tp_syntax.proofs.cursor.Parser.names.Goals as goal
 
 pub more-preserved : goal.more-preserved
@@ -17,6 +20,9 @@ more-preserved c = record {
       c.more.invariant.some c.more.invariant.tokens c.more-test.ensures.yes c.in_ok-next.ensures.tokens);
   some = rw c.in_ok-push-2.ensures.items (simp length-append (omega arith));
   shorter = omega (arith, c.more.invariant.shorter, c.more-test.ensures.shorter, c.in_ok-next.ensures.shorter);
+  lines = rw c.in_ok-push-2.ensures.items
+      (passes_comma declared_name_notes c.more.names.items c.in_ok-next.next c.more.invariant.some c.more.invariant.lines
+      (passes_one c.more-test.ensures.forward c.more-test.ensures.yes) c.in_ok-next.ensures.lines);
 }
 
 pub more-init : goal.more-init
@@ -27,6 +33,7 @@ more-init c = record {
       let n = comma_first declared_name_lexemes (λ _. Unit {0}) xs more _ (all_any xs) (some) e in
       subst (Remain declared_name_lexemes (λ _. Unit {0}) more) (sym (c.in_ok-first.ensures.reads (string_bytes n.0.name) n.2 n.3)) n.4;
   shorter = first_of (search rules, grind (arith, common_steps));
+  lines = rw (c.in_ok-push.ensures.items, c.new-names.ensures.items) (passes_first declared_name_notes c.in_ok-first.first c.in_ok-first.ensures.lines);
 }
 
 pub returns-in_err-first-clause-reads : goal.returns-in_err-first-clause-reads
@@ -45,3 +52,6 @@ pub returns-clause-reads : goal.returns-clause-reads
 returns-clause-reads c =
     λ xs more some stops e.
     same_ahead c.more-test.ensures.no (comma_last declared_name_lexemes (λ _. Unit {0}) more _ (c.more.invariant.reads xs more some stops e) c.more-test.ensures.other)
+
+pub returns-clause-lines : goal.returns-clause-lines
+returns-clause-lines c = passes_same (ap (λ (p : Parser). p.rest.now) c.more-test.ensures.no) c.more.invariant.lines

@@ -1,5 +1,5 @@
 -- The tokens passed are those of the parameters so far, of which there is one at least.
-use Rattle.std.proofs.Common.{◌≡◌, ◌<◌, ◌++◌, length, List, Some}
+use Rattle.std.proofs.Common.{◌≡◌, ◌<◌, ◌++◌, length, List, Some, map}
 use Rattle.tp_syntax.specs.Ahead.{ahead}
 use Rattle.tp_syntax.specs.Definitions.{parameters_lexemes, parameter_lexemes}
 use Rattle.tp_token.specs.Lexeme.{Lexeme, symbol}
@@ -7,6 +7,8 @@ use Rattle.tp_syntax.specs.Reading.{first}
 use Rattle.tp_syntax.proofs.Remaining.{Remain}
 use Rattle.tp_tree.specs.declared.tree.Parameter.{Parameter}
 use Rattle.tp_token.specs.declared.token.Symbol.TheVariants.{RightParen}
+use Rattle.tp_syntax.specs.Lines.{noted_by_commas, parameter_notes}
+use Rattle.tp_syntax.specs.Forward.{PassesNoted}
 use Rattle.tp_syntax.proofs.cursor.Parser.parameters.Given as goal
 
 abbrev pub invariant-more : goal.invariant-more
@@ -16,6 +18,7 @@ invariant-more l = record {
   reads : (xs : List Parameter) (more : List Lexeme) → first more ≡ Some (symbol RightParen) → ahead l.fn.self.rest.now ≡ parameters_lexemes xs ++ more
       → Remain parameter_lexemes (λ _. Unit {0}) more (ahead l.self.rest.now);
   shorter : length l.self.rest.now < length l.fn.self.rest.now;
+  lines : PassesNoted l.fn.self.rest.now (noted_by_commas (map parameter_notes l.parameters.items)) l.self.rest.now;
 }
 
 abbrev pub decreases-more : goal.decreases-more

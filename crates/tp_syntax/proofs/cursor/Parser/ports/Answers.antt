@@ -10,6 +10,8 @@ use Rattle.tp_syntax.proofs.Reading.{handed, brace_at, brace_first}
 use Rattle.tp_syntax.proofs.Remaining.{RemainAll, all_next, all_last, no_brace, all_any}
 use Rattle.tp_syntax.proofs.Begins.{port_declaration_begins}
 use Rattle.tp_syntax.specs.Reading.{first}
+use Rattle.tp_syntax.specs.Lines.{port_declaration_notes}
+use Rattle.tp_syntax.proofs.Lines.{passes_none, passes_push}
 use Rattle.tp_syntax.proofs.cursor.Parser.ports.Goals as goal
 
 pub more-preserved : goal.more-preserved
@@ -23,6 +25,8 @@ more-preserved c = record {
   grammatical = rw c.in_ok-push.ensures.items
       (between_push port_declaration_part c.more.ports.items c.in_ok-port_declaration.port_declaration _ _ _ c.more.invariant.grammatical (iff_false c.is_symbol_at.ensures c.more-test.true) c.in_ok-port_declaration.ensures.grammatical);
   shorter = omega (arith, c.more.invariant.shorter, c.in_ok-port_declaration.ensures.shorter);
+  lines = rw c.in_ok-push.ensures.items
+      (passes_push port_declaration_notes c.more.ports.items c.in_ok-port_declaration.port_declaration c.more.invariant.lines c.in_ok-port_declaration.ensures.lines);
 }
 
 pub more-init : goal.more-init
@@ -31,6 +35,7 @@ more-init c = record {
   grammatical = rw c.new-ports.ensures.items (between_none _);
   reads = λ xs more stand brace e. (xs, all_any xs, stand, e);
   shorter = first_of (search rules, grind (arith, common_steps));
+  lines = rw c.new-ports.ensures.items (passes_none _);
 }
 
 pub returns-in_err-port_declaration-clause-reads : goal.returns-in_err-port_declaration-clause-reads

@@ -9,6 +9,8 @@ use Rattle.tp_syntax.specs.Reading.{AllStand, first}
 use Rattle.tp_syntax.proofs.Remaining.{RemainAll}
 use Rattle.tp_tree.specs.declared.tree.PortDeclaration.{PortDeclaration}
 use Rattle.tp_token.specs.declared.token.Symbol.TheVariants.{RightBrace}
+use Rattle.tp_syntax.specs.Lines.{noted_in_order, port_declaration_notes}
+use Rattle.tp_syntax.specs.Forward.{PassesNoted}
 use Rattle.tp_syntax.proofs.cursor.Parser.ports.Given as goal
 
 abbrev pub invariant-more : goal.invariant-more
@@ -18,6 +20,7 @@ invariant-more l = record {
   reads : (xs : List PortDeclaration) (more : List Lexeme) → AllStand (map port_declaration_part xs) more → first more ≡ Some (symbol RightBrace) → ahead l.fn.self.rest.now ≡ port_declarations_lexemes xs ++ more
       → RemainAll port_declaration_lexemes port_declaration_part (λ _. Unit {0}) more (ahead l.self.rest.now);
   shorter : length l.self.rest.now ≤ length l.fn.self.rest.now;
+  lines : PassesNoted l.fn.self.rest.now (noted_in_order (map port_declaration_notes l.ports.items)) l.self.rest.now;
 }
 
 abbrev pub decreases-more : goal.decreases-more

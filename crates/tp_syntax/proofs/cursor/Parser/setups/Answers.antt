@@ -10,6 +10,8 @@ use Rattle.tp_syntax.proofs.Remaining.{RemainAll, all_next, all_last, all_any}
 use Rattle.tp_syntax.proofs.Begins.{setup_begins, setup_at}
 use Rattle.tp_syntax.specs.Reading.{is_setup_ahead}
 use Rattle.std.proofs.lemmas.Bool.{false≢true}
+use Rattle.tp_syntax.specs.Lines.{setup_notes}
+use Rattle.tp_syntax.proofs.Lines.{passes_none, passes_push}
 use Rattle.tp_syntax.proofs.cursor.Parser.setups.Goals as goal
 
 pub more-preserved : goal.more-preserved
@@ -22,6 +24,8 @@ more-preserved c = record {
   grammatical = rw c.in_ok-push.ensures.items
       (between_push setup_part c.more.setups.items c.in_ok-setup.setup _ _ _ c.more.invariant.grammatical c.more-test.ensures.goes_on c.in_ok-setup.ensures.grammatical);
   shorter = omega (arith, c.more.invariant.shorter, c.in_ok-setup.ensures.shorter);
+  lines = rw c.in_ok-push.ensures.items
+      (passes_push setup_notes c.more.setups.items c.in_ok-setup.setup c.more.invariant.lines c.in_ok-setup.ensures.lines);
 }
 
 pub more-init : goal.more-init
@@ -30,6 +34,7 @@ more-init c = record {
   grammatical = rw c.new-setups.ensures.items (between_none _);
   reads = λ xs more stand other e. (xs, all_any xs, stand, e);
   shorter = first_of (search rules, grind (arith, common_steps));
+  lines = rw c.new-setups.ensures.items (passes_none _);
 }
 
 pub returns-in_err-setup-clause-reads : goal.returns-in_err-setup-clause-reads

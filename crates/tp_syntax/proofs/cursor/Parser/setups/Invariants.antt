@@ -8,6 +8,8 @@ use Rattle.tp_token.specs.Lexeme.{Lexeme}
 use Rattle.tp_syntax.specs.Reading.{AllStand, is_setup_ahead}
 use Rattle.tp_syntax.proofs.Remaining.{RemainAll}
 use Rattle.tp_tree.specs.declared.tree.SetupStatement.{SetupStatement}
+use Rattle.tp_syntax.specs.Lines.{noted_in_order, setup_notes}
+use Rattle.tp_syntax.specs.Forward.{PassesNoted}
 use Rattle.tp_syntax.proofs.cursor.Parser.setups.Given as goal
 
 abbrev pub invariant-more : goal.invariant-more
@@ -17,6 +19,7 @@ invariant-more l = record {
   reads : (xs : List SetupStatement) (more : List Lexeme) → AllStand (map setup_part xs) more → is_setup_ahead more ≡ false → ahead l.fn.self.rest.now ≡ setups_lexemes xs ++ more
       → RemainAll setup_lexemes setup_part (λ _. Unit {0}) more (ahead l.self.rest.now);
   shorter : length l.self.rest.now ≤ length l.fn.self.rest.now;
+  lines : PassesNoted l.fn.self.rest.now (noted_in_order (map setup_notes l.setups.items)) l.self.rest.now;
 }
 
 abbrev pub decreases-more : goal.decreases-more

@@ -10,6 +10,8 @@ use Rattle.tp_syntax.proofs.Remaining.{RemainAll, all_next, all_last, all_any}
 use Rattle.tp_syntax.proofs.Begins.{start_begins, start_at}
 use Rattle.tp_syntax.specs.Reading.{is_start_ahead}
 use Rattle.std.proofs.lemmas.Bool.{false≢true}
+use Rattle.tp_syntax.specs.Lines.{start_notes}
+use Rattle.tp_syntax.proofs.Lines.{passes_none, passes_push}
 use Rattle.tp_syntax.proofs.cursor.Parser.starts.Goals as goal
 
 pub more-preserved : goal.more-preserved
@@ -22,6 +24,8 @@ more-preserved c = record {
   grammatical = rw c.in_ok-push.ensures.items
       (between_push start_part c.more.starts.items c.in_ok-start.start _ _ _ c.more.invariant.grammatical c.more-test.ensures.goes_on c.in_ok-start.ensures.grammatical);
   shorter = omega (arith, c.more.invariant.shorter, c.in_ok-start.ensures.shorter);
+  lines = rw c.in_ok-push.ensures.items
+      (passes_push start_notes c.more.starts.items c.in_ok-start.start c.more.invariant.lines c.in_ok-start.ensures.lines);
 }
 
 pub more-init : goal.more-init
@@ -30,6 +34,7 @@ more-init c = record {
   grammatical = rw c.new-starts.ensures.items (between_none _);
   reads = λ xs more stand other e. (xs, all_any xs, stand, e);
   shorter = first_of (search rules, grind (arith, common_steps));
+  lines = rw c.new-starts.ensures.items (passes_none _);
 }
 
 pub returns-in_err-start-clause-reads : goal.returns-in_err-start-clause-reads

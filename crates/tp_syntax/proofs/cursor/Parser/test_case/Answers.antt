@@ -3,8 +3,10 @@ use Rattle.std.proofs.Common.{◌++◌, map, append_assoc, append_assoc, refl, a
 use Rattle.tp_syntax.specs.Grammar.{all_done_parts, setup_part, start_part, statements_parts, variable_part}
 use Rattle.tp_syntax.proofs.Standing.{between_parts, between_then}
 use Rattle.tp_syntax.proofs.Reading.{handed}
-use Rattle.tp_syntax.specs.Definitions.{test_case_lexemes, behaviour_lexemes}
+use Rattle.tp_syntax.specs.Definitions.{test_case_lexemes, behaviour_lexemes, all_done_lexemes, system_lexemes}
 use Rattle.tp_syntax.proofs.CaseReading.{case_stands, case_no_setup, case_no_start, case_no_var, case_ends, behind_setups, behind_starts, behind_variables, behind_statements}
+use Rattle.tp_syntax.specs.Lines.{test_case_notes, behaviour_notes}
+use Rattle.tp_syntax.proofs.Lines.{passes_next, passes_one, passes_then, passes_unnoted}
 use Rattle.tp_syntax.proofs.cursor.Parser.test_case.Goals as goal
 
 pub returns-clause-grammatical : goal.returns-clause-grammatical
@@ -266,3 +268,11 @@ returns-clause-reads c =
     let e13 = c.in_ok-statements.ensures.reads x.statements.items (behind_statements x more) stands.statements (omega (arith, c.in_ok-inner.ensures.inner)) (case_ends x more) e12 in
     let e14 = c.in_ok-all_done.ensures.reads x.all_done _ stands.all_done refl e13 in
     c.in_ok-symbol-3.ensures.reads more e14
+
+pub returns-clause-lines : goal.returns-clause-lines
+unfolding test_case_notes behaviour_notes
+returns-clause-lines c =
+    let behaviour =
+    passes_then c.in_ok-setups.ensures.lines (passes_then c.in_ok-starts.ensures.lines (passes_then c.in_ok-variables.ensures.lines (passes_then c.in_ok-statements.ensures.lines (passes_unnoted (all_done_lexemes c.in_ok-all_done.all_done) c.in_ok-all_done.ensures.forward c.in_ok-all_done.ensures.tokens)))) in
+    let block = passes_next c.in_ok-inner.ensures.forward c.in_ok-inner.ensures.tokens (passes_then behaviour (passes_one c.in_ok-symbol-3.ensures.forward c.in_ok-symbol-3.ensures.tokens)) in
+    passes_next c.in_ok-word.ensures.forward c.in_ok-word.ensures.tokens (passes_next c.in_ok-name.ensures.forward c.in_ok-name.ensures.tokens (passes_next c.in_ok-symbol.ensures.forward c.in_ok-symbol.ensures.tokens (passes_next c.in_ok-symbol-2.ensures.forward c.in_ok-symbol-2.ensures.tokens (passes_next c.in_ok-word-2.ensures.forward c.in_ok-word-2.ensures.tokens (passes_next c.in_ok-word-3.ensures.forward c.in_ok-word-3.ensures.tokens (passes_next c.in_ok-runs_on.ensures.forward c.in_ok-runs_on.ensures.tokens (passes_then (passes_unnoted (system_lexemes c.in_ok-system.system) c.in_ok-system.ensures.forward c.in_ok-system.ensures.tokens) (block))))))))

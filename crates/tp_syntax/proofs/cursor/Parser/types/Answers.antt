@@ -17,6 +17,7 @@ more-preserved c = record {
       c.more.invariant.some c.more.invariant.tokens c.more-test.ensures.yes c.in_ok-next.ensures.tokens);
   some = rw c.in_ok-push-2.ensures.items (simp length-append (omega arith));
   shorter = omega (arith, c.more.invariant.shorter, c.more-test.ensures.shorter, c.in_ok-next.ensures.shorter);
+  forward = λ all tail. c.in_ok-next.ensures.forward all (c.more-test.ensures.forward all (c.more.invariant.forward all tail));
 }
 
 pub more-init : goal.more-init
@@ -27,6 +28,7 @@ more-init c = record {
       let n = comma_first type_lexemes (λ _. Unit {0}) xs more _ (all_any xs) (some) e in
       subst (Remain type_lexemes (λ _. Unit {0}) more) (sym (c.in_ok-first.ensures.reads n.0 n.2 n.3)) n.4;
   shorter = first_of (search rules, grind (arith, common_steps));
+  forward = λ all tail. c.in_ok-first.ensures.forward all tail;
 }
 
 pub returns-in_err-first-clause-reads : goal.returns-in_err-first-clause-reads

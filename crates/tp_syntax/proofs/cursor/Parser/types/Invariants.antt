@@ -8,6 +8,7 @@ use Rattle.tp_syntax.proofs.Remaining.{Remain}
 use Rattle.tp_tree.specs.declared.message.TypeName.{TypeName}
 use Rattle.tp_syntax.specs.Grammar.{has_one}
 use Rattle.tp_syntax.specs.Values.{type_lexemes}
+use Rattle.tp_syntax.specs.Forward.{GoesForward}
 use Rattle.tp_syntax.proofs.cursor.Parser.types.Given as goal
 
 abbrev pub invariant-more : goal.invariant-more
@@ -17,6 +18,7 @@ invariant-more l = record {
   reads : (xs : List TypeName) (more : List Lexeme) → has_one xs ≡ true → Stops more → ahead l.fn.self.rest.now ≡ types_lexemes xs ++ more
       → Remain type_lexemes (λ _. Unit {0}) more (ahead l.self.rest.now);
   shorter : length l.self.rest.now < length l.fn.self.rest.now;
+  forward : GoesForward l.fn.self l.self;
 }
 
 abbrev pub decreases-more : goal.decreases-more

@@ -12,6 +12,8 @@ use Rattle.tp_syntax.proofs.Begins.{variable_begins}
 use Rattle.tp_token.specs.Lexeme.{word}
 use Rattle.tp_syntax.specs.Reading.{first}
 use Rattle.std.proofs.lemmas.Bool.{iff_false}
+use Rattle.tp_syntax.specs.Lines.{variable_notes}
+use Rattle.tp_syntax.proofs.Lines.{passes_none, passes_push}
 use Rattle.tp_syntax.proofs.cursor.Parser.variables.Goals as goal
 
 pub more-preserved : goal.more-preserved
@@ -24,6 +26,8 @@ more-preserved c = record {
   grammatical = rw c.in_ok-push.ensures.items
       (between_push variable_part c.more.variables.items c.in_ok-variable.variable _ _ _ c.more.invariant.grammatical (word_goes_on _ _ (c.is_word_at.ensures.0 c.more-test.true)) c.in_ok-variable.ensures.grammatical);
   shorter = omega (arith, c.more.invariant.shorter, c.in_ok-variable.ensures.shorter);
+  lines = rw c.in_ok-push.ensures.items
+      (passes_push variable_notes c.more.variables.items c.in_ok-variable.variable c.more.invariant.lines c.in_ok-variable.ensures.lines);
 }
 
 pub more-init : goal.more-init
@@ -32,6 +36,7 @@ more-init c = record {
   grammatical = rw c.new-variables.ensures.items (between_none _);
   reads = λ xs more stand other e. (xs, all_any xs, stand, e);
   shorter = first_of (search rules, grind (arith, common_steps));
+  lines = rw c.new-variables.ensures.items (passes_none _);
 }
 
 pub returns-in_err-variable-clause-reads : goal.returns-in_err-variable-clause-reads

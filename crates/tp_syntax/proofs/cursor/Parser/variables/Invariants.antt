@@ -9,6 +9,8 @@ use Rattle.tp_token.specs.Lexeme.{Lexeme, word}
 use Rattle.tp_syntax.specs.Reading.{AllStand, first}
 use Rattle.tp_syntax.proofs.Remaining.{RemainAll}
 use Rattle.tp_tree.specs.declared.tree.Variable.{Variable}
+use Rattle.tp_syntax.specs.Lines.{noted_in_order, variable_notes}
+use Rattle.tp_syntax.specs.Forward.{PassesNoted}
 use Rattle.tp_syntax.proofs.cursor.Parser.variables.Given as goal
 
 abbrev pub invariant-more : goal.invariant-more
@@ -18,6 +20,7 @@ invariant-more l = record {
   reads : (xs : List Variable) (more : List Lexeme) → AllStand (map variable_part xs) more → first more ≢ Some (word w.Var) → ahead l.fn.self.rest.now ≡ variables_lexemes xs ++ more
       → RemainAll variable_lexemes variable_part (λ _. Unit {0}) more (ahead l.self.rest.now);
   shorter : length l.self.rest.now ≤ length l.fn.self.rest.now;
+  lines : PassesNoted l.fn.self.rest.now (noted_in_order (map variable_notes l.variables.items)) l.self.rest.now;
 }
 
 abbrev pub decreases-more : goal.decreases-more
