@@ -9,18 +9,18 @@ use Rattle.tp_value.specs.declared.verdict.Verdict.{Verdict}
 use Rattle.tp_config.specs.declared.port_type.CompId.{CompId}
 use Rattle.tp_config.specs.declared.port_type.RouteId.{RouteId}
 use Rattle.tp_config.specs.Setup.{Member, PortDecl, ports_at}
-use Rattle.tp_queue.specs.declared.operation.PortOperation.{PortOperation}
-use Rattle.tp_queue.specs.declared.operation.PortOperation.TheVariants as operation
+use Rattle.tp_event.specs.declared.operation.PortOperation.{PortOperation}
+use Rattle.tp_event.specs.declared.operation.PortOperation.TheVariants as operation
 use Rattle.tp_play.specs.declared.body.Statement.TheVariants as b
-use Rattle.tp_inbox.specs.declared.entry.Entry.{Entry}
-use Rattle.tp_inbox.specs.declared.entry.Entry.TheVariants as entry
-use Rattle.tp_inbox.specs.History.{arrival_on, arrived_on}
+use Rattle.tp_history.specs.declared.entry.Entry.{Entry}
+use Rattle.tp_history.specs.declared.entry.Entry.TheVariants as entry
+use Rattle.tp_history.specs.History.{arrival_on, arrived_on}
 use Rattle.tp_behaviour.specs.declared.held.Held.{Held}
 use Rattle.tp_behaviour.specs.Fresh.{HasOwn}
 use Rattle.tp_behaviour.specs.Held.{Actor}
 use Rattle.tp_behaviour.specs.Moments.{Moment, moments}
 use Rattle.tp_behaviour.specs.Paths.{AreOperated, IsStep, operated}
-use Rattle.tp_behaviour.specs.Seen.{Grew}
+use Rattle.tp_behaviour.specs.Seen.{TraceGrew}
 use Rattle.tp_behaviour.specs.Workers.{IsPlain}
 use Rattle.tp_behaviour.proofs.Entries.{no_arrival}
 use Rattle.tp_behaviour.proofs.Noted.{quiet, sent_on_same}
@@ -48,12 +48,12 @@ own_more c k e plain own q from to =
     ap length came ∙ own q from to ∙ ap length (sym (sent_on_same q k e (h.unsent q.to.comp)))
 
 pub stepped_verdict : (r : Actor) (v : Verdict) (k n : List Entry) → moments n ≡ moments k ++ record { before = k; entry = entry.Verdict v } ∷ []
-    → (turns : List ℤ) (vs : List (Option Held)) → Grew (λ ts. IsStep r turns vs (b.SetVerdict v) ts vs) k n
+    → (turns : List ℤ) (vs : List (Option Held)) → TraceGrew (λ ts. IsStep r turns vs (b.SetVerdict v) ts vs) k n
 stepped_verdict r v k n more turns vs = (record { before = k; entry = entry.Verdict v } ∷ [], more, IsStep.set_verdict turns vs v k)
 
 pub stepped_control : (r : Actor) (o : PortOperation) (port : ℕ) (k l n : List Entry) → moments l ≡ moments k → moments n ≡ moments l
     ++ record { before = l; entry = operated o port } ∷ []
-    → (turns : List ℤ) (vs : List (Option Held)) → Grew (λ ts. IsStep r turns vs (b.Control port o) ts vs) k n
+    → (turns : List ℤ) (vs : List (Option Held)) → TraceGrew (λ ts. IsStep r turns vs (b.Control port o) ts vs) k n
 stepped_control r o port k l n same more turns vs = (
   record { before = l; entry = operated o port } ∷ [],
   more
@@ -81,9 +81,9 @@ all_of o _ _ _ (AreSoFar.none_yet k) = AreOperated.no_port
 all_of o _ _ _ (AreSoFar.up_to n k ts are) = are
 
 -- the next port
-pub grew_further : (o : PortOperation) (n : ℕ) (k l m : List Entry) → Grew (AreSoFar o n l) k l → m ≡ l ++ operated o n ∷ [] → moments m ≡ moments l
+pub grew_further : (o : PortOperation) (n : ℕ) (k l m : List Entry) → TraceGrew (AreSoFar o n l) k l → m ≡ l ++ operated o n ∷ [] → moments m ≡ moments l
     ++ record { before = l; entry = operated o n } ∷ []
-    → Grew (AreSoFar o (suc n) m) k m
+    → TraceGrew (AreSoFar o (suc n) m) k m
 grew_further o n k l m (ts, grown, so) log more =
     let t : Moment = record { before = l; entry = operated o n } in (
       ts ++ t ∷ [],
@@ -94,8 +94,8 @@ grew_further o n k l m (ts, grown, so) log more =
 
 -- all ports
 pub stepped_all : (r : Actor) (o : PortOperation) (n : ℕ) (k l m : List Entry) → n ≡ length (ports_at r.config.types r.config.components r.comp)
-    → moments l ≡ moments k → Grew (AreSoFar o n m) l m
-    → (turns : List ℤ) (vs : List (Option Held)) → Grew (λ ts. IsStep r turns vs (b.AllPorts o) ts vs) k m
+    → moments l ≡ moments k → TraceGrew (AreSoFar o n m) l m
+    → (turns : List ℤ) (vs : List (Option Held)) → TraceGrew (λ ts. IsStep r turns vs (b.AllPorts o) ts vs) k m
 stepped_all r o n k l m count same (ts, grown, so) turns vs =
     (ts, grown ∙ ap (λ xs. xs ++ ts) same, IsStep.all_ports turns vs o ts (subst (λ j. AreOperated o j ts) count (all_of o n m ts so)))
 
@@ -116,5 +116,5 @@ unfolding ports_at
 few_ports types components c few = few_of types (slice_get components c.0) few
 
 -- before the first port
-pub grew_start : (o : PortOperation) (k : List Entry) → Grew (AreSoFar o 0 k) k k
+pub grew_start : (o : PortOperation) (k : List Entry) → TraceGrew (AreSoFar o 0 k) k k
 grew_start o k = ([], sym (append-nil (moments k)), AreSoFar.none_yet k)

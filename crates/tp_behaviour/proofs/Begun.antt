@@ -6,13 +6,13 @@ use Rattle.tp_play.specs.declared.body.Body.{Body}
 use Rattle.tp_play.specs.declared.body.Statement.{Statement}
 use Rattle.tp_play.specs.declared.body.VariableType.{VariableType}
 use Rattle.tp_play.specs.declared.body.VariableType.TheVariants as kind
-use Rattle.tp_inbox.specs.declared.entry.Entry.{Entry}
+use Rattle.tp_history.specs.declared.entry.Entry.{Entry}
 use Rattle.tp_behaviour.specs.declared.held.Held.{Held}
 use Rattle.tp_behaviour.specs.declared.outcome.Outcome.{Outcome}
 use Rattle.tp_behaviour.specs.Held.{Actor, unset}
 use Rattle.tp_behaviour.specs.Moments.{moments}
 use Rattle.tp_behaviour.specs.Outcomes.{Ends, HasEnded}
-use Rattle.tp_behaviour.specs.Seen.{Grew}
+use Rattle.tp_behaviour.specs.Seen.{TraceGrew}
 use Rattle.tp_behaviour.specs.Workers.{AreHeld, IsHeldAs}
 
 -- a variable that isn't set may be of any type
@@ -37,7 +37,7 @@ none_more types i before after below none more =
 -- a body that was carried out from the beginning
 pub has_ended : (r : Actor) (body : Body) (o : Outcome) (turns : List ℤ) (vs : List (Option Held)) (block : List Statement) (ws : List (Option Held))
     (k n : List Entry)
-    → turns ≡ [] → vs ≡ unset body → block ≡ body.statements → moments k ≡ [] → Grew (λ ts. Ends r o turns vs block ts ws) k n → HasEnded r body o n
+    → turns ≡ [] → vs ≡ unset body → block ≡ body.statements → moments k ≡ [] → TraceGrew (λ ts. Ends r o turns vs block ts ws) k n → HasEnded r body o n
 has_ended r body o turns vs block ws k n no_turn not_set whole begun h =
     let trace : moments n ≡ h.0 = h.1 ∙ ap (λ ts. ts ++ h.0) begun in (
       ws,

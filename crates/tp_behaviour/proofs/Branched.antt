@@ -7,8 +7,8 @@ use Rattle.tp_play.specs.declared.body.Statement.{Statement}
 use Rattle.tp_play.specs.declared.body.Statement.TheVariants as b
 use Rattle.tp_play.specs.declared.body.Branch.{Branch}
 use Rattle.tp_play.specs.Sizes.{turns_between}
-use Rattle.tp_inbox.specs.declared.ending.End.{End}
-use Rattle.tp_inbox.specs.declared.ending.End.TheVariants as ending
+use Rattle.tp_history.specs.declared.ending.End.{End}
+use Rattle.tp_history.specs.declared.ending.End.TheVariants as ending
 use Rattle.tp_behaviour.specs.declared.choice.Guard.{Guard}
 use Rattle.tp_behaviour.specs.declared.deciding.Decision.TheVariants as decision
 use Rattle.tp_behaviour.specs.declared.held.Held.{Held}
@@ -23,7 +23,7 @@ use Rattle.tp_behaviour.specs.Moments.{Moment}
 use Rattle.tp_behaviour.specs.Outcomes.{Ends, EndsStep, EndsTurns, Executed, Stepped, StopsTurn}
 use Rattle.tp_behaviour.specs.Parts.{Decided, Enters, EntersElse, ExecutedAt, Turned}
 use Rattle.tp_behaviour.specs.Paths.{IsPath, IsStep, guards_of}
-use Rattle.tp_behaviour.specs.Seen.{Grew}
+use Rattle.tp_behaviour.specs.Seen.{TraceGrew}
 use Rattle.tp_behaviour.specs.Workers.{role_of}
 use Rattle.tp_behaviour.proofs.Stepped.{grew_on}
 
@@ -87,8 +87,8 @@ step_branch p x xs ys otherwise has_else i o here before mid now there after is 
     let vs = before.variables.items in
     let us = now.variables.items in
     let ws = after.variables.items in
-    let block : Grew (λ ts. Ends r o turns us done.0.block ts ws) mid.desk.log there.desk.log =
-    subst (λ (l : List ℤ). Grew (λ ts. Ends r o l us done.0.block ts ws) mid.desk.log there.desk.log) same done.2 in
+    let block : TraceGrew (λ ts. Ends r o turns us done.0.block ts ws) mid.desk.log there.desk.log =
+    subst (λ (l : List ℤ). TraceGrew (λ ts. Ends r o l us done.0.block ts ws) mid.desk.log there.desk.log) same done.2 in
     subst (λ (y : Statement). Stepped p y o here before there after) (ap (λ (l : List Branch). b.Alt l otherwise) are ∙ sym is)
     (grew_on (Enters ys (guards_of r (record { turns = turns; variables = vs }) ys) i vs us) (λ ts. Ends r o turns us done.0.block ts ws)
     (λ ts. EndsStep r o turns vs (b.Alt ys otherwise) ts ws) here.desk.log mid.desk.log there.desk.log
@@ -107,8 +107,8 @@ step_else p x xs ys otherwise items list has_else o here before mid now there af
     let vs = before.variables.items in
     let us = now.variables.items in
     let ws = after.variables.items in
-    let block : Grew (λ ts. Ends r o turns us list ts ws) mid.desk.log there.desk.log =
-    subst (λ (l : List ℤ). Grew (λ ts. Ends r o l us list ts ws) mid.desk.log there.desk.log) same done in
+    let block : TraceGrew (λ ts. Ends r o turns us list ts ws) mid.desk.log there.desk.log =
+    subst (λ (l : List ℤ). TraceGrew (λ ts. Ends r o l us list ts ws) mid.desk.log there.desk.log) same done in
     let whole : b.Alt ys (Some list) ≡ x =
     ap (λ (l : List Branch). b.Alt l (Some list)) are ∙ ap (λ (l : List Statement). b.Alt xs (Some l)) these ∙ ap (λ (l : Option (List Statement)). b.Alt xs l)
     (sym some) ∙ sym is in

@@ -5,10 +5,10 @@ use Rattle.std.proofs.lemmas.List.Elements.{All-nil, All-cons, All-head, All-tai
 use Rattle.std.proofs.lemmas.List.{append-nil}
 use Rattle.tp_config.specs.declared.port_type.CompId.{CompId}
 use Rattle.tp_config.specs.declared.port_type.RouteId.{RouteId}
-use Rattle.tp_inbox.specs.declared.entry.Entry.{Entry}
-use Rattle.tp_inbox.specs.History.{is_arrival, arrivals, arrived_on, posted_on, same_route, sent_on, sent_to}
-use Rattle.tp_inbox.specs.Desks.{Journal, adding_all}
-use Rattle.tp_inbox.specs.Ledgers.{Draining, Inbox, IsDeskOf, Sending}
+use Rattle.tp_history.specs.declared.entry.Entry.{Entry}
+use Rattle.tp_history.specs.History.{is_arrival, arrivals, arrived_on, posted_on, same_route, sent_on, sent_to}
+use Rattle.tp_history.specs.Desks.{Journal, adding_all}
+use Rattle.tp_inbox.specs.Ledgers.{Draining, Inbox, IsDeskOf, SenderLedger}
 use Rattle.tp_inbox.specs.Routed.{IsArrivalOn}
 use Rattle.tp_inbox.proofs.Putting.{route_itself, route_same}
 use Rattle.tp_inbox.proofs.Ways.{sent_by_routes}
@@ -17,7 +17,7 @@ use Rattle.tp_behaviour.specs.Fresh.{HasOwn, LooksAtPorts}
 use Rattle.tp_behaviour.specs.Held.{Actor}
 use Rattle.tp_behaviour.specs.Moments.{Moment, moments}
 use Rattle.tp_behaviour.specs.Outboxes.{IsHome, IsLevel, IsLevelOn, LeadsBack, routes_of}
-use Rattle.tp_behaviour.specs.Workers.{IsConsistent, IsNoted, AreEndsOf, IsSame, IsSenderOf, IsSentBy}
+use Rattle.tp_behaviour.specs.Workers.{IsConsistent, IsLedgerOf, AreEndsOf, KeepsInboxes, IsSenderOf, IsSentBy}
 use Rattle.tp_behaviour.proofs.Entries.{arrivals_to_none, arrived_in, arrives, none_came, none_sent, sent_to_more, unsent}
 use Rattle.tp_behaviour.proofs.Moments.{moments-arrivals}
 use Rattle.tp_behaviour.proofs.Outboxes.{contained, standing}
@@ -42,7 +42,7 @@ drained r s o d more m same grown longer arrived routed = (
     ends = subst (λ (i : Inbox). AreEndsOf r i out) (sym same) m.ends;
     desk = subst (λ (i : Inbox). IsDeskOf i d) (sym same) (subst (IsDeskOf s.owner.inbox) (sym grown) m.desk);
     arrived = arrived;
-    noted = all_as (IsNoted s.desk.log) (IsNoted d.log) s.outbox (λ x h. as_sent x.inbox.comp ∙ h) m.noted;
+    noted = all_as (IsLedgerOf s.desk.log) (IsLedgerOf d.log) s.outbox (λ x h. as_sent x.inbox.comp ∙ h) m.noted;
     theirs = m.theirs;
     sent = subst (All (IsSentBy out)) (sym log)
         (All-append (IsSentBy out) s.desk.log more m.sent (all_as (λ e. is_arrival e ≡ true) (IsSentBy out) more (unsent out) are));
@@ -87,7 +87,7 @@ at_home r s m = all_as (IsSenderOf r.comp) (IsHome s.owner.inbox) s.outbox (λ x
 
 -- all that the component has sent to itself is there, where each of its senders that lead back is level
 pub has_own : (r : Actor) (s : Worker) → IsConsistent r s → All (IsArrivalOn s.owner.inbox.routes) s.owner.drained
-    → ((x : Sending) → Contains s.outbox x → LeadsBack x → IsLevel s.owner.drained x) → HasOwn r.comp s.desk.log
+    → ((x : SenderLedger) → Contains s.outbox x → LeadsBack x → IsLevel s.owner.drained x) → HasOwn r.comp s.desk.log
 has_own r s m routed level q from to = by (on_route q out) where
   out : List RouteId
   out = routes_of s.outbox
@@ -104,7 +104,7 @@ has_own r s m routed level q from to = by (on_route q out) where
       let ours = All-contains (IsSenderOf r.comp) s.outbox x m.theirs here in
       let there : q.to.comp ≡ x.inbox.comp = All-contains (λ (p : RouteId). p.to.comp ≡ x.inbox.comp) x.routes q ours.1 way in
       let note : posted_on q x.ledger ≡ sent_on q s.desk.log =
-      ap (posted_on q) (sym (All-contains (IsNoted s.desk.log) s.outbox x m.noted here)) ∙ sent_by_routes x.inbox.comp q there s.desk.log in
+      ap (posted_on q) (sym (All-contains (IsLedgerOf s.desk.log) s.outbox x m.noted here)) ∙ sent_by_routes x.inbox.comp q there s.desk.log in
       ap length came ∙ All-contains (IsLevelOn s.owner.drained x) x.routes q (level x here (sym there ∙ to ∙ sym ours.0)) way ∙ ap length note
   by (inr not) =
       let no : (p : RouteId) → Contains s.owner.inbox.routes p → p ≡ q → ⊥ =
@@ -116,8 +116,8 @@ has_own r s m routed level q from to = by (on_route q out) where
       ap length (came ∙ nothing) ∙ ap length (sym (none_sent q out s.desk.log not m.sent))
 
 -- what stays the same twice stays the same
-pub same_then : (a b c : Worker) → IsSame a b → IsSame b c → IsSame a c
+pub same_then : (a b c : Worker) → KeepsInboxes a b → KeepsInboxes b c → KeepsInboxes a c
 same_then a b c p q = record { inbox = q.inbox ∙ p.inbox; ends = q.ends ∙ p.ends }
 
-pub same_itself : (a : Worker) → IsSame a a
+pub same_itself : (a : Worker) → KeepsInboxes a a
 same_itself a = record { inbox = refl; ends = refl }

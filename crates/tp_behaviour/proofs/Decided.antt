@@ -3,12 +3,12 @@ use Rattle.std.proofs.Common.{◌≡◌, ℕ, ◌<◌, Bool, true, Option, Some,
 use Rattle.std.specs.Prelude.{All}
 use Rattle.std.proofs.lemmas.List.{length-map}
 use Rattle.std.proofs.lemmas.List.Elements.{All-nil, All-cons}
-use Rattle.tp_queue.specs.declared.event.Env.{Env}
+use Rattle.tp_event.specs.declared.event.Env.{Env}
 use Rattle.tp_value.specs.declared.message.Message.{Message}
 use Rattle.tp_play.specs.declared.body.Branch.{Branch}
 use Rattle.tp_play.specs.Playable.{CanEnterAll, Stage}
 use Rattle.tp_play.proofs.PlayRules.{enters_receive}
-use Rattle.tp_inbox.specs.declared.entry.Entry.{Entry}
+use Rattle.tp_history.specs.declared.entry.Entry.{Entry}
 use Rattle.tp_behaviour.specs.declared.choice.Guard.{Guard}
 use Rattle.tp_behaviour.specs.declared.choosing.Choice.TheVariants as choice
 use Rattle.tp_behaviour.specs.declared.held.Held.{Held}
@@ -18,7 +18,7 @@ use Rattle.tp_behaviour.specs.Held.{Actor, Values, guard_of}
 use Rattle.tp_behaviour.specs.Outcomes.{stage_at}
 use Rattle.tp_behaviour.specs.Parts.{Enters, IsEntered}
 use Rattle.tp_behaviour.specs.Paths.{guards_of}
-use Rattle.tp_behaviour.specs.Seen.{Chose, Grew}
+use Rattle.tp_behaviour.specs.Seen.{Chose, TraceGrew}
 use Rattle.tp_behaviour.specs.Workers.{IsConsistent, role_of}
 use Rattle.tp_behaviour.proofs.Chosen.{chosen_below}
 use Rattle.tp_behaviour.proofs.Stayed.{ports_there}
@@ -37,7 +37,7 @@ guards_within p s n vs xs gs consistent can is =
 
 -- the branch that is chosen is there
 pub chose_within : (r : Actor) (vs : Values) (xs : List Branch) (gs : List Guard) (has_else : Bool) (i : ℕ) (e : Env Message) (k n : List Entry)
-    → gs ≡ guards_of r vs xs → Grew (Chose gs has_else (choice.Branch i e)) k n → i < length xs
+    → gs ≡ guards_of r vs xs → TraceGrew (Chose gs has_else (choice.Branch i e)) k n → i < length xs
 chose_within r vs xs gs has_else i e k n is grew =
     let t = grew.2 in
     let below : i < length gs = chosen_below gs true t.1 (Some (i, e)) (t.4 true) in
@@ -46,8 +46,8 @@ chose_within r vs xs gs has_else i e k n is grew =
 -- a branch was chosen, and its variables set
 pub entered : (r : Actor) (vs : Values) (xs : List Branch) (gs : List Guard) (has_else : Bool) (i : ℕ) (e : Env Message) (ws : List (Option Held))
     (k n : List Entry)
-    → gs ≡ guards_of r vs xs → Grew (Chose gs has_else (choice.Branch i e)) k n → IsEntered xs i e vs.variables ws
-    → Grew (Enters xs (guards_of r vs xs) i vs.variables ws) k n
+    → gs ≡ guards_of r vs xs → TraceGrew (Chose gs has_else (choice.Branch i e)) k n → IsEntered xs i e vs.variables ws
+    → TraceGrew (Enters xs (guards_of r vs xs) i vs.variables ws) k n
 entered r vs xs gs has_else i e ws k n is grew set =
-    let h = subst (λ (ys : List Guard). Grew (Chose ys has_else (choice.Branch i e)) k n) is grew in
+    let h = subst (λ (ys : List Guard). TraceGrew (Chose ys has_else (choice.Branch i e)) k n) is grew in
     (h.0, h.1, record { env = e; chosen = h.2; entered = set })

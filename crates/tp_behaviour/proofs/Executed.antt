@@ -2,9 +2,9 @@
 use Rattle.std.proofs.Common.{◌≡◌, ◌∙◌, ℕ, ◌+◌, ◌<◌, ◌≤◌, ℤ, Option, List, [], ◌∷◌, ◌++◌, drop, get_or, length, take, ap, refl, subst, sym}
 use Rattle.std.proofs.lemmas.List.{append-nil, drop_more, take-append-drop, take_all, take_more}
 use Rattle.tp_play.specs.declared.body.Statement.{Statement}
-use Rattle.tp_inbox.specs.declared.entry.Entry.{Entry}
-use Rattle.tp_inbox.specs.declared.ending.End.{End}
-use Rattle.tp_inbox.specs.declared.ending.End.TheVariants as ending
+use Rattle.tp_history.specs.declared.entry.Entry.{Entry}
+use Rattle.tp_history.specs.declared.ending.End.{End}
+use Rattle.tp_history.specs.declared.ending.End.TheVariants as ending
 use Rattle.tp_behaviour.specs.declared.choice.Guard.{Guard}
 use Rattle.tp_behaviour.specs.declared.held.Held.{Held}
 use Rattle.tp_behaviour.specs.declared.outcome.Outcome.{Outcome}
@@ -17,22 +17,22 @@ use Rattle.tp_behaviour.specs.Held.{Actor}
 use Rattle.tp_behaviour.specs.Moments.{Moment, moments}
 use Rattle.tp_behaviour.specs.Outcomes.{Ends, EndsStep, Executed, Stepped}
 use Rattle.tp_behaviour.specs.Paths.{IsPath, IsStep}
-use Rattle.tp_behaviour.specs.Seen.{Grew}
+use Rattle.tp_behaviour.specs.Seen.{TraceGrew}
 use Rattle.tp_behaviour.specs.Workers.{role_of}
 use Rattle.tp_behaviour.proofs.Stepped.{grew_on}
 
 -- the first i statements of a block were carried out
 abbrev pub Passed : Task → List Statement → ℕ → Worker → Frame → Worker → Frame → Type 0
 Passed p block i here before there after =
-    Grew (λ ts. IsPath (role_of p) before.turns.items before.variables.items (take i block) ts after.variables.items) here.desk.log there.desk.log
+    TraceGrew (λ ts. IsPath (role_of p) before.turns.items before.variables.items (take i block) ts after.variables.items) here.desk.log there.desk.log
 
 pub passed_start : (p : Task) (block : List Statement) (here : Worker) (before : Frame) → Passed p block 0 here before here before
 passed_start p block here before = ([], sym (append-nil (moments here.desk.log)), IsPath.no_statement before.turns.items before.variables.items)
 
 -- what a statement came to, where the loop variables hold what they held at first
 as_before : (r : Actor) (o : Outcome) (turns us : List ℤ) (vs ws : List (Option Held)) (x : Statement) (k n : List Entry) → us ≡ turns
-    → Grew (λ ts. EndsStep r o us vs x ts ws) k n → Grew (λ ts. EndsStep r o turns vs x ts ws) k n
-as_before r o turns us vs ws x k n same h = subst (λ (l : List ℤ). Grew (λ ts. EndsStep r o l vs x ts ws) k n) same h
+    → TraceGrew (λ ts. EndsStep r o us vs x ts ws) k n → TraceGrew (λ ts. EndsStep r o turns vs x ts ws) k n
+as_before r o turns us vs ws x k n same h = subst (λ (l : List ℤ). TraceGrew (λ ts. EndsStep r o l vs x ts ws) k n) same h
 
 -- one statement more
 pub passed_more : (p : Task) (block : List Statement) (i : ℕ) (x : Statement) (here : Worker) (before : Frame) (mid : Worker) (now : Frame) (there : Worker)
@@ -56,7 +56,7 @@ passed_more p block i x here before mid now there after same below is passed ste
 pub passed_all : (p : Task) (block : List Statement) (i : ℕ) (here : Worker) (before : Frame) (there : Worker) (after : Frame)
     → length block ≤ i → Passed p block i here before there after → Executed p block outcome.Done here before there after
 passed_all p block i here before there after all passed =
-    subst (λ (xs : List Statement). Grew (λ ts. IsPath (role_of p) before.turns.items before.variables.items xs ts after.variables.items) here.desk.log
+    subst (λ (xs : List Statement). TraceGrew (λ ts. IsPath (role_of p) before.turns.items before.variables.items xs ts after.variables.items) here.desk.log
     there.desk.log)
     (take_all i block all) passed
 

@@ -21,7 +21,7 @@ use Rattle.tp_value.specs.declared.types.Ty.{Ty}
 use Rattle.tp_value.specs.declared.message.MsgTemplate.{MsgTemplate}
 use Rattle.tp_value.specs.declared.message.MsgTemplate.TheVariants as m
 use Rattle.tp_behaviour.specs.Fixed.{IsFixed, IsFixedValue}
-use Rattle.tp_behaviour.specs.Lasting.{Lasts}
+use Rattle.tp_behaviour.specs.Lasting.{IsWantedAlways}
 
 needed_int : (z : ℤ) → needed (w.Int z) ≡ 0
 unfolding needed
@@ -134,5 +134,5 @@ pub fixed_needs : (y : RecvMsg) (u : Ty) (z : RecvTemplate) → y ≡ wanted.Of 
 fixed_needs y u z e h = subst (λ a. needed_by_wanted a ≤ 0) (sym e) h.0
 
 pub fixed_lasts : (y : RecvMsg) (u : Ty) (z : RecvTemplate) (made : MsgTemplate) (turns : List ℤ) → y ≡ wanted.Of u z → IsFixed z → made ≡ filled_wanted turns y
-    → Lasts y (Some made)
+    → IsWantedAlways y (Some made)
 fixed_lasts y u z made turns e h is others = is ∙ ap (filled_wanted turns) e ∙ ap (λ a. m.Of u a) (h.1 turns others) ∙ ap (filled_wanted others) (sym e)

@@ -4,7 +4,7 @@ use Rattle.std.specs.List.{AllZip}
 use Rattle.std.proofs.lemmas.List.{take_all, take_more}
 use Rattle.std.proofs.lemmas.Slice.Zip.{AllZip-long, all_zipped_more}
 use Rattle.tp_value.specs.declared.verdict.Verdict.{Verdict}
-use Rattle.tp_queue.specs.declared.operation.PortOperation.{PortOperation}
+use Rattle.tp_event.specs.declared.operation.PortOperation.{PortOperation}
 use Rattle.tp_play.specs.declared.body.SendOperation.{SendOperation}
 use Rattle.tp_play.specs.declared.body.Receiving.{Receiving}
 use Rattle.tp_play.specs.declared.body.Statement.{Statement}
@@ -16,7 +16,7 @@ use Rattle.tp_play.specs.declared.body.Branch.{Branch}
 use Rattle.tp_value.specs.declared.message.MsgTemplate.{MsgTemplate}
 use Rattle.tp_behaviour.specs.declared.lasting.Lasting.{Lasting, out-Lasting}
 use Rattle.tp_behaviour.specs.declared.lasting.Lasting.TheViews.{out-roll-Lasting, roll-Lasting}
-use Rattle.tp_behaviour.specs.Lasting.{AreLasting, AreLastingBranches, IsLasting, IsLastingBranch, IsLastingElse, Lasts, branch_lasts, statement_lasts}
+use Rattle.tp_behaviour.specs.Lasting.{AreLasting, AreLastingBranches, IsLasting, IsLastingBranch, IsLastingElse, IsWantedAlways, branch_lasts, statement_lasts}
 
 module _ {X Y : Type 0} (g : X → Y) (k : Y → Lasting → Type 0) where
   zipped-map : (xs : List X) (kept : List Lasting) → AllZip (λ p. k (g p)) xs kept ≡ AllZip k (map g xs) kept
@@ -40,7 +40,7 @@ natural X Y g h k l (o.For first bound block) = λ i kept. zipped-map g k block 
 
 natural_branch : (X Y : Type 0) (g : X → Statement) (h : Y → Branch) (k : Statement → Lasting → Type 0) (l : Branch → Lasting → Type 0) (x : o.Branch-F X Y)
     → branch_lasts X Y g h (λ p. k (g p)) (λ p. l (h p)) x ≡ branch_lasts Statement Branch (λ y. y) (λ y. y) k l (map-Branch X Y Statement Branch g h x)
-natural_branch X Y g h k l x = λ i kept. Lasts x.receiving.wanted (out-Lasting kept).wanted × zipped-map g k x.block (out-Lasting kept).block i
+natural_branch X Y g h k l x = λ i kept. IsWantedAlways x.receiving.wanted (out-Lasting kept).wanted × zipped-map g k x.block (out-Lasting kept).block i
 
 module _ (kept : Lasting) where
   -- one layer
@@ -61,7 +61,7 @@ module _ (kept : Lasting) where
   pub lasting_send : (x : SendOperation) → IsLasting (b.Send x) kept ≡ Unit {0}
   lasting_send x = at (b.Send x) (o.Send x) (b.rolls-Send x)
 
-  pub lasting_receive : (x : Receiving) → IsLasting (b.Receive x) kept ≡ Lasts x.wanted (out-Lasting kept).wanted
+  pub lasting_receive : (x : Receiving) → IsLasting (b.Receive x) kept ≡ IsWantedAlways x.wanted (out-Lasting kept).wanted
   lasting_receive x = at (b.Receive x) (o.Receive x) (b.rolls-Receive x)
 
   pub lasting_control : (k : ℕ) (x : PortOperation) → IsLasting (b.Control k x) kept ≡ Unit {0}
@@ -81,7 +81,7 @@ module _ (kept : Lasting) where
   lasting_for first bound block = at (b.For first bound block) (o.For first bound block) (b.rolls-For first bound block)
 
   pub lasting_branch : (x : Branch)
-      → IsLastingBranch x kept ≡ (Lasts x.receiving.wanted (out-Lasting kept).wanted × AreLasting x.block (out-Lasting kept).block)
+      → IsLastingBranch x kept ≡ (IsWantedAlways x.receiving.wanted (out-Lasting kept).wanted × AreLasting x.block (out-Lasting kept).block)
   lasting_branch x = ap (λ y. IsLastingBranch y kept) (sym (roll-out-Branch x)) ∙ branch_roll (out-Branch x)
 
 -- one more
@@ -114,10 +114,10 @@ module _ (w : Option MsgTemplate) (bs ls : List Lasting) where
   inside : out-Lasting (made_lasting w bs ls) ≡ record { wanted = w; branches = bs; block = ls }
   inside = out-roll-Lasting (record { wanted = w; branches = bs; block = ls })
 
-  pub make_branch : (x : Branch) → Lasts x.receiving.wanted w → AreLasting x.block ls → IsLastingBranch x (made_lasting w bs ls)
+  pub make_branch : (x : Branch) → IsWantedAlways x.receiving.wanted w → AreLasting x.block ls → IsLastingBranch x (made_lasting w bs ls)
   make_branch x first block =
       subst (λ (P : Type 0). P)
-      (sym (lasting_branch (made_lasting w bs ls) x ∙ (λ i. Lasts x.receiving.wanted (inside i).wanted × AreLasting x.block (inside i).block)))
+      (sym (lasting_branch (made_lasting w bs ls) x ∙ (λ i. IsWantedAlways x.receiving.wanted (inside i).wanted × AreLasting x.block (inside i).block)))
       (first, block)
 
 -- of a statement, by what it is
@@ -125,8 +125,8 @@ module _ (x : Statement) (w : Option MsgTemplate) (bs ls : List Lasting) where
   kind_of : (P : Type 0) (y : Statement) → x ≡ y → IsLasting y (made_lasting w bs ls) ≡ P → P → IsLasting x (made_lasting w bs ls)
   kind_of P y e is h = subst (λ z. IsLasting z (made_lasting w bs ls)) (sym e) (subst (λ (Q : Type 0). Q) (sym is) h)
 
-  pub make_receive : (y : Receiving) → x ≡ b.Receive y → Lasts y.wanted w → IsLasting x (made_lasting w bs ls)
-  make_receive y e h = kind_of (Lasts y.wanted w) (b.Receive y) e (lasting_receive (made_lasting w bs ls) y ∙ (λ i. Lasts y.wanted (inside w bs ls i).wanted)) h
+  pub make_receive : (y : Receiving) → x ≡ b.Receive y → IsWantedAlways y.wanted w → IsLasting x (made_lasting w bs ls)
+  make_receive y e h = kind_of (IsWantedAlways y.wanted w) (b.Receive y) e (lasting_receive (made_lasting w bs ls) y ∙ (λ i. IsWantedAlways y.wanted (inside w bs ls i).wanted)) h
 
   pub make_alt : (branches : List Branch) (otherwise : Option (List Statement)) → x ≡ b.Alt branches otherwise → AreLastingBranches branches bs
       → IsLastingElse otherwise ls
@@ -156,7 +156,7 @@ module _ (x : Statement) (kept : Lasting) where
   make_set_verdict y e = subst (λ z. IsLasting z kept) (sym e) (subst (λ (P : Type 0). P) (sym (lasting_set_verdict kept y)) tt)
 
 -- of a branch
-pub lasts_operation : (x : Branch) (kept : Lasting) → IsLastingBranch x kept → Lasts x.receiving.wanted (out-Lasting kept).wanted
+pub lasts_operation : (x : Branch) (kept : Lasting) → IsLastingBranch x kept → IsWantedAlways x.receiving.wanted (out-Lasting kept).wanted
 lasts_operation x kept h = (rw lasting_branch at h).0
 
 pub lasts_block : (x : Branch) (kept : Lasting) → IsLastingBranch x kept → AreLasting x.block (out-Lasting kept).block
@@ -164,7 +164,7 @@ lasts_block x kept h = (rw lasting_branch at h).1
 
 -- of a statement that is known by an equation
 module _ (x : Statement) (kept : Lasting) where
-  pub lasts_receive : (y : Receiving) → x ≡ b.Receive y → IsLasting x kept → Lasts y.wanted (out-Lasting kept).wanted
+  pub lasts_receive : (y : Receiving) → x ≡ b.Receive y → IsLasting x kept → IsWantedAlways y.wanted (out-Lasting kept).wanted
   lasts_receive y e h = rw (e, lasting_receive) at h
 
   pub lasts_alt : (branches : List Branch) (otherwise : Option (List Statement)) → x ≡ b.Alt branches otherwise → IsLasting x kept

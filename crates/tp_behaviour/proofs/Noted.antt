@@ -4,16 +4,16 @@ use Rattle.std.specs.Prelude.{All, filter}
 use Rattle.std.specs.List.{cons_option}
 use Rattle.std.proofs.lemmas.List.Elements.{All-push, filter-append}
 use Rattle.std.proofs.lemmas.List.{append-nil}
-use Rattle.tp_queue.specs.declared.event.Env.{Env}
+use Rattle.tp_event.specs.declared.event.Env.{Env}
 use Rattle.tp_value.specs.declared.message.Message.{Message}
 use Rattle.tp_config.specs.declared.port_type.CompId.{CompId}
 use Rattle.tp_config.specs.declared.port_type.RouteId.{RouteId}
-use Rattle.tp_queue.specs.declared.operation.ReceiveKind.{ReceiveKind}
-use Rattle.tp_queue.specs.declared.operation.ReceiveKind.TheVariants as kind
-use Rattle.tp_inbox.specs.declared.entry.Entry.{Entry}
-use Rattle.tp_inbox.specs.declared.entry.Entry.TheVariants as entry
-use Rattle.tp_inbox.specs.History.{IsTimely, is_arrival, arrivals, posted_on, sending_to, sent_on, sent_to}
-use Rattle.tp_inbox.specs.Desks.{Journal, adding}
+use Rattle.tp_event.specs.declared.operation.ReceiveKind.{ReceiveKind}
+use Rattle.tp_event.specs.declared.operation.ReceiveKind.TheVariants as kind
+use Rattle.tp_history.specs.declared.entry.Entry.{Entry}
+use Rattle.tp_history.specs.declared.entry.Entry.TheVariants as entry
+use Rattle.tp_history.specs.History.{IsTimely, is_arrival, arrivals, posted_on, sending_to, sent_on, sent_to}
+use Rattle.tp_history.specs.Desks.{Journal, adding}
 use Rattle.tp_inbox.specs.Ledgers.{IsDeskOf}
 use Rattle.tp_inbox.proofs.Ways.{sent_by_routes}
 use Rattle.tp_behaviour.specs.declared.choice.Guard.{Guard}
@@ -27,7 +27,7 @@ use Rattle.tp_behaviour.specs.Looks.{Looked, moment}
 use Rattle.tp_behaviour.specs.Moments.{Moment, moments}
 use Rattle.tp_behaviour.specs.Outboxes.{routes_of}
 use Rattle.tp_behaviour.specs.Seen.{Saw}
-use Rattle.tp_behaviour.specs.Workers.{IsConsistent, IsNoted, IsPlain, IsSentBy}
+use Rattle.tp_behaviour.specs.Workers.{IsConsistent, IsLedgerOf, IsPlain, IsSentBy}
 use Rattle.tp_behaviour.proofs.Entries.{sent_to_more}
 use Rattle.tp_behaviour.proofs.Consistent.{all_as}
 use Rattle.tp_behaviour.proofs.Moments.{moments-own}
@@ -101,7 +101,7 @@ noted r s d e m grown plain own = (
     ends = m.ends;
     desk = subst (IsDeskOf s.owner.inbox) (sym grown) m.desk;
     arrived = ap arrivals log ∙ arrivals_same s.desk.log e q.here ∙ m.arrived;
-    noted = all_as (IsNoted s.desk.log) (IsNoted d.log) s.outbox
+    noted = all_as (IsLedgerOf s.desk.log) (IsLedgerOf d.log) s.outbox
         (λ x h. ap (sent_to x.inbox.comp) log ∙ sent_same x.inbox.comp s.desk.log e (q.unsent x.inbox.comp) ∙ h) m.noted;
     theirs = m.theirs;
     sent = subst (All (IsSentBy (routes_of s.outbox))) (sym log)

@@ -2,7 +2,7 @@
 use Rattle.std.proofs.Common.{◌≡◌, ℕ, zero, suc, ◌<◌, ℤ, Bool, false, Option, Some, None, List, [], ◌∷◌, length, slice_get, refl, sym, ap, subst, arith}
 use Rattle.std.specs.Prelude.{slice_set, IfSome}
 use Rattle.std.proofs.lemmas.Option.{same_Some, slice_get_within}
-use Rattle.tp_queue.specs.declared.event.Env.{Env}
+use Rattle.tp_event.specs.declared.event.Env.{Env}
 use Rattle.tp_value.specs.declared.message.Message.{Message}
 use Rattle.tp_play.specs.declared.body.Receiving.{Receiving}
 use Rattle.tp_play.specs.declared.body.RecvMsg.{RecvMsg}
@@ -12,8 +12,8 @@ use Rattle.tp_play.specs.declared.body.VariableType.TheVariants as kind
 use Rattle.tp_play.specs.Playable.{CanKeepSender, CanKeepValue, Stage}
 use Rattle.tp_play.proofs.PlayRules.{keeps_sender, keeps_value}
 use Rattle.tp_config.specs.declared.port_type.CompId.{CompId}
-use Rattle.tp_inbox.specs.declared.entry.Entry.{Entry}
-use Rattle.tp_inbox.specs.declared.ending.End.TheVariants as ending
+use Rattle.tp_history.specs.declared.entry.Entry.{Entry}
+use Rattle.tp_history.specs.declared.ending.End.TheVariants as ending
 use Rattle.tp_behaviour.specs.declared.choice.Guard.{Guard}
 use Rattle.tp_behaviour.specs.declared.choosing.Choice.TheVariants as choice
 use Rattle.tp_behaviour.specs.declared.held.Held.{Held}
@@ -23,7 +23,7 @@ use Rattle.tp_behaviour.specs.Ends.{StopsWithin}
 use Rattle.tp_behaviour.specs.Held.{Actor, guard_of, redirected, set_to}
 use Rattle.tp_behaviour.specs.Moments.{Moment}
 use Rattle.tp_behaviour.specs.Paths.{IsStep}
-use Rattle.tp_behaviour.specs.Seen.{Chose, Grew}
+use Rattle.tp_behaviour.specs.Seen.{Chose, TraceGrew}
 use Rattle.tp_behaviour.specs.Workers.{AreHeld, IsHeldAs}
 use Rattle.tp_behaviour.proofs.Chosen.{chosen_below}
 
@@ -33,11 +33,11 @@ the_first g has_else t i e chosen = let h : i < 1 = chosen_below (g ∷ []) has_
 
 -- an operation that stands alone is carried out once it is chosen
 pub received : (r : Actor) (turns : List ℤ) (vs : List (Option Held)) (x : Receiving) (gs : List Guard) (i : ℕ) (e : Env Message) (k n : List Entry)
-    → gs ≡ guard_of r (record { turns = turns; variables = vs }) x ∷ [] → Grew (Chose gs false (choice.Branch i e)) k n
-    → Grew (λ ts. IsStep r turns vs (b.Receive x) ts (redirected x e vs)) k n
+    → gs ≡ guard_of r (record { turns = turns; variables = vs }) x ∷ [] → TraceGrew (Chose gs false (choice.Branch i e)) k n
+    → TraceGrew (λ ts. IsStep r turns vs (b.Receive x) ts (redirected x e vs)) k n
 received r turns vs x gs i e k n are h =
     let g : Guard = guard_of r (record { turns = turns; variables = vs }) x in
-    let one : Grew (Chose (g ∷ []) false (choice.Branch i e)) k n = subst (λ l. Grew (Chose l false (choice.Branch i e)) k n) are h in
+    let one : TraceGrew (Chose (g ∷ []) false (choice.Branch i e)) k n = subst (λ l. TraceGrew (Chose l false (choice.Branch i e)) k n) are h in
     let t : Moment = one.2.1 in
     let chosen : IsChoice (g ∷ []) false t (Some (i, e)) = one.2.4 false in
     let first : IsChoice (g ∷ []) false t (Some (0, e)) = subst (λ j. IsChoice (g ∷ []) false t (Some (j, e))) (the_first g false t i e chosen) chosen in (
@@ -48,11 +48,11 @@ received r turns vs x gs i e k n are h =
 
 -- or waits for just these
 pub waits_for : (r : Actor) (turns : List ℤ) (vs : List (Option Held)) (x : Receiving) (gs : List Guard) (k n : List Entry)
-    → gs ≡ guard_of r (record { turns = turns; variables = vs }) x ∷ [] → Grew (Chose gs false choice.Waits) k n
-    → Grew (λ ts. StopsWithin r (λ ys. ys ≡ gs) ending.Waiting turns vs (b.Receive x) ts) k n
+    → gs ≡ guard_of r (record { turns = turns; variables = vs }) x ∷ [] → TraceGrew (Chose gs false choice.Waits) k n
+    → TraceGrew (λ ts. StopsWithin r (λ ys. ys ≡ gs) ending.Waiting turns vs (b.Receive x) ts) k n
 waits_for r turns vs x gs k n are h =
     let g : Guard = guard_of r (record { turns = turns; variables = vs }) x in
-    let one : Grew (Chose (g ∷ []) false choice.Waits) k n = subst (λ l. Grew (Chose l false choice.Waits) k n) are h in
+    let one : TraceGrew (Chose (g ∷ []) false choice.Waits) k n = subst (λ l. TraceGrew (Chose l false choice.Waits) k n) are h in
     (one.0, one.1, StopsWithin.waits turns vs x one.0 one.2.1 (sym are))
 
 -- as many variables are held as are declared

@@ -16,13 +16,13 @@ use Rattle.tp_play.specs.declared.body.Receiver.{Receiver}
 use Rattle.tp_play.specs.declared.body.Receiver.TheVariants as to
 use Rattle.tp_play.specs.declared.body.SendOperation.{SendOperation}
 use Rattle.tp_play.specs.declared.body.Sent.{Sent}
-use Rattle.tp_inbox.specs.declared.entry.Entry.{Entry}
-use Rattle.tp_inbox.specs.declared.entry.Entry.TheVariants as entry
-use Rattle.tp_inbox.specs.declared.send_fault.SendFault.TheVariants as send_fault
-use Rattle.tp_inbox.specs.History.{history_of, next_of, sent_on}
-use Rattle.tp_inbox.specs.Desks.{Journal}
-use Rattle.tp_inbox.specs.Ledgers.{Inbox, Sending as Sender, end_of}
-use Rattle.tp_inbox.proofs.Ports.{history-same}
+use Rattle.tp_history.specs.declared.entry.Entry.{Entry}
+use Rattle.tp_history.specs.declared.entry.Entry.TheVariants as entry
+use Rattle.tp_history.specs.declared.send_fault.SendFault.TheVariants as send_fault
+use Rattle.tp_history.specs.History.{history_of, next_of, sent_on}
+use Rattle.tp_history.specs.Desks.{Journal}
+use Rattle.tp_inbox.specs.Ledgers.{Inbox, SenderLedger, end_of}
+use Rattle.tp_history.proofs.Ports.{history-same}
 use Rattle.tp_behaviour.specs.declared.worker.Worker.{Worker}
 use Rattle.tp_behaviour.specs.Ends.{IsFailure}
 use Rattle.tp_behaviour.specs.Held.{IsNamed, IsSentAs, NamesUnset, Actor, SendsUnset, Values}
@@ -30,9 +30,9 @@ use Rattle.tp_behaviour.specs.Looks.{moment}
 use Rattle.tp_behaviour.specs.Moments.{Moment, moments}
 use Rattle.tp_behaviour.specs.Outboxes.{routes_of}
 use Rattle.tp_behaviour.specs.Paths.{IsSentOn, IsStarted, IsStep, own_port}
-use Rattle.tp_behaviour.specs.Seen.{Grew}
+use Rattle.tp_behaviour.specs.Seen.{TraceGrew}
 use Rattle.tp_behaviour.specs.Sends.{Sends}
-use Rattle.tp_behaviour.specs.Workers.{IsSame}
+use Rattle.tp_behaviour.specs.Workers.{KeepsInboxes}
 
 -- what is sent is set
 is_set : (vs : Values) (s : Sent) (m : Message) → IsSentAs vs s m → SendsUnset vs s → ⊥
@@ -95,17 +95,17 @@ cause_none r vs x m routes k started sent all are none = IsFailure.no_route_at_a
 abbrev SenderEnd : Type 0
 SenderEnd = Inbox × CompId × List RouteId
 
-routes_of_ends : (ss : List Sender) → flat_map (λ (e : SenderEnd). e.2) (map end_of ss) ≡ routes_of ss
+routes_of_ends : (ss : List SenderLedger) → flat_map (λ (e : SenderEnd). e.2) (map end_of ss) ≡ routes_of ss
 routes_of_ends [] = refl
 routes_of_ends (s ∷ ss) = ap (λ l. s.routes ++ l) (routes_of_ends ss)
 
-pub routes_stay : (a b : Worker) → IsSame a b → routes_of b.outbox ≡ routes_of a.outbox
+pub routes_stay : (a b : Worker) → KeepsInboxes a b → routes_of b.outbox ≡ routes_of a.outbox
 routes_stay a b same = sym (routes_of_ends b.outbox) ∙ ap (flat_map (λ (e : SenderEnd). e.2)) same.ends ∙ routes_of_ends a.outbox
 
 -- a message went out on each of these routes, and the port is still started
 pub record IsSentOnEach (port : ℕ) (m : Message) (routes : List RouteId) (before after : List Entry) : Type 0 where
   pub started : IsStarted after port
-  pub grew : Grew (AllZip (IsSentOn port m) routes) before after
+  pub grew : TraceGrew (AllZip (IsSentOn port m) routes) before after
 
 pub sent_on_none : (port : ℕ) (m : Message) (k : List Entry) → IsStarted k port → IsSentOnEach port m [] k k
 sent_on_none port m k started = record { started = started; grew = ([], sym (append-nil (moments k)), tt) }
@@ -137,7 +137,7 @@ some_moment port m (q ∷ qs) (t ∷ ts) zip some none = absurd (cc)
 
 -- a message that went out on each route of the port
 pub sends_all : (r : Actor) (vs : Values) (x : SendOperation) (m : Message) (routes : List RouteId) (k n : List Entry) → IsSentAs vs x.sent m → x.to ≡ to.All
-    → routes ≡ routes_from r.config (own_port r x.port) → (routes ≡ [] → ⊥) → Grew (AllZip (IsSentOn x.port m) routes) k n → Sends r vs x None k n
+    → routes ≡ routes_from r.config (own_port r x.port) → (routes ≡ [] → ⊥) → TraceGrew (AllZip (IsSentOn x.port m) routes) k n → Sends r vs x None k n
 sends_all r vs x m routes k n sent all are some (ts, grown, zip) = (
   ts,
   grown,

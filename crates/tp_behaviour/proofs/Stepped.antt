@@ -3,20 +3,20 @@ use Rattle.std.proofs.Common.{◌≡◌, ◌∙◌, List, [], ◌∷◌, ◌++�
 use Rattle.std.proofs.lemmas.List.{append_assoc}
 use Rattle.tp_play.specs.declared.body.SendOperation.{SendOperation}
 use Rattle.tp_play.specs.declared.body.Statement.TheVariants as b
-use Rattle.tp_inbox.specs.declared.entry.Entry.{Entry}
-use Rattle.tp_inbox.specs.declared.entry.Entry.TheVariants as entry
-use Rattle.tp_inbox.specs.declared.ending.End.TheVariants as ending
-use Rattle.tp_inbox.specs.declared.send_fault.SendFault.{SendFault}
+use Rattle.tp_history.specs.declared.entry.Entry.{Entry}
+use Rattle.tp_history.specs.declared.entry.Entry.TheVariants as entry
+use Rattle.tp_history.specs.declared.ending.End.TheVariants as ending
+use Rattle.tp_history.specs.declared.send_fault.SendFault.{SendFault}
 use Rattle.tp_behaviour.specs.Ends.{StopsWithin}
 use Rattle.tp_behaviour.specs.Held.{Actor, Values}
 use Rattle.tp_behaviour.specs.Moments.{Moment, moments}
-use Rattle.tp_behaviour.specs.Seen.{Grew}
+use Rattle.tp_behaviour.specs.Seen.{TraceGrew}
 use Rattle.tp_behaviour.specs.Sends.{Sends}
 use Rattle.std.specs.Prelude.{Some}
 
 -- a send that fails ends the behaviour
 pub failed : (r : Actor) (vs : Values) (x : SendOperation) (fault : SendFault) (k n : List Entry) → Sends r vs x (Some fault) k n
-    → Grew (λ ts. StopsWithin r (λ _. ⊥) (ending.Error fault) vs.turns vs.variables (b.Send x) ts) k n
+    → TraceGrew (λ ts. StopsWithin r (λ _. ⊥) (ending.Error fault) vs.turns vs.variables (b.Send x) ts) k n
 failed r vs x fault k n grew =
     let t = grew.2.0 in
     let u : Moment = record { before = t.before; entry = entry.Failed fault } in
@@ -27,5 +27,5 @@ failed r vs x fault k n grew =
     )
 
 -- what grew twice
-pub grew_on : (p q w : List Moment → Type 0) (k l n : List Entry) → ((ts us : List Moment) → p ts → q us → w (ts ++ us)) → Grew p k l → Grew q l n → Grew w k n
+pub grew_on : (p q w : List Moment → Type 0) (k l n : List Entry) → ((ts us : List Moment) → p ts → q us → w (ts ++ us)) → TraceGrew p k l → TraceGrew q l n → TraceGrew w k n
 grew_on p q w k l n go g h = (g.0 ++ h.0, h.1 ∙ ap (λ ts. ts ++ h.0) g.1 ∙ append_assoc (moments k) g.0 h.0, go g.0 h.0 g.2 h.2)

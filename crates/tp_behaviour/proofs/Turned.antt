@@ -17,7 +17,7 @@ use Rattle.tp_behaviour.specs.Moments.{Moment, moments}
 use Rattle.tp_behaviour.specs.Outcomes.{Ends, EndsTurns}
 use Rattle.tp_behaviour.specs.Parts.{ExecutedIn, Turned}
 use Rattle.tp_behaviour.specs.Paths.{AreTurns, IsPath}
-use Rattle.tp_behaviour.specs.Seen.{Grew}
+use Rattle.tp_behaviour.specs.Seen.{TraceGrew}
 use Rattle.tp_behaviour.specs.Workers.{role_of}
 use Rattle.tp_behaviour.proofs.Stepped.{grew_on}
 
@@ -53,7 +53,7 @@ pub record TurnsMade (p : Task) (first value bound : ℤ) (block : List Statemen
   pub count : ℕ
   pub at : value ≡ first +ℤ pos count
   pub within : count ≤ turns_between first bound
-  pub grew : Grew (λ ts. AreTurns (role_of p) before.turns.items before.variables.items first block count ts after.variables.items) here.desk.log there.desk.log
+  pub grew : TraceGrew (λ ts. AreTurns (role_of p) before.turns.items before.variables.items first block count ts after.variables.items) here.desk.log there.desk.log
 
 pub made_start : (p : Task) (first bound : ℤ) (block : List Statement) (here : Worker) (before : Frame)
     → TurnsMade p first first bound block here before here before

@@ -11,9 +11,9 @@ use Rattle.tp_play.specs.Fills.{filled_wanted}
 use Rattle.tp_behaviour.specs.declared.lasting.Lasting.{Lasting, out-Lasting}
 
 -- the template, if there is one, is what is wanted, whatever the loop variables hold
-abbrev pub Lasts : RecvMsg → Option MsgTemplate → Type 0
-Lasts x None = Unit {0}
-Lasts x (Some made) = (turns : List ℤ) → made ≡ filled_wanted turns x
+abbrev pub IsWantedAlways : RecvMsg → Option MsgTemplate → Type 0
+IsWantedAlways x None = Unit {0}
+IsWantedAlways x (Some made) = (turns : List ℤ) → made ≡ filled_wanted turns x
 
 -- each of a block that may be missing
 abbrev pub ElseLasts : {X : Type 0} → (X → Lasting → Type 0) → Option (List X) → List Lasting → Type 0
@@ -25,7 +25,7 @@ abbrev pub statement_lasts : (X Y : Type 0) → (X → Statement) → (Y → Bra
     → (Y → Lasting → Type 0)
     → o.Statement-F X Y → Lasting → Type 0
 statement_lasts X Y statement branch lasts enters (o.Send x) kept = Unit {0}
-statement_lasts X Y statement branch lasts enters (o.Receive x) kept = Lasts x.wanted (out-Lasting kept).wanted
+statement_lasts X Y statement branch lasts enters (o.Receive x) kept = IsWantedAlways x.wanted (out-Lasting kept).wanted
 statement_lasts X Y statement branch lasts enters (o.Control k x) kept = Unit {0}
 statement_lasts X Y statement branch lasts enters (o.AllPorts x) kept = Unit {0}
 statement_lasts X Y statement branch lasts enters (o.SetVerdict x) kept = Unit {0}
@@ -38,7 +38,7 @@ statement_lasts X Y statement branch lasts enters (o.For first bound block) kept
 abbrev pub branch_lasts : (X Y : Type 0) → (X → Statement) → (Y → Branch) → (X → Lasting → Type 0)
     → (Y → Lasting → Type 0)
     → o.Branch-F X Y → Lasting → Type 0
-branch_lasts X Y statement branch lasts enters x kept = Lasts x.receiving.wanted (out-Lasting kept).wanted
+branch_lasts X Y statement branch lasts enters x kept = IsWantedAlways x.receiving.wanted (out-Lasting kept).wanted
     × AllZip lasts x.block (out-Lasting kept).block
 
 -- this is what lasts of the statement

@@ -3,55 +3,55 @@ use Rattle.std.specs.Prelude.{◌≡◌, ◌≤◌, ◌<◌, ◌==◌, ℕ, cond
 use Rattle.std.specs.List.{flat_map}
 use Rattle.indexmap.specs.IndexMap.{IndexMap, get}
 use Rattle.tp_config.specs.declared.port_type.RouteId.{RouteId}
-use Rattle.tp_inbox.specs.declared.stamped.Stamped.{Stamped}
-use Rattle.tp_inbox.specs.declared.entry.Entry.{Entry}
-use Rattle.tp_inbox.specs.History.{arrived_on, posted_on}
-use Rattle.tp_inbox.specs.Ledgers.{Inbox, Sending, posting}
+use Rattle.tp_history.specs.declared.stamped.Stamped.{Stamped}
+use Rattle.tp_history.specs.declared.entry.Entry.{Entry}
+use Rattle.tp_history.specs.History.{arrived_on, posted_on}
+use Rattle.tp_inbox.specs.Ledgers.{Inbox, SenderLedger, posting}
 use Rattle.tp_inbox.specs.Places.{route_eq}
 use Rattle.tp_behaviour.specs.declared.outbox.RoutePlace.{RoutePlace}
 
 -- the routes of these senders, sender after sender
-abbrev pub routes_of : List Sending → List RouteId
-routes_of senders = flat_map (λ (s : Sending). s.routes) senders
+abbrev pub routes_of : List SenderLedger → List RouteId
+routes_of senders = flat_map (λ (s : SenderLedger). s.routes) senders
 
 -- the sender, after a message was put on this route: it is another's where the route leads to another inbox
-abbrev pub put_on : RouteId → Stamped → Sending → Sending
+abbrev pub put_on : RouteId → Stamped → SenderLedger → SenderLedger
 put_on route m s = cond (s.inbox.comp.0 == route.to.comp.0) (posting s route m) s
 
 -- the message was put on this route, by the sender that there is into the inbox to which the route leads, with this
 -- number
-abbrev pub HasPut : RouteId → Stamped → ℕ → List Sending → List Sending → Type 0
+abbrev pub HasPut : RouteId → Stamped → ℕ → List SenderLedger → List SenderLedger → Type 0
 HasPut route m n before after =
-    ((s : Sending) × Contains before s × (route.to.comp ≡ s.inbox.comp) × (n ≡ length (posted_on route s.ledger)))
+    ((s : SenderLedger) × Contains before s × (route.to.comp ≡ s.inbox.comp) × (n ≡ length (posted_on route s.ledger)))
     × (after ≡ map (put_on route m) before)
 
 -- the sender that has this route has put as many messages there as a route takes
-abbrev pub IsRouteFull : RouteId → List Sending → Type 0
+abbrev pub IsRouteFull : RouteId → List SenderLedger → Type 0
 IsRouteFull route senders =
-    (s : Sending) × Contains senders s × Contains s.routes route × (100000 ≤ length (posted_on route s.ledger))
+    (s : SenderLedger) × Contains senders s × Contains s.routes route × (100000 ≤ length (posted_on route s.ledger))
 
 -- a sender from a component to itself
-abbrev pub LeadsBack : Sending → Type 0
+abbrev pub LeadsBack : SenderLedger → Type 0
 LeadsBack s = s.inbox.comp ≡ s.source
 
 -- the places, with this one more if the sender leads back
-abbrev pub IsListed : Sending → ℕ → List ℕ → List ℕ → Type 0
+abbrev pub IsListed : SenderLedger → ℕ → List ℕ → List ℕ → Type 0
 IsListed s place before after = after ≡ cond (s.inbox.comp.0 == s.source.0) (before ++ place ∷ []) before
 
 -- if it leads back, it leads to the component of this inbox
-abbrev pub IsHome : Inbox → Sending → Type 0
+abbrev pub IsHome : Inbox → SenderLedger → Type 0
 IsHome inbox s = LeadsBack s → s.inbox.comp ≡ inbox.comp
 
 -- its routes lead to its inbox's component
-abbrev pub IsAimed : Sending → Type 0
+abbrev pub IsAimed : SenderLedger → Type 0
 IsAimed s = All (λ (r : RouteId). r.to.comp ≡ s.inbox.comp) s.routes
 
 -- as many of the arrivals came on this route as the sender has put there
-abbrev pub IsLevelOn : List Entry → Sending → RouteId → Type 0
+abbrev pub IsLevelOn : List Entry → SenderLedger → RouteId → Type 0
 IsLevelOn es s r = length (arrived_on r es) ≡ length (posted_on r s.ledger)
 
 -- so it is on each of the sender's routes
-abbrev pub IsLevel : List Entry → Sending → Type 0
+abbrev pub IsLevel : List Entry → SenderLedger → Type 0
 IsLevel es s = All (IsLevelOn es s) s.routes
 
 -- the first n of these routes are found, each at its place with the sender at this place
@@ -62,12 +62,12 @@ AreFiledAt n routes place places =
 
 -- each route of each sender is found at its place; the routes of a sender lead to its inbox's component, and no two
 -- senders to the same; those that lead back are listed, and no others
-pub record AreSendersFiled {S : Type 0} (senders : List Sending) (places : IndexMap RouteId RoutePlace S)
+pub record AreSendersFiled {S : Type 0} (senders : List SenderLedger) (places : IndexMap RouteId RoutePlace S)
     (loops : List ℕ) : Type 0 where
-  pub found : (k : ℕ) (s : Sending) → slice_get senders k ≡ Some s → AreFiledAt (length s.routes) s.routes k places
+  pub found : (k : ℕ) (s : SenderLedger) → slice_get senders k ≡ Some s → AreFiledAt (length s.routes) s.routes k places
   pub aimed : All IsAimed senders
-  pub apart : (j k : ℕ) (s t : Sending) → slice_get senders j ≡ Some s → slice_get senders k ≡ Some t
+  pub apart : (j k : ℕ) (s t : SenderLedger) → slice_get senders j ≡ Some s → slice_get senders k ≡ Some t
       → s.inbox.comp ≡ t.inbox.comp → j ≡ k
   pub within : All (λ k. k < length senders) loops
-  pub back : All (λ k. (s : Sending) → slice_get senders k ≡ Some s → LeadsBack s) loops
-  pub listed : (k : ℕ) (s : Sending) → slice_get senders k ≡ Some s → LeadsBack s → Contains loops k
+  pub back : All (λ k. (s : SenderLedger) → slice_get senders k ≡ Some s → LeadsBack s) loops
+  pub listed : (k : ℕ) (s : SenderLedger) → slice_get senders k ≡ Some s → LeadsBack s → Contains loops k

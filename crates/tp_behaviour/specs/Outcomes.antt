@@ -4,8 +4,8 @@ use Rattle.tp_config.specs.Setup.{ports_at}
 use Rattle.tp_play.specs.declared.body.Statement.{Statement}
 use Rattle.tp_play.specs.declared.body.Body.{Body}
 use Rattle.tp_play.specs.Playable.{IsPlayable, Stage, stage_of}
-use Rattle.tp_inbox.specs.declared.entry.Entry.{Entry}
-use Rattle.tp_inbox.specs.declared.ending.End.TheVariants as end
+use Rattle.tp_history.specs.declared.entry.Entry.{Entry}
+use Rattle.tp_history.specs.declared.ending.End.TheVariants as end
 use Rattle.tp_behaviour.specs.declared.choice.Guard.{Guard}
 use Rattle.tp_behaviour.specs.declared.held.Held.{Held}
 use Rattle.tp_behaviour.specs.declared.outcome.Outcome.{Outcome}
@@ -17,7 +17,7 @@ use Rattle.tp_behaviour.specs.Ends.{Stops, StopsWithin}
 use Rattle.tp_behaviour.specs.Held.{Actor, unset}
 use Rattle.tp_behaviour.specs.Moments.{Moment, moments}
 use Rattle.tp_behaviour.specs.Paths.{AreTurns, IsPath, IsStep}
-use Rattle.tp_behaviour.specs.Seen.{Grew}
+use Rattle.tp_behaviour.specs.Seen.{TraceGrew}
 use Rattle.tp_behaviour.specs.Workers.{AreHeld, role_of}
 
 -- statements that end so: they are carried out, and the variables then hold these values; or they stop at a send that
@@ -88,11 +88,11 @@ depth_of s = length s.turns.items
 -- a block that was carried out, from here to there, and ended so
 abbrev pub Executed : Task → List Statement → Outcome → Worker → Frame → Worker → Frame → Type 0
 Executed p block o here before there after =
-    Grew (λ ts. Ends (role_of p) o before.turns.items before.variables.items block ts after.variables.items)
+    TraceGrew (λ ts. Ends (role_of p) o before.turns.items before.variables.items block ts after.variables.items)
     here.desk.log there.desk.log
 
 -- a statement
 abbrev pub Stepped : Task → Statement → Outcome → Worker → Frame → Worker → Frame → Type 0
 Stepped p x o here before there after =
-    Grew (λ ts. EndsStep (role_of p) o before.turns.items before.variables.items x ts after.variables.items)
+    TraceGrew (λ ts. EndsStep (role_of p) o before.turns.items before.variables.items x ts after.variables.items)
     here.desk.log there.desk.log

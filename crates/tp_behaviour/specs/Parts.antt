@@ -1,6 +1,6 @@
 -- What the parts of a statement come to: what an `alt` goes on with, the block of a branch, and the turns of a `for`.
 use Rattle.std.specs.Prelude.{◌≡◌, ◌<◌, ℕ, ℤ, Bool, true, false, Option, Some, None, List, All, slice_get}
-use Rattle.tp_queue.specs.declared.event.Env.{Env}
+use Rattle.tp_event.specs.declared.event.Env.{Env}
 use Rattle.tp_value.specs.declared.message.Message.{Message}
 use Rattle.tp_play.specs.declared.body.Statement.{Statement}
 use Rattle.tp_play.specs.declared.body.Branch.{Branch}
@@ -17,7 +17,7 @@ use Rattle.tp_behaviour.specs.Held.{redirected}
 use Rattle.tp_behaviour.specs.Moments.{Moment}
 use Rattle.tp_behaviour.specs.Outcomes.{Ends, EndsTurns, Executed}
 use Rattle.tp_behaviour.specs.Paths.{guards_of}
-use Rattle.tp_behaviour.specs.Seen.{Ending, Grew}
+use Rattle.tp_behaviour.specs.Seen.{Ending, TraceGrew}
 use Rattle.tp_behaviour.specs.Workers.{role_of, values_of}
 
 -- the branches of an `alt`, by what loop variables and references stand for
@@ -54,13 +54,13 @@ pub record Rests (guards : List Guard) (has_else : Bool) (waiting : List Guard) 
 -- what an `alt` came to, up to the block that it goes on with
 abbrev pub Decided : Task → List Branch → Bool → Decision → Worker → Frame → Worker → Frame → Type 0
 Decided p branches has_else (decision.Branch place) here before there after =
-    Grew (Enters branches (guards_at p before branches) place before.variables.items after.variables.items)
+    TraceGrew (Enters branches (guards_at p before branches) place before.variables.items after.variables.items)
     here.desk.log there.desk.log
 Decided p branches has_else decision.Else here before there after =
-    Grew (EntersElse (guards_at p before branches) has_else before.variables.items after.variables.items) here.desk.log
+    TraceGrew (EntersElse (guards_at p before branches) has_else before.variables.items after.variables.items) here.desk.log
     there.desk.log
 Decided p branches has_else (decision.Waits waiting) here before there after =
-    Grew (Rests (guards_at p before branches) has_else waiting.items) here.desk.log there.desk.log
+    TraceGrew (Rests (guards_at p before branches) has_else waiting.items) here.desk.log there.desk.log
 
 -- the block of the branch at this place was carried out, and ended so
 abbrev pub ExecutedAt : Task → List Branch → ℕ → Outcome → Worker → Frame → Worker → Frame → Type 0
@@ -70,13 +70,13 @@ ExecutedAt p branches place o here before there after =
 -- a block was carried out where the loop variables around it hold these values, and ended so
 abbrev pub ExecutedIn : Task → List ℤ → List Statement → Outcome → Worker → Frame → Worker → Frame → Type 0
 ExecutedIn p turns block o here before there after =
-    Grew (λ ts. Ends (role_of p) o turns before.variables.items block ts after.variables.items) here.desk.log
+    TraceGrew (λ ts. Ends (role_of p) o turns before.variables.items block ts after.variables.items) here.desk.log
     there.desk.log
 
 -- so many turns of a block, the loop variable holding this value at first, and they ended so
 abbrev pub Turned : Task → ℤ → List Statement → ℕ → Outcome → Worker → Frame → Worker → Frame → Type 0
 Turned p first block count o here before there after =
-    Grew (λ ts. EndsTurns (role_of p) o before.turns.items before.variables.items first block count ts
+    TraceGrew (λ ts. EndsTurns (role_of p) o before.turns.items before.variables.items first block count ts
     after.variables.items) here.desk.log there.desk.log
 
 -- the branch, if that is what the `alt` goes on with, is one of its branches

@@ -2,8 +2,8 @@
 use Rattle.std.specs.Prelude.{◌≡◌, ℤ, Bool, true, false, Option, Some, None, List, [], ◌∷◌, ◌++◌, All}
 use Rattle.tp_config.specs.declared.port_type.CompId.{CompId}
 use Rattle.tp_play.specs.declared.body.Statement.{Statement}
-use Rattle.tp_inbox.specs.declared.entry.Entry.{Entry}
-use Rattle.tp_inbox.specs.Desks.{Journal}
+use Rattle.tp_history.specs.declared.entry.Entry.{Entry}
+use Rattle.tp_history.specs.Desks.{Journal}
 use Rattle.tp_behaviour.specs.declared.choice.Guard.{Guard}
 use Rattle.tp_behaviour.specs.declared.choice.LookResult.{LookResult}
 use Rattle.tp_behaviour.specs.declared.choice.LookResult.TheVariants as look
@@ -18,8 +18,8 @@ use Rattle.tp_behaviour.specs.Choices.{NoneOpen, IsChoice, IsDrop}
 use Rattle.tp_behaviour.specs.Fresh.{HasOwn}
 
 -- from one history to the other the trace grew by moments of which this holds
-abbrev pub Grew : (List Moment → Type 0) → List Entry → List Entry → Type 0
-Grew p before after = (ts : List Moment) × (moments after ≡ moments before ++ ts) × p ts
+abbrev pub TraceGrew : (List Moment → Type 0) → List Entry → List Entry → Type 0
+TraceGrew p before after = (ts : List Moment) × (moments after ≡ moments before ++ ts) × p ts
 
 -- one moment, of which this holds
 abbrev pub One : (Moment → Type 0) → List Moment → Type 0
@@ -32,13 +32,13 @@ AddsEntry before e after = moments after.log ≡ moments before.log ++ moment be
 -- a path of the statement, whatever loop variables and variables hold, and they stay as they are
 abbrev pub Carries : Actor → Statement → Journal → Journal → Type 0
 Carries r x before after = (turns : List ℤ) (vs : List (Option Held))
-    → Grew (λ ts. IsStep r turns vs x ts vs) before.log after.log
+    → TraceGrew (λ ts. IsStep r turns vs x ts vs) before.log after.log
 
 -- what a look at the branches came to
 abbrev pub Saw : CompId → List Guard → LookResult → List Entry → List Entry → Type 0
 Saw c gs (look.Taken i e) before after =
-    Grew (One (λ t. (has_else : Bool) → IsChoice gs has_else t (Some (i, e)))) before after
-Saw c gs look.Discarded before after = Grew (One (IsDrop gs)) before after
+    TraceGrew (One (λ t. (has_else : Bool) → IsChoice gs has_else t (Some (i, e)))) before after
+Saw c gs look.Discarded before after = TraceGrew (One (IsDrop gs)) before after
 Saw c gs look.Nothing before after = (moments after ≡ moments before) × NoneOpen after gs × HasOwn c after
 
 -- any number of messages that a `trigger` discards, and then a moment of which this holds

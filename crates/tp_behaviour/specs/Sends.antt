@@ -9,10 +9,10 @@ use Rattle.tp_play.specs.declared.body.Receiver.TheVariants as receiver
 use Rattle.tp_play.specs.declared.body.SendOperation.{SendOperation}
 use Rattle.tp_play.specs.declared.body.Statement.TheVariants as statement
 use Rattle.tp_play.specs.Fills.{needed}
-use Rattle.tp_inbox.specs.declared.entry.Entry.{Entry}
-use Rattle.tp_inbox.specs.declared.entry.Entry.TheVariants as entry
-use Rattle.tp_inbox.specs.declared.send_fault.SendFault.{SendFault}
-use Rattle.tp_inbox.specs.History.{next_of, sent_on}
+use Rattle.tp_history.specs.declared.entry.Entry.{Entry}
+use Rattle.tp_history.specs.declared.entry.Entry.TheVariants as entry
+use Rattle.tp_history.specs.declared.send_fault.SendFault.{SendFault}
+use Rattle.tp_history.specs.History.{next_of, sent_on}
 use Rattle.tp_behaviour.specs.Ends.{IsFailure}
 use Rattle.tp_behaviour.specs.declared.held.Held.{Held}
 use Rattle.tp_behaviour.specs.declared.task.Task.{Task}
@@ -20,7 +20,7 @@ use Rattle.tp_behaviour.specs.declared.worker.Worker.{Worker}
 use Rattle.tp_behaviour.specs.declared.worker.Frame.{Frame}
 use Rattle.tp_behaviour.specs.Held.{Actor, Values}
 use Rattle.tp_behaviour.specs.Paths.{IsStep}
-use Rattle.tp_behaviour.specs.Seen.{Grew, One}
+use Rattle.tp_behaviour.specs.Seen.{TraceGrew, One}
 use Rattle.tp_behaviour.specs.Workers.{HoldsNoMessage, HoldsMessages, role_of, values_of}
 
 -- what is sent speaks of so many loop variables at most, or of a variable for messages
@@ -38,9 +38,9 @@ CanName variables references receiver.All = ⊥
 -- a send comes to this: it is carried out, or the behaviour ends by this fault
 abbrev pub Sends : Actor → Values → SendOperation → Option SendFault → List Entry → List Entry → Type 0
 Sends r vs x None before after =
-    Grew (λ ts. IsStep r vs.turns vs.variables (statement.Send x) ts vs.variables) before after
+    TraceGrew (λ ts. IsStep r vs.turns vs.variables (statement.Send x) ts vs.variables) before after
 Sends r vs x (Some fault) before after =
-    Grew (One (λ t. IsFailure r vs x t.before fault × (t.entry ≡ entry.Failed fault))) before after
+    TraceGrew (One (λ t. IsFailure r vs x t.before fault × (t.entry ≡ entry.Failed fault))) before after
 
 -- the same of a worker, by what the behaviour keeps in mind
 abbrev pub SendsAt : Task → Frame → SendOperation → Worker → Worker → Option SendFault → Type 0

@@ -8,10 +8,10 @@ use Rattle.tp_config.specs.Setup.{ports_at}
 use Rattle.tp_config.specs.Routes.{routes_from}
 use Rattle.tp_play.specs.declared.body.VariableType.{VariableType}
 use Rattle.tp_play.specs.declared.body.VariableType.TheVariants as variable_type
-use Rattle.tp_inbox.specs.declared.entry.Entry.{Entry}
-use Rattle.tp_inbox.specs.declared.entry.Entry.TheVariants as entry
-use Rattle.tp_inbox.specs.History.{arrivals, sent_to}
-use Rattle.tp_inbox.specs.Ledgers.{Inbox, IsDeskOf, Sending, end_of}
+use Rattle.tp_history.specs.declared.entry.Entry.{Entry}
+use Rattle.tp_history.specs.declared.entry.Entry.TheVariants as entry
+use Rattle.tp_history.specs.History.{arrivals, sent_to}
+use Rattle.tp_inbox.specs.Ledgers.{Inbox, IsDeskOf, SenderLedger, end_of}
 use Rattle.tp_behaviour.specs.declared.held.Held.{Held}
 use Rattle.tp_behaviour.specs.declared.held.Held.TheVariants as held
 use Rattle.tp_behaviour.specs.declared.task.Task.{Task}
@@ -52,11 +52,11 @@ IsPlain (entry.Sent x number m) = ⊥
 IsPlain _ = ⊤
 
 -- the sender has put what the history says was sent to the component of its inbox, over all routes, in this order
-abbrev pub IsNoted : List Entry → Sending → Type 0
-IsNoted k s = sent_to s.inbox.comp k ≡ s.ledger
+abbrev pub IsLedgerOf : List Entry → SenderLedger → Type 0
+IsLedgerOf k s = sent_to s.inbox.comp k ≡ s.ledger
 
 -- the sender is this component's, and its routes lead to the component of its inbox
-abbrev pub IsSenderOf : CompId → Sending → Type 0
+abbrev pub IsSenderOf : CompId → SenderLedger → Type 0
 IsSenderOf c s = (s.source ≡ c) × IsAimed s
 
 -- the parts of a worker say the same of what has happened, and each operation on ports so far was a fresh one
@@ -64,13 +64,13 @@ pub record IsConsistent (r : Actor) (s : Worker) : Type 0 where
   pub ends : AreEndsOf r s.owner.inbox (routes_of s.outbox)
   pub desk : IsDeskOf s.owner.inbox s.desk
   pub arrived : arrivals s.desk.log ≡ s.owner.drained
-  pub noted : All (IsNoted s.desk.log) s.outbox
+  pub noted : All (IsLedgerOf s.desk.log) s.outbox
   pub theirs : All (IsSenderOf r.comp) s.outbox
   pub sent : All (IsSentBy (routes_of s.outbox)) s.desk.log
   pub fresh : Fresh r.comp s.desk.log
 
 -- its inbox is the same, and its senders put into the same inboxes, for the same component and on the same routes
-pub record IsSame (before after : Worker) : Type 0 where
+pub record KeepsInboxes (before after : Worker) : Type 0 where
   pub inbox : after.owner.inbox ≡ before.owner.inbox
   pub ends : map end_of after.outbox ≡ map end_of before.outbox
 

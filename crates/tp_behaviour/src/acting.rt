@@ -1,11 +1,11 @@
 //! What a behaviour does to its ports and its verdict.
 ghost use Rattle.std.specs.Prelude.{◌≡◌, ◌<◌, OnOk};
 ghost use Rattle.tp_play.specs.declared.body.Statement.TheVariants as statement;
-ghost use Rattle.tp_inbox.specs.Desks.{adding};
+ghost use Rattle.tp_history.specs.Desks.{adding};
 ghost use Rattle.tp_behaviour.specs.Fresh.{HasOwn};
 ghost use Rattle.tp_behaviour.specs.Paths.{operated};
 ghost use Rattle.tp_behaviour.specs.Seen.{AddsEntry, Carries};
-ghost use Rattle.tp_behaviour.specs.Workers.{IsConsistent, IsSame, role_of};
+ghost use Rattle.tp_behaviour.specs.Workers.{IsConsistent, KeepsInboxes, role_of};
 
 use crate::execution::Execution;
 use crate::gate::Gate;
@@ -13,9 +13,9 @@ use crate::looking::{look_in, note};
 use crate::task::Task;
 use crate::worker::Worker;
 use std::sync::Wait;
-use tp_inbox::desk::Desk;
-use tp_inbox::entry::Entry;
-use tp_queue::operation::PortOperation;
+use tp_event::operation::PortOperation;
+use tp_history::desk::Desk;
+use tp_history::entry::Entry;
 use tp_refusal::memory::Memory;
 use tp_value::verdict::Verdict;
 
@@ -29,7 +29,7 @@ pub(crate) fn set_verdict(
 ) -> Result<(), Memory>
     requires { IsConsistent (role_of task.now) worker.old }
     ensures consistent { OnOk result (IsConsistent (role_of task.now) worker.new) }
-    ensures same { OnOk result (IsSame worker.old worker.new) }
+    ensures same { OnOk result (KeepsInboxes worker.old worker.new) }
     ensures stepped { OnOk result
         (Carries (role_of task.now) (statement.SetVerdict verdict)
         worker.old.desk worker.new.desk) }
@@ -70,7 +70,7 @@ fn operate_at<G: Gate>(
     requires within { port < worker.old.desk.ports }
     requires own { HasOwn task.now.comp worker.old.desk.log }
     ensures consistent { OnOk result (IsConsistent (role_of task.now) worker.new) }
-    ensures same { OnOk result (IsSame worker.old worker.new) }
+    ensures same { OnOk result (KeepsInboxes worker.old worker.new) }
     ensures own { OnOk result (HasOwn task.now.comp worker.new.desk.log) }
     ensures added { OnOk result
         (worker.new.desk ≡ adding worker.old.desk (operated operation port)) }
@@ -94,7 +94,7 @@ pub(crate) fn control<R: Wait, G: Gate>(
     requires consistent { IsConsistent (role_of execution.now.task.now) worker.old }
     requires within { port < worker.old.desk.ports }
     ensures consistent { OnOk result (IsConsistent (role_of execution.now.task.now) worker.new) }
-    ensures same { OnOk result (IsSame worker.old worker.new) }
+    ensures same { OnOk result (KeepsInboxes worker.old worker.new) }
     ensures stepped { OnOk result
         (Carries (role_of execution.now.task.now) (statement.Control port operation)
         worker.old.desk worker.new.desk) }
@@ -121,7 +121,7 @@ pub(crate) fn all_ports<R: Wait, G: Gate>(
 ) -> Result<(), Memory>
     requires { IsConsistent (role_of execution.now.task.now) worker.old }
     ensures consistent { OnOk result (IsConsistent (role_of execution.now.task.now) worker.new) }
-    ensures same { OnOk result (IsSame worker.old worker.new) }
+    ensures same { OnOk result (KeepsInboxes worker.old worker.new) }
     ensures stepped { OnOk result
         (Carries (role_of execution.now.task.now) (statement.AllPorts operation)
         worker.old.desk worker.new.desk) }

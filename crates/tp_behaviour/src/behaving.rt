@@ -3,7 +3,7 @@ ghost use Rattle.std.specs.Prelude.{◌≡◌, [], IfOk, OnOk};
 ghost use Rattle.tp_behaviour.specs.Held.{unset};
 ghost use Rattle.tp_behaviour.specs.Moments.{moments};
 ghost use Rattle.tp_behaviour.specs.Outcomes.{CanBehave, HasEnded, WaitsWithin};
-ghost use Rattle.tp_behaviour.specs.Workers.{IsConsistent, IsSame, role_of};
+ghost use Rattle.tp_behaviour.specs.Workers.{IsConsistent, KeepsInboxes, role_of};
 
 use crate::execution::Execution;
 use crate::gate::Gate;
@@ -52,7 +52,7 @@ pub fn behave<R: Wait, G: Gate>(
     requires begun { moments worker.old.desk.log ≡ [] }
     requires can { CanBehave task.now }
     ensures consistent { OnOk result (IsConsistent (role_of task.now) worker.new) }
-    ensures same { OnOk result (IsSame worker.old worker.new) }
+    ensures same { OnOk result (KeepsInboxes worker.old worker.new) }
     ensures ended { IfOk result (λ o.
         HasEnded (role_of task.now) task.now.behaviour.body.now o worker.new.desk.log) }
     ensures within { IfOk result (WaitsWithin worker.new.desk.ports) }

@@ -5,10 +5,10 @@ ghost use Rattle.tp_behaviour.specs.Views.{all_viewed, viewed};
 
 use crate::gate::Gate;
 use std::alloc::Global;
-use tp_inbox::desk::Desk;
-use tp_queue::event::{Env, TriggerAnswer};
-use tp_queue::operation::ReceiveKind;
-use tp_queue::payload::Wanted;
+use tp_event::event::{Env, TriggerAnswer};
+use tp_event::operation::ReceiveKind;
+use tp_event::payload::Wanted;
+use tp_history::desk::Desk;
 use tp_refusal::memory::Memory;
 use tp_value::message::{Message, MsgTemplate};
 

@@ -1,7 +1,7 @@
 //! What an `alt` comes to.
 ghost use Rattle.std.specs.Prelude.{◌<◌, All, IfOk, OnOk};
-ghost use Rattle.tp_behaviour.specs.Seen.{Chose, Grew};
-ghost use Rattle.tp_behaviour.specs.Workers.{IsConsistent, IsSame, role_of};
+ghost use Rattle.tp_behaviour.specs.Seen.{Chose, TraceGrew};
+ghost use Rattle.tp_behaviour.specs.Workers.{IsConsistent, KeepsInboxes, role_of};
 ghost use Rattle.tp_behaviour.specs.Views.{all_viewed};
 
 use crate::choice::{GuardView, LookResult};
@@ -11,10 +11,10 @@ use crate::looking::{look_at_branches, note};
 use crate::task::Task;
 use crate::worker::Worker;
 use std::sync::Wait;
+use tp_event::event::Env;
 use tp_floor::notifier::Woken;
-use tp_inbox::entry::Entry;
+use tp_history::entry::Entry;
 use tp_inbox::owner::Owner;
-use tp_queue::event::Env;
 use tp_refusal::memory::Memory;
 use tp_value::message::Message;
 
@@ -57,9 +57,9 @@ pub(crate) fn choose<R: Wait, G: Gate>(
     requires consistent { IsConsistent (role_of execution.now.task.now) worker.old }
     requires within { All (λ g. g.port < worker.old.desk.ports) guards.now }
     ensures consistent { OnOk result (IsConsistent (role_of execution.now.task.now) worker.new) }
-    ensures same { OnOk result (IsSame worker.old worker.new) }
+    ensures same { OnOk result (KeepsInboxes worker.old worker.new) }
     ensures chose { IfOk result (λ choice.
-        Grew (Chose (all_viewed guards.now) has_else choice)
+        TraceGrew (Chose (all_viewed guards.now) has_else choice)
         worker.old.desk.log worker.new.desk.log) }
 {
     let mut last = false;

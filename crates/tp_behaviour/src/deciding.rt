@@ -4,7 +4,7 @@ ghost use Rattle.tp_play.specs.Playable.{CanEnterAll};
 ghost use Rattle.tp_behaviour.specs.Lasting.{AreLastingBranches};
 ghost use Rattle.tp_behaviour.specs.Outcomes.{HoldsAsDeclared, depth_of, stage_at};
 ghost use Rattle.tp_behaviour.specs.Parts.{Decided, IsEntered, IsDecisionOf, RestsWithin};
-ghost use Rattle.tp_behaviour.specs.Workers.{IsConsistent, IsSame, role_of};
+ghost use Rattle.tp_behaviour.specs.Workers.{IsConsistent, KeepsInboxes, role_of};
 
 use crate::choice::Guard;
 use crate::choosing::{Choice, choose};
@@ -15,8 +15,8 @@ use crate::receiving::{fill_guards, redirect, view_guards};
 use crate::task::Task;
 use crate::worker::{Frame, Worker};
 use std::sync::Wait;
+use tp_event::event::Env;
 use tp_play::body::Branch;
-use tp_queue::event::Env;
 use tp_refusal::memory::Memory;
 use tp_value::message::Message;
 
@@ -60,7 +60,7 @@ pub(crate) fn decide<R: Wait, G: Gate>(
         (stage_at execution.now.task.now) (depth_of frame.old) alt.branches.now }
     requires lasting { AreLastingBranches alt.branches.now alt.lasting.now }
     ensures consistent { OnOk result (IsConsistent (role_of execution.now.task.now) worker.new) }
-    ensures same { OnOk result (IsSame worker.old worker.new) }
+    ensures same { OnOk result (KeepsInboxes worker.old worker.new) }
     ensures held { OnOk result (HoldsAsDeclared execution.now.task.now frame.new) }
     ensures turns { OnOk result (frame.new.turns.items ≡ frame.old.turns.items) }
     ensures decided { IfOk result (λ decision.

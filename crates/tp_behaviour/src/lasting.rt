@@ -1,6 +1,6 @@
 //! What of a body lasts while a behaviour runs: the templates in which no loop variable stands.
 ghost use Rattle.std.specs.Prelude.{IfOk};
-ghost use Rattle.tp_behaviour.specs.Lasting.{AreLasting, AreLastingBranches, IsLasting, IsLastingBranch, Lasts};
+ghost use Rattle.tp_behaviour.specs.Lasting.{AreLasting, AreLastingBranches, IsLasting, IsLastingBranch, IsWantedAlways};
 
 use crate::fixed::is_fixed;
 use std::alloc::Global;
@@ -46,7 +46,7 @@ pub(crate) struct Alt<'t> {
 ///
 /// 50 `Memory` only where an allocation was refused.
 fn lasting_template(alloc: Global, wanted: &RecvMsg) -> Result<Option<MsgTemplate>, Memory>
-    ensures { IfOk result (Lasts wanted.now) }
+    ensures { IfOk result (IsWantedAlways wanted.now) }
 {
     match wanted {
         RecvMsg::Any => Ok(Some(MsgTemplate::Any)),

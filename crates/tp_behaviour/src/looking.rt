@@ -1,11 +1,11 @@
 //! What a behaviour sees before it acts on its ports.
 ghost use Rattle.std.specs.Prelude.{◌≡◌, ◌<◌, All, IfOk, OnOk};
-ghost use Rattle.tp_inbox.specs.Desks.{IsNote};
+ghost use Rattle.tp_history.specs.Desks.{NamesNoPort};
 ghost use Rattle.tp_inbox.specs.Routed.{AreArrivals};
 ghost use Rattle.tp_behaviour.specs.Fresh.{HasOwn, LooksAtPorts};
 ghost use Rattle.tp_behaviour.specs.Moments.{moments};
 ghost use Rattle.tp_behaviour.specs.Seen.{AddsEntry, Saw};
-ghost use Rattle.tp_behaviour.specs.Workers.{IsConsistent, IsPlain, IsSame, role_of};
+ghost use Rattle.tp_behaviour.specs.Workers.{IsConsistent, IsPlain, KeepsInboxes, role_of};
 ghost use Rattle.tp_behaviour.specs.Views.{all_viewed};
 
 use crate::choice::{GuardView, LookResult, snapshot};
@@ -14,7 +14,7 @@ use crate::gate::Gate;
 use crate::task::Task;
 use crate::worker::Worker;
 use std::sync::Wait;
-use tp_inbox::entry::Entry;
+use tp_history::entry::Entry;
 use tp_refusal::memory::Memory;
 
 /// Moves what has come into the inbox to the ports.
@@ -23,7 +23,7 @@ use tp_refusal::memory::Memory;
 fn drain<R: Wait>(rt: &R, task: &Task<'_>, worker: &mut Worker) -> Result<(), Memory>
     requires { IsConsistent (role_of task.now) worker.old }
     ensures consistent { OnOk result (IsConsistent (role_of task.now) worker.new) }
-    ensures same { OnOk result (IsSame worker.old worker.new) }
+    ensures same { OnOk result (KeepsInboxes worker.old worker.new) }
     ensures ports { OnOk result (worker.new.desk.ports ≡ worker.old.desk.ports) }
     ensures trace { OnOk result (moments worker.new.desk.log ≡ moments worker.old.desk.log) }
     ensures routed { OnOk result
@@ -40,7 +40,7 @@ fn drain<R: Wait>(rt: &R, task: &Task<'_>, worker: &mut Worker) -> Result<(), Me
 pub(crate) fn look_in<R: Wait>(rt: &R, task: &Task<'_>, worker: &mut Worker) -> Result<(), Memory>
     requires consistent { IsConsistent (role_of task.now) worker.old }
     ensures consistent { OnOk result (IsConsistent (role_of task.now) worker.new) }
-    ensures same { OnOk result (IsSame worker.old worker.new) }
+    ensures same { OnOk result (KeepsInboxes worker.old worker.new) }
     ensures ports { OnOk result (worker.new.desk.ports ≡ worker.old.desk.ports) }
     ensures trace { OnOk result (moments worker.new.desk.log ≡ moments worker.old.desk.log) }
     ensures own { OnOk result (HasOwn task.now.comp worker.new.desk.log) }
@@ -60,11 +60,11 @@ pub(crate) fn look_in<R: Wait>(rt: &R, task: &Task<'_>, worker: &mut Worker) -> 
 /// 50 `Memory` only where an allocation was refused.
 pub(crate) fn note(task: &Task<'_>, worker: &mut Worker, entry: Entry) -> Result<(), Memory>
     requires consistent { IsConsistent (role_of task.now) worker.old }
-    requires noted { IsNote entry }
+    requires noted { NamesNoPort entry }
     requires plain { IsPlain entry }
     requires own { LooksAtPorts entry → HasOwn task.now.comp worker.old.desk.log }
     ensures consistent { OnOk result (IsConsistent (role_of task.now) worker.new) }
-    ensures same { OnOk result (IsSame worker.old worker.new) }
+    ensures same { OnOk result (KeepsInboxes worker.old worker.new) }
     ensures ports { OnOk result (worker.new.desk.ports ≡ worker.old.desk.ports) }
     ensures trace { OnOk result (AddsEntry worker.old.desk entry worker.new.desk) }
 {
@@ -88,7 +88,7 @@ pub(crate) fn look_at_branches<R: Wait, G: Gate>(
     requires consistent { IsConsistent (role_of execution.now.task.now) worker.old }
     requires within { All (λ g. g.port < worker.old.desk.ports) guards.now }
     ensures consistent { OnOk result (IsConsistent (role_of execution.now.task.now) worker.new) }
-    ensures same { OnOk result (IsSame worker.old worker.new) }
+    ensures same { OnOk result (KeepsInboxes worker.old worker.new) }
     ensures ports { OnOk result (worker.new.desk.ports ≡ worker.old.desk.ports) }
     ensures saw { IfOk result (λ look.
         Saw execution.now.task.now.comp (all_viewed guards.now) look

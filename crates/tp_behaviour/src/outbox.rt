@@ -1,9 +1,9 @@
 //! A component's senders.
 ghost use Rattle.std.specs.Prelude.{◌≡◌, ◌≢◌, ◌↔◌, ◌<◌, [], ◌∷◌, ◌++◌, ℕ, All, Contains, IfErr, IsTrue, OnErr, OnOk, Some, length, slice_get, vec_capacity, vec_len};
-ghost use Rattle.tp_inbox.specs.declared.entry.Entry.TheVariants as entry;
-ghost use Rattle.tp_inbox.specs.History.{next_of};
-ghost use Rattle.tp_inbox.specs.Desks.{adding};
-ghost use Rattle.tp_inbox.specs.Ledgers.{Sending};
+ghost use Rattle.tp_history.specs.declared.entry.Entry.TheVariants as entry;
+ghost use Rattle.tp_history.specs.History.{next_of};
+ghost use Rattle.tp_history.specs.Desks.{adding};
+ghost use Rattle.tp_inbox.specs.Ledgers.{SenderLedger};
 ghost use Rattle.tp_inbox.specs.Places.{KeepsOtherRoutes};
 ghost use Rattle.tp_behaviour.specs.Outboxes.{AreFiledAt, HasPut, IsAimed, IsRouteFull, IsHome, IsLevel, IsListed, LeadsBack, routes_of};
 
@@ -12,7 +12,7 @@ use std::alloc::Global;
 use std::marker::Model;
 use std::sync::Wait;
 use tp_config::port_type::RouteId;
-use tp_inbox::desk::Desk;
+use tp_history::desk::Desk;
 use tp_inbox::owner::Owner;
 use tp_inbox::sender::{PutFault, Sender};
 use tp_refusal::memory::Memory;
@@ -42,10 +42,10 @@ impl Model for Outbox {
     ghost use Rattle.tp_value.specs.contracts.value.Value as value_contract;
     ghost use Rattle.std.specs.Coded.{codes};
     ghost use Rattle.std.specs.Prelude.{List};
-    ghost use Rattle.tp_inbox.specs.Ledgers.{Sending};
+    ghost use Rattle.tp_inbox.specs.Ledgers.{SenderLedger};
     ghost use Rattle.tp_behaviour.specs.Outboxes.{AreSendersFiled};
 
-    ghost Value = { List Sending };
+    ghost Value = { List SenderLedger };
 
     ghost coded = { Prim.hlevel (codes, value_contract.the_row.coded) };
 
@@ -144,7 +144,7 @@ impl Outbox {
     /// memory.
     pub fn is_level(&self, owner: &Owner) -> bool
         requires home { All (IsHome owner.now.inbox) self.now }
-        ensures level { IsTrue result ↔ ((s : Sending) → Contains self.now s → LeadsBack s
+        ensures level { IsTrue result ↔ ((s : SenderLedger) → Contains self.now s → LeadsBack s
             → IsLevel owner.now.drained s) }
     {
         for place in &self.loops {
@@ -159,7 +159,7 @@ impl Outbox {
     /// Where this route begins.
     fn route_place(&self, route: RouteId) -> RoutePlace
         requires { Contains (routes_of self.now) route }
-        ensures { (s : Sending) × (slice_get self.now result.sender ≡ Some s)
+        ensures { (s : SenderLedger) × (slice_get self.now result.sender ≡ Some s)
             × (slice_get s.routes result.way ≡ Some route) }
     {
         match self.places.get(&route) {
@@ -169,7 +169,7 @@ impl Outbox {
         }
     }
 
-    /// Sends a message on this route, which one of the senders has: [`Desk::send`], by that sender.
+    /// Sends a message on this route, which one of the senders has: [`Sender::send`], by that sender.
     ///
     /// 15 `Limit` only where the route has taken all that it takes; else 50 `Memory` where an
     /// allocation was refused, or where no stamp is left. Either hands the message back, and
@@ -191,6 +191,6 @@ impl Outbox {
             back.0 ≡ PutFault.Limit → IsRouteFull route self.old) }
     {
         let place = self.route_place(route);
-        desk.send(rt, &mut self.senders[place.sender], place.way, message)
+        self.senders[place.sender].send(rt, desk, place.way, message)
     }
 }

@@ -1,6 +1,6 @@
 //! How carrying out statements ends.
 use crate::choice::Guard;
-use tp_inbox::send_fault::SendFault;
+use tp_history::send_fault::SendFault;
 
 /// Whether all statements were carried out, and what ended them if not.
 #[derive(Drop)]

@@ -3,7 +3,7 @@ ghost use Rattle.std.specs.Prelude.{◌<◌, IfOk, OnOk};
 ghost use Rattle.tp_play.specs.declared.body.Statement.TheVariants as statement;
 ghost use Rattle.tp_play.specs.Playable.{CanSend};
 ghost use Rattle.tp_behaviour.specs.Outcomes.{HoldsAsDeclared, Stepped, WaitsWithin, depth_of, stage_at};
-ghost use Rattle.tp_behaviour.specs.Workers.{IsConsistent, IsSame, role_of};
+ghost use Rattle.tp_behaviour.specs.Workers.{IsConsistent, KeepsInboxes, role_of};
 
 use crate::acting::{all_ports, control, set_verdict};
 use crate::execution::Execution;
@@ -13,8 +13,8 @@ use crate::sending::send;
 use crate::task::Task;
 use crate::worker::{Frame, Worker};
 use std::sync::Wait;
+use tp_event::operation::PortOperation;
 use tp_play::body::SendOperation;
-use tp_queue::operation::PortOperation;
 use tp_refusal::memory::Memory;
 use tp_value::verdict::Verdict;
 
@@ -31,7 +31,7 @@ pub(crate) fn play_send<R: Wait, G: Gate>(
     requires held { HoldsAsDeclared execution.now.task.now frame.now }
     requires can { CanSend (stage_at execution.now.task.now) (depth_of frame.now) sending.now }
     ensures consistent { OnOk result (IsConsistent (role_of execution.now.task.now) worker.new) }
-    ensures same { OnOk result (IsSame worker.old worker.new) }
+    ensures same { OnOk result (KeepsInboxes worker.old worker.new) }
     ensures ended { IfOk result (λ o.
         Stepped execution.now.task.now (statement.Send sending.now) o
         worker.old frame.now worker.new frame.now) }
@@ -56,7 +56,7 @@ pub(crate) fn play_control<R: Wait, G: Gate>(
     requires consistent { IsConsistent (role_of execution.now.task.now) worker.old }
     requires within { port < (stage_at execution.now.task.now).ports }
     ensures consistent { OnOk result (IsConsistent (role_of execution.now.task.now) worker.new) }
-    ensures same { OnOk result (IsSame worker.old worker.new) }
+    ensures same { OnOk result (KeepsInboxes worker.old worker.new) }
     ensures ended { IfOk result (λ o.
         Stepped execution.now.task.now (statement.Control port operation) o
         worker.old frame.now worker.new frame.now) }
@@ -79,7 +79,7 @@ pub(crate) fn play_all_ports<R: Wait, G: Gate>(
 ) -> Result<Outcome, Memory>
     requires consistent { IsConsistent (role_of execution.now.task.now) worker.old }
     ensures consistent { OnOk result (IsConsistent (role_of execution.now.task.now) worker.new) }
-    ensures same { OnOk result (IsSame worker.old worker.new) }
+    ensures same { OnOk result (KeepsInboxes worker.old worker.new) }
     ensures ended { IfOk result (λ o.
         Stepped execution.now.task.now (statement.AllPorts operation) o
         worker.old frame.now worker.new frame.now) }
@@ -102,7 +102,7 @@ pub(crate) fn play_set_verdict(
 ) -> Result<Outcome, Memory>
     requires consistent { IsConsistent (role_of task.now) worker.old }
     ensures consistent { OnOk result (IsConsistent (role_of task.now) worker.new) }
-    ensures same { OnOk result (IsSame worker.old worker.new) }
+    ensures same { OnOk result (KeepsInboxes worker.old worker.new) }
     ensures ended { IfOk result (λ o.
         Stepped task.now (statement.SetVerdict verdict) o
         worker.old frame.now worker.new frame.now) }

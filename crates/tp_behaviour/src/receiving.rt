@@ -5,10 +5,10 @@ ghost use Rattle.std.specs.List.{slice_index_or};
 ghost use Rattle.tp_play.specs.declared.body.Statement.TheVariants as statement;
 ghost use Rattle.tp_play.specs.Playable.{CanEnterAll, CanExpect, CanReceive};
 ghost use Rattle.tp_behaviour.specs.Held.{guard_of, redirected, set_to};
-ghost use Rattle.tp_behaviour.specs.Lasting.{AreLastingBranches, Lasts};
+ghost use Rattle.tp_behaviour.specs.Lasting.{AreLastingBranches, IsWantedAlways};
 ghost use Rattle.tp_behaviour.specs.Outcomes.{HoldsAsDeclared, Stepped, WaitsWithin, depth_of, stage_at};
 ghost use Rattle.tp_behaviour.specs.Paths.{guards_of};
-ghost use Rattle.tp_behaviour.specs.Workers.{IsConsistent, IsSame, role_of, values_of};
+ghost use Rattle.tp_behaviour.specs.Workers.{IsConsistent, KeepsInboxes, role_of, values_of};
 ghost use Rattle.tp_behaviour.specs.Views.{all_viewed, template_in, viewed};
 ghost use Rattle.tp_play.specs.Fills.{filled_wanted, needed_by_wanted};
 
@@ -24,9 +24,9 @@ use crate::worker::{Frame, Worker};
 use std::alloc::Global;
 use std::sync::Wait;
 use tp_config::port_type::CompId;
+use tp_event::event::Env;
 use tp_play::body::{Branch, Receiving, RecvMsg};
 use tp_play::fill::fill_template;
-use tp_queue::event::Env;
 use tp_refusal::memory::Memory;
 use tp_value::message::{Message, MsgTemplate};
 
@@ -52,7 +52,7 @@ fn view_template<'t>(
     turns: &[i64],
 ) -> Result<TemplateView<'t>, Memory>
     requires given { needed_by_wanted wanted.now ≤ length turns.now }
-    requires lasting { Lasts wanted.now lasting.now }
+    requires lasting { IsWantedAlways wanted.now lasting.now }
     ensures { IfOk result (λ view. template_in view ≡ filled_wanted turns.now wanted.now) }
 {
     match lasting {
@@ -74,7 +74,7 @@ fn view_guard<'t>(
     lasting: &'t Option<MsgTemplate>,
 ) -> Result<GuardView<'t>, Memory>
     requires can { CanReceive (stage_at task.now) (depth_of frame.now) receiving.now }
-    requires lasting { Lasts receiving.now.wanted lasting.now }
+    requires lasting { IsWantedAlways receiving.now.wanted lasting.now }
     ensures { IfOk result (λ guard.
         viewed guard ≡ guard_of (role_of task.now) (values_of frame.now) receiving.now) }
 {
@@ -199,9 +199,9 @@ pub(crate) fn receive<R: Wait, G: Gate>(
     requires consistent { IsConsistent (role_of execution.now.task.now) worker.old }
     requires held { HoldsAsDeclared execution.now.task.now frame.old }
     requires can { CanReceive (stage_at execution.now.task.now) (depth_of frame.old) receiving.now }
-    requires lasting { Lasts receiving.now.wanted lasting.now }
+    requires lasting { IsWantedAlways receiving.now.wanted lasting.now }
     ensures consistent { OnOk result (IsConsistent (role_of execution.now.task.now) worker.new) }
-    ensures same { OnOk result (IsSame worker.old worker.new) }
+    ensures same { OnOk result (KeepsInboxes worker.old worker.new) }
     ensures held { OnOk result (HoldsAsDeclared execution.now.task.now frame.new) }
     ensures turns { OnOk result (frame.new.turns.items ≡ frame.old.turns.items) }
     ensures ended { IfOk result (λ o.

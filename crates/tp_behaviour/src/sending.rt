@@ -8,9 +8,9 @@ ghost use Rattle.tp_behaviour.specs.Held.{IsNamed, IsSentAs};
 ghost use Rattle.tp_behaviour.specs.Outboxes.{routes_of};
 ghost use Rattle.tp_behaviour.specs.Outcomes.{HoldsAsDeclared, depth_of, stage_at};
 ghost use Rattle.tp_behaviour.specs.Paths.{IsSentOn, IsStarted};
-ghost use Rattle.tp_behaviour.specs.Seen.{AddsEntry, Grew};
+ghost use Rattle.tp_behaviour.specs.Seen.{AddsEntry, TraceGrew};
 ghost use Rattle.tp_behaviour.specs.Sends.{CanName, SendsAt, next_sent};
-ghost use Rattle.tp_behaviour.specs.Workers.{IsConsistent, IsSame, role_of, values_of};
+ghost use Rattle.tp_behaviour.specs.Workers.{IsConsistent, KeepsInboxes, role_of, values_of};
 
 use crate::execution::Execution;
 use crate::gate::Gate;
@@ -21,10 +21,10 @@ use crate::worker::{Frame, Worker};
 use std::sync::Wait;
 use tp_config::port_type::{CompId, PortRef, RouteId};
 use tp_config::routes::RouteFault;
-use tp_inbox::entry::Entry;
-use tp_inbox::send_fault::SendFault;
+use tp_event::payload::Payload;
+use tp_history::entry::Entry;
+use tp_history::send_fault::SendFault;
 use tp_play::body::{Receiver, SendOperation};
-use tp_queue::payload::Payload;
 use tp_refusal::memory::Memory;
 use tp_value::message::Message;
 
@@ -42,7 +42,7 @@ fn fail(
     requires cause { IsFailure (role_of task.now) (values_of frame.now) sending.now
         worker.old.desk.log fault }
     ensures consistent { OnOk result (IsConsistent (role_of task.now) worker.new) }
-    ensures same { OnOk result (IsSame worker.old worker.new) }
+    ensures same { OnOk result (KeepsInboxes worker.old worker.new) }
     ensures sends { IfOk result (SendsAt task.now frame.now sending.now worker.old worker.new) }
 {
     let (_frame, _sending) = (frame, sending);
@@ -64,7 +64,7 @@ fn send_on<R: Wait, G: Gate>(
     requires consistent { IsConsistent (role_of execution.now.task.now) worker.old }
     requires known { Contains (routes_of worker.old.outbox) route }
     ensures consistent { OnOk result (IsConsistent (role_of execution.now.task.now) worker.new) }
-    ensures same { OnOk result (IsSame worker.old worker.new) }
+    ensures same { OnOk result (KeepsInboxes worker.old worker.new) }
     ensures log { OnOk result (worker.new.desk.log
         ≡ worker.old.desk.log ++ next_sent route message worker.old.desk.log ∷ []) }
     ensures trace { OnOk result (AddsEntry worker.old.desk
@@ -95,7 +95,7 @@ fn send_to<R: Wait, G: Gate>(
     requires named { IsNamed
         (role_of execution.now.task.now) (values_of frame.now) sending.now.to named }
     ensures consistent { OnOk result (IsConsistent (role_of execution.now.task.now) worker.new) }
-    ensures same { OnOk result (IsSame worker.old worker.new) }
+    ensures same { OnOk result (KeepsInboxes worker.old worker.new) }
     ensures sends { IfOk result
         (SendsAt execution.now.task.now frame.now sending.now worker.old worker.new) }
 {
@@ -130,9 +130,9 @@ fn send_on_each<R: Wait, G: Gate>(
     requires consistent { IsConsistent (role_of execution.now.task.now) worker.old }
     requires known { All (Contains (routes_of worker.old.outbox)) routes.now }
     ensures consistent { OnOk result (IsConsistent (role_of execution.now.task.now) worker.new) }
-    ensures same { OnOk result (IsSame worker.old worker.new) }
+    ensures same { OnOk result (KeepsInboxes worker.old worker.new) }
     ensures each { OnOk result ((port : ℕ) → IsStarted worker.old.desk.log port
-        → Grew (AllZip (IsSentOn port message.now) routes.now)
+        → TraceGrew (AllZip (IsSentOn port message.now) routes.now)
         worker.old.desk.log worker.new.desk.log) }
 {
     for route in routes {
@@ -158,7 +158,7 @@ fn send_to_all<R: Wait, G: Gate>(
     requires sent { IsSentAs (values_of frame.now) sending.now.sent message.now }
     requires all { sending.now.to ≡ receiver.All }
     ensures consistent { OnOk result (IsConsistent (role_of execution.now.task.now) worker.new) }
-    ensures same { OnOk result (IsSame worker.old worker.new) }
+    ensures same { OnOk result (KeepsInboxes worker.old worker.new) }
     ensures sends { IfOk result
         (SendsAt execution.now.task.now frame.now sending.now worker.old worker.new) }
 {
@@ -191,7 +191,7 @@ fn send_to_one<R: Wait, G: Gate>(
     requires names { CanName frame.now.variables.items
         (length execution.now.task.now.behaviour.references.now) sending.now.to }
     ensures consistent { OnOk result (IsConsistent (role_of execution.now.task.now) worker.new) }
-    ensures same { OnOk result (IsSame worker.old worker.new) }
+    ensures same { OnOk result (KeepsInboxes worker.old worker.new) }
     ensures sends { IfOk result
         (SendsAt execution.now.task.now frame.now sending.now worker.old worker.new) }
 {
@@ -218,7 +218,7 @@ fn send_started<R: Wait, G: Gate>(
     requires held { HoldsAsDeclared execution.now.task.now frame.now }
     requires can { CanSend (stage_at execution.now.task.now) (depth_of frame.now) sending.now }
     ensures consistent { OnOk result (IsConsistent (role_of execution.now.task.now) worker.new) }
-    ensures same { OnOk result (IsSame worker.old worker.new) }
+    ensures same { OnOk result (KeepsInboxes worker.old worker.new) }
     ensures sends { IfOk result
         (SendsAt execution.now.task.now frame.now sending.now worker.old worker.new) }
 {
@@ -248,7 +248,7 @@ pub(crate) fn send<R: Wait, G: Gate>(
     requires held { HoldsAsDeclared execution.now.task.now frame.now }
     requires can { CanSend (stage_at execution.now.task.now) (depth_of frame.now) sending.now }
     ensures consistent { OnOk result (IsConsistent (role_of execution.now.task.now) worker.new) }
-    ensures same { OnOk result (IsSame worker.old worker.new) }
+    ensures same { OnOk result (KeepsInboxes worker.old worker.new) }
     ensures sends { IfOk result
         (SendsAt execution.now.task.now frame.now sending.now worker.old worker.new) }
 {

@@ -5,7 +5,7 @@ ghost use Rattle.tp_play.specs.Sizes.{turns_between};
 ghost use Rattle.tp_behaviour.specs.Lasting.{AreLasting, AreLastingBranches, IsLasting};
 ghost use Rattle.tp_behaviour.specs.Outcomes.{Executed, HoldsAsDeclared, Stepped, WaitsWithin, depth_of, stage_at};
 ghost use Rattle.tp_behaviour.specs.Parts.{ExecutedAt, ExecutedIn, Turned};
-ghost use Rattle.tp_behaviour.specs.Workers.{IsConsistent, IsSame, role_of};
+ghost use Rattle.tp_behaviour.specs.Workers.{IsConsistent, KeepsInboxes, role_of};
 
 use crate::deciding::{Decision, decide};
 use crate::execution::Execution;
@@ -36,7 +36,7 @@ pub(crate) fn execute<R: Wait, G: Gate>(
         (stage_at execution.now.task.now) (depth_of frame.old) block.statements.now }
     requires lasting { AreLasting block.statements.now block.lasting.now }
     ensures consistent { OnOk result (IsConsistent (role_of execution.now.task.now) worker.new) }
-    ensures same { OnOk result (IsSame worker.old worker.new) }
+    ensures same { OnOk result (KeepsInboxes worker.old worker.new) }
     ensures held { OnOk result (HoldsAsDeclared execution.now.task.now frame.new) }
     ensures turns { OnOk result (frame.new.turns.items ≡ frame.old.turns.items) }
     ensures ended { IfOk result (λ o.
@@ -73,7 +73,7 @@ fn step<R: Wait, G: Gate>(
     requires can { CanPlay (stage_at execution.now.task.now) (depth_of frame.old) statement.now }
     requires lasting { IsLasting statement.now lasting.now }
     ensures consistent { OnOk result (IsConsistent (role_of execution.now.task.now) worker.new) }
-    ensures same { OnOk result (IsSame worker.old worker.new) }
+    ensures same { OnOk result (KeepsInboxes worker.old worker.new) }
     ensures held { OnOk result (HoldsAsDeclared execution.now.task.now frame.new) }
     ensures turns { OnOk result (frame.new.turns.items ≡ frame.old.turns.items) }
     ensures ended { IfOk result (λ o.
@@ -140,7 +140,7 @@ fn branch<R: Wait, G: Gate>(
         (stage_at execution.now.task.now) (depth_of frame.old) alt.branches.now }
     requires lasting { AreLastingBranches alt.branches.now alt.lasting.now }
     ensures consistent { OnOk result (IsConsistent (role_of execution.now.task.now) worker.new) }
-    ensures same { OnOk result (IsSame worker.old worker.new) }
+    ensures same { OnOk result (KeepsInboxes worker.old worker.new) }
     ensures held { OnOk result (HoldsAsDeclared execution.now.task.now frame.new) }
     ensures turns { OnOk result (frame.new.turns.items ≡ frame.old.turns.items) }
     ensures ended { IfOk result (λ o.
@@ -173,7 +173,7 @@ fn turns<R: Wait, G: Gate>(
         (stage_at execution.now.task.now) (depth_of frame.old + 1) block.statements.now }
     requires lasting { AreLasting block.statements.now block.lasting.now }
     ensures consistent { OnOk result (IsConsistent (role_of execution.now.task.now) worker.new) }
-    ensures same { OnOk result (IsSame worker.old worker.new) }
+    ensures same { OnOk result (KeepsInboxes worker.old worker.new) }
     ensures held { OnOk result (HoldsAsDeclared execution.now.task.now frame.new) }
     ensures turns { OnOk result (frame.new.turns.items ≡ frame.old.turns.items) }
     ensures ended { IfOk result (λ o.
@@ -211,7 +211,7 @@ fn turn<R: Wait, G: Gate>(
         (stage_at execution.now.task.now) (depth_of frame.old + 1) block.statements.now }
     requires lasting { AreLasting block.statements.now block.lasting.now }
     ensures consistent { OnOk result (IsConsistent (role_of execution.now.task.now) worker.new) }
-    ensures same { OnOk result (IsSame worker.old worker.new) }
+    ensures same { OnOk result (KeepsInboxes worker.old worker.new) }
     ensures held { OnOk result (HoldsAsDeclared execution.now.task.now frame.new) }
     ensures turns { OnOk result (frame.new.turns.items ≡ frame.old.turns.items) }
     ensures ended { IfOk result (λ o.

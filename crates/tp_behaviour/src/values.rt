@@ -10,9 +10,9 @@ use crate::task::Task;
 use crate::worker::Frame;
 use std::alloc::Global;
 use tp_config::port_type::CompId;
+use tp_event::payload::Payload;
 use tp_play::body::{Receiver, Sent};
 use tp_play::fill::fill_message;
-use tp_queue::payload::Payload;
 use tp_refusal::memory::Memory;
 use tp_value::message::Message;
 

@@ -1,7 +1,7 @@
 //! What carries out a behaviour.
 use crate::held::Held;
 use crate::outbox::Outbox;
-use tp_inbox::desk::Desk;
+use tp_history::desk::Desk;
 use tp_inbox::owner::Owner;
 
 /// What carries out a component's behaviour: its inbox, its ports and its history, and its

@@ -16,7 +16,7 @@ use Rattle.tp_body.specs.Scoping as d
 use Rattle.tp_body.specs.Scoping.{IsReference}
 use Rattle.tp_body.specs.BrokenOperations as b
 use Rattle.tp_body.specs.BrokenOperations.{FromBreaks, NamesNoComponent, NamesNoVariable, ReceiverBreaks}
-use Rattle.tp_tree.specs.declared.tree.Destination.TheVariants as destination
+use Rattle.tp_tree.specs.declared.tree.Receivers.TheVariants as destination
 use Rattle.tp_body.proofs.Fixed.{absent_contained, absent_place}
 use Rattle.tp_body.proofs.Telling.{told_rule}
 

@@ -18,14 +18,14 @@ use Rattle.tp_name.specs.Refused.{TellsAt}
 use Rattle.tp_body.specs.declared.scope.Variables.{Variables}
 use Rattle.tp_body.specs.Messages.{AreElements, AreFields}
 use Rattle.tp_body.specs.BrokenValues as b
-use Rattle.tp_body.specs.BrokenValues.{NameBreaks, ValueBreaks, ElementsBreak, FieldsBreak}
+use Rattle.tp_body.specs.BrokenValues.{ValueNameBreaks, ValueBreaks, ElementsBreak, FieldsBreak}
 use Rattle.tp_body.proofs.Telling.{told_rule}
 
 -- a name that is no loop variable
 pub no_turn_told : (variables : Variables) (turns : List (List ℕ)) (u : Ty) (name : List ℕ) (line : ℕ) (f : ModuleFault) → IsAbsent turns name
     → (Contains variables.names name × (f ≡ module_fault.Refused rule.WrongType line))
     ⊎ ((Contains variables.names name → ⊥) × (f ≡ module_fault.Refused rule.Unknown line))
-    → TellsAt line (NameBreaks variables turns u name) f
+    → TellsAt line (ValueNameBreaks variables turns u name) f
 no_turn_told variables turns u name line f absent (inl h) = told_rule _ _ _ f h.1 (b.variable absent h.0)
 no_turn_told variables turns u name line f absent (inr h) = told_rule _ _ _ f h.1 (b.unknown absent h.0)
 

@@ -7,12 +7,12 @@ use Rattle.tp_value.specs.declared.types.Field.{Field}
 use Rattle.tp_value.specs.declared.types.Types.{Types}
 use Rattle.tp_value.specs.declared.template.PatternPart.{PatternPart}
 use Rattle.tp_value.specs.declared.verdict.Verdict.{Verdict}
-use Rattle.tp_queue.specs.declared.operation.PortOperation.{PortOperation}
+use Rattle.tp_event.specs.declared.operation.PortOperation.{PortOperation}
 use Rattle.tp_tree.specs.declared.message.Value.{Value}
 use Rattle.tp_tree.specs.declared.message.ValueField.{ValueField}
 use Rattle.tp_tree.specs.declared.message.Template.{Template}
 use Rattle.tp_tree.specs.declared.message.TemplateField.{TemplateField}
-use Rattle.tp_tree.specs.declared.tree.Sent.{Sent as SentText}
+use Rattle.tp_tree.specs.declared.tree.SentExpression.{SentExpression}
 use Rattle.tp_tree.specs.declared.message.MessageTemplate.{MessageTemplate}
 use Rattle.tp_tree.specs.declared.tree.Variable.{Variable}
 use Rattle.tp_tree.specs.declared.tree.Statement.{Statement as StatementText}
@@ -185,7 +185,7 @@ module _ (types : Types) (turns : List (List ℕ)) where
         greatest_push needed_by_template rs y (length turns) (named_templates_closed h) (template_closed one)
 
 module _ (scope : Scope) (variables : Variables) where
-  sent_closed : (turns : List (List ℕ)) (sendable : List Ty) {x : SentText} {y : Sent} → IsSent scope variables turns sendable x y
+  sent_closed : (turns : List (List ℕ)) (sendable : List Ty) {x : SentExpression} {y : Sent} → IsSent scope variables turns sendable x y
       → needed_by_sent y ≤ length turns
   sent_closed turns sendable (b.written x m h l) = value_closed scope.types.now turns h.fits
   sent_closed turns sendable (b.counter n k h l) = omega (arith, needed_turn k, slice_get_within turns k (string_bytes n) h.there)

@@ -2,8 +2,8 @@
 use Rattle.std.proofs.Common.{◌≡◌, ℕ, zero, suc, ◌+◌, ◌*◌, ◌<◌, ◌≤◌, ◌⊎◌, inl, inr, ℤ, List, Some, None, sym, ap, ◌∙◌, arith}
 use Rattle.std.proofs.lemmas.Bool.{cases_lt}
 use Rattle.tp_value.specs.declared.verdict.Verdict.{Verdict}
-use Rattle.tp_queue.specs.declared.operation.PortOperation.{PortOperation}
-use Rattle.tp_play.specs.Sizes.{limit, capped, turns_between, statement_step, branch_step, size_of, size_in, size_of_all, size_in_all}
+use Rattle.tp_event.specs.declared.operation.PortOperation.{PortOperation}
+use Rattle.tp_play.specs.Sizes.{size_limit, capped, turns_between, statement_step, branch_step, size_of, size_in, size_of_all, size_in_all}
 use Rattle.tp_play.specs.declared.body.SendOperation.{SendOperation}
 use Rattle.tp_play.specs.declared.body.Receiving.{Receiving}
 use Rattle.tp_play.specs.declared.body.Statement.{Statement}
@@ -12,10 +12,10 @@ use Rattle.tp_play.specs.declared.body.Statement.TheOpen as o
 use Rattle.tp_play.specs.declared.body.Statement.TheFolds.{fold-roll-Statement, fold_out-Branch}
 use Rattle.tp_play.specs.declared.body.Branch.{Branch}
 
-pub cap_below : (n : ℕ) → n < limit → capped n ≡ n
+pub cap_below : (n : ℕ) → n < size_limit → capped n ≡ n
 cap_below n lt = grind (arith, lt)
 
-pub cap_above : (n : ℕ) → limit ≤ n → capped n ≡ limit
+pub cap_above : (n : ℕ) → size_limit ≤ n → capped n ≡ size_limit
 cap_above n le = grind (arith, le)
 
 pub cap_add : (a b : ℕ) → capped (capped a + capped b) ≡ capped (a + b)
@@ -72,29 +72,29 @@ zero_left n = omega arith
 zero_right : (n : ℕ) → n * 0 ≡ 0
 zero_right n = omega arith
 
-large_right : (p q : ℕ) → limit ≤ q → limit ≤ suc p * q
+large_right : (p q : ℕ) → size_limit ≤ q → size_limit ≤ suc p * q
 large_right p q h =
     let parts : suc p * q ≡ q + p * q = omega arith in
     omega (arith, parts, h)
 
-large_left : (p q : ℕ) → limit ≤ p → limit ≤ p * suc q
+large_left : (p q : ℕ) → size_limit ≤ p → size_limit ≤ p * suc q
 large_left p q h =
     let parts : p * suc q ≡ p + p * q = omega arith in
     omega (arith, parts, h)
 
-large : limit ≤ limit
+large : size_limit ≤ size_limit
 large = omega arith
 
 -- a product, where each factor is a number of which more than 100,000 is one number
 pub cap_product : (a b : ℕ) → capped (capped a * capped b) ≡ capped (a * b)
 cap_product zero b = ap capped (zero_left (capped b) ∙ sym (zero_left b))
 cap_product (suc a) zero = ap capped (zero_right (capped (suc a)) ∙ sym (zero_right (suc a)))
-cap_product (suc a) (suc b) = by (cases_lt (suc a) limit) (cases_lt (suc b) limit) where
-  by : (suc a < limit) ⊎ (limit ≤ suc a) → (suc b < limit) ⊎ (limit ≤ suc b) → capped (capped (suc a) * capped (suc b)) ≡ capped (suc a * suc b)
+cap_product (suc a) (suc b) = by (cases_lt (suc a) size_limit) (cases_lt (suc b) size_limit) where
+  by : (suc a < size_limit) ⊎ (size_limit ≤ suc a) → (suc b < size_limit) ⊎ (size_limit ≤ suc b) → capped (capped (suc a) * capped (suc b)) ≡ capped (suc a * suc b)
   by (inl x) (inl y) = ap (λ z. capped (z * capped (suc b))) (cap_below (suc a) x) ∙ ap (λ z. capped (suc a * z)) (cap_below (suc b) y)
   by (inl x) (inr y) = ap (λ z. capped (z * capped (suc b))) (cap_below (suc a) x) ∙ ap (λ z. capped (suc a * z)) (cap_above (suc b) y)
-      ∙ cap_above (suc a * limit) (large_right a limit large) ∙ sym (cap_above (suc a * suc b) (large_right a (suc b) y))
-  by (inr x) (inl y) = ap (λ z. capped (z * capped (suc b))) (cap_above (suc a) x) ∙ ap (λ z. capped (limit * z)) (cap_below (suc b) y)
-      ∙ cap_above (limit * suc b) (large_left limit b large) ∙ sym (cap_above (suc a * suc b) (large_left (suc a) b x))
-  by (inr x) (inr y) = ap (λ z. capped (z * capped (suc b))) (cap_above (suc a) x) ∙ ap (λ z. capped (limit * z)) (cap_above (suc b) y)
-      ∙ cap_above (limit * limit) (omega arith) ∙ sym (cap_above (suc a * suc b) (large_left (suc a) b x))
+      ∙ cap_above (suc a * size_limit) (large_right a size_limit large) ∙ sym (cap_above (suc a * suc b) (large_right a (suc b) y))
+  by (inr x) (inl y) = ap (λ z. capped (z * capped (suc b))) (cap_above (suc a) x) ∙ ap (λ z. capped (size_limit * z)) (cap_below (suc b) y)
+      ∙ cap_above (size_limit * suc b) (large_left size_limit b large) ∙ sym (cap_above (suc a * suc b) (large_left (suc a) b x))
+  by (inr x) (inr y) = ap (λ z. capped (z * capped (suc b))) (cap_above (suc a) x) ∙ ap (λ z. capped (size_limit * z)) (cap_above (suc b) y)
+      ∙ cap_above (size_limit * size_limit) (omega arith) ∙ sym (cap_above (suc a * suc b) (large_left (suc a) b x))

@@ -8,7 +8,7 @@ use Rattle.tp_play.specs.declared.body.VariableType.{VariableType}
 use Rattle.tp_body.specs.declared.scope.Scope.{Scope}
 use Rattle.tp_body.specs.declared.scope.Variables.{Variables}
 use Rattle.tp_body.specs.Scoping.{AreTyped, IsNew}
-use Rattle.tp_body.specs.Bodies.{AreVariables, no_variable, one_variable_more, IsHeld}
+use Rattle.tp_body.specs.Bodies.{AreVariables, no_variable, one_variable_more, IsVariableType}
 use Rattle.tp_body.proofs.Fixed.{held_fixed}
 use Rattle.tp_body.proofs.Placed.{push_cases}
 
@@ -47,7 +47,7 @@ module _ (scope : Scope) where
       let p = push_same xs ys x y e in
       let same : ts ≡ us = variables_as earlier before p.0 in
       let one : x ≡ y = p.1 in
-      let held : g ≡ h = held_fixed scope y.type_name g h (subst (λ (z : Variable). IsHeld scope z.type_name g) one is_kind) is_held in
+      let held : g ≡ h = held_fixed scope y.type_name g h (subst (λ (z : Variable). IsVariableType scope z.type_name g) one is_kind) is_held in
       same_variables vs ws (cc) (cc)
 
   pub variables_fixed : (xs : List Variable) (vs ws : Variables) → AreVariables scope xs vs → AreVariables scope xs ws → vs ≡ ws
@@ -57,7 +57,7 @@ module _ (scope : Scope) where
   pub record Next (xs : List Variable) (vs : Variables) (x : Variable) : Type 0 where
     pub few : length vs.names < 4294967295
     pub held : VariableType
-    pub is_held : IsHeld scope x.type_name held
+    pub is_held : IsVariableType scope x.type_name held
     pub new : IsNew scope vs [] (string_bytes x.name)
 
   pub has_next : {xs : List Variable} {ws : Variables} → AreVariables scope xs ws → (i : ℕ) (x : Variable) → slice_get xs i ≡ Some x

@@ -19,7 +19,7 @@ use Rattle.tp_body.specs.declared.scope.Scope.{Scope}
 use Rattle.tp_body.specs.declared.scope.Variables.{Variables}
 use Rattle.tp_name.specs.Named.{IsPlace, IsAbsent}
 use Rattle.tp_body.specs.Bodies as b
-use Rattle.tp_body.specs.Bodies.{IsHeld}
+use Rattle.tp_body.specs.Bodies.{IsVariableType}
 use Rattle.tp_body.specs.Scoping as d
 use Rattle.tp_body.specs.Scoping.{IsPortNamed, IsReference, IsType, IsVariable, declared_port_types}
 
@@ -78,12 +78,12 @@ holds : Option Ty → VariableType
 holds (Some u) = kind.Message u
 holds None = kind.Component
 
-held_as : {scope : Scope} {x : TypeName} {h : VariableType} → IsHeld scope x h → h ≡ holds (stands scope.types.now x)
+held_as : {scope : Scope} {x : TypeName} {h : VariableType} → IsVariableType scope x h → h ≡ holds (stands scope.types.now x)
 unfolding holds stands
 held_as {scope} (b.message x u h) = ap holds (sym (type_stands scope.types.now h))
 held_as (b.component n k none p) = ap (λ o. holds (option_map ty.Named o)) (sym none)
 
-pub held_fixed : (scope : Scope) (x : TypeName) (h g : VariableType) → IsHeld scope x h → IsHeld scope x g → h ≡ g
+pub held_fixed : (scope : Scope) (x : TypeName) (h g : VariableType) → IsVariableType scope x h → IsVariableType scope x g → h ≡ g
 held_fixed scope x h g a c = held_as a ∙ sym (held_as c)
 
 -- a name in two lists

@@ -8,8 +8,8 @@ use Rattle.tp_tree.specs.declared.message.Message.{Message}
 use Rattle.tp_tree.specs.declared.message.MessageTemplate.{MessageTemplate}
 use Rattle.tp_tree.specs.declared.tree.ComponentName.{ComponentName}
 use Rattle.tp_tree.specs.declared.tree.ComponentName.TheVariants as c
-use Rattle.tp_tree.specs.declared.tree.Sent.{Sent as SentText}
-use Rattle.tp_tree.specs.declared.tree.Destination.{Destination}
+use Rattle.tp_tree.specs.declared.tree.SentExpression.{SentExpression}
+use Rattle.tp_tree.specs.declared.tree.Receivers.{Receivers}
 use Rattle.tp_tree.specs.declared.tree.Send.{Send}
 use Rattle.tp_tree.specs.declared.tree.Receive.{Receive}
 use Rattle.tp_play.specs.declared.body.SendMsg.{SendMsg}
@@ -23,7 +23,7 @@ use Rattle.tp_name.specs.declared.fault.ModuleRule.{ModuleRule}
 use Rattle.tp_name.specs.Named.{IsAbsent}
 use Rattle.tp_body.specs.declared.scope.Scope.{Scope}
 use Rattle.tp_body.specs.declared.scope.Variables.{Variables}
-use Rattle.tp_body.specs.Scoping.{IsPortNamed, IsSoundScope, IsVariable, declared_port_names, receives, sends}
+use Rattle.tp_body.specs.Scoping.{IsPortNamed, IsSoundScope, IsVariable, declared_port_names, receivable_types, sendable_types}
 use Rattle.tp_body.specs.Messages.{IsMessage, IsTemplate, IsValue}
 use Rattle.tp_body.specs.Bodies.{IsReceive, IsSend, IsSent, IsWanted}
 use Rattle.tp_body.specs.BrokenOperations as b
@@ -53,9 +53,9 @@ module _ (scope : Scope) (variables : Variables) (turns : List (List ℕ)) where
 
   -- what is wanted at the port of this name
   wants : (x : Receive) (y : Receiving) (k : ℕ) (port : PortType) → IsPortNamed scope.ports.now (string_bytes x.port) k port
-      → IsReceive scope variables turns x y → IsWanted scope turns (receives scope.behaviour port) x.template y.wanted
+      → IsReceive scope variables turns x y → IsWanted scope turns (receivable_types scope.behaviour port) x.template y.wanted
   wants x y k port known h =
-      subst (λ p. IsWanted scope turns (receives scope.behaviour p) x.template y.wanted)
+      subst (λ p. IsWanted scope turns (receivable_types scope.behaviour p) x.template y.wanted)
       (port_fixed scope.ports.now (string_bytes x.port) y.port k h.port port h.port_known known) h.wants
 
   module _ (sound : IsSoundScope scope) where
@@ -68,7 +68,7 @@ module _ (scope : Scope) (variables : Variables) (turns : List (List ℕ)) where
         value_excludes scope.types.now variables turns sound.own_names broken h.0.value
         (subst (λ v. IsValue scope.types.now turns v x.value h.0.value) (type_fixed scope.types.now x.type_name h.0.ty u h.1.type_known is) h.1.fits)
 
-    sent_excludes : {sendable : List Ty} {x : SentText} {r : ModuleRule} → SentBreaks scope variables turns sendable x r
+    sent_excludes : {sendable : List Ty} {x : SentExpression} {r : ModuleRule} → SentBreaks scope variables turns sendable x r
         → SentMeans scope variables turns sendable x → ⊥
     sent_excludes (b.written x r broken) h = message_excludes broken h
     sent_excludes (b.counter n k p unlisted) (inl h) = unlisted h.2
@@ -79,7 +79,7 @@ module _ (scope : Scope) (variables : Variables) (turns : List (List ℕ)) where
     sent_excludes {sendable} (b.held n k u absent v unlisted) (inr h) =
         unlisted (subst (Contains sendable) (message_fixed variables (string_bytes n) h.0 k h.1 u h.3 v) h.4)
 
-    receiver_excludes : {x : Option Destination} {r : ModuleRule} → ReceiverBreaks scope variables turns x r → ReceiverMeans scope variables turns x → ⊥
+    receiver_excludes : {x : Option Receivers} {r : ModuleRule} → ReceiverBreaks scope variables turns x r → ReceiverMeans scope variables turns x → ⊥
     receiver_excludes (b.to_message n k u absent v) (inl h) =
         let p = reference_named scope variables turns (c.Named n) n h.0 refl h.1 in absent_place variables.names (string_bytes n) k p.1 v.named
     receiver_excludes (b.to_message n k u absent v) (inr h) =
@@ -95,8 +95,8 @@ module _ (scope : Scope) (variables : Variables) (turns : List (List ℕ)) where
     send_excludes {x} (b.no_port none) y h = absent_place (declared_port_names scope.ports.now) (string_bytes x.port) y.port none h.port_known.named
     send_excludes {x} (b.sent k port r known broken) y h =
         let same = port_fixed scope.ports.now (string_bytes x.port) y.port k h.port port h.port_known known in
-        sent_excludes broken (sent_means scope variables turns (sends scope.behaviour port)
-        (subst (λ p. IsSent scope variables turns (sends scope.behaviour p) x.sent y.sent) same h.sent))
+        sent_excludes broken (sent_means scope variables turns (sendable_types scope.behaviour port)
+        (subst (λ p. IsSent scope variables turns (sendable_types scope.behaviour p) x.sent y.sent) same h.sent))
     send_excludes (b.receiver k port z r known stands broken) y h = receiver_excludes broken (receiver_means scope variables turns h.receiver)
 
     wanted_excludes : {receivable : List Ty} {x : Option MessageTemplate} {r : ModuleRule} → WantedBreaks scope variables turns receivable x r
@@ -128,11 +128,11 @@ module _ (scope : Scope) (variables : Variables) (turns : List (List ℕ)) where
         → ⊥
     receive_excludes {x} (b.at_no_port none) y h = absent_place (declared_port_names scope.ports.now) (string_bytes x.port) y.port none h.port_known.named
     receive_excludes {x} (b.wanted k port r known broken) y h =
-        wanted_excludes broken (wanted_means scope variables turns (receives scope.behaviour port) (wants x y k port known h))
+        wanted_excludes broken (wanted_means scope variables turns (receivable_types scope.behaviour port) (wants x y k port known h))
     receive_excludes (b.from k port m r known stands broken) y h = from_excludes broken (from_means scope variables turns h.from_known)
     receive_excludes {x} (b.value_target k port m s r known stands from broken) y h =
         value_target_excludes broken (value_means scope variables turns
-        (target_moves scope variables turns (receives scope.behaviour port) x.template y.wanted m x.redirect.value y.value_to (wants x y k port known h) stands
+        (target_moves scope variables turns (receivable_types scope.behaviour port) x.template y.wanted m x.redirect.value y.value_to (wants x y k port known h) stands
         h.value_known))
     receive_excludes (b.sender_target k port m s v r known stands from moved broken) y h =
         sender_target_excludes broken (sender_means scope variables turns h.sender_known)

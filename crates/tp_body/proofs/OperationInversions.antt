@@ -8,10 +8,10 @@ use Rattle.tp_value.specs.declared.verdict.Verdict.{Verdict}
 use Rattle.tp_tree.specs.declared.tree.ComponentName.{ComponentName}
 use Rattle.tp_tree.specs.declared.tree.ComponentName.TheVariants as c
 use Rattle.tp_tree.specs.declared.message.MessageTemplate.{MessageTemplate}
-use Rattle.tp_tree.specs.declared.tree.Sent.{Sent as SentText}
-use Rattle.tp_tree.specs.declared.tree.Sent.TheVariants as sent
-use Rattle.tp_tree.specs.declared.tree.Destination.{Destination}
-use Rattle.tp_tree.specs.declared.tree.Destination.TheVariants as d
+use Rattle.tp_tree.specs.declared.tree.SentExpression.{SentExpression}
+use Rattle.tp_tree.specs.declared.tree.SentExpression.TheVariants as sent
+use Rattle.tp_tree.specs.declared.tree.Receivers.{Receivers}
+use Rattle.tp_tree.specs.declared.tree.Receivers.TheVariants as d
 use Rattle.tp_tree.specs.declared.tree.VerdictName.{VerdictName}
 use Rattle.tp_tree.specs.declared.tree.VerdictName.TheVariants as named_verdict
 use Rattle.tp_play.specs.declared.body.SendMsg.{SendMsg}
@@ -40,24 +40,24 @@ module _ (scope : Scope) (variables : Variables) (turns : List (List ℕ)) where
   HasComponent name = (k : ℕ) × IsAbsent turns name × IsVariable variables name k kind.Component
 
   module _ (sendable : List Ty) where
-    abbrev pub SentMeans : SentText → Type 0
+    abbrev pub SentMeans : SentExpression → Type 0
     SentMeans (sent.Message x) = (m : SendMsg) × IsMessage scope.types.now turns x m × Contains sendable m.ty
     SentMeans (sent.Variable n) =
         ((k : ℕ) × IsPlace turns (string_bytes n) k × Contains sendable ty.Integer)
         ⊎ ((k : ℕ) × (u : Ty) × IsAbsent turns (string_bytes n) × IsVariable variables (string_bytes n) k (kind.Message u) × Contains sendable u)
 
-    pub sent_means : {x : SentText} {y : Sent} → IsSent scope variables turns sendable x y → SentMeans x
+    pub sent_means : {x : SentExpression} {y : Sent} → IsSent scope variables turns sendable x y → SentMeans x
     sent_means (b.written x m h l) = (m, h, l)
     sent_means (b.counter n k p l) = inl (k, p, l)
     sent_means (b.held n k u a v l) = inr (k, u, a, v, l)
 
-  abbrev pub ReceiverMeans : Option Destination → Type 0
+  abbrev pub ReceiverMeans : Option Receivers → Type 0
   ReceiverMeans None = Unit {0}
   ReceiverMeans (Some d.AllComponents) = Unit {0}
   ReceiverMeans (Some (d.Component x)) =
       ((k : ℕ) × IsReference scope variables turns x k) ⊎ ((n : String Global) × (x ≡ c.Named n) × HasComponent (string_bytes n))
 
-  pub receiver_means : {x : Option Destination} {y : Receiver} → IsReceiver scope variables turns x y → ReceiverMeans x
+  pub receiver_means : {x : Option Receivers} {y : Receiver} → IsReceiver scope variables turns x y → ReceiverMeans x
   receiver_means b.nobody = tt
   receiver_means b.all = tt
   receiver_means (b.reference x k h) = inl (k, h)

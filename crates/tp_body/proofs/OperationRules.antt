@@ -9,10 +9,10 @@ use Rattle.tp_tree.specs.declared.tree.ComponentName.{ComponentName}
 use Rattle.tp_tree.specs.declared.tree.ComponentName.TheVariants as c
 use Rattle.tp_tree.specs.declared.message.Message.{Message}
 use Rattle.tp_tree.specs.declared.message.MessageTemplate.{MessageTemplate}
-use Rattle.tp_tree.specs.declared.tree.Sent.{Sent}
-use Rattle.tp_tree.specs.declared.tree.Sent.TheVariants as sent
-use Rattle.tp_tree.specs.declared.tree.Destination.{Destination}
-use Rattle.tp_tree.specs.declared.tree.Destination.TheVariants as d
+use Rattle.tp_tree.specs.declared.tree.SentExpression.{SentExpression}
+use Rattle.tp_tree.specs.declared.tree.SentExpression.TheVariants as sent
+use Rattle.tp_tree.specs.declared.tree.Receivers.{Receivers}
+use Rattle.tp_tree.specs.declared.tree.Receivers.TheVariants as d
 use Rattle.tp_tree.specs.declared.tree.VerdictName.{VerdictName}
 use Rattle.tp_tree.specs.declared.tree.VerdictName.TheVariants as named_verdict
 use Rattle.tp_play.specs.declared.body.SendMsg.{SendMsg}
@@ -32,23 +32,23 @@ use Rattle.tp_body.specs.Bodies as b
 use Rattle.tp_body.specs.Bodies.{IsSent, IsReceiver, IsWanted, IsFrom, IsValueTarget, IsSenderTarget, IsVerdict}
 
 module _ (scope : Scope) (variables : Variables) (turns : List (List ℕ)) where
-  pub sent_written : (types : List Ty) (x : Sent) (t : Message) (m : SendMsg) → x ≡ sent.Message t → IsMessage scope.types.now turns t m → Contains types m.ty
+  pub sent_written : (types : List Ty) (x : SentExpression) (t : Message) (m : SendMsg) → x ≡ sent.Message t → IsMessage scope.types.now turns t m → Contains types m.ty
       → IsSent scope variables turns types x (s.Written m)
   sent_written types x t m e h l = rw e (b.written t m h l)
 
-  pub sent_counter : (types : List Ty) (x : Sent) (n : String Global) (k : ℕ) (m : SendMsg) → x ≡ sent.Variable n
+  pub sent_counter : (types : List Ty) (x : SentExpression) (n : String Global) (k : ℕ) (m : SendMsg) → x ≡ sent.Variable n
       → m ≡ record { ty = ty.Integer; value = w.Turn k }
       → IsPlace turns (string_bytes n) k → Contains types ty.Integer → IsSent scope variables turns types x (s.Written m)
   sent_counter types x n k m e f p l = rw (e, f) (b.counter n k p l)
 
-  pub sent_held : (types : List Ty) (x : Sent) (n : String Global) (k : ℕ) (u : Ty) → x ≡ sent.Variable n → IsAbsent turns (string_bytes n)
+  pub sent_held : (types : List Ty) (x : SentExpression) (n : String Global) (k : ℕ) (u : Ty) → x ≡ sent.Variable n → IsAbsent turns (string_bytes n)
       → IsVariable variables (string_bytes n) k (kind.Message u) → Contains types u → IsSent scope variables turns types x (s.Variable k)
   sent_held types x n k u e a v l = rw e (b.held n k u a v l)
 
-  pub receiver_nobody : (x : Option Destination) → x ≡ None → IsReceiver scope variables turns x to.Nobody
+  pub receiver_nobody : (x : Option Receivers) → x ≡ None → IsReceiver scope variables turns x to.Nobody
   receiver_nobody x e = rw e b.nobody
 
-  pub receiver_all : (x : Option Destination) → x ≡ Some d.AllComponents → IsReceiver scope variables turns x to.All
+  pub receiver_all : (x : Option Receivers) → x ≡ Some d.AllComponents → IsReceiver scope variables turns x to.All
   receiver_all x e = rw e b.all
 
   pub receiver_reference : (x : ComponentName) (k : ℕ) → IsReference scope variables turns x k

@@ -8,10 +8,10 @@ use Rattle.tp_value.specs.declared.types.Ty.{Ty}
 use Rattle.tp_value.proofs.Typed.{has_int}
 use Rattle.tp_config.specs.declared.port_type.PortType.{PortType}
 use Rattle.tp_tree.specs.declared.tree.ComponentName.{ComponentName}
-use Rattle.tp_tree.specs.declared.tree.Sent.{Sent as SentText}
+use Rattle.tp_tree.specs.declared.tree.SentExpression.{SentExpression}
 use Rattle.tp_tree.specs.declared.tree.Send.{Send}
 use Rattle.tp_tree.specs.declared.tree.Receive.{Receive}
-use Rattle.tp_tree.specs.declared.tree.Destination.{Destination}
+use Rattle.tp_tree.specs.declared.tree.Receivers.{Receivers}
 use Rattle.tp_tree.specs.declared.message.MessageTemplate.{MessageTemplate}
 use Rattle.tp_tree.specs.declared.tree.Variable.{Variable}
 use Rattle.tp_tree.specs.declared.tree.Statement.{Statement as StatementText}
@@ -65,7 +65,7 @@ module _ (scope : Scope) (variables : Variables) where
           length-append scope.parameters.now scope.components.now,
         )
 
-    sent_played : (sendable : List Ty) (x : SentText) (y : Sent) → IsSent scope variables turns sendable x y → CanSay stage (length turns) y
+    sent_played : (sendable : List Ty) (x : SentExpression) (y : Sent) → IsSent scope variables turns sendable x y → CanSay stage (length turns) y
     sent_played sendable x y (b.written t m h l) = record {
       around = value_closed scope.types.now turns h.fits;
       typed = λ zs fit. typed scope.types.now turns zs (fits_64_bits zs fit) m.ty t.value m.value h.fits;
@@ -76,7 +76,7 @@ module _ (scope : Scope) (variables : Variables) where
     }
     sent_played sendable x y (b.held name k u absent h l) = (u, h.typed)
 
-    receiver_played : (x : Option Destination) (y : Receiver) → IsReceiver scope variables turns x y → CanAddress stage y
+    receiver_played : (x : Option Receivers) (y : Receiver) → IsReceiver scope variables turns x y → CanAddress stage y
     receiver_played x y b.nobody = tt
     receiver_played x y (b.reference c k h) = reference_there c k h
     receiver_played x y (b.variable name k absent h) = h.typed

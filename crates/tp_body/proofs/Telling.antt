@@ -5,7 +5,7 @@ use Rattle.std.proofs.lemmas.Result.{err_from_is_err_and}
 use Rattle.tp_name.specs.declared.fault.ModuleRule.{ModuleRule}
 use Rattle.tp_name.specs.declared.fault.ModuleFault.{ModuleFault}
 use Rattle.tp_name.specs.declared.fault.ModuleFault.TheVariants as module_fault
-use Rattle.tp_name.specs.Refused.{Breaks, Tells, TellsAt}
+use Rattle.tp_name.specs.Refused.{IsRefusedBy, Tells, TellsAt}
 
 module _ (line : ℕ) (P Q : ModuleRule → Type 0) where
   pub told_at : (f : ModuleFault) → ((r : ModuleRule) → P r → Q r) → TellsAt line P f → TellsAt line Q f
@@ -64,6 +64,6 @@ module _ (line : ℕ) (rule : ModuleRule) (Q : ModuleRule → ℕ → Type 0) wh
       rw (p.1, p.2) (told_here f refused broken)
 
 -- where what is told shows that the rule isn't obeyed
-pub broken_from : (P : ModuleRule → ℕ → Type 0) (R : Type 0) (f : ModuleFault) → ((r : ModuleRule) (at : ℕ) → P r at → R → ⊥) → Tells P f → Breaks R f
+pub broken_from : (P : ModuleRule → ℕ → Type 0) (R : Type 0) (f : ModuleFault) → ((r : ModuleRule) (at : ℕ) → P r at → R → ⊥) → Tells P f → IsRefusedBy R f
 broken_from P R (module_fault.Refused r at) excludes told = inr (excludes r at told)
 broken_from P R (module_fault.Memory m) excludes told = inl refl

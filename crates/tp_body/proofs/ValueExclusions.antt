@@ -19,7 +19,7 @@ use Rattle.tp_body.specs.declared.scope.Variables.{Variables}
 use Rattle.tp_body.specs.Placing.{field_names}
 use Rattle.tp_body.specs.Messages.{IsValue, AreElements, AreFields, AreNamed}
 use Rattle.tp_body.specs.BrokenValues as b
-use Rattle.tp_body.specs.BrokenValues.{TextBreaks, NameBreaks, ValueBreaks, ElementsBreak, FieldsBreak, EntriesBreak}
+use Rattle.tp_body.specs.BrokenValues.{TextBreaks, ValueNameBreaks, ValueBreaks, ElementsBreak, FieldsBreak, EntriesBreak}
 use Rattle.tp_body.proofs.Fixed.{absent_place}
 use Rattle.tp_body.proofs.Entered.{entry_stands}
 use Rattle.tp_body.proofs.ValueInversions.{out_int, out_bool, out_text, out_name, out_list, out_record, IsBraced, IsEntries, IsOpened, opened, elements_each, fields_count, fields_each, named_each, names_part}
@@ -28,7 +28,7 @@ pub text_excludes : {u : Ty} {cs : List ℕ} {r : ModuleRule} → TextBreaks u c
 text_excludes (b.no_charstring other) h = other h.0
 text_excludes (b.unprintable is bad) h = bad h.1
 
-pub name_excludes : {variables : Variables} {turns : List (List ℕ)} {u : Ty} {n : List ℕ} {r : ModuleRule} → NameBreaks variables turns u n r
+pub name_excludes : {variables : Variables} {turns : List (List ℕ)} {u : Ty} {n : List ℕ} {r : ModuleRule} → ValueNameBreaks variables turns u n r
     → (k : ℕ) × (u ≡ ty.Integer) × IsPlace turns n k → ⊥
 name_excludes (b.no_integer k p other) h = other h.1
 name_excludes {turns} {n} (b.variable absent there) h = absent_place turns n h.0 absent h.2

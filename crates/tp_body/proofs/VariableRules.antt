@@ -11,14 +11,14 @@ use Rattle.tp_name.specs.Named.{IsPlace}
 use Rattle.tp_body.specs.Scoping.{IsType}
 use Rattle.tp_body.specs.Bodies as b
 use Rattle.tp_body.proofs.Fixed.{no_number}
-use Rattle.tp_body.specs.Bodies.{IsHeld}
+use Rattle.tp_body.specs.Bodies.{IsVariableType}
 
 module _ (scope : Scope) where
-  pub held_message : (x : TypeName) (u : Ty) → IsType scope.types.now x u → IsHeld scope x (kind.Message u)
+  pub held_message : (x : TypeName) (u : Ty) → IsType scope.types.now x u → IsVariableType scope x (kind.Message u)
   held_message x u h = b.message x u h
 
   pub held_component : (x : TypeName) (n : String Global) (k : ℕ) → x ≡ t.Named n → ((u : Ty) → IsType scope.types.now x u → ⊥)
-      → IsPlace scope.component_types.now (string_bytes n) k → IsHeld scope x kind.Component
+      → IsPlace scope.component_types.now (string_bytes n) k → IsVariableType scope x kind.Component
   held_component x n k e none p = rw e (b.component n k (no_number scope.types.now n (subst (λ y. (u : Ty) → IsType scope.types.now y u → ⊥) e none)) p)
 
 pub ruleset cases = (held_message, held_component)

@@ -16,13 +16,13 @@ use Rattle.tp_tree.specs.declared.tree.ComponentName.{ComponentName}
 use Rattle.tp_tree.specs.declared.tree.ComponentName.TheVariants as component_name
 use Rattle.tp_tree.specs.declared.message.Message.{Message}
 use Rattle.tp_tree.specs.declared.message.MessageTemplate.{MessageTemplate}
-use Rattle.tp_tree.specs.declared.tree.Sent.{Sent as SentText}
-use Rattle.tp_tree.specs.declared.tree.Sent.TheVariants as sent
-use Rattle.tp_tree.specs.declared.tree.Destination.{Destination}
-use Rattle.tp_tree.specs.declared.tree.Destination.TheVariants as destination
+use Rattle.tp_tree.specs.declared.tree.SentExpression.{SentExpression}
+use Rattle.tp_tree.specs.declared.tree.SentExpression.TheVariants as sent
+use Rattle.tp_tree.specs.declared.tree.Receivers.{Receivers}
+use Rattle.tp_tree.specs.declared.tree.Receivers.TheVariants as destination
 use Rattle.tp_tree.specs.declared.tree.Send.{Send}
 use Rattle.tp_tree.specs.declared.tree.Receive.{Receive}
-use Rattle.tp_queue.specs.declared.operation.PortOperation.{PortOperation}
+use Rattle.tp_event.specs.declared.operation.PortOperation.{PortOperation}
 use Rattle.tp_tree.specs.declared.tree.Control.{Control}
 use Rattle.tp_tree.specs.declared.tree.VerdictName.{VerdictName}
 use Rattle.tp_tree.specs.declared.tree.VerdictName.TheVariants as verdict_name
@@ -56,12 +56,12 @@ use Rattle.tp_body.specs.declared.scope.BehaviourKind.TheVariants as behaviour_k
 use Rattle.tp_body.specs.declared.scope.Scope.{Scope}
 use Rattle.tp_body.specs.declared.scope.Variables.{Variables}
 use Rattle.tp_name.specs.Named.{IsPlace, IsAbsent}
-use Rattle.tp_body.specs.Scoping.{IsPortNamed, sends, receives, IsType, IsVariable, IsReference, IsNew, declared_port_names}
+use Rattle.tp_body.specs.Scoping.{IsPortNamed, sendable_types, receivable_types, IsType, IsVariable, IsReference, IsNew, declared_port_names}
 use Rattle.tp_body.specs.Messages.{IsMessage, IsTemplate}
 
 -- what is sent, where this is the list of the types that can be sent there
 pub data IsSent (scope : Scope) (variables : Variables) (turns : List (List ℕ)) (sendable : List Ty)
-    : SentText → Sent → Type 0 where
+    : SentExpression → Sent → Type 0 where
   written : (x : Message) (m : SendMsg) → IsMessage scope.types.now turns x m → Contains sendable m.ty
       → IsSent scope variables turns sendable (sent.Message x) (s.Written m)
   -- what a loop variable holds, as an integer
@@ -75,7 +75,7 @@ pub data IsSent (scope : Scope) (variables : Variables) (turns : List (List ℕ)
 
 -- to whom is sent
 pub data IsReceiver (scope : Scope) (variables : Variables) (turns : List (List ℕ))
-    : Option Destination → Receiver → Type 0 where
+    : Option Receivers → Receiver → Type 0 where
   nobody : IsReceiver scope variables turns None to.Nobody
   reference : (x : ComponentName) (k : ℕ) → IsReference scope variables turns x k
       → IsReceiver scope variables turns (Some (destination.Component x)) (to.Reference k)
@@ -89,7 +89,7 @@ pub record IsSend (scope : Scope) (variables : Variables) (turns : List (List �
     : Type 0 where
   pub port : PortType
   pub port_known : IsPortNamed scope.ports.now (string_bytes x.port) y.port port
-  pub sent : IsSent scope variables turns (sends scope.behaviour port) x.sent y.sent
+  pub sent : IsSent scope variables turns (sendable_types scope.behaviour port) x.sent y.sent
   pub receiver : IsReceiver scope variables turns x.to y.to
 
 -- what is wanted, where this is the list of the types that can be received there
@@ -129,7 +129,7 @@ pub record IsReceive (scope : Scope) (variables : Variables) (turns : List (List
   pub port : PortType
   pub port_known : IsPortNamed scope.ports.now (string_bytes x.port) y.port port
   pub same_kind : y.kind ≡ x.kind
-  pub wants : IsWanted scope turns (receives scope.behaviour port) x.template y.wanted
+  pub wants : IsWanted scope turns (receivable_types scope.behaviour port) x.template y.wanted
   pub from_known : IsFrom scope variables turns x.sender y.sender
   pub value_known : IsValueTarget variables turns y.wanted x.redirect.value y.value_to
   pub sender_known : IsSenderTarget variables turns x.redirect.sender y.sender_to
@@ -201,17 +201,17 @@ mutual
         → AreBranches scope variables turns (xs ++ x ∷ []) (ys ++ y ∷ [])
 
 -- the type of a variable: a type of messages, or a component type where no type of messages has the name
-pub data IsHeld (scope : Scope) : TypeName → VariableType → Type 0 where
-  message : (x : TypeName) (u : Ty) → IsType scope.types.now x u → IsHeld scope x (variable_type.Message u)
+pub data IsVariableType (scope : Scope) : TypeName → VariableType → Type 0 where
+  message : (x : TypeName) (u : Ty) → IsType scope.types.now x u → IsVariableType scope x (variable_type.Message u)
   component : (n : String Global) (k : ℕ) → type_number scope.types.now (string_bytes n) ≡ None
       → IsPlace scope.component_types.now (string_bytes n) k
-      → IsHeld scope (type_name.Named n) variable_type.Component
+      → IsVariableType scope (type_name.Named n) variable_type.Component
 
 -- the variables of a body, each with a new name: 4,294,967,295 at most
 pub data AreVariables (scope : Scope) : List Variable → Variables → Type 0 where
   no_variable : (vs : Variables) → vs.names ≡ [] → vs.types ≡ [] → AreVariables scope [] vs
   one_variable_more : (xs : List Variable) (vs ws : Variables) (x : Variable) (held : VariableType)
-      → AreVariables scope xs vs → length vs.names < 4294967295 → IsHeld scope x.type_name held
+      → AreVariables scope xs vs → length vs.names < 4294967295 → IsVariableType scope x.type_name held
       → IsNew scope vs [] (string_bytes x.name)
       → ws.names ≡ vs.names ++ string_bytes x.name ∷ [] → ws.types ≡ vs.types ++ held ∷ []
       → AreVariables scope (xs ++ x ∷ []) ws

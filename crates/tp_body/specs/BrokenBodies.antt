@@ -5,7 +5,7 @@ use Rattle.std.specs.declared.vec.Vec.{Vec}
 use Rattle.std.specs.declared.alloc.Global.{Global}
 use Rattle.tp_tree.specs.declared.tree.Send.{Send}
 use Rattle.tp_tree.specs.declared.tree.Receive.{Receive}
-use Rattle.tp_queue.specs.declared.operation.PortOperation.{PortOperation}
+use Rattle.tp_event.specs.declared.operation.PortOperation.{PortOperation}
 use Rattle.tp_tree.specs.declared.tree.Control.{Control}
 use Rattle.tp_tree.specs.declared.tree.VerdictName.{VerdictName}
 use Rattle.tp_tree.specs.declared.tree.VerdictName.TheVariants as verdict_name
@@ -29,7 +29,7 @@ use Rattle.tp_body.specs.declared.scope.BehaviourKind.TheVariants as behaviour_k
 use Rattle.tp_body.specs.declared.scope.Scope.{Scope}
 use Rattle.tp_body.specs.declared.scope.Variables.{Variables}
 use Rattle.tp_body.specs.Scoping.{IsNew, declared_port_names}
-use Rattle.tp_body.specs.Bodies.{AreBranches, AreVariables, IsBlock, IsHeld, IsReceive}
+use Rattle.tp_body.specs.Bodies.{AreBranches, AreVariables, IsBlock, IsVariableType, IsReceive}
 use Rattle.tp_body.specs.BrokenOperations.{ReceiveBreaks, SendBreaks}
 
 mutual
@@ -108,10 +108,10 @@ mutual
 
 -- a variable behind these: its type is unknown (11), its name isn't new (12), or there are 4,294,967,295 before it (15)
 pub data VariableBreaks (scope : Scope) (before : Variables) (x : Variable) : ModuleRule → Type 0 where
-  no_type : ((held : VariableType) → IsHeld scope x.type_name held → ⊥) → VariableBreaks scope before x rule.Unknown
-  not_new : (held : VariableType) → IsHeld scope x.type_name held
+  no_type : ((held : VariableType) → IsVariableType scope x.type_name held → ⊥) → VariableBreaks scope before x rule.Unknown
+  not_new : (held : VariableType) → IsVariableType scope x.type_name held
       → (IsNew scope before [] (string_bytes x.name) → ⊥) → VariableBreaks scope before x rule.Duplicate
-  too_many : (held : VariableType) → IsHeld scope x.type_name held → IsNew scope before [] (string_bytes x.name)
+  too_many : (held : VariableType) → IsVariableType scope x.type_name held → IsNew scope before [] (string_bytes x.name)
       → 4294967295 ≤ length before.names → VariableBreaks scope before x rule.Limit
 
 -- the variables of a body: those before one stand for something

@@ -9,10 +9,10 @@ use Rattle.tp_tree.specs.declared.message.Message.{Message}
 use Rattle.tp_tree.specs.declared.message.MessageTemplate.{MessageTemplate}
 use Rattle.tp_tree.specs.declared.tree.ComponentName.{ComponentName}
 use Rattle.tp_tree.specs.declared.tree.ComponentName.TheVariants as component_name
-use Rattle.tp_tree.specs.declared.tree.Sent.{Sent as SentText}
-use Rattle.tp_tree.specs.declared.tree.Sent.TheVariants as sent_text
-use Rattle.tp_tree.specs.declared.tree.Destination.{Destination}
-use Rattle.tp_tree.specs.declared.tree.Destination.TheVariants as destination
+use Rattle.tp_tree.specs.declared.tree.SentExpression.{SentExpression}
+use Rattle.tp_tree.specs.declared.tree.SentExpression.TheVariants as sent_text
+use Rattle.tp_tree.specs.declared.tree.Receivers.{Receivers}
+use Rattle.tp_tree.specs.declared.tree.Receivers.TheVariants as destination
 use Rattle.tp_tree.specs.declared.tree.Send.{Send}
 use Rattle.tp_tree.specs.declared.tree.Receive.{Receive}
 use Rattle.tp_play.specs.declared.body.RecvTemplate.{RecvTemplate}
@@ -25,7 +25,7 @@ use Rattle.tp_name.specs.declared.fault.ModuleRule.TheVariants as rule
 use Rattle.tp_name.specs.Named.{IsPlace, IsAbsent}
 use Rattle.tp_body.specs.declared.scope.Scope.{Scope}
 use Rattle.tp_body.specs.declared.scope.Variables.{Variables}
-use Rattle.tp_body.specs.Scoping.{IsPortNamed, IsReference, IsType, IsVariable, declared_port_names, receives, sends}
+use Rattle.tp_body.specs.Scoping.{IsPortNamed, IsReference, IsType, IsVariable, declared_port_names, receivable_types, sendable_types}
 use Rattle.tp_body.specs.Bodies.{IsFrom, IsSent, IsValueTarget, IsWanted}
 use Rattle.tp_body.specs.BrokenValues.{ValueBreaks}
 use Rattle.tp_body.specs.BrokenTemplates.{TemplateBreaks}
@@ -70,7 +70,7 @@ pub data MessageBreaks (scope : Scope) (variables : Variables) (turns : List (Li
 
 -- what is sent, where this is the list of the types that can be sent there
 pub data SentBreaks (scope : Scope) (variables : Variables) (turns : List (List ℕ)) (sendable : List Ty)
-    : SentText → ModuleRule → Type 0 where
+    : SentExpression → ModuleRule → Type 0 where
   written : (x : Message) (r : ModuleRule) → MessageBreaks scope variables turns sendable x r
       → SentBreaks scope variables turns sendable (sent_text.Message x) r
   -- a loop variable holds an integer, which the port doesn't send (14)
@@ -87,7 +87,7 @@ pub data SentBreaks (scope : Scope) (variables : Variables) (turns : List (List 
 -- the component behind `to`: its name is that of a variable of messages (13), or neither of a variable nor of another
 -- component that is known there (11)
 pub data ReceiverBreaks (scope : Scope) (variables : Variables) (turns : List (List ℕ))
-    : Option Destination → ModuleRule → Type 0 where
+    : Option Receivers → ModuleRule → Type 0 where
   to_message : (n : String Global) (k : ℕ) (u : Ty) → IsAbsent turns (string_bytes n)
       → IsVariable variables (string_bytes n) k (variable_type.Message u)
       → ReceiverBreaks scope variables turns (Some (destination.Component (component_name.Named n))) rule.WrongType
@@ -101,10 +101,10 @@ pub data SendBreaks (scope : Scope) (variables : Variables) (turns : List (List 
   no_port : IsAbsent (declared_port_names scope.ports.now) (string_bytes x.port)
       → SendBreaks scope variables turns x rule.Unknown
   sent : (k : ℕ) (port : PortType) (r : ModuleRule) → IsPortNamed scope.ports.now (string_bytes x.port) k port
-      → SentBreaks scope variables turns (sends scope.behaviour port) x.sent r → SendBreaks scope variables turns x r
+      → SentBreaks scope variables turns (sendable_types scope.behaviour port) x.sent r → SendBreaks scope variables turns x r
   receiver : (k : ℕ) (port : PortType) (y : Sent) (r : ModuleRule)
       → IsPortNamed scope.ports.now (string_bytes x.port) k port
-      → IsSent scope variables turns (sends scope.behaviour port) x.sent y
+      → IsSent scope variables turns (sendable_types scope.behaviour port) x.sent y
       → ReceiverBreaks scope variables turns x.to r → SendBreaks scope variables turns x r
 
 -- what is wanted, where this is the list of the types that can be received there: the type is unknown (11), the port
@@ -152,19 +152,19 @@ pub data ReceiveBreaks (scope : Scope) (variables : Variables) (turns : List (Li
   at_no_port : IsAbsent (declared_port_names scope.ports.now) (string_bytes x.port)
       → ReceiveBreaks scope variables turns x rule.Unknown
   wanted : (k : ℕ) (port : PortType) (r : ModuleRule) → IsPortNamed scope.ports.now (string_bytes x.port) k port
-      → WantedBreaks scope variables turns (receives scope.behaviour port) x.template r
+      → WantedBreaks scope variables turns (receivable_types scope.behaviour port) x.template r
       → ReceiveBreaks scope variables turns x r
   from : (k : ℕ) (port : PortType) (m : RecvMsg) (r : ModuleRule)
       → IsPortNamed scope.ports.now (string_bytes x.port) k port
-      → IsWanted scope turns (receives scope.behaviour port) x.template m
+      → IsWanted scope turns (receivable_types scope.behaviour port) x.template m
       → FromBreaks scope variables turns x.sender r → ReceiveBreaks scope variables turns x r
   value_target : (k : ℕ) (port : PortType) (m : RecvMsg) (c : Option ℕ) (r : ModuleRule)
       → IsPortNamed scope.ports.now (string_bytes x.port) k port
-      → IsWanted scope turns (receives scope.behaviour port) x.template m
+      → IsWanted scope turns (receivable_types scope.behaviour port) x.template m
       → IsFrom scope variables turns x.sender c
       → ValueTargetBreaks scope variables turns m x.redirect.value r → ReceiveBreaks scope variables turns x r
   sender_target : (k : ℕ) (port : PortType) (m : RecvMsg) (c v : Option ℕ) (r : ModuleRule)
       → IsPortNamed scope.ports.now (string_bytes x.port) k port
-      → IsWanted scope turns (receives scope.behaviour port) x.template m
+      → IsWanted scope turns (receivable_types scope.behaviour port) x.template m
       → IsFrom scope variables turns x.sender c → IsValueTarget variables turns m x.redirect.value v
       → SenderTargetBreaks scope variables turns x.redirect.sender r → ReceiveBreaks scope variables turns x r

@@ -19,7 +19,7 @@ use Rattle.tp_name.specs.declared.fault.ModuleRule.TheVariants as rule
 use Rattle.tp_body.specs.declared.scope.Variables.{Variables}
 use Rattle.tp_body.specs.Placing.{HaveEntries}
 use Rattle.tp_body.specs.Messages.{IsTemplate, AreMembers, AreElementTemplates, AreFieldTemplates}
-use Rattle.tp_body.specs.BrokenValues.{TextBreaks, NameBreaks}
+use Rattle.tp_body.specs.BrokenValues.{TextBreaks, ValueNameBreaks}
 
 -- a range: it stands where another type than `integer` is wanted, or its lower bound is above its upper (13)
 pub data RangeBreaks (u : Ty) (low high : Option ℤ) : ModuleRule → Type 0 where
@@ -46,7 +46,7 @@ mutual
         → TemplateBreaks types variables turns u (template.Bool b) rule.WrongType
     text : (u : Ty) (cs : Vec ℕ Global) (r : ModuleRule) → TextBreaks u cs.items r
         → TemplateBreaks types variables turns u (template.Text cs) r
-    name : (u : Ty) (n : String Global) (r : ModuleRule) → NameBreaks variables turns u (string_bytes n) r
+    name : (u : Ty) (n : String Global) (r : ModuleRule) → ValueNameBreaks variables turns u (string_bytes n) r
         → TemplateBreaks types variables turns u (template.Name n) r
     -- a `*` stands among the elements of a record of alone
     any_or_none : (u : Ty) → TemplateBreaks types variables turns u template.AnyOrNone rule.WrongType

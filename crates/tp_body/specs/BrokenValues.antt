@@ -28,10 +28,10 @@ pub data TextBreaks (u : Ty) (text : List ℕ) : ModuleRule → Type 0 where
 
 -- a name: of a loop variable, where another type than `integer` is wanted (13); of a variable, which stands in no value
 -- (13); or of neither (11)
-pub data NameBreaks (variables : Variables) (turns : List (List ℕ)) (u : Ty) (name : List ℕ) : ModuleRule → Type 0 where
-  no_integer : (k : ℕ) → IsPlace turns name k → u ≢ ty.Integer → NameBreaks variables turns u name rule.WrongType
-  variable : IsAbsent turns name → Contains variables.names name → NameBreaks variables turns u name rule.WrongType
-  unknown : IsAbsent turns name → (Contains variables.names name → ⊥) → NameBreaks variables turns u name rule.Unknown
+pub data ValueNameBreaks (variables : Variables) (turns : List (List ℕ)) (u : Ty) (name : List ℕ) : ModuleRule → Type 0 where
+  no_integer : (k : ℕ) → IsPlace turns name k → u ≢ ty.Integer → ValueNameBreaks variables turns u name rule.WrongType
+  variable : IsAbsent turns name → Contains variables.names name → ValueNameBreaks variables turns u name rule.WrongType
+  unknown : IsAbsent turns name → (Contains variables.names name → ⊥) → ValueNameBreaks variables turns u name rule.Unknown
 
 -- an entry of a record that fits the field of its name
 pub record IsEntry (types : Types) (turns : List (List ℕ)) (fields : List Field) (x : ValueField) : Type 0 where
@@ -50,7 +50,7 @@ mutual
     no_boolean : (u : Ty) (b : Bool) → u ≢ ty.Boolean → ValueBreaks types variables turns u (value.Bool b) rule.WrongType
     text : (u : Ty) (cs : Vec ℕ Global) (r : ModuleRule) → TextBreaks u cs.items r
         → ValueBreaks types variables turns u (value.Text cs) r
-    name : (u : Ty) (n : String Global) (r : ModuleRule) → NameBreaks variables turns u (string_bytes n) r
+    name : (u : Ty) (n : String Global) (r : ModuleRule) → ValueNameBreaks variables turns u (string_bytes n) r
         → ValueBreaks types variables turns u (value.Name n) r
     no_braces : (u : Ty) (vs : Vec Value Global) → named types u ≡ None
         → ValueBreaks types variables turns u (value.List vs) rule.WrongType

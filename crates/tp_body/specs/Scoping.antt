@@ -37,16 +37,16 @@ pub record IsPortNamed (ports : CompType) (name : List ℕ) (place : ℕ) (port 
   pub typed : slice_get (declared_port_types ports) place ≡ Some port
 
 -- what a behaviour sends at a port: in the system under test the two lists are exchanged
-abbrev pub sends : BehaviourKind → PortType → List Ty
-sends behaviour_kind.TestCase port = port.outs
-sends behaviour_kind.Function port = port.outs
-sends behaviour_kind.SystemUnderTest port = port.ins
+abbrev pub sendable_types : BehaviourKind → PortType → List Ty
+sendable_types behaviour_kind.TestCase port = port.outs
+sendable_types behaviour_kind.Function port = port.outs
+sendable_types behaviour_kind.SystemUnderTest port = port.ins
 
 -- what it receives there
-abbrev pub receives : BehaviourKind → PortType → List Ty
-receives behaviour_kind.TestCase port = port.ins
-receives behaviour_kind.Function port = port.ins
-receives behaviour_kind.SystemUnderTest port = port.outs
+abbrev pub receivable_types : BehaviourKind → PortType → List Ty
+receivable_types behaviour_kind.TestCase port = port.ins
+receivable_types behaviour_kind.Function port = port.ins
+receivable_types behaviour_kind.SystemUnderTest port = port.outs
 
 -- the name of a type stands for this type of values
 pub data IsType (types : Types) : TypeName → Ty → Type 0 where

@@ -1,7 +1,7 @@
 //! Looking names up.
 ghost use Rattle.std.specs.Prelude.{◌≡◌, ◌++◌, ◌↔◌, ◌≤◌, ◌<◌, ◌^◌, ℕ, Contains, IsTrue, IfNone, IfSome, length};
 ghost use Rattle.tp_name.specs.Named.{IsAbsent, IsPlace, texts};
-ghost use Rattle.tp_body.specs.Scoping.{AreTyped, IsPortNamed, IsReference, IsType, IsVariable, declared_port_names, receives, sends};
+ghost use Rattle.tp_body.specs.Scoping.{AreTyped, IsPortNamed, IsReference, IsType, IsVariable, declared_port_names, receivable_types, sendable_types};
 
 use crate::context::Context;
 use crate::scope::{BehaviourKind, Scope, Variables};
@@ -43,7 +43,7 @@ pub fn find_port<'p>(ports: &'p CompType, name: &str) -> Option<(u32, &'p PortTy
 
 /// What the behaviour sends at the port. Takes no memory.
 pub fn sendable(behaviour: BehaviourKind, port: &PortType) -> &TypeList
-    ensures { result.now ≡ sends behaviour port.now }
+    ensures { result.now ≡ sendable_types behaviour port.now }
 {
     match behaviour {
         BehaviourKind::TestCase | BehaviourKind::Function => &port.outs,
@@ -53,7 +53,7 @@ pub fn sendable(behaviour: BehaviourKind, port: &PortType) -> &TypeList
 
 /// What the behaviour receives at the port. Takes no memory.
 pub fn receivable(behaviour: BehaviourKind, port: &PortType) -> &TypeList
-    ensures { result.now ≡ receives behaviour port.now }
+    ensures { result.now ≡ receivable_types behaviour port.now }
 {
     match behaviour {
         BehaviourKind::TestCase | BehaviourKind::Function => &port.ins,

@@ -22,7 +22,7 @@ use tp_play::body::{
 };
 use tp_tree::message::{Message, MessageTemplate};
 use tp_tree::tree;
-use tp_tree::tree::{ComponentName, Destination, VerdictName};
+use tp_tree::tree::{ComponentName, Receivers, VerdictName};
 use tp_value::types::Ty;
 use tp_value::verdict::Verdict;
 
@@ -137,7 +137,7 @@ fn resolve_sent(
     alloc: Global,
     context: &Context,
     sendable: &TypeList,
-    sent: &tree::Sent,
+    sent: &tree::SentExpression,
 ) -> Result<Sent, ModuleFault>
     ensures stands { IfOk result (IsSent
         context.now.scope.now context.now.variables.now (texts context.now.turns.now)
@@ -148,11 +148,11 @@ fn resolve_sent(
         sendable.now sent.now)) }
 {
     match sent {
-        tree::Sent::Message(message) => {
+        tree::SentExpression::Message(message) => {
             let written = resolve_written(alloc, context, sendable, message)?;
             Ok(Sent::Written(written))
         }
-        tree::Sent::Variable(name) => {
+        tree::SentExpression::Variable(name) => {
             let name = name.as_str();
             if let Some(place) = find(context.turns, name) {
                 let counter = resolve_counter(context, sendable, place)?;
@@ -184,11 +184,11 @@ fn is_variable(context: &Context, name: &str) -> bool
 fn resolve_component(context: &Context, component: &ComponentName) -> Result<Receiver, ModuleFault>
     ensures stands { IfOk result (IsReceiver
         context.now.scope.now context.now.variables.now (texts context.now.turns.now)
-        (Some (Destination.Component component.now))) }
+        (Some (Receivers.Component component.now))) }
     ensures told { AreTyped context.now.variables.now
         → IfErr result (TellsAt context.now.line (ReceiverBreaks
         context.now.scope.now context.now.variables.now (texts context.now.turns.now)
-        (Some (Destination.Component component.now)))) }
+        (Some (Receivers.Component component.now)))) }
 {
     if let ComponentName::Named(name) = component {
         let name = name.as_str();
@@ -205,7 +205,7 @@ fn resolve_component(context: &Context, component: &ComponentName) -> Result<Rec
 
 /// To whom is sent.
 #[tactic(auto, using(crate::proofs::OperationRules::cases))]
-fn resolve_receiver(context: &Context, to: &Option<Destination>) -> Result<Receiver, ModuleFault>
+fn resolve_receiver(context: &Context, to: &Option<Receivers>) -> Result<Receiver, ModuleFault>
     ensures stands { IfOk result (IsReceiver
         context.now.scope.now context.now.variables.now (texts context.now.turns.now) to.now) }
     ensures told { AreTyped context.now.variables.now
@@ -215,8 +215,8 @@ fn resolve_receiver(context: &Context, to: &Option<Destination>) -> Result<Recei
 {
     match to {
         None => Ok(Receiver::Nobody),
-        Some(Destination::AllComponents) => Ok(Receiver::All),
-        Some(Destination::Component(component)) => resolve_component(context, component),
+        Some(Receivers::AllComponents) => Ok(Receiver::All),
+        Some(Receivers::Component(component)) => resolve_component(context, component),
     }
 }
 

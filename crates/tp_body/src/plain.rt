@@ -3,7 +3,7 @@ ghost use Rattle.std.specs.Prelude.{◌≡◌, IfErr, IfOk, OnOk};
 ghost use Rattle.tp_name.specs.Named.{IsPlace, texts};
 ghost use Rattle.tp_name.specs.Refused.{TellsAt};
 ghost use Rattle.tp_value.specs.HasType.{ArePrintable};
-ghost use Rattle.tp_body.specs.BrokenValues.{NameBreaks, TextBreaks};
+ghost use Rattle.tp_body.specs.BrokenValues.{ValueNameBreaks, TextBreaks};
 
 use crate::context::Context;
 use std::alloc::Global;
@@ -41,7 +41,7 @@ pub fn resolve_turn(context: &Context, ty: Ty, name: &str) -> Result<usize, Modu
     ensures place { IfOk result (IsPlace (texts context.now.turns.now) name.now) }
     ensures integer { OnOk result (ty ≡ Ty.Integer) }
     ensures told { IfErr result (TellsAt context.now.line
-        (NameBreaks context.now.variables.now (texts context.now.turns.now) ty name.now)) }
+        (ValueNameBreaks context.now.variables.now (texts context.now.turns.now) ty name.now)) }
 {
     let Some(place) = find(context.turns, name) else {
         return Err(context.no_turn(name));

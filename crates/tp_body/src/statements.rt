@@ -1,7 +1,7 @@
 //! What statements stand for.
 ghost use Rattle.std.specs.Prelude.{◌≡◌, ◌≢◌, ◌∷◌, ◌++◌, [], IfErr, IfOk, List, OnOk, length};
 ghost use Rattle.tp_name.specs.Named.{texts};
-ghost use Rattle.tp_name.specs.Refused.{Breaks, Tells, TellsAt};
+ghost use Rattle.tp_name.specs.Refused.{IsRefusedBy, Tells, TellsAt};
 ghost use Rattle.tp_body.specs.Bodies.{AreBranches, IsAfter, IsBlock, IsBody, IsBranch, IsStatement};
 ghost use Rattle.tp_body.specs.BrokenBodies.{AfterBreaks, BlockBreaks, BodyBreaks, BranchBreaks, BranchesBreak, StatementBreaks};
 ghost use Rattle.tp_body.specs.Closed.{needed_around_all};
@@ -14,10 +14,10 @@ use crate::operations::{resolve_receive, resolve_send, resolve_verdict};
 use crate::scope::Scope;
 use crate::variables::{are_no_ports, is_new, resolve_variables};
 use std::alloc::Global;
+use tp_event::operation::PortOperation;
 use tp_name::fault::{ModuleFault, ModuleRule, refused};
 use tp_name::name::Name;
 use tp_play::body::{Body, Branch, Statement};
-use tp_queue::operation::PortOperation;
 use tp_tree::tree;
 use tp_tree::tree::{Action, BranchBody, Control, Counted, Turns, Variable, VerdictName};
 use tp_value::items::Items;
@@ -285,7 +285,7 @@ pub fn resolve_body(
     ensures told { IsSoundScope scope.now
         → IfErr result (Tells (BodyBreaks scope.now line declared.now statements.now)) }
     ensures refused { IsSoundScope scope.now → IfErr result
-        (Breaks ((body : Body) × IsBody scope.now declared.now statements.now body)) }
+        (IsRefusedBy ((body : Body) × IsBody scope.now declared.now statements.now body)) }
     ensures closed { IfOk result (λ body. needed_around_all body.statements ≡ 0) }
     ensures playable { let ports = length scope.now.ports.now.ports.entries in
         IfOk result (IsPlayable scope.now.types.now ports (reference_count scope.now)) }

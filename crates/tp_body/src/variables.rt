@@ -5,7 +5,7 @@ ghost use Rattle.tp_name.specs.Named.{IsAbsent, texts};
 ghost use Rattle.tp_name.specs.Refused.{Tells, TellsAt};
 ghost use Rattle.tp_name.specs.Tables.{IsNumbered};
 ghost use Rattle.tp_body.specs.Scoping.{IsNew, declared_port_names};
-ghost use Rattle.tp_body.specs.Bodies.{AreVariables, IsHeld};
+ghost use Rattle.tp_body.specs.Bodies.{AreVariables, IsVariableType};
 ghost use Rattle.tp_body.specs.BrokenBodies.{VariablesBreak};
 
 use crate::context::Context;
@@ -53,8 +53,9 @@ pub fn is_new(context: &Context, name: &str) -> bool
 /// no component type. Takes no memory.
 #[tactic(auto, using(crate::proofs::VariableRules::cases))]
 fn find_held(scope: &Scope, name: &TypeName) -> Option<VariableType>
-    ensures there { IfSome result (IsHeld scope.now name.now) }
-    ensures absent { IfNone result ((held : VariableType) → IsHeld scope.now name.now held → ⊥) }
+    ensures there { IfSome result (IsVariableType scope.now name.now) }
+    ensures absent { IfNone result ((held : VariableType)
+        → IsVariableType scope.now name.now held → ⊥) }
 {
     if let Some(ty) = find_type(scope.types, name) {
         return Some(VariableType::Message(ty));

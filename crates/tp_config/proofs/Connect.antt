@@ -10,7 +10,7 @@ use Rattle.tp_config.specs.declared.connecting.ConnectFault.TheVariants as fault
 use Rattle.tp_config.specs.Pairs.{partner, partners, same_port}
 use Rattle.tp_config.specs.Setup.{Setup, is_system, ins, outs, connecting}
 use Rattle.tp_config.specs.Allowed.{Allowed, CanConnect, Directed, MayConnect}
-use Rattle.tp_config.specs.Causes.{ConnectCause, ConnectRefused, IsFirst, Stands, HasOther, connect_order}
+use Rattle.tp_config.specs.Causes.{ConnectCause, ConnectRefused, IsFirstCause, IsInPair, HasOther, connect_order}
 use Rattle.tp_config.specs.Kept.{KeepsPairs}
 use Rattle.tp_config.specs.Tests.{connect_test, are_among}
 use Rattle.tp_config.proofs.Order.{first_guarded, none_guarded}
@@ -98,7 +98,7 @@ one_new pairs a b x y z none back hy (inr u) e =
       | inr not ↦ absurd (back (y, subst (λ w. Contains (partners pairs w) y) u.0 hy, e ∙ ap (λ (w : PortRef). w.comp) u.1, λ q. not (q ∙ sym u.1)))
     ]
 
-new_apart : (mapped : List (PortRef × PortRef)) (a b x y r : PortRef) → ¬ Stands mapped a → ¬ Stands mapped b → NewBeside a b x y
+new_apart : (mapped : List (PortRef × PortRef)) (a b x y r : PortRef) → ¬ IsInPair mapped a → ¬ IsInPair mapped b → NewBeside a b x y
     → Contains (partners mapped x) r → ⊥
 unfolding NewBeside
 new_apart mapped a b x y r na nb (inl u) h = na (r, subst (λ w. Contains (partners mapped w) r) u.0 h)
@@ -109,8 +109,8 @@ pub connect_allowed : (s : Setup) (a b : PortRef) → Allowed s → AllByRecursi
 unfolding NewBeside
 connect_allowed s a b l none steady =
     let differ : a ≢ b = none.1.0 in
-    let unmapped_a : ¬ Stands s.mapped a = λ h. none.1.1.1.0 (inl h) in
-    let unmapped_b : ¬ Stands s.mapped b = λ h. none.1.1.1.0 (inr h) in
+    let unmapped_a : ¬ IsInPair s.mapped a = λ h. none.1.1.1.0 (inl h) in
+    let unmapped_b : ¬ IsInPair s.mapped b = λ h. none.1.1.1.0 (inr h) in
     let alone_a : ¬ HasOther s.connected a b = λ h. none.1.1.1.1.0 (inl h) in
     let alone_b : ¬ HasOther s.connected b a = λ h. none.1.1.1.1.0 (inr h) in
     let directed : Directed s.types s.components a b = steady none.1.1.1.1.1.0 in
@@ -173,12 +173,12 @@ cause_refuses s a b fault.Memory h can = h
 abbrev own_order : List ConnectFault
 own_order = fault.SamePort ∷ fault.Already ∷ fault.Mixed ∷ fault.TwoPortsOfOne ∷ fault.Directions ∷ []
 
-first_cause : (Cause : ConnectFault → Type 0) (xs : List ConnectFault) (f : ConnectFault) → IsFirst Cause xs f → Cause f
+first_cause : (Cause : ConnectFault → Type 0) (xs : List ConnectFault) (f : ConnectFault) → IsFirstCause Cause xs f → Cause f
 first_cause Cause [] f h = absurd h
 first_cause Cause (x ∷ xs) f (inl h) = subst Cause (sym h.0) h.1
 first_cause Cause (x ∷ xs) f (inr h) = first_cause Cause xs f h.1
 
-refused_at : (s : Setup) (a b : PortRef) (f : ConnectFault) → IsFirst (ConnectCause s a b) connect_order f → ConnectRefused s a b f
+refused_at : (s : Setup) (a b : PortRef) (f : ConnectFault) → IsFirstCause (ConnectCause s a b) connect_order f → ConnectRefused s a b f
 refused_at s a b fault.SystemPort h = (h, cause_refuses s a b fault.SystemPort (first_cause (ConnectCause s a b) connect_order fault.SystemPort h))
 refused_at s a b fault.SamePort h = (h, cause_refuses s a b fault.SamePort (first_cause (ConnectCause s a b) connect_order fault.SamePort h))
 refused_at s a b fault.Already h = (h, cause_refuses s a b fault.Already (first_cause (ConnectCause s a b) connect_order fault.Already h))

@@ -12,9 +12,9 @@ use Rattle.tp_config.specs.declared.port_type.PortRef.{PortRef}
 use Rattle.tp_config.specs.declared.port_type.CompType.{CompType}
 use Rattle.tp_config.specs.declared.creating.CreateFault.{CreateFault}
 use Rattle.tp_config.specs.declared.creating.CreateFault.TheVariants as trouble
-use Rattle.tp_config.specs.Setup.{Setup, PortDecl, Member, creating, empty_setup, is_system_member, names, ports_at}
+use Rattle.tp_config.specs.Setup.{Setup, PortDecl, Member, creating, empty_setup, is_system_member, names_of_components, ports_at}
 use Rattle.tp_config.specs.Shape.{ports_of}
-use Rattle.tp_config.specs.Causes.{CanCreate, CreateCause, CreateRefused, IsFirst, IsTaken, create_order}
+use Rattle.tp_config.specs.Causes.{CanCreate, CreateCause, CreateRefused, IsFirstCause, IsTaken, create_order}
 use Rattle.tp_config.specs.Tests.{create_test}
 use Rattle.tp_config.specs.Routes.{beside}
 use Rattle.tp_config.specs.Links.{row, links_at}
@@ -49,15 +49,15 @@ keeps_empty types few =
       kept = λ p. refl;
     }
 
-refused_at : (s : Setup) (m : Member) (f : CreateFault) → IsFirst (CreateCause s m) create_order f → CreateRefused s m f
+refused_at : (s : Setup) (m : Member) (f : CreateFault) → IsFirstCause (CreateCause s m) create_order f → CreateRefused s m f
 refused_at s m trouble.Duplicate h = (h, λ can. can.0 (taken h))
   where
-    taken : IsFirst (CreateCause s m) create_order trouble.Duplicate → IsTaken s m
+    taken : IsFirstCause (CreateCause s m) create_order trouble.Duplicate → IsTaken s m
     taken (inl w) = w.1
     taken (inr w) = elim w.1 [ inl v ↦ absurd (let e : trouble.Duplicate ≡ trouble.Limit = v.0 in cc) | inr v ↦ absurd v.1 ]
 refused_at s m trouble.Limit h = (h, λ can. full h can)
   where
-    full : IsFirst (CreateCause s m) create_order trouble.Limit → CanCreate s m → ⊥
+    full : IsFirstCause (CreateCause s m) create_order trouble.Limit → CanCreate s m → ⊥
     full (inl w) can = absurd (let e : trouble.Limit ≡ trouble.Duplicate = w.0 in cc)
     full (inr w) can = elim w.1 [ inl v ↦ omega (arith, v.1, can.1) | inr v ↦ absurd v.1 ]
 refused_at s m trouble.Memory h =
@@ -144,10 +144,10 @@ module _ (s : Setup) (links : List (List (List PortRef))) (m : Member) (n : ℕ)
       ]
 
 -- a member's name is among the names
-name_among : (s : Setup) (m : Member) (i : ℕ) (d : Member) → i < length s.components → (get_or s.components i d).name ≡ m.name → Contains (names s) m.name
+name_among : (s : Setup) (m : Member) (i : ℕ) (d : Member) → i < length s.components → (get_or s.components i d).name ≡ m.name → Contains (names_of_components s) m.name
 name_among s m i d n e =
-    subst (Contains (names s)) (get_or-map (λ (x : Member). x.name) s.components i d m.name n ∙ e)
-    (Contains-get_or (names s) i m.name (omega (arith, n, length-map s.components (λ (x : Member). x.name))))
+    subst (Contains (names_of_components s)) (get_or-map (λ (x : Member). x.name) s.components i d m.name n ∙ e)
+    (Contains-get_or (names_of_components s) i m.name (omega (arith, n, length-map s.components (λ (x : Member). x.name))))
 
 keeps_creating : (s : Setup) (links : List (List (List PortRef))) (m : Member) (n : ℕ) → KeepsPairs s links → length links ≡ length s.components
     → m.kind < length s.types → n ≡ length (get_or s.types m.kind []) → CanCreate s m → KeepsPairs (creating s m) (links ++ replicate n [] ∷ [])

@@ -12,7 +12,7 @@ use Rattle.tp_config.specs.Pairs.{partner, partners, same_port}
 use Rattle.tp_config.specs.declared.port_type.CompId.{CompId}
 use Rattle.tp_config.specs.Setup.{Setup, PortDecl, Member, IsPort, is_system, decl_at, ports_at, connecting, mapping}
 use Rattle.tp_config.specs.Allowed.{ArePorts, CanConnect, CanMap}
-use Rattle.tp_config.specs.Causes.{ConnectCause, MapCause, Stands, connect_order, map_order}
+use Rattle.tp_config.specs.Causes.{ConnectCause, MapCause, IsInPair, connect_order, map_order}
 use Rattle.tp_config.specs.Tests.{connect_test, map_test}
 use Rattle.tp_config.specs.Routes.{beside}
 use Rattle.tp_config.specs.Links.{row, links_at, with_links, links_joined}
@@ -102,7 +102,7 @@ swap_none xs ys None empty = append-nil (xs ++ ys) ∙ ap (λ l. l ++ ys) (sym (
 swap_none xs ys (Some y) empty = rw (empty y refl, append-nil, append-nil) refl
 
 -- what stands beside a port after a connect
-beside_connecting : (s : Setup) (p q r : PortRef) → ¬ Stands s.mapped p → ¬ Stands s.mapped q
+beside_connecting : (s : Setup) (p q r : PortRef) → ¬ IsInPair s.mapped p → ¬ IsInPair s.mapped q
     → beside (connecting s p q) r ≡ beside s r ++ cons_option (partner r (p, q)) []
 beside_connecting s p q r np nq =
     let empty : (y : PortRef) → partner r (p, q) ≡ Some y → partners s.mapped r ≡ [] = λ y e. elim (pair_cases (p, q) r y e) [

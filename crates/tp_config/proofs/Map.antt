@@ -11,7 +11,7 @@ use Rattle.tp_config.specs.declared.mapping.MapFault.TheVariants as refusal
 use Rattle.tp_config.specs.Pairs.{partner, partners, same_port}
 use Rattle.tp_config.specs.Setup.{Setup, is_system, ins, outs, mapping}
 use Rattle.tp_config.specs.Allowed.{Allowed, CanMap, MapDirected, MayMap}
-use Rattle.tp_config.specs.Causes.{MapCause, MapRefused, IsFirst, Stands, map_order}
+use Rattle.tp_config.specs.Causes.{MapCause, MapRefused, IsFirstCause, IsInPair, map_order}
 use Rattle.tp_config.specs.Kept.{KeepsPairs}
 use Rattle.tp_config.specs.Tests.{map_test, map_directed, are_among, is_connected, is_mapped}
 use Rattle.tp_config.proofs.Order.{first_from_find, none_from_find}
@@ -60,7 +60,7 @@ no_partners_in : (l : List PortRef) → ((q : PortRef) → Contains l q → ⊥)
 no_partners_in [] h = refl
 no_partners_in (x ∷ l) h = absurd (h x (Contains-here x l))
 
-pub no_partners : (pairs : List (PortRef × PortRef)) (p : PortRef) → ¬ Stands pairs p → partners pairs p ≡ []
+pub no_partners : (pairs : List (PortRef × PortRef)) (p : PortRef) → ¬ IsInPair pairs p → partners pairs p ≡ []
 no_partners pairs p h = no_partners_in (partners pairs p) (λ q c. h (q, c))
 
 length_push : (xs : List (PortRef × PortRef)) (pair : PortRef × PortRef) (p : PortRef)
@@ -73,10 +73,10 @@ one_at_most a b p n true t e f ha hb h = let z : n ≡ 0 = ha ((port_decides p a
 one_at_most a b p n false true e f ha hb h = let z : n ≡ 0 = hb ((port_decides p b).0 f) in omega arith
 one_at_most a b p n false false e f ha hb h = omega arith
 
-no_length : (pairs : List (PortRef × PortRef)) (a p : PortRef) → ¬ Stands pairs a → p ≡ a → length (partners pairs p) ≡ 0
+no_length : (pairs : List (PortRef × PortRef)) (a p : PortRef) → ¬ IsInPair pairs a → p ≡ a → length (partners pairs p) ≡ 0
 no_length pairs a p h e = ap (λ x. length (partners pairs x)) e ∙ ap length (no_partners pairs a h)
 
-map_apart : (connected : List (PortRef × PortRef)) (a b x y r : PortRef) → ¬ Stands connected a → ¬ Stands connected b
+map_apart : (connected : List (PortRef × PortRef)) (a b x y r : PortRef) → ¬ IsInPair connected a → ¬ IsInPair connected b
     → ((x ≡ a) × (r ≡ b)) ⊎ ((x ≡ b) × (r ≡ a)) → Contains (partners connected x) y → ⊥
 map_apart connected a b x y r na nb (inl u) h = na (y, subst (λ w. Contains (partners connected w) y) u.0 h)
 map_apart connected a b x y r na nb (inr u) h = nb (y, subst (λ w. Contains (partners connected w) y) u.0 h)
@@ -84,10 +84,10 @@ map_apart connected a b x y r na nb (inr u) h = nb (y, subst (λ w. Contains (pa
 map_allowed : (s : Setup) (a b : PortRef) → Allowed s → AllByRecursion (λ f. ¬ MapCause s a b f) map_order → Allowed (mapping s a b)
 unfolding Fits
 map_allowed s a b l none =
-    let free_a : ¬ Stands s.connected a = λ h. none.1.0 (inl h) in
-    let free_b : ¬ Stands s.connected b = λ h. none.1.0 (inr h) in
-    let unmapped_a : ¬ Stands s.mapped a = λ h. none.1.1.0 (inl h) in
-    let unmapped_b : ¬ Stands s.mapped b = λ h. none.1.1.0 (inr h) in
+    let free_a : ¬ IsInPair s.connected a = λ h. none.1.0 (inl h) in
+    let free_b : ¬ IsInPair s.connected b = λ h. none.1.0 (inr h) in
+    let unmapped_a : ¬ IsInPair s.mapped a = λ h. none.1.1.0 (inl h) in
+    let unmapped_b : ¬ IsInPair s.mapped b = λ h. none.1.1.0 (inr h) in
     let directed : Fits s a b = stable (fits s a b) (fits_decides s a b) none.1.1.1.0 in
     let pair : MayMap s.types s.components (a, b) = record { one_system = none.0; to_second = directed.0; to_first = directed.1 } in
     record {
@@ -139,12 +139,12 @@ cause_refuses s a b refusal.NotOneToOne (inr h) can = pushed_two s a b b h.0 h.1
 cause_refuses s a b refusal.MapDirections h can = h ((new_pair s a b can).to_second, (new_pair s a b can).to_first)
 cause_refuses s a b refusal.Memory h can = h
 
-first_cause : (Cause : MapFault → Type 0) (xs : List MapFault) (f : MapFault) → IsFirst Cause xs f → Cause f
+first_cause : (Cause : MapFault → Type 0) (xs : List MapFault) (f : MapFault) → IsFirstCause Cause xs f → Cause f
 first_cause Cause [] f h = absurd h
 first_cause Cause (x ∷ xs) f (inl h) = subst Cause (sym h.0) h.1
 first_cause Cause (x ∷ xs) f (inr h) = first_cause Cause xs f h.1
 
-refused_at : (s : Setup) (a b : PortRef) (f : MapFault) → IsFirst (MapCause s a b) map_order f → MapRefused s a b f
+refused_at : (s : Setup) (a b : PortRef) (f : MapFault) → IsFirstCause (MapCause s a b) map_order f → MapRefused s a b f
 refused_at s a b refusal.NotSystem h = (h, cause_refuses s a b refusal.NotSystem (first_cause (MapCause s a b) map_order refusal.NotSystem h))
 refused_at s a b refusal.Mixed h = (h, cause_refuses s a b refusal.Mixed (first_cause (MapCause s a b) map_order refusal.Mixed h))
 refused_at s a b refusal.NotOneToOne h = (h, cause_refuses s a b refusal.NotOneToOne (first_cause (MapCause s a b) map_order refusal.NotOneToOne h))

@@ -16,7 +16,7 @@ use Rattle.tp_config.specs.declared.port_type.PortRef.{PortRef}
 use Rattle.tp_config.specs.declared.port_type.PortType.{PortType}
 use Rattle.tp_config.specs.declared.port_type.CompType.{CompType}
 use Rattle.tp_config.specs.declared.component.Component.{Component}
-use Rattle.tp_config.specs.Setup.{Setup, PortDecl, Member, IsPort, decl_at, names, port_names, ports_at}
+use Rattle.tp_config.specs.Setup.{Setup, PortDecl, Member, IsPort, decl_at, names_of_components, port_names, ports_at}
 use Rattle.tp_config.specs.Shape.{decl_of, member_of, ports_of, setup_of}
 use Rattle.tp_config.proofs.Places.{mapped_at}
 
@@ -66,11 +66,11 @@ comp_names [] = refl
 comp_names (c ∷ cs) = ap (λ l. string_bytes c.name ∷ l) (comp_names cs)
 
 pub comp_place : (cs ds : List Component) (s now : Setup) (name : List ℕ) → cs ≡ ds → s ≡ now → s.components ≡ map member_of ds
-    → position (λ c. bytes_eq (string_bytes c.name) name) cs ≡ position (λ n. bytes_eq n name) (names now)
+    → position (λ c. bytes_eq (string_bytes c.name) name) cs ≡ position (λ n. bytes_eq n name) (names_of_components now)
 comp_place cs ds s now name e same shape =
     position_map (λ c. string_bytes c.name) (λ n. bytes_eq n name) cs
     ∙ ap (position (λ n. bytes_eq n name)) (comp_names cs ∙ ap (λ l. map (λ (m : Member). m.name) (map member_of l)) e
-    ∙ ap (map (λ (m : Member). m.name)) (sym shape) ∙ ap names same)
+    ∙ ap (map (λ (m : Member). m.name)) (sym shape) ∙ ap names_of_components same)
 
 -- the names of the ports of a type
 type_names : {A : Type 0} (es : List (String A × PortType)) → map string_bytes (map (λ e. e.0) es) ≡ map (λ (d : PortDecl). d.name) (map decl_of es)
@@ -102,7 +102,7 @@ member_at s now cs k x same shape below e =
     ap (λ (t : Setup). slice_get t.components k) (sym same) ∙ ap (λ (l : List Member). slice_get l k) shape ∙ slice_get-map member_of cs k
     ∙ ap (option_map member_of) (slice_get_read cs (length cs) k x refl inside e)
 
-pub name_at : (now : Setup) (k : ℕ) (x : Component) → slice_get now.components k ≡ Some (member_of x) → slice_get (names now) k ≡ Some (string_bytes x.name)
+pub name_at : (now : Setup) (k : ℕ) (x : Component) → slice_get now.components k ≡ Some (member_of x) → slice_get (names_of_components now) k ≡ Some (string_bytes x.name)
 unfolding member_of
 name_at now k x e = slice_get-map (λ (m : Member). m.name) now.components k ∙ ap (option_map (λ (m : Member). m.name)) e
 

@@ -13,7 +13,7 @@ use Rattle.tp_config.specs.declared.connecting.ConnectFault.TheVariants as fault
 use Rattle.tp_config.specs.Pairs.{partner, partners, same_port}
 use Rattle.tp_config.specs.Setup.{Setup, Member, is_system, is_system_member, ins, outs}
 use Rattle.tp_config.specs.Allowed.{Allowed, MayConnect, MayMap}
-use Rattle.tp_config.specs.Causes.{ConnectCause, Stands, HasOther}
+use Rattle.tp_config.specs.Causes.{ConnectCause, IsInPair, HasOther}
 use Rattle.tp_config.specs.Routes.{beside}
 use Rattle.tp_config.specs.Links.{links_at}
 use Rattle.tp_config.specs.Kept.{KeepsPairs}
@@ -92,7 +92,7 @@ module _ (s : Setup) (links : List (List (List PortRef))) (k : KeepsPairs s link
   kept_decides test P each p =
       subst (λ xs. Decides (list_any test (links_at links p)) ((r : PortRef) × Contains xs r × P r)) (k.kept p) (any_decides test P each (links_at links p))
 
-  pub connected_decides : (p : PortRef) → Decides (is_connected s.components links p) (Stands s.connected p)
+  pub connected_decides : (p : PortRef) → Decides (is_connected s.components links p) (IsInPair s.connected p)
   unfolding is_connected
   connected_decides p =
       Decides-like (is_connected s.components links p)
@@ -102,7 +102,7 @@ module _ (s : Setup) (links : List (List (List PortRef))) (k : KeepsPairs s link
       (kept_decides (λ r. same_bool (is_system s.components p) (is_system s.components r)) (λ r. is_system s.components p ≡ is_system s.components r)
       (λ r. same_decides (is_system s.components p) (is_system s.components r)) p)
 
-  pub mapped_decides : (p : PortRef) → Decides (is_mapped s.components links p) (Stands s.mapped p)
+  pub mapped_decides : (p : PortRef) → Decides (is_mapped s.components links p) (IsInPair s.mapped p)
   unfolding is_mapped
   mapped_decides p =
       Decides-like (is_mapped s.components links p)

@@ -12,7 +12,7 @@ use Rattle.tp_config.specs.declared.routes.RouteFault.{RouteFault}
 use Rattle.tp_config.specs.Pairs.{partner, partners}
 use Rattle.tp_config.specs.Setup.{Setup, PortDecl, Member, IsPort, ports_at}
 use Rattle.tp_config.specs.Allowed.{ArePorts, IsSetup}
-use Rattle.tp_config.specs.Routes.{AreDistinct, AreRoutesInto, IsRouteOf, RouteCauseOf, SendersAreDetermined, beside, route_to, routes_below, routes_from, routes_into}
+use Rattle.tp_config.specs.Routes.{AreDistinctRoutes, AreRoutesInto, IsRouteOf, RouteCauseOf, SendersAreDetermined, beside, route_to, routes_below, routes_from, routes_into}
 use Rattle.tp_config.specs.Links.{links_at, routes_kept}
 use Rattle.tp_config.specs.Kept.{KeepsPairs}
 use Rattle.tp_config.proofs.Decide.{Contains-here, Contains-later, Contains-split}
@@ -73,7 +73,7 @@ append_distinct {X = X} (x ∷ xs) ys d e apart =
 port_at : CompId → ℕ → PortRef
 port_at c n = record { comp = c; port = n }
 
-pub from_distinct : (s : Setup) → IsSetup s → (p : PortRef) → AreDistinct (routes_from s p)
+pub from_distinct : (s : Setup) → IsSetup s → (p : PortRef) → AreDistinctRoutes (routes_from s p)
 unfolding routes_from
 from_distinct s l p = map_distinct (route_to p) (beside s p) (λ q r _ _ e. ap (λ (x : RouteId). x.to) e) (beside_distinct s l p)
 
@@ -111,7 +111,7 @@ below_contains s c (suc n) k q below h =
           (map_contains (λ q. route_to q (port_at c n)) (beside s (port_at c n)) q (subst (λ i. Contains (beside s (port_at c i)) q) same h)))
     ]
 
-below_distinct : (s : Setup) → IsSetup s → (c : CompId) (n : ℕ) → AreDistinct (routes_below s c n)
+below_distinct : (s : Setup) → IsSetup s → (c : CompId) (n : ℕ) → AreDistinctRoutes (routes_below s c n)
 unfolding port_at
 below_distinct s l c zero = λ i j e below n. absurd (omega (arith, n))
 below_distinct s l c (suc n) =
@@ -124,7 +124,7 @@ below_distinct s l c (suc n) =
     let same : u.0 ≡ n = ap (λ (x : RouteId). x.to.port) (u.4 ∙ sym v.2) in
     absurd (omega (arith, u.2, same)))
 
-pub into_distinct : (s : Setup) → IsSetup s → (c : CompId) → AreDistinct (routes_into s c)
+pub into_distinct : (s : Setup) → IsSetup s → (c : CompId) → AreDistinctRoutes (routes_into s c)
 unfolding routes_into
 into_distinct s l c = below_distinct s l c (length (ports_at s.types s.components c))
 

@@ -7,14 +7,14 @@ use Rattle.tp_config.specs.declared.connecting.ConnectFault.{ConnectFault}
 use Rattle.tp_config.specs.declared.connecting.ConnectFault.TheVariants as connect_fault
 use Rattle.tp_config.specs.declared.mapping.MapFault.{MapFault}
 use Rattle.tp_config.specs.declared.mapping.MapFault.TheVariants as map_fault
-use Rattle.tp_config.specs.Setup.{Setup, Member, names, is_system, is_system_member}
+use Rattle.tp_config.specs.Setup.{Setup, Member, names_of_components, is_system, is_system_member}
 use Rattle.tp_config.specs.Allowed.{Directed, CanConnect, CanMap, MapDirected}
 use Rattle.tp_config.specs.Pairs.{partners}
 
 -- f is the first of the list whose cause holds
-abbrev pub IsFirst : {F : Type 0} → (F → Type 0) → List F → F → Type 0
-IsFirst Cause [] f = ⊥
-IsFirst Cause (x ∷ xs) f = ((f ≡ x) × Cause x) ⊎ ((¬ Cause x) × IsFirst Cause xs f)
+abbrev pub IsFirstCause : {F : Type 0} → (F → Type 0) → List F → F → Type 0
+IsFirstCause Cause [] f = ⊥
+IsFirstCause Cause (x ∷ xs) f = ((f ≡ x) × Cause x) ⊎ ((¬ Cause x) × IsFirstCause Cause xs f)
 
 -- the order in which the causes of a refused create are looked at
 abbrev pub create_order : List CreateFault
@@ -26,7 +26,7 @@ HasSystem members = (m : Member) × Contains members m × (is_system_member m �
 
 -- a component has the name, or the test system interface is there and this would be another
 abbrev pub IsTaken : Setup → Member → Type 0
-IsTaken s m = Contains (names s) m.name ⊎ ((is_system_member m ≡ true) × HasSystem s.components)
+IsTaken s m = Contains (names_of_components s) m.name ⊎ ((is_system_member m ≡ true) × HasSystem s.components)
 
 -- the cause of each refusal, whatever the others
 abbrev pub CreateCause : Setup → Member → CreateFault → Type 0
@@ -41,7 +41,7 @@ CanCreate s m = (¬ IsTaken s m) × (length s.components < 64)
 -- why a create is refused: by the first cause that holds, or, where the component can be created, for want of memory
 abbrev pub CreateRefused : Setup → Member → CreateFault → Type 0
 CreateRefused s m create_fault.Memory = CanCreate s m
-CreateRefused s m f = IsFirst (CreateCause s m) create_order f × ¬ CanCreate s m
+CreateRefused s m f = IsFirstCause (CreateCause s m) create_order f × ¬ CanCreate s m
 
 -- the order in which the causes of a refused connect are looked at
 abbrev pub connect_order : List ConnectFault
@@ -50,8 +50,8 @@ connect_order =
     connect_fault.TwoPortsOfOne ∷ connect_fault.Directions ∷ []
 
 -- p stands in a pair of the list
-abbrev pub Stands : List (PortRef × PortRef) → PortRef → Type 0
-Stands pairs p = (q : PortRef) × Contains (partners pairs p) q
+abbrev pub IsInPair : List (PortRef × PortRef) → PortRef → Type 0
+IsInPair pairs p = (q : PortRef) × Contains (partners pairs p) q
 
 -- p is connected with a port of q's component other than q
 abbrev pub HasOther : List (PortRef × PortRef) → PortRef → PortRef → Type 0
@@ -62,7 +62,7 @@ abbrev pub ConnectCause : Setup → PortRef → PortRef → ConnectFault → Typ
 ConnectCause s p q connect_fault.SystemPort = (is_system s.components p ≡ true) ⊎ (is_system s.components q ≡ true)
 ConnectCause s p q connect_fault.SamePort = p ≡ q
 ConnectCause s p q connect_fault.Already = Contains (partners s.connected p) q
-ConnectCause s p q connect_fault.Mixed = Stands s.mapped p ⊎ Stands s.mapped q
+ConnectCause s p q connect_fault.Mixed = IsInPair s.mapped p ⊎ IsInPair s.mapped q
 ConnectCause s p q connect_fault.TwoPortsOfOne = HasOther s.connected p q ⊎ HasOther s.connected q p
 ConnectCause s p q connect_fault.Directions = ¬ Directed s.types s.components p q
 ConnectCause s p q connect_fault.Memory = ⊥
@@ -70,7 +70,7 @@ ConnectCause s p q connect_fault.Memory = ⊥
 -- why a connect is refused: by the first cause that holds, or, where the pair can be connected, for want of memory
 abbrev pub ConnectRefused : Setup → PortRef → PortRef → ConnectFault → Type 0
 ConnectRefused s p q connect_fault.Memory = CanConnect s p q
-ConnectRefused s p q f = IsFirst (ConnectCause s p q) connect_order f × ¬ CanConnect s p q
+ConnectRefused s p q f = IsFirstCause (ConnectCause s p q) connect_order f × ¬ CanConnect s p q
 
 -- the order in which the causes of a refused map are looked at
 abbrev pub map_order : List MapFault
@@ -79,8 +79,8 @@ map_order = map_fault.NotSystem ∷ map_fault.Mixed ∷ map_fault.NotOneToOne �
 -- the cause of each refusal, whatever the others
 abbrev pub MapCause : Setup → PortRef → PortRef → MapFault → Type 0
 MapCause s p q map_fault.NotSystem = is_system s.components p ≡ is_system s.components q
-MapCause s p q map_fault.Mixed = Stands s.connected p ⊎ Stands s.connected q
-MapCause s p q map_fault.NotOneToOne = Stands s.mapped p ⊎ Stands s.mapped q
+MapCause s p q map_fault.Mixed = IsInPair s.connected p ⊎ IsInPair s.connected q
+MapCause s p q map_fault.NotOneToOne = IsInPair s.mapped p ⊎ IsInPair s.mapped q
 MapCause s p q map_fault.MapDirections =
     ¬ ((is_system s.components q ≡ true → MapDirected s.types s.components p q)
     × (is_system s.components p ≡ true → MapDirected s.types s.components q p))
@@ -89,4 +89,4 @@ MapCause s p q map_fault.Memory = ⊥
 -- why a map is refused: by the first cause that holds, or, where the pair can be mapped, for want of memory
 abbrev pub MapRefused : Setup → PortRef → PortRef → MapFault → Type 0
 MapRefused s p q map_fault.Memory = CanMap s p q
-MapRefused s p q f = IsFirst (MapCause s p q) map_order f × ¬ CanMap s p q
+MapRefused s p q f = IsFirstCause (MapCause s p q) map_order f × ¬ CanMap s p q

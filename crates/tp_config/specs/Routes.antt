@@ -51,8 +51,8 @@ abbrev pub RouteCause : Setup → PortRef → Option CompId → RouteFault → T
 RouteCause s p to f = RouteCauseOf (routes_from s p) to f
 
 -- no two of the routes are equal
-abbrev pub AreDistinct : List RouteId → Type 0
-AreDistinct routes = AllPairs (λ r t. r ≢ t) routes
+abbrev pub AreDistinctRoutes : List RouteId → Type 0
+AreDistinctRoutes routes = AllPairs (λ r t. r ≢ t) routes
 
 -- a route determines the port that sends on it
 abbrev pub SendersAreDetermined : Setup → Type 0

@@ -65,8 +65,8 @@ abbrev pub IsPort : Setup → PortRef → Type 0
 IsPort s p = IsSome (decl_at s.types s.components p)
 
 -- the names of the components, by their numbers
-abbrev pub names : Setup → List (List ℕ)
-names s = map (λ (m : Member). m.name) s.components
+abbrev pub names_of_components : Setup → List (List ℕ)
+names_of_components s = map (λ (m : Member). m.name) s.components
 
 -- the names of the ports of a component, by their numbers
 abbrev pub port_names : Setup → CompId → List (List ℕ)

@@ -1,10 +1,10 @@
 //! The configuration of a test.
 ghost use Rattle.std.specs.Prelude.{◌≡◌, ◌<◌, ◌≤◌, ◌↔◌, All, Contains, IfErr, IfOk, IfSome, IsSome, MatchResult, OnOk, Some, length, map, option_map, slice_get, string_bytes};
-ghost use Rattle.tp_config.specs.Setup.{IsComponent, IsPort, connecting, creating, empty_setup, mapping, names, port_names, ports_at};
+ghost use Rattle.tp_config.specs.Setup.{IsComponent, IsPort, connecting, creating, empty_setup, mapping, names_of_components, port_names, ports_at};
 ghost use Rattle.tp_config.specs.Shape.{member, ports_of};
 ghost use Rattle.tp_config.specs.Allowed.{CanConnect, CanMap, IsSetup};
 ghost use Rattle.tp_config.specs.Causes.{CanCreate, ConnectRefused, CreateRefused, MapRefused};
-ghost use Rattle.tp_config.specs.Routes.{AreDistinct, AreRoutesInto, IsRoute, RouteCause, SendersAreDetermined, routes_from, routes_into};
+ghost use Rattle.tp_config.specs.Routes.{AreDistinctRoutes, AreRoutesInto, IsRoute, RouteCause, SendersAreDetermined, routes_from, routes_into};
 
 use crate::component::{Component, beside, join_ports, port_count, type_in};
 use crate::connecting::{ConnectFault, connect_fault};
@@ -102,7 +102,7 @@ impl Config {
     /// The name of a component of this configuration. Takes no memory.
     pub fn name(&self, comp: CompId) -> &str
         requires { IsComponent self.now comp }
-        ensures { slice_get (names self.now) comp.0 ≡ Some result.now }
+        ensures { slice_get (names_of_components self.now) comp.0 ≡ Some result.now }
     {
         self.components[comp.0 as usize].name.as_str()
     }
@@ -177,8 +177,9 @@ impl Config {
 
     /// The component of this name, or `None` where no component has it. Takes no memory.
     pub fn comp_of(&self, name: &str) -> Option<CompId>
-        ensures there { IfSome result (λ comp. slice_get (names self.now) comp.0 ≡ Some name.now) }
-        ensures known { IsSome result ↔ Contains (names self.now) name.now }
+        ensures there { IfSome result (λ comp.
+            slice_get (names_of_components self.now) comp.0 ≡ Some name.now) }
+        ensures known { IsSome result ↔ Contains (names_of_components self.now) name.now }
     {
         match component_place(self.components.as_slice(), name) {
             Some(place) => Some(CompId(place as u32)),
@@ -261,7 +262,7 @@ impl Config {
     /// 50 `Memory` only where an allocation was refused.
     pub fn routes_from(&self, p: PortRef) -> Result<Vec<RouteId>, Memory>
         ensures routes { IfOk result (λ v. v.items ≡ routes_from self.now p) }
-        ensures distinct { AreDistinct (routes_from self.now p) }
+        ensures distinct { AreDistinctRoutes (routes_from self.now p) }
         ensures senders { SendersAreDetermined self.now }
     {
         routes_out(self.alloc, p, beside(self.components.as_slice(), p))
@@ -274,7 +275,7 @@ impl Config {
     /// 50 `Memory` only where an allocation was refused.
     pub fn routes_into(&self, comp: CompId) -> Result<Vec<RouteId>, Memory>
         ensures routes { IfOk result (λ v. v.items ≡ routes_into self.now comp) }
-        ensures distinct { AreDistinct (routes_into self.now comp) }
+        ensures distinct { AreDistinctRoutes (routes_into self.now comp) }
         ensures both_ways { AreRoutesInto self.now comp (routes_into self.now comp) }
     {
         routes_in(

@@ -4,17 +4,17 @@ use Rattle.std.specs.Prelude.{slice_index_or, ◌&&◌, ◌==◌, All, filter}
 use Rattle.std.specs.List.{filter_map, cons_option}
 use Rattle.std.proofs.lemmas.Bool.{and_parts, and_from, eqb-true}
 use Rattle.std.proofs.lemmas.List.Elements.{filter_map-append, filter-append}
-use Rattle.tp_queue.specs.declared.event.Env.{Env}
+use Rattle.tp_event.specs.declared.event.Env.{Env}
 use Rattle.tp_value.specs.declared.message.Message.{Message}
 use Rattle.tp_config.specs.declared.port_type.CompId.{CompId}
 use Rattle.tp_config.specs.declared.port_type.RouteId.{RouteId}
-use Rattle.tp_inbox.specs.declared.entry.Entry.{Entry}
-use Rattle.tp_inbox.specs.declared.entry.Entry.TheVariants as entry
+use Rattle.tp_history.specs.declared.entry.Entry.{Entry}
+use Rattle.tp_history.specs.declared.entry.Entry.TheVariants as entry
 use Rattle.tp_inbox.specs.declared.envelope.Envelope.{Envelope}
-use Rattle.tp_inbox.specs.declared.posted.Posted.{Posted}
-use Rattle.tp_inbox.specs.History.{is_arrival, arrivals, arrival_on, arrived_on, arrival_from, arrived_from}
-use Rattle.tp_inbox.specs.Envelopes.{of, has, among, InOrder, AreRouted}
-use Rattle.tp_inbox.specs.Routed.{AreRoutes, route_at, absent_route, arrival_of, arrivals_of, IsArrivalOn, AreNumbered, posted_of}
+use Rattle.tp_history.specs.declared.posted.Posted.{Posted}
+use Rattle.tp_history.specs.History.{is_arrival, arrivals, arrival_on, arrived_on, arrival_from, arrived_from}
+use Rattle.tp_inbox.specs.Envelopes.{of, has, on_routes, InOrder, AreRouted}
+use Rattle.tp_inbox.specs.Routed.{AreRoutes, route_at, absent_route, arrival_of, arrivals_of, IsArrivalOn, AreArrivalsNumbered, posted_of}
 use Rattle.tp_inbox.specs.Ends.{AreFrom}
 use Rattle.tp_inbox.proofs.Routes.{same_or_not}
 
@@ -125,10 +125,6 @@ pub arrivals_one : (port : ℕ) (env : Env Message) (stamp : ℕ) → arrivals (
 unfolding arrivals
 arrivals_one port env stamp = refl
 
-pub arrivals_none : arrivals [] ≡ []
-unfolding arrivals
-arrivals_none = refl
-
 pub arrivals-append : (xs ys : List Entry) → arrivals (xs ++ ys) ≡ arrivals xs ++ arrivals ys
 unfolding arrivals
 arrivals-append xs ys = filter-append is_arrival xs ys
@@ -219,14 +215,14 @@ map_cond f false x l = refl
 -- what comes from a component is what the envelopes of its routes hold, in their order
 pub from_places : (comp : CompId) (ports : ℕ) (routes : List RouteId) → AreRoutes comp ports routes → (source : CompId) (places : List ℕ)
     → AreFrom source routes places → (es : List Envelope) → AreRouted (length routes) es
-    → arrived_from comp source (arrivals_of routes es) ≡ map (posted_of routes) (among places es)
+    → arrived_from comp source (arrivals_of routes es) ≡ map (posted_of routes) (on_routes places es)
 unfolding arrived_from
 from_places comp ports routes are source places from [] h = refl
 from_places comp ports routes are source places from (e ∷ es) h =
     ap (λ o. cons_option o (filter_map (arrival_from comp source) (arrivals_of routes es)))
     (posted_as comp source routes e (has places e.place) (are.here e.place absent_route h.0) (sym (from e.place h.0)))
     ∙ ap (cons_option (cond (has places e.place) (Some (posted_of routes e)) None)) (from_places comp ports routes are source places from es h.1)
-    ∙ map_cond (posted_of routes) (has places e.place) e (among places es)
+    ∙ map_cond (posted_of routes) (has places e.place) e (on_routes places es)
 
 pub are_on : (routes : List RouteId) (es : List Envelope) → AreRouted (length routes) es → All (IsArrivalOn routes) (arrivals_of routes es)
 are_on routes [] of_these k d low = absurd (omega arith)
@@ -239,7 +235,7 @@ are_on routes (e ∷ es) of_these zero d low = (
 are_on routes (e ∷ es) of_these (suc k) d low = are_on routes es of_these.1 k d (omega arith)
 
 pub numbered_on : (comp : CompId) (ports : ℕ) (routes : List RouteId) → AreRoutes comp ports routes → (es : List Envelope) → AreRouted (length routes) es
-    → InOrder es → AreNumbered routes (arrivals_of routes es)
+    → InOrder es → AreArrivalsNumbered routes (arrivals_of routes es)
 numbered_on comp ports routes r es of_these order k d low = (
   (order k).0,
   ap (λ q. arrived_on q (arrivals_of routes es)) (same_default routes k d absent_route low) ∙ on_place comp ports routes r k low es of_these ∙ (order k).1,

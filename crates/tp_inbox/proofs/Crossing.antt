@@ -1,48 +1,21 @@
--- What of an inbox and a desk may go into a thread, or be shared with one.
+-- What of an inbox may go into a thread, or be shared with one.
 -- A message holds values of a recursive type, so `search` has to be told of the values first, and then of each type in turn.
 use denote.Param.Send.{IsSend, IsSync, sendable}
 use Rattle.std.proofs.Crossing.{crosses}
 use Rattle.tp_value.proofs.value.Value.TheLaws.TheKnot.{crosses_both as knot}
-use Rattle.tp_value.specs.contracts.message.Message as message
 use Rattle.tp_config.proofs.port_type.RouteId.TheSendSync.{the_send as route_send}
 use Rattle.crossbeam_queue.proofs.seg_queue.Chained.TheSendSync.{the_send as chained_send, the_sync as chained_sync}
 use Rattle.crossbeam_queue.proofs.seg_queue.Ends.TheSendSync.{the_send as ends_send, the_sync as ends_sync}
 use Rattle.atomic_blocks.proofs.web.Seat.TheSendSync.{the_send as seat_send}
 use Rattle.tp_floor.proofs.Crossing.{notifier_send}
-use Rattle.tp_inbox.specs.contracts.stamped.Stamped as stamped
 use Rattle.tp_inbox.specs.contracts.envelope.Envelope as envelope
-use Rattle.tp_inbox.specs.contracts.entry.Entry as entry
 use Rattle.tp_inbox.specs.contracts.channel.Channel as channel
 use Rattle.tp_inbox.specs.contracts.owner.Owner as owner
 use Rattle.tp_inbox.specs.contracts.owner.Owner.TheInside as owner_inside
 use Rattle.tp_inbox.specs.contracts.owner.Closer as closer
 use Rattle.tp_inbox.specs.contracts.sender.Sender as sender
 use Rattle.tp_inbox.specs.contracts.sender.Sender.TheInside as sender_inside
-use Rattle.tp_inbox.specs.contracts.desk.Desk as desk
-use Rattle.tp_inbox.specs.contracts.desk.Desk.TheInside as desk_inside
-
-pub message_send : IsSend message.the_row
-message_send = search (sendable, crosses, knot) depth 20
-
--- a message as it stands in another type's field
-pub message_field_send : IsSend (message.the_field).row
-message_field_send = search (sendable, crosses, knot) depth 20
-
-pub message_field_sync : IsSync (message.the_field).row
-message_field_sync = search (sendable, crosses, knot) depth 20
-
-pub stamped_send : IsSend stamped.the_row
-stamped_send = search (sendable, crosses, message_field_send) depth 20
-
-pub stamped_sync : IsSync stamped.the_row
-stamped_sync = search (sendable, crosses, message_field_sync) depth 20
-
--- a stamped message as it stands in another type's field
-pub stamped_field_send : IsSend (stamped.the_field).row
-stamped_field_send = search (sendable, crosses, message_field_send) depth 20
-
-pub stamped_field_sync : IsSync (stamped.the_field).row
-stamped_field_sync = search (sendable, crosses, message_field_sync) depth 20
+use Rattle.tp_history.proofs.Crossing.{message_send, stamped_field_send, stamped_field_sync}
 
 pub envelope_send : IsSend envelope.the_row
 envelope_send = search (sendable, crosses, stamped_field_send) depth 20
@@ -73,12 +46,3 @@ closer_send = search (sendable, crosses, channel_send, channel_sync) depth 40
 
 pub closer_sync : IsSync closer.the_row
 closer_sync = search (sendable, crosses, channel_send, channel_sync) depth 40
-
-pub entry_send : IsSend entry.the_row
-entry_send = search (sendable, crosses, knot, stamped_field_send) depth 40 fits 20000
-
-desk_inside_send : IsSend desk_inside.the_row
-desk_inside_send = search (sendable, crosses, knot, message_send, entry_send) depth 40 fits 20000
-
-pub desk_send : IsSend desk.the_row
-desk_send = search (sendable, crosses, desk_inside_send) depth 40

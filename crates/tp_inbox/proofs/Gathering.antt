@@ -6,18 +6,18 @@ use Rattle.std.proofs.lemmas.List.Elements.{All-nil, All-cons}
 use Rattle.std.proofs.lemmas.Slice.Zip.{all_zipped_more}
 use Rattle.std.proofs.lemmas.List.{map-append, length-map}
 use Rattle.crossbeam_queue.specs.Fifo.{Held}
-use Rattle.tp_inbox.specs.declared.posted.Posted.{Posted}
+use Rattle.tp_history.specs.declared.posted.Posted.{Posted}
 use Rattle.tp_config.specs.declared.port_type.CompId.{CompId}
 use Rattle.tp_config.specs.declared.port_type.RouteId.{RouteId}
-use Rattle.tp_inbox.specs.declared.entry.Entry.{Entry}
+use Rattle.tp_history.specs.declared.entry.Entry.{Entry}
 use Rattle.tp_inbox.specs.declared.envelope.Envelope.{Envelope}
 use Rattle.tp_inbox.specs.declared.channel.Channel.{Channel}
 use Rattle.tp_inbox.specs.declared.rule.View.{View}
-use Rattle.tp_inbox.specs.History.{arrivals, arrived_on, arrived_from}
-use Rattle.tp_inbox.specs.Envelopes.{AreFronts, AreWhole, AreRouted, Begins, Ledger, among, one_of, before, EndsWith}
+use Rattle.tp_history.specs.History.{arrivals, arrived_on, arrived_from}
+use Rattle.tp_inbox.specs.Envelopes.{AreFronts, AreWhole, AreRouted, Begins, Ledger, on_routes, one_of, envelopes_before, EndsWith}
 use Rattle.tp_inbox.specs.Rule.{owner_pass, sender_pass, Knows, Sound}
-use Rattle.tp_inbox.specs.Routed.{AreBegun, AreDelivered, AreNumbered, IsArrivalOn, arrival_of, arrivals_of, posted_of, sources_behind, with_source}
-use Rattle.tp_inbox.specs.Ledgers.{Inbox, Sending, AreSenders}
+use Rattle.tp_inbox.specs.Routed.{AreBegun, AreDelivered, AreArrivalsNumbered, IsArrivalOn, arrival_of, arrivals_of, posted_of, sources_behind, with_source}
+use Rattle.tp_inbox.specs.Ledgers.{Inbox, SenderLedger, AreSenders}
 use Rattle.tp_inbox.specs.Ends.{AreFrom, inbox_of, sent_by}
 use Rattle.tp_inbox.specs.Gathers.{IsPutOf}
 use Rattle.tp_inbox.proofs.Owners.{take_front, sound_joined, routed_rest}
@@ -54,7 +54,7 @@ routed_at channel v sent h = subst (λ (n : ℕ). AreRouted n v.taken) h.made h.
 
 -- what came from a component is what of its sender's envelopes was taken out
 came_of : (channel : Channel) (taken : List Envelope) → AreRouted (length channel.routes.items) taken → (x : Ledger) (s : Sent) → IsPutOf channel.routes.items x s
-    → arrived_from channel.comp s.0 (arrivals_of channel.routes.items taken) ≡ map (posted_of channel.routes.items) (among x.0 taken)
+    → arrived_from channel.comp s.0 (arrivals_of channel.routes.items taken) ≡ map (posted_of channel.routes.items) (on_routes x.0 taken)
 came_of channel taken routed x s h = from_places channel.comp channel.ports channel.routes.items channel.routed s.0 x.0 h.0 taken routed
 
 begun_each : (channel : Channel) (taken : List Envelope) → AreRouted (length channel.routes.items) taken → (known : List Ledger) (sent : List Sent)
@@ -65,13 +65,13 @@ begun_each channel taken routed [] (s ∷ sent) h fronts = absurd h
 begun_each channel taken routed (x ∷ known) [] h fronts = absurd h
 begun_each channel taken routed (x ∷ known) (s ∷ sent) h fronts =
     let posted = map (posted_of channel.routes.items) in
-    let first : Begins (among x.0 taken) x.1 = all_head (λ (y : Ledger). Begins (among y.0 taken) y.1) x known fronts in
+    let first : Begins (on_routes x.0 taken) x.1 = all_head (λ (y : Ledger). Begins (on_routes y.0 taken) y.1) x known fronts in
     All-cons (λ (s : Sent). Begins (arrived_from channel.comp s.0 (arrivals_of channel.routes.items taken)) s.1) s sent (
       posted first.0,
-      ap (λ l. l ++ posted first.0) (came_of channel taken routed x s h.0) ∙ sym (map-append (posted_of channel.routes.items) (among x.0 taken) first.0)
+      ap (λ l. l ++ posted first.0) (came_of channel taken routed x s h.0) ∙ sym (map-append (posted_of channel.routes.items) (on_routes x.0 taken) first.0)
           ∙ ap posted first.1 ∙ sym h.0.1,
     )
-    (begun_each channel taken routed known sent h.1 (all_tail (λ (y : Ledger). Begins (among y.0 taken) y.1) x known fronts))
+    (begun_each channel taken routed known sent h.1 (all_tail (λ (y : Ledger). Begins (on_routes y.0 taken) y.1) x known fronts))
 
 delivered_each : (channel : Channel) (taken : List Envelope) → AreRouted (length channel.routes.items) taken → (known : List Ledger) (sent : List Sent)
     → AllZip (IsPutOf channel.routes.items) known sent → AreWhole taken known → AreDelivered channel.comp (arrivals_of channel.routes.items taken) sent
@@ -82,8 +82,8 @@ delivered_each channel taken routed (x ∷ known) [] h whole = absurd h
 delivered_each channel taken routed (x ∷ known) (s ∷ sent) h whole =
     All-cons (λ (s : Sent). arrived_from channel.comp s.0 (arrivals_of channel.routes.items taken) ≡ s.1) s sent
     (came_of channel taken routed x s h.0
-    ∙ ap (map (posted_of channel.routes.items)) (all_head (λ (y : Ledger). among y.0 taken ≡ y.1) x known whole) ∙ sym h.0.1)
-    (delivered_each channel taken routed known sent h.1 (all_tail (λ (y : Ledger). among y.0 taken ≡ y.1) x known whole))
+    ∙ ap (map (posted_of channel.routes.items)) (all_head (λ (y : Ledger). on_routes y.0 taken ≡ y.1) x known whole) ∙ sym h.0.1)
+    (delivered_each channel taken routed known sent h.1 (all_tail (λ (y : Ledger). on_routes y.0 taken ≡ y.1) x known whole))
 
 pub begun_at : (channel : Channel) (v : View) (sent : List Sent) (all : List Entry) (comp : CompId) → Knowing channel v sent
     → arrivals_of channel.routes.items v.taken ≡ all → channel.comp ≡ comp → AreBegun comp all sent
@@ -107,7 +107,7 @@ delivered_at channel v sent drained rest log h whole is same k d low =
 
 -- and it is numbered on each route
 pub numbered_at : (channel : Channel) (v : View) (sent : List Sent) (drained rest log : List Entry) → Knowing channel v sent
-    → arrivals_of channel.routes.items v.taken ≡ drained ++ rest → arrivals log ≡ drained → AreNumbered channel.routes.items (log ++ rest)
+    → arrivals_of channel.routes.items v.taken ≡ drained ++ rest → arrivals log ≡ drained → AreArrivalsNumbered channel.routes.items (log ++ rest)
 numbered_at channel v sent drained rest log h is same k d low =
     let r = slice_index_or channel.routes.items k d in
     let n = numbered_on channel.comp channel.ports channel.routes.items channel.routed v.taken (routed_at channel v sent h) h.sound.order k d low in (
@@ -135,13 +135,13 @@ joined v u w known n s e same held = (
 
 -- all that was taken out is what was drained, and then what is in hand
 pub taken_apart : (routes : List RouteId) (taken all : List Envelope) (hand : Option Envelope) (rest : List Entry) → taken ≡ all → EndsWith all (one_of hand)
-    → rest ≡ arrivals_of routes (one_of hand) → arrivals_of routes taken ≡ arrivals_of routes (before all (one_of hand)) ++ rest
+    → rest ≡ arrivals_of routes (one_of hand) → arrivals_of routes taken ≡ arrivals_of routes (envelopes_before all (one_of hand)) ++ rest
 taken_apart routes taken all hand rest same ends is =
-    ap (arrivals_of routes) (same ∙ ends) ∙ map-append (arrival_of routes) (before all (one_of hand)) (one_of hand)
-    ∙ ap (λ l. arrivals_of routes (before all (one_of hand)) ++ l) (sym is)
+    ap (arrivals_of routes) (same ∙ ends) ∙ map-append (arrival_of routes) (envelopes_before all (one_of hand)) (one_of hand)
+    ∙ ap (λ l. arrivals_of routes (envelopes_before all (one_of hand)) ++ l) (sym is)
 
 pub hand_routed : (n m : ℕ) (all : List Envelope) (hand : Option Envelope) → n ≡ m → AreRouted n all → EndsWith all (one_of hand) → AreRouted m (one_of hand)
-hand_routed n m all hand same routed ends = routed_rest n m all (before all (one_of hand)) (one_of hand) same ends routed
+hand_routed n m all hand same routed ends = routed_rest n m all (envelopes_before all (one_of hand)) (one_of hand) same ends routed
 
 -- one more that has joined
 pub move_one : {A : Type 0} (all xs : List A) (x : A) (ys : List A) → all ≡ xs ++ x ∷ [] → all ++ ys ≡ xs ++ x ∷ ys
@@ -185,10 +185,10 @@ few_behind sources (r ∷ rs) =
     omega (arith, more, one)
 
 -- there are no more senders than routes
-pub few_senders : (inbox : Inbox) (senders : List Sending) → AreSenders inbox senders → length senders ≤ length inbox.routes
+pub few_senders : (inbox : Inbox) (senders : List SenderLedger) → AreSenders inbox senders → length senders ≤ length inbox.routes
 few_senders inbox senders are =
     let few = few_behind [] inbox.routes in
-    omega (arith, few, ap length are.1, length-map senders (λ (s : Sending). s.source))
+    omega (arith, few, ap length are.1, length-map senders (λ (s : SenderLedger). s.source))
 
 -- nothing is known as yet
 pub known_none : (routes : List RouteId) (known : List Ledger) (cs : List CompId) → known ≡ [] → cs ≡ []

@@ -1,6 +1,4 @@
-pub mod Clocks
 pub mod Crossing
-pub mod Ports
 pub mod Routes
 pub mod Steps
 pub mod Owners

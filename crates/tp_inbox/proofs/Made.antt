@@ -6,9 +6,9 @@ use Rattle.tp_config.specs.declared.port_type.CompId.{CompId}
 use Rattle.tp_config.specs.declared.port_type.PortRef.{PortRef}
 use Rattle.tp_config.specs.declared.port_type.RouteId.{RouteId}
 use Rattle.tp_config.specs.Setup.{Setup, ports_at}
-use Rattle.tp_config.specs.Routes.{route_to, beside, routes_below, routes_into, AreDistinct}
+use Rattle.tp_config.specs.Routes.{route_to, beside, routes_below, routes_into, AreDistinctRoutes}
 use Rattle.tp_inbox.specs.Routed.{AreRoutes, sources_of}
-use Rattle.tp_inbox.specs.Ledgers.{Inbox, Sending, AreSenders, IsSenderInto, new_sender}
+use Rattle.tp_inbox.specs.Ledgers.{Inbox, SenderLedger, AreSenders, IsSenderInto, new_sender}
 
 all_map : {A B : Type 0} (P : B → Type 0) (f : A → B) (xs : List A) → ((x : A) → P (f x)) → All P (map f xs)
 all_map P f [] h k d low = absurd (omega arith)
@@ -39,7 +39,7 @@ unfolding routes_into
 routes_here s c = below_here s c (length (ports_at s.types s.components c))
 
 -- the routes into a component of a configuration
-pub routes_are : (s : Setup) (c : CompId) (routes : List RouteId) → routes ≡ routes_into s c → AreDistinct (routes_into s c)
+pub routes_are : (s : Setup) (c : CompId) (routes : List RouteId) → routes ≡ routes_into s c → AreDistinctRoutes (routes_into s c)
     → AreRoutes c (length (ports_at s.types s.components c)) routes
 unfolding routes_into
 routes_are s c routes is apart =
@@ -55,9 +55,9 @@ map_same [] = refl
 map_same (x ∷ xs) = ap (λ l. x ∷ l) (map_same xs)
 
 -- new senders are the senders of their inbox
-pub new_are_senders : (inbox : Inbox) (senders : List Sending) → senders ≡ map (new_sender inbox) (sources_of inbox.routes) → AreSenders inbox senders
+pub new_are_senders : (inbox : Inbox) (senders : List SenderLedger) → senders ≡ map (new_sender inbox) (sources_of inbox.routes) → AreSenders inbox senders
 new_are_senders inbox senders is =
     subst (AreSenders inbox) (sym is) (
       all_map (IsSenderInto inbox) (new_sender inbox) (sources_of inbox.routes) (λ c. (refl, refl)),
-      map_map (new_sender inbox) (λ (s : Sending). s.source) (λ c. c) (sources_of inbox.routes) (λ c. refl) ∙ map_same (sources_of inbox.routes),
+      map_map (new_sender inbox) (λ (s : SenderLedger). s.source) (λ c. c) (sources_of inbox.routes) (λ c. refl) ∙ map_same (sources_of inbox.routes),
     )

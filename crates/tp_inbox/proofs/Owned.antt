@@ -8,15 +8,15 @@ use Rattle.std.proofs.lemmas.Option.{none-some}
 use Rattle.indexmap.specs.IndexMap.{get_by}
 use Rattle.tp_config.specs.declared.port_type.CompId.{CompId}
 use Rattle.tp_config.specs.declared.port_type.RouteId.{RouteId}
-use Rattle.tp_inbox.specs.declared.entry.Entry.{Entry}
+use Rattle.tp_history.specs.declared.entry.Entry.{Entry}
 use Rattle.tp_inbox.specs.declared.envelope.Envelope.{Envelope}
 use Rattle.tp_inbox.specs.declared.channel.Channel.{Channel}
 use Rattle.tp_inbox.specs.declared.owner.Owner.TheInside as owner
 use Rattle.tp_inbox.specs.declared.rule.View.{View}
 use Rattle.tp_inbox.specs.Rule.{Sound}
-use Rattle.tp_inbox.specs.History.{is_arrival, arrivals, arrived_on}
-use Rattle.tp_inbox.specs.Desks.{Journal, adding_all}
-use Rattle.tp_inbox.specs.Envelopes.{of, one_of, before, EndsWith, AreCounts, AreRouted}
+use Rattle.tp_history.specs.History.{is_arrival, arrivals, arrived_on}
+use Rattle.tp_history.specs.Desks.{Journal, adding_all}
+use Rattle.tp_inbox.specs.Envelopes.{of, one_of, envelopes_before, EndsWith, AreCounts, AreRouted}
 use Rattle.tp_inbox.specs.Routed.{AreArrivals, arrival_of, arrivals_of, route_at, absent_route}
 use Rattle.tp_inbox.specs.Places.{route_eq}
 use Rattle.tp_inbox.specs.Ledgers.{Draining, drained_on}
@@ -31,7 +31,7 @@ seen s = record { inbox = inbox_of (arc_value s.channel); drained = drained_of s
 
 -- the envelopes that it has drained
 abbrev pub moved : owner.Inside → List Envelope
-moved s = before s.pass.me.view.client.taken (one_of s.hand)
+moved s = envelopes_before s.pass.me.view.client.taken (one_of s.hand)
 
 pub owner_arrivals : (s : owner.Inside) (v : Draining) → IsOwner s → seen s ≡ v → AreArrivals v.inbox.routes v.drained
 owner_arrivals s v o e =
@@ -62,26 +62,26 @@ next_of_route s w e h sound same is =
 
 -- where it is in hand again, what was drained stands before it, as it did
 pub hand-back : (all xs : List Envelope) (e : Envelope) (o : Option Envelope) → o ≡ Some e → all ≡ xs ++ e ∷ []
-    → (before all (one_of o) ≡ xs) × EndsWith all (one_of o)
+    → (envelopes_before all (one_of o) ≡ xs) × EndsWith all (one_of o)
 hand-back all xs e o some is = ends-append all xs (one_of o) (is ∙ ap (λ h. xs ++ one_of h) (sym some))
 
 -- where nothing comes, as much was drained as before
 pub drained-none : (s : owner.Inside) (w : View) (o : Option Envelope) → o ≡ None → GivesNext s.pass.me.view.client s.hand None w
-    → before w.taken (one_of o) ≡ moved s
-drained-none s w o none is = λ i. before (is.1 i) (one_of ((none ∙ sym is.0) i))
+    → envelopes_before w.taken (one_of o) ≡ moved s
+drained-none s w o none is = λ i. envelopes_before (is.1 i) (one_of ((none ∙ sym is.0) i))
 
 pub drained-push : (routes : List RouteId) (all : List Envelope) (xs : List Envelope) (e : Envelope) (o : Option Envelope) (x : Entry) → o ≡ None → all ≡ xs
     ++ e ∷ [] → x ≡ arrival_of routes e
-    → arrivals_of routes (before all (one_of o)) ≡ arrivals_of routes xs ++ x ∷ []
+    → arrivals_of routes (envelopes_before all (one_of o)) ≡ arrivals_of routes xs ++ x ∷ []
 drained-push routes all xs e o x none is entry =
-    ap (λ h. arrivals_of routes (before all (one_of h))) none ∙ ap (arrivals_of routes) (before_nothing all ∙ is)
+    ap (λ h. arrivals_of routes (envelopes_before all (one_of h))) none ∙ ap (arrivals_of routes) (before_nothing all ∙ is)
     ∙ map-append (arrival_of routes) xs (e ∷ []) ∙ ap (λ y. arrivals_of routes xs ++ y ∷ []) (sym entry)
 
 pub counts-push : (n : ℕ) (counts : List ℕ) (all xs : List Envelope) (e : Envelope) (o : Option Envelope) → o ≡ None → all ≡ xs ++ e ∷ []
     → AreCounts n counts xs → e.place < n → e.number ≡ length (of e.place xs)
-    → AreCounts n (set counts e.place (e.number + 1)) (before all (one_of o))
+    → AreCounts n (set counts e.place (e.number + 1)) (envelopes_before all (one_of o))
 counts-push n counts all xs e o none is were low number =
-    subst (AreCounts n (set counts e.place (e.number + 1))) (sym (ap (λ h. before all (one_of h)) none ∙ before_nothing all ∙ is))
+    subst (AreCounts n (set counts e.place (e.number + 1))) (sym (ap (λ h. envelopes_before all (one_of h)) none ∙ before_nothing all ∙ is))
     (counts_next n counts xs e were low number)
 
 pub ends-none : (all : List Envelope) (o : Option Envelope) → o ≡ None → EndsWith all (one_of o)

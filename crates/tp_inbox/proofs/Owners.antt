@@ -4,7 +4,7 @@ use Rattle.crossbeam_queue.specs.Fifo.{Held}
 use Rattle.tp_inbox.specs.declared.envelope.Envelope.{Envelope}
 use Rattle.tp_inbox.specs.declared.rule.View.{View}
 use Rattle.std.specs.Prelude.{slice_index_or}
-use Rattle.tp_inbox.specs.Envelopes.{of, InOrder, AreRouted, AreFronts, AreWhole, Ledger, among, one_of, before, EndsWith}
+use Rattle.tp_inbox.specs.Envelopes.{of, InOrder, AreRouted, AreFronts, AreWhole, Ledger, on_routes, one_of, envelopes_before, EndsWith}
 use Rattle.tp_inbox.specs.Rule.{owner_pass, Takes, Knows, Sound}
 use Rattle.tp_inbox.proofs.Routes.{among-append, append_nil, routed-append, routed-front, routed-back, in_order-front, next_number}
 
@@ -13,16 +13,16 @@ take_front [] ys n e = ap (λ k. take k ys) e
 take_front (x ∷ xs) ys zero e = absurd (omega arith)
 take_front (x ∷ xs) ys (suc n) e = ap (λ l. x ∷ l) (take_front xs ys n (omega arith))
 
-pub before-append : (xs ys : List Envelope) → before (xs ++ ys) ys ≡ xs
+pub before-append : (xs ys : List Envelope) → envelopes_before (xs ++ ys) ys ≡ xs
 before-append xs ys = take_front xs ys (length (xs ++ ys) - length ys) (omega (arith, length-append xs ys))
 
-pub ends-append : (all xs ys : List Envelope) → all ≡ xs ++ ys → (before all ys ≡ xs) × EndsWith all ys
+pub ends-append : (all xs ys : List Envelope) → all ≡ xs ++ ys → (envelopes_before all ys ≡ xs) × EndsWith all ys
 ends-append all xs ys e =
-    let b : before all ys ≡ xs = ap (λ l. before l ys) e ∙ before-append xs ys in
+    let b : envelopes_before all ys ≡ xs = ap (λ l. envelopes_before l ys) e ∙ before-append xs ys in
     (b, e ∙ ap (λ l. l ++ ys) (sym b))
 
-pub before_nothing : (xs : List Envelope) → before xs [] ≡ xs
-before_nothing xs = ap (λ l. before l []) (sym (append_nil xs)) ∙ before-append xs []
+pub before_nothing : (xs : List Envelope) → envelopes_before xs [] ≡ xs
+before_nothing xs = ap (λ l. envelopes_before l []) (sym (append_nil xs)) ∙ before-append xs []
 
 pub sound_taken : (v : View) (e : Envelope) (w : View) → Sound v → Takes v e w → Sound w
 sound_taken v e w s t =
@@ -37,12 +37,12 @@ pub whole_at_nothing : (v : View) → Knows v [] → AreWhole v.taken v.known
 whole_at_nothing v k = subst (λ l. AreWhole l v.known) (append_nil v.taken) k
 
 pub fronts_of_known : (v : View) (items : List Envelope) → Knows v items → AreFronts v.taken v.known
-fronts_of_known v items h k d low = let ps = (slice_index_or v.known k d).0 in (among ps items, sym (among-append ps v.taken items) ∙ h k d low)
+fronts_of_known v items h k d low = let ps = (slice_index_or v.known k d).0 in (on_routes ps items, sym (among-append ps v.taken items) ∙ h k d low)
 
-pub in_order_before : (all kept : List Envelope) → InOrder all → InOrder (before all kept)
+pub in_order_before : (all kept : List Envelope) → InOrder all → InOrder (envelopes_before all kept)
 in_order_before all kept h = let n = length all - length kept in in_order-front (take n all) (drop n all) (subst InOrder (sym (take-append-drop n all)) h)
 
-pub routed_before : (n m : ℕ) (all kept : List Envelope) → n ≡ m → AreRouted n all → AreRouted m (before all kept)
+pub routed_before : (n m : ℕ) (all kept : List Envelope) → n ≡ m → AreRouted n all → AreRouted m (envelopes_before all kept)
 routed_before n m all kept e h = let k = length all - length kept in routed-front m (take k all) (drop k all)
     (subst (λ (x : ℕ × List Envelope). AreRouted x.0 x.1) (λ i. (e i, sym (take-append-drop k all) i)) h)
 
@@ -76,7 +76,7 @@ gathered v u w known routes hand rest made ends none e same = (
 )
 
 pub fronts_split : (w : View) (known : List Ledger) (kept : List Envelope) → Sound w → w.known ≡ known → EndsWith w.taken kept
-    → AreFronts (before w.taken kept ++ kept) known
+    → AreFronts (envelopes_before w.taken kept ++ kept) known
 fronts_split w known kept s k e = subst (λ (x : List Envelope × List Ledger). AreFronts x.0 x.1) (λ i. (e i, k i)) s.fronts
 
 pub routed_rest : (n m : ℕ) (all xs ys : List Envelope) → n ≡ m → all ≡ xs ++ ys → AreRouted n all → AreRouted m ys

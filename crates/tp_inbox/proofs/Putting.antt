@@ -14,17 +14,17 @@ use Rattle.tp_config.specs.declared.port_type.RouteId.{RouteId}
 use Rattle.tp_inbox.specs.declared.envelope.Envelope.{Envelope}
 use Rattle.tp_inbox.specs.declared.rule.View.{View}
 use Rattle.tp_inbox.specs.declared.sender.Sender.TheInside as sender
-use Rattle.tp_inbox.specs.History.{same_route, posting_on, posted_on}
+use Rattle.tp_history.specs.History.{same_route, posting_on, posted_on}
 use Rattle.tp_inbox.specs.Envelopes.{of, has, AreRouted}
-use Rattle.tp_inbox.specs.Rule.{sender_pass, Puts}
+use Rattle.tp_inbox.specs.Rule.{sender_pass, PutsEnvelope}
 use Rattle.tp_inbox.specs.Routed.{AreRoutes, posted_of, route_at, absent_route}
-use Rattle.tp_inbox.specs.Ledgers.{Sending, put_on_way}
+use Rattle.tp_inbox.specs.Ledgers.{SenderLedger, put_on_way}
 use Rattle.tp_inbox.specs.Ends.{AreTold, IsSender, inbox_of}
 use Rattle.tp_inbox.proofs.Routes.{append_nil, of-append, of-here, of-else, routed-append, same_or_not}
 use Rattle.tp_inbox.proofs.Arrivals.{same_place}
 
 -- what a sender sees itself as
-abbrev pub seen : sender.Inside → Sending
+abbrev pub seen : sender.Inside → SenderLedger
 seen s = record {
   inbox = inbox_of (arc_value s.channel);
   source = s.source;
@@ -79,16 +79,16 @@ posted_at comp ports routes are p low (e ∷ es) h =
     ∙ cons_cond (eqb p e.place) (e.number, e.stamped) (of p es)
 
 -- what a sender has put on one of its routes is what its envelopes of that route hold
-pub on_way : (s : sender.Inside) (v : Sending) (way : ℕ) → IsSender s → seen s ≡ v → way < length v.routes
+pub on_way : (s : sender.Inside) (v : SenderLedger) (way : ℕ) → IsSender s → seen s ≡ v → way < length v.routes
     → (way < length s.places.items) × (put_on_way v way ≡ of (get_or s.places.items way 0) s.pass.me.view.client.put)
 on_way s v way h is low =
     let channel = arc_value s.channel in
     let routes = channel.routes.items in
     let few : way < length s.places.items =
-    omega (arith, ap (λ (x : Sending). length x.routes) is, length-map s.places.items (route_at routes)) in
+    omega (arith, ap (λ (x : SenderLedger). length x.routes) is, length-map s.places.items (route_at routes)) in
     let p = get_or s.places.items way 0 in (
       few,
-      ap (λ (x : Sending). put_on_way x way) (sym is)
+      ap (λ (x : SenderLedger). put_on_way x way) (sym is)
           ∙ ap (λ r. posted_on r (map (posted_of routes) s.pass.me.view.client.put)) (get_or-map (route_at routes) s.places.items way 0 absent_route few)
           ∙ posted_at channel.comp channel.ports routes channel.routed p (h.low way 0 few) s.pass.me.view.client.put h.routed,
     )
@@ -100,10 +100,10 @@ aimed_at comp ports routes are places low k d few =
     ap (λ (r : RouteId). r.to.comp) (get_or-map (route_at routes) places k 0 d within) ∙ are.here (get_or places k 0) absent_route (low k 0 within)
 
 -- a sender's routes lead to the component of its inbox
-pub ways_aimed : (s : sender.Inside) (v : Sending) → IsSender s → seen s ≡ v → All (λ (r : RouteId). r.to.comp ≡ v.inbox.comp) v.routes
+pub ways_aimed : (s : sender.Inside) (v : SenderLedger) → IsSender s → seen s ≡ v → All (λ (r : RouteId). r.to.comp ≡ v.inbox.comp) v.routes
 ways_aimed s v h is =
     let channel = arc_value s.channel in
-    subst (λ (x : Sending). All (λ (r : RouteId). r.to.comp ≡ x.inbox.comp) x.routes) is
+    subst (λ (x : SenderLedger). All (λ (r : RouteId). r.to.comp ≡ x.inbox.comp) x.routes) is
     (aimed_at channel.comp channel.ports channel.routes.items channel.routed s.places.items h.low)
 
 apart_routes : (comp : CompId) (ports : ℕ) (routes : List RouteId) → AreRoutes comp ports routes → (places : List ℕ) → All (λ p. p < length routes) places
@@ -116,14 +116,14 @@ apart_routes comp ports routes are places low apart k j d less few same =
     (sym (get_or-map (route_at routes) places k 0 d sooner) ∙ same ∙ get_or-map (route_at routes) places j 0 d later))
 
 -- and no two of them are equal
-pub ways_apart : (s : sender.Inside) (v : Sending) → IsSender s → seen s ≡ v → AllPairs (λ (r q : RouteId). r ≢ q) v.routes
+pub ways_apart : (s : sender.Inside) (v : SenderLedger) → IsSender s → seen s ≡ v → AllPairs (λ (r q : RouteId). r ≢ q) v.routes
 ways_apart s v h is =
     let channel = arc_value s.channel in
-    subst (λ (x : Sending). AllPairs (λ (r q : RouteId). r ≢ q) x.routes) is
+    subst (λ (x : SenderLedger). AllPairs (λ (r q : RouteId). r ≢ q) x.routes) is
     (apart_routes channel.comp channel.ports channel.routes.items channel.routed s.places.items h.low h.apart)
 
 -- what is counted for one of its routes
-pub told_at : (s : sender.Inside) (v : Sending) (way n : ℕ) → IsSender s → seen s ≡ v → way < length v.routes → n ≡ get_or s.counts.items way 0
+pub told_at : (s : sender.Inside) (v : SenderLedger) (way n : ℕ) → IsSender s → seen s ≡ v → way < length v.routes → n ≡ get_or s.counts.items way 0
     → n ≡ length (put_on_way v way)
 told_at s v way n h is low at =
     let k = on_way s v way h is low in
@@ -181,7 +181,7 @@ told_next places counts es e way n h apart low at num = (
     length_snoc (y ∷ ys) x = let l = length_snoc ys x in omega arith
 
 -- a sender's pass after it has put one more
-pub pass_after : (v w : View) (places : List ℕ) (e : Envelope) → v ≡ sender_pass places v.put → Puts v e w
+pub pass_after : (v w : View) (places : List ℕ) (e : Envelope) → v ≡ sender_pass places v.put → PutsEnvelope v e w
     → (w ≡ sender_pass places w.put) × (w.put ≡ v.put ++ e ∷ [])
 pass_after v w places e is put =
     let more : w.put ≡ v.put ++ e ∷ [] = ap (λ (x : View). x.put) put in (
@@ -190,8 +190,8 @@ pass_after v w places e is put =
     )
 
 -- the ledger of a sender that has put one more on this one of its routes
-pub ledger_after : (s : sender.Inside) (v : Sending) (w : View) (way : ℕ) (e : Envelope) → IsSender s → seen s ≡ v → way < length v.routes
-    → e.place ≡ get_or s.places.items way 0 → e.number ≡ length (put_on_way v way) → Puts s.pass.me.view.client e w
+pub ledger_after : (s : sender.Inside) (v : SenderLedger) (w : View) (way : ℕ) (e : Envelope) → IsSender s → seen s ≡ v → way < length v.routes
+    → e.place ≡ get_or s.places.items way 0 → e.number ≡ length (put_on_way v way) → PutsEnvelope s.pass.me.view.client e w
     → map (posted_of (arc_value s.channel).routes.items) w.put
     ≡ v.ledger ++ record { route = route_at v.routes way; number = length (put_on_way v way); stamped = e.stamped } ∷ []
 ledger_after s v w way e h is low at num put =
@@ -199,9 +199,9 @@ ledger_after s v w way e h is low at num put =
     let k = on_way s v way h is low in
     let on : route_at routes e.place ≡ route_at v.routes way =
     ap (route_at routes) at ∙ sym (get_or-map (route_at routes) s.places.items way 0 absent_route k.0)
-    ∙ ap (λ (y : Sending). route_at y.routes way) is in
+    ∙ ap (λ (y : SenderLedger). route_at y.routes way) is in
     ap (map (posted_of routes)) (ap (λ (x : View). x.put) put) ∙ map-append (posted_of routes) s.pass.me.view.client.put (e ∷ [])
-    ∙ (λ i. ap (λ (y : Sending). y.ledger) is i ++ record { route = on i; number = num i; stamped = e.stamped } ∷ [])
+    ∙ (λ i. ap (λ (y : SenderLedger). y.ledger) is i ++ record { route = on i; number = num i; stamped = e.stamped } ∷ [])
 
 -- what holds of a sender's fields once it has put one more on this one of its routes
 pub record Grown (s : sender.Inside) (w : View) (counts : List ℕ) : Type 0 where
@@ -209,9 +209,9 @@ pub record Grown (s : sender.Inside) (w : View) (counts : List ℕ) : Type 0 whe
   pub routed : AreRouted (length (arc_value s.channel).routes.items) w.put
   pub told : AreTold s.places.items counts w.put
 
-pub grown : (s : sender.Inside) (v : Sending) (w : View) (way : ℕ) (e : Envelope) (counts : List ℕ) → IsSender s
+pub grown : (s : sender.Inside) (v : SenderLedger) (w : View) (way : ℕ) (e : Envelope) (counts : List ℕ) → IsSender s
     → seen s ≡ v → way < length v.routes → e.place ≡ get_or s.places.items way 0 → e.number ≡ length (put_on_way v way)
-    → Puts s.pass.me.view.client e w → counts ≡ set s.counts.items way (e.number + 1) → Grown s w counts
+    → PutsEnvelope s.pass.me.view.client e w → counts ≡ set s.counts.items way (e.number + 1) → Grown s w counts
 grown s v w way e counts h is low at num put told =
     let routes = (arc_value s.channel).routes.items in
     let k = on_way s v way h is low in
@@ -252,7 +252,7 @@ pub record Widened (s : sender.Inside) (w : View) (places counts : List ℕ) : T
   pub told : AreTold places counts w.put
   pub put : w.put ≡ s.pass.me.view.client.put
 
-pub widened : (s : sender.Inside) (v : Sending) (u w : View) (place : ℕ) (places counts : List ℕ) → IsSender s → seen s ≡ v → v.ledger ≡ []
+pub widened : (s : sender.Inside) (v : SenderLedger) (u w : View) (place : ℕ) (places counts : List ℕ) → IsSender s → seen s ≡ v → v.ledger ≡ []
     → u ≡ sender_pass (place ∷ []) [] → w ≡ sender_pass (s.pass.me.view.client.places ++ u.places) s.pass.me.view.client.put
     → places ≡ s.places.items ++ place ∷ [] → counts ≡ s.counts.items ++ 0 ∷ [] → place < length v.inbox.routes
     → All (λ r. r ≢ route_at v.inbox.routes place) v.routes → Widened s w places counts
@@ -260,16 +260,16 @@ widened s v u w place places counts h is fresh other join at told low apart =
     let channel = arc_value s.channel in
     let routes = channel.routes.items in
     let put = s.pass.me.view.client.put in
-    let none : put ≡ [] = map_nil (posted_of routes) put (ap (λ (x : Sending). x.ledger) is ∙ fresh) in
+    let none : put ≡ [] = map_nil (posted_of routes) put (ap (λ (x : SenderLedger). x.ledger) is ∙ fresh) in
     let same : w.put ≡ put = ap (λ (x : View). x.put) join in
     let empty : w.put ≡ [] = same ∙ none in
-    let lists : v.inbox.routes ≡ routes = ap (λ (x : Sending). x.inbox.routes) (sym is) in
+    let lists : v.inbox.routes ≡ routes = ap (λ (x : SenderLedger). x.inbox.routes) (sym is) in
     let within : place < length routes = subst (λ l. place < length l) lists low in
     let ways : s.pass.me.view.client.places ++ u.places ≡ places =
     (λ i. ap (λ (x : View). x.places) h.view i ++ ap (λ (x : View). x.places) other i) ∙ sym at in
     let unlike : (k d : ℕ) → k < length s.places.items → get_or s.places.items k d ≢ place = λ k d few eq.
-    apart k absent_route (omega (arith, few, ap (λ (x : Sending). length x.routes) is, length-map s.places.items (route_at routes)))
-    (ap (λ (x : Sending). get_or x.routes k absent_route) (sym is) ∙ get_or-map (route_at routes) s.places.items k d absent_route few
+    apart k absent_route (omega (arith, few, ap (λ (x : SenderLedger). length x.routes) is, length-map s.places.items (route_at routes)))
+    (ap (λ (x : SenderLedger). get_or x.routes k absent_route) (sym is) ∙ get_or-map (route_at routes) s.places.items k d absent_route few
     ∙ ap (route_at routes) eq ∙ ap (λ l. route_at l place) (sym lists)) in
     record {
       view = join ∙ (λ i. sender_pass (ways i) (sym same i));

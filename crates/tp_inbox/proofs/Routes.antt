@@ -6,9 +6,9 @@ use Rattle.std.proofs.lemmas.List.{get_or-set_other, length-set}
 use Rattle.std.specs.Prelude.{◌||◌}
 use Rattle.std.proofs.lemmas.List.Elements.{filter-append}
 use Rattle.tp_inbox.specs.declared.envelope.Envelope.{Envelope}
-use Rattle.tp_inbox.specs.declared.stamped.Stamped.{Stamped}
-use Rattle.tp_inbox.specs.History.{numbered}
-use Rattle.tp_inbox.specs.Envelopes.{of, InOrder, AreRouted, AreCounts, has, among}
+use Rattle.tp_history.specs.declared.stamped.Stamped.{Stamped}
+use Rattle.tp_history.specs.History.{numbered}
+use Rattle.tp_inbox.specs.Envelopes.{of, InOrder, AreRouted, AreCounts, has, on_routes}
 
 either : {A : Type 0} → Dec A → A ⊎ (¬ A)
 either (yes e) = inl e
@@ -169,34 +169,34 @@ of_kept true p e es h = ap (λ c. cond c ((e.number, e.stamped) ∷ of p es) (of
 of_kept false p e es h = refl
 
 -- the envelopes of a route are among those of the routes that it is one of
-pub of-among : (ps : List ℕ) (p : ℕ) (es : List Envelope) → has ps p ≡ true → of p (among ps es) ≡ of p es
+pub of-among : (ps : List ℕ) (p : ℕ) (es : List Envelope) → has ps p ≡ true → of p (on_routes ps es) ≡ of p es
 of-among ps p [] h = refl
 of-among ps p (e ∷ es) h =
     let rest = of-among ps p es h in
     ⊎_elim
     (λ (same : p ≡ e.place).
-    ap (λ b. of p (cond b (e ∷ among ps es) (among ps es))) (ap (has ps) (sym same) ∙ h)
+    ap (λ b. of p (cond b (e ∷ on_routes ps es) (on_routes ps es))) (ap (has ps) (sym same) ∙ h)
     ∙ ap (λ l. cond (eqb p e.place) ((e.number, e.stamped) ∷ l) l) rest)
     (λ (other : p ≢ e.place).
     let no_ = ne_eqb p e.place other in
-    of_kept (has ps e.place) p e (among ps es) no_ ∙ rest ∙ sym (ap (λ c. cond c ((e.number, e.stamped) ∷ of p es) (of p es)) no_))
+    of_kept (has ps e.place) p e (on_routes ps es) no_ ∙ rest ∙ sym (ap (λ c. cond c ((e.number, e.stamped) ∷ of p es) (of p es)) no_))
     (same_or_not p e.place)
 
-pub among-append : (ps : List ℕ) (xs ys : List Envelope) → among ps (xs ++ ys) ≡ among ps xs ++ among ps ys
+pub among-append : (ps : List ℕ) (xs ys : List Envelope) → on_routes ps (xs ++ ys) ≡ on_routes ps xs ++ on_routes ps ys
 among-append ps xs ys = filter-append (λ (e : Envelope). has ps e.place) xs ys
 
-pub among-here : (ps : List ℕ) (es : List Envelope) (e : Envelope) → has ps e.place ≡ true → among ps (es ++ e ∷ []) ≡ among ps es ++ e ∷ []
-among-here ps es e h = among-append ps es (e ∷ []) ∙ ap (λ b. among ps es ++ cond b (e ∷ []) []) h
+pub among-here : (ps : List ℕ) (es : List Envelope) (e : Envelope) → has ps e.place ≡ true → on_routes ps (es ++ e ∷ []) ≡ on_routes ps es ++ e ∷ []
+among-here ps es e h = among-append ps es (e ∷ []) ∙ ap (λ b. on_routes ps es ++ cond b (e ∷ []) []) h
 
-pub among-else : (ps : List ℕ) (es : List Envelope) (e : Envelope) → has ps e.place ≡ false → among ps (es ++ e ∷ []) ≡ among ps es
-among-else ps es e h = among-append ps es (e ∷ []) ∙ ap (λ b. among ps es ++ cond b (e ∷ []) []) h ∙ append_nil (among ps es)
+pub among-else : (ps : List ℕ) (es : List Envelope) (e : Envelope) → has ps e.place ≡ false → on_routes ps (es ++ e ∷ []) ≡ on_routes ps es
+among-else ps es e h = among-append ps es (e ∷ []) ∙ ap (λ b. on_routes ps es ++ cond b (e ∷ []) []) h ∙ append_nil (on_routes ps es)
 
 -- on a route that there isn't yet nothing was put
-pub among-new : (n : ℕ) (es : List Envelope) → AreRouted n es → among (n ∷ []) es ≡ []
+pub among-new : (n : ℕ) (es : List Envelope) → AreRouted n es → on_routes (n ∷ []) es ≡ []
 among-new n [] h = refl
 among-new n (e ∷ es) h =
     let low = h.0 in
-    ap (λ b. cond b (e ∷ among (n ∷ []) es) (among (n ∷ []) es)) (false_or (has (n ∷ []) e.place) (λ yes_. let same = has-one n e.place yes_ in omega arith))
+    ap (λ b. cond b (e ∷ on_routes (n ∷ []) es) (on_routes (n ∷ []) es)) (false_or (has (n ∷ []) e.place) (λ yes_. let same = has-one n e.place yes_ in omega arith))
     ∙ among-new n es h.1
 
 none_there : (b : Bool) (e : Envelope) (l : List Envelope) → cond b (e ∷ l) l ≡ [] → (b ≡ false) × (l ≡ [])
@@ -204,9 +204,9 @@ none_there true e l h = absurd (cc)
 none_there false e l h = (refl, h)
 
 -- with routes on which nothing was put
-pub among-more : (ps qs : List ℕ) (es : List Envelope) → among qs es ≡ [] → among (ps ++ qs) es ≡ among ps es
+pub among-more : (ps qs : List ℕ) (es : List Envelope) → on_routes qs es ≡ [] → on_routes (ps ++ qs) es ≡ on_routes ps es
 among-more ps qs [] h = refl
 among-more ps qs (e ∷ es) h =
-    let k = none_there (has qs e.place) e (among qs es) h in
+    let k = none_there (has qs e.place) e (on_routes qs es) h in
     ap (λ l. cond (has (ps ++ qs) e.place) (e ∷ l) l) (among-more ps qs es k.1)
-    ∙ ap (λ b. cond b (e ∷ among ps es) (among ps es)) (has-append ps qs e.place ∙ or_false (has ps e.place) (has qs e.place) k.0)
+    ∙ ap (λ b. cond b (e ∷ on_routes ps es) (on_routes ps es)) (has-append ps qs e.place ∙ or_false (has ps e.place) (has qs e.place) k.0)

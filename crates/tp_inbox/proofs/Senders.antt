@@ -6,15 +6,15 @@ use Rattle.std.proofs.lemmas.List.{get_or-set_other, length-set, length-map, get
 use Rattle.tp_config.specs.declared.port_type.CompId.{CompId}
 use Rattle.tp_config.specs.declared.port_type.RouteId.{RouteId}
 use Rattle.tp_inbox.specs.Routed.{routes_by}
-use Rattle.tp_inbox.specs.Ledgers.{Inbox, Sending, AreSenders, IsSenderInto, end_of}
-use Rattle.tp_inbox.proofs.Ports.{same_or_not}
+use Rattle.tp_inbox.specs.Ledgers.{Inbox, SenderLedger, AreSenders, IsSenderInto, end_of}
+use Rattle.tp_history.proofs.Ports.{same_or_not}
 use Rattle.tp_inbox.proofs.Gathering.{move_one}
 
 -- which sender it is
 abbrev End : Type 0
 End = Inbox × CompId × List RouteId
 
-same_into : (inbox : Inbox) (s t : Sending) → end_of t ≡ end_of s → IsSenderInto inbox s → IsSenderInto inbox t
+same_into : (inbox : Inbox) (s t : SenderLedger) → end_of t ≡ end_of s → IsSenderInto inbox s → IsSenderInto inbox t
 same_into inbox s t same into =
     subst (λ (e : End). (e.0 ≡ inbox) × (e.2 ≡ routes_by e.1 inbox.routes)) (sym same) into
 
@@ -24,7 +24,7 @@ map-set_same f (x ∷ xs) zero t d low same = ap (λ y. y ∷ map f xs) same
 map-set_same f (x ∷ xs) (suc p) t d low same = ap (λ l. f x ∷ l) (map-set_same f xs p t d (omega arith) same)
 
 -- one of them has put more
-pub senders_set : (inbox : Inbox) (ss : List Sending) (p : ℕ) (s t : Sending) → AreSenders inbox ss → p < length ss → s ≡ get_or ss p s
+pub senders_set : (inbox : Inbox) (ss : List SenderLedger) (p : ℕ) (s t : SenderLedger) → AreSenders inbox ss → p < length ss → s ≡ get_or ss p s
     → end_of t ≡ end_of s → AreSenders inbox (set ss p t)
 senders_set inbox ss p s t are low at same = (
   λ k d few.
@@ -35,21 +35,21 @@ senders_set inbox ss p s t are low at same = (
       (λ (other : k ≢ p).
       subst (IsSenderInto inbox) (sym (get_or-set_other ss p k t d other)) (are.0 k d (omega (arith, length-set ss p t))))
       (same_or_not k p),
-  map-set_same (λ (x : Sending). x.source) ss p t s low (ap (λ (e : End). e.1) same ∙ ap (λ (x : Sending). x.source) at) ∙ are.1,
+  map-set_same (λ (x : SenderLedger). x.source) ss p t s low (ap (λ (e : End). e.1) same ∙ ap (λ (x : SenderLedger). x.source) at) ∙ are.1,
 )
 
-all_ends : (inbox : Inbox) (xs ys : List Sending) → map end_of xs ≡ map end_of ys → All (IsSenderInto inbox) ys → All (IsSenderInto inbox) xs
+all_ends : (inbox : Inbox) (xs ys : List SenderLedger) → map end_of xs ≡ map end_of ys → All (IsSenderInto inbox) ys → All (IsSenderInto inbox) xs
 all_ends inbox xs ys same are k d low =
     let few : k < length ys = omega (arith, ap length same, length-map xs end_of, length-map ys end_of) in
     same_into inbox (get_or ys k d) (get_or xs k d)
     (sym (get_or-map end_of xs k d (end_of d) low) ∙ ap (λ l. get_or l k (end_of d)) same ∙ get_or-map end_of ys k d (end_of d) few) (are k d few)
 
-sources-ends : (ss : List Sending) → map (λ (s : Sending). s.source) ss ≡ map (λ (e : End). e.1) (map end_of ss)
+sources-ends : (ss : List SenderLedger) → map (λ (s : SenderLedger). s.source) ss ≡ map (λ (e : End). e.1) (map end_of ss)
 sources-ends [] = λ i. []
 sources-ends (s ∷ ss) = ap (λ l. s.source ∷ l) (sources-ends ss)
 
 -- these are the same senders as those
-pub same_senders : (inbox : Inbox) (xs ys : List Sending) → map end_of xs ≡ map end_of ys → AreSenders inbox ys → AreSenders inbox xs
+pub same_senders : (inbox : Inbox) (xs ys : List SenderLedger) → map end_of xs ≡ map end_of ys → AreSenders inbox ys → AreSenders inbox xs
 same_senders inbox xs ys same are = (
   all_ends inbox xs ys same are.0,
   sources-ends xs ∙ ap (map (λ (e : End). e.1)) same ∙ sym (sources-ends ys) ∙ are.1,

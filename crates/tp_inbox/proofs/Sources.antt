@@ -9,10 +9,10 @@ use Rattle.std.proofs.lemmas.List.Elements.{All-cons, filter-append}
 use Rattle.std.proofs.Math.Seq.{take-suc}
 use Rattle.tp_config.specs.declared.port_type.CompId.{CompId}
 use Rattle.tp_config.specs.declared.port_type.RouteId.{RouteId}
-use Rattle.tp_inbox.specs.History.{same_route}
+use Rattle.tp_history.specs.History.{same_route}
 use Rattle.tp_inbox.specs.Envelopes.{has}
 use Rattle.tp_inbox.specs.Routed.{AreRoutes, absent_route, route_at, routes_by, with_source, sources_behind, sources_of}
-use Rattle.tp_inbox.specs.Ledgers.{Inbox, Sending, AreMade, sender_by, new_sender, first_sender, extended}
+use Rattle.tp_inbox.specs.Ledgers.{Inbox, SenderLedger, AreMade, sender_by, new_sender, first_sender, extended}
 use Rattle.tp_inbox.specs.Ends.{AreFrom}
 use Rattle.tp_inbox.proofs.Gathering.{all_head, all_tail}
 use Rattle.tp_inbox.proofs.Putting.{same_places, route_same, route_itself, or_first, or_second}
@@ -183,7 +183,7 @@ is_among_at (x ∷ xs) zero c low is = or_first (eqb x.0 c.0) (is_among c xs) (e
 is_among_at (x ∷ xs) (suc k) c low is = or_second (eqb x.0 c.0) (is_among c xs) (is_among_at xs k c (omega arith) is)
 
 -- one of the senders got the route
-one_more : (inbox : Inbox) (n k : ℕ) (cs : List CompId) (s : Sending) → n < length inbox.routes → Apart cs → k < length cs
+one_more : (inbox : Inbox) (n k : ℕ) (cs : List CompId) (s : SenderLedger) → n < length inbox.routes → Apart cs → k < length cs
     → get_or cs k (route_at inbox.routes n).source ≡ (route_at inbox.routes n).source
     → s ≡ extended (sender_by inbox n (route_at inbox.routes n).source) (route_at inbox.routes n)
     → set (map (sender_by inbox n) cs) k s ≡ map (sender_by inbox (n + 1)) cs
@@ -210,8 +210,8 @@ grown_sources inbox n low =
     ∙ sources-snoc [] (take n inbox.routes) r
 
 -- the sender of this route's component is one that has the routes before
-pub found_is : (inbox : Inbox) (n k : ℕ) (senders : List Sending) (x : Sending) → AreMade inbox n senders → k < length senders
-    → HoldsAt (λ (y : Sending). y.source ≡ (route_at inbox.routes n).source) senders k → x ≡ get_or senders k x
+pub found_is : (inbox : Inbox) (n k : ℕ) (senders : List SenderLedger) (x : SenderLedger) → AreMade inbox n senders → k < length senders
+    → HoldsAt (λ (y : SenderLedger). y.source ≡ (route_at inbox.routes n).source) senders k → x ≡ get_or senders k x
     → (k < length (sources_of (take n inbox.routes)))
     × (get_or (sources_of (take n inbox.routes)) k (route_at inbox.routes n).source ≡ (route_at inbox.routes n).source)
     × (x ≡ sender_by inbox n (route_at inbox.routes n).source)
@@ -221,12 +221,12 @@ found_is inbox n k senders x made few at is =
     let within : k < length cs = omega (arith, few, ap length made, length-map cs (sender_by inbox n)) in
     let read : get_or senders k x ≡ sender_by inbox n (get_or cs k source) = ap (λ l. get_or l k x) made
     ∙ get_or-map (sender_by inbox n) cs k source x within in
-    let here : get_or cs k source ≡ source = ap (λ (y : Sending). y.source) (sym read) ∙ at x in
+    let here : get_or cs k source ≡ source = ap (λ (y : SenderLedger). y.source) (sym read) ∙ at x in
     (within, here, is ∙ read ∙ ap (sender_by inbox n) here)
 
 -- the senders, once the one of this component has got the route
-pub made_found : (inbox : Inbox) (n k : ℕ) (senders : List Sending) (x s : Sending) → n < length inbox.routes → AreMade inbox n senders → k < length senders
-    → HoldsAt (λ (y : Sending). y.source ≡ (route_at inbox.routes n).source) senders k → x ≡ get_or senders k x
+pub made_found : (inbox : Inbox) (n k : ℕ) (senders : List SenderLedger) (x s : SenderLedger) → n < length inbox.routes → AreMade inbox n senders → k < length senders
+    → HoldsAt (λ (y : SenderLedger). y.source ≡ (route_at inbox.routes n).source) senders k → x ≡ get_or senders k x
     → s ≡ extended x (route_at inbox.routes n) → AreMade inbox (n + 1) (set senders k s)
 made_found inbox n k senders x s low made few at is grown =
     let r = route_at inbox.routes n in
@@ -255,26 +255,26 @@ apart_routes comp ports routes are n low source =
     are.apart k n absent_route less low (same_default routes k absent_route d (omega arith) ∙ sym (get_or-take n routes k d less) ∙ eq))
 
 -- the senders, with a new one that has the route
-pub made_new : (inbox : Inbox) (n : ℕ) (senders more : List Sending) (s : Sending) → n < length inbox.routes → AreMade inbox n senders
-    → All (λ (x : Sending). x.source ≢ (route_at inbox.routes n).source) senders → s ≡ first_sender inbox (route_at inbox.routes n)
+pub made_new : (inbox : Inbox) (n : ℕ) (senders more : List SenderLedger) (s : SenderLedger) → n < length inbox.routes → AreMade inbox n senders
+    → All (λ (x : SenderLedger). x.source ≢ (route_at inbox.routes n).source) senders → s ≡ first_sender inbox (route_at inbox.routes n)
     → more ≡ senders ++ s ∷ [] → AreMade inbox (n + 1) more
 made_new inbox n senders more s low made none is grows =
     let r = route_at inbox.routes n in
     let cs = sources_of (take n inbox.routes) in
-    let apart : is_among r.source cs ≡ false = none_among cs (subst (All (λ (x : Sending). x.source ≢ r.source)) made none) in
+    let apart : is_among r.source cs ≡ false = none_among cs (subst (All (λ (x : SenderLedger). x.source ≢ r.source)) made none) in
     let only : s ≡ sender_by inbox (n + 1) r.source = is
     ∙ (λ i. record { inbox = inbox; source = r.source; routes = ap (λ l. l ++ r ∷ []) (sym (none_by r.source [] (take n inbox.routes) apart)) i; ledger = [] })
     ∙ same_here inbox n r.source low refl in
     grows ∙ (λ i. (made ∙ same_all inbox n cs low apart) i ++ only i ∷ []) ∙ sym (map-append (sender_by inbox (n + 1)) cs (r.source ∷ []))
     ∙ ap (map (sender_by inbox (n + 1))) (sym (grown_sources inbox n low ∙ ap (λ b. cond b cs (cs ++ r.source ∷ [])) apart))
   where
-    none_among : (cs : List CompId) → All (λ (x : Sending). x.source ≢ (route_at inbox.routes n).source) (map (sender_by inbox n) cs)
+    none_among : (cs : List CompId) → All (λ (x : SenderLedger). x.source ≢ (route_at inbox.routes n).source) (map (sender_by inbox n) cs)
         → is_among (route_at inbox.routes n).source cs ≡ false
     none_among [] h = refl
     none_among (c ∷ cs) h =
         let source = (route_at inbox.routes n).source in
-        let first : c ≢ source = all_head (λ (x : Sending). x.source ≢ source) (sender_by inbox n c) (map (sender_by inbox n) cs) h in
-        let rest = none_among cs (all_tail (λ (x : Sending). x.source ≢ source) (sender_by inbox n c) (map (sender_by inbox n) cs) h) in
+        let first : c ≢ source = all_head (λ (x : SenderLedger). x.source ≢ source) (sender_by inbox n c) (map (sender_by inbox n) cs) h in
+        let rest = none_among cs (all_tail (λ (x : SenderLedger). x.source ≢ source) (sender_by inbox n c) (map (sender_by inbox n) cs) h) in
         ap (λ b. b || is_among source cs)
         (false_or (eqb c.0 source.0) (λ yes_. first (λ i. record { 0 = eqb-true c.0 source.0 yes_ i }))) ∙ rest
 
@@ -285,7 +285,7 @@ take_whole (x ∷ xs) zero e = absurd (omega arith)
 take_whole (x ∷ xs) (suc n) e = ap (λ l. x ∷ l) (take_whole xs n (omega arith))
 
 -- the senders of all routes
-pub made_all : (inbox : Inbox) (n : ℕ) (senders : List Sending) → n ≡ length inbox.routes → AreMade inbox n senders
+pub made_all : (inbox : Inbox) (n : ℕ) (senders : List SenderLedger) → n ≡ length inbox.routes → AreMade inbox n senders
     → senders ≡ map (new_sender inbox) (sources_of inbox.routes)
 made_all inbox n senders all made =
     subst (λ (l : List RouteId). senders ≡ map (λ c. record { inbox = inbox; source = c; routes = routes_by c l; ledger = [] }) (sources_of l))

@@ -8,8 +8,8 @@ use Rattle.crossbeam_queue.specs.Fifo.{Pushes, Pops, Forks, Merges, Learns}
 use Rattle.crossbeam_queue.proofs.Lists.{at_set}
 use Rattle.tp_inbox.specs.declared.envelope.Envelope.{Envelope}
 use Rattle.tp_inbox.specs.declared.rule.View.{View}
-use Rattle.tp_inbox.specs.Envelopes.{of, InOrder, AreRouted, AreWhole, Ledger, has, among}
-use Rattle.tp_inbox.specs.Rule.{sender_pass, owner_pass, spent, FitsSender, FitsOwner, Delivers, Takes, Puts, Knows}
+use Rattle.tp_inbox.specs.Envelopes.{of, InOrder, AreRouted, AreWhole, Ledger, has, on_routes}
+use Rattle.tp_inbox.specs.Rule.{sender_pass, owner_pass, spent, FitsSender, FitsOwner, Delivers, Takes, PutsEnvelope, Knows}
 use Rattle.tp_inbox.proofs.Routes.{routed-append, routed-back, routed-more, in_order-front, in_order-push, false_or, has-one, has-either, of-among, among-append, among-here, among-else, among-new, among-more}
 
 -- f, with a at p
@@ -73,11 +73,11 @@ begins = record {
   order = λ p. ([], refl);
   senders = each_one (FitsSender 0 (λ p. none) []) (owner_pass 0 [] []) (λ s. absurd (off s));
   owners = each_one (FitsOwner 0 0 (λ p. none) [] []) (owner_pass 0 [] [])
-      (λ _. (refl, refl, refl, All-nil (λ (x : Ledger). (p : ℕ) → has x.0 p ≡ true → (p < 0) × (none ≡ none)), All-nil (λ (x : Ledger). among x.0 [] ≡ x.1)));
+      (λ _. (refl, refl, refl, All-nil (λ (x : Ledger). (p : ℕ) → has x.0 p ≡ true → (p < 0) × (none ≡ none)), All-nil (λ (x : Ledger). on_routes x.0 [] ≡ x.1)));
 }
 
 pub sends : (n pass : ℕ) (places : List ℕ) (put : List Envelope) (e : Envelope) → has places e.place ≡ true → e.number ≡ length (of e.place put)
-    → Pushes Delivers n pass (sender_pass places put) e (Puts (sender_pass places put) e)
+    → Pushes Delivers n pass (sender_pass places put) e (PutsEnvelope (sender_pass places put) e)
 sends n pass places put e own num items views _ h here =
     let mine = h.senders pass (sender_pass places put) here refl in
     let all = h.taken ++ items in
@@ -94,11 +94,11 @@ sends n pass places put e own num items views _ h here =
         routed = subst (AreRouted h.made) whole (routed-append h.made all (e ∷ []) h.routed (there.0, tt));
         order = subst InOrder whole (in_order-push all e h.order count);
         senders = each_set (FitsSender h.made h.holder (h.taken ++ (items ++ e ∷ []))) views pass w
-            (λ _. (mine.0, ap (among places) (sym whole) ∙ among-here places all e own ∙ ap (λ l. l ++ e ∷ []) mine.1))
+            (λ _. (mine.0, ap (on_routes places) (sym whole) ∙ among-here places all e own ∙ ap (λ l. l ++ e ∷ []) mine.1))
             (λ j u apart e' s.
             let o = h.senders j u e' s in (
               o.0,
-              ap (among u.places) (sym whole)
+              ap (on_routes u.places) (sym whole)
                   ∙ among-else u.places all e
                   (false_or (has u.places e.place) (λ yes_. apart (some-injective j pass (sym (o.0 e.place yes_).1 ∙ there.1)))) ∙ o.1,
             ));
@@ -111,7 +111,7 @@ sends n pass places put e own num items views _ h here =
               f.3,
               λ k d low.
                   let x = get_or u.known k d in
-                  ap (among x.0) (sym whole)
+                  ap (on_routes x.0) (sym whole)
                   ∙ among-else x.0 all e
                   (false_or (has x.0 e.place) (λ yes_. some-ne-none pass (sym there.1 ∙ (f.3 k d low e.place yes_).1))) ∙ f.4 k d low,
             ));
@@ -148,7 +148,7 @@ takes pass made taken known e items views h here =
         in_order-front (taken ++ e ∷ []) items (subst InOrder (whole ∙ mores) h.order),
         λ k d below.
             let x = get_or known k d in
-            (among x.0 items, sym (among-append x.0 (taken ++ e ∷ []) items) ∙ ap (among x.0) (sym mores) ∙ ends k d below),
+            (on_routes x.0 items, sym (among-append x.0 (taken ++ e ∷ []) items) ∙ ap (on_routes x.0) (sym mores) ∙ ends k d below),
       ),
     )
 
@@ -189,7 +189,7 @@ splits pass made taken known items views h here =
             λ p yes_.
                 let is = has-one made p yes_ in
                 (omega arith, ap holder is ∙ at-here h.holder made new),
-            ap (λ n. among (n ∷ []) all) same ∙ among-new h.made all h.routed,
+            ap (λ n. on_routes (n ∷ []) all) same ∙ among-new h.made all h.routed,
           ));
       owners = each_snoc (FitsOwner h.owner (h.made + 1) holder h.taken all) vs right
           (each_set (FitsOwner h.owner (h.made + 1) holder h.taken all) views pass left
@@ -224,7 +224,7 @@ joins pass made taken known other places put items views h here two there =
     let S : ℕ → View → Type 0 = λ j u. j ≢ other → FitsSender h.made holder all j u in
     let O = FitsOwner h.owner h.made holder h.taken all in
     let Left : Ledger → Type 0 = λ x. (p : ℕ) → has x.0 p ≡ true → (p < h.made) × (holder p ≡ none) in
-    let Whole : Ledger → Type 0 = λ x. among x.0 all ≡ x.1 in
+    let Whole : Ledger → Type 0 = λ x. on_routes x.0 all ≡ x.1 in
     let free : (p : ℕ) → h.holder p ≡ none → holder p ≡ none = λ p is. stays (has places p) (h.holder p) is in
     record {
       owner = h.owner;
@@ -331,8 +331,8 @@ pairs pass places put other others items views h here two there =
 
 -- the steps, at a view that is known
 pub sends_as : (n pass : ℕ) (v : View) (places : List ℕ) (put : List Envelope) (e : Envelope) → v ≡ sender_pass places put → has places e.place ≡ true
-    → e.number ≡ length (of e.place put) → Pushes Delivers n pass v e (Puts v e)
-sends_as n pass v places put e is own num = subst (λ (u : View). Pushes Delivers n pass u e (Puts u e)) (sym is) (sends n pass places put e own num)
+    → e.number ≡ length (of e.place put) → Pushes Delivers n pass v e (PutsEnvelope v e)
+sends_as n pass v places put e is own num = subst (λ (u : View). Pushes Delivers n pass u e (PutsEnvelope u e)) (sym is) (sends n pass places put e own num)
 
 pub takes_as : (pass : ℕ) (v : View) (made : ℕ) (taken : List Envelope) (known : List Ledger) → v ≡ owner_pass made taken known
     → Pops Delivers pass v (Takes v)

@@ -2,16 +2,16 @@
 use Rattle.std.specs.Prelude.{◌≡◌, ◌≢◌, ◌<◌, ◌≤◌, ◌==◌, ◌%◌, ◌^◌, ℕ, Option, Some, None, List, [], ◌∷◌, ◌++◌, length, map, slice_index_or, vec_capacity, All, AllPairs}
 use Rattle.std.specs.Arc.{arc_value}
 use Rattle.crossbeam_queue.specs.SegTies.{IsSegPassOf}
-use Rattle.tp_inbox.specs.declared.posted.Posted.{Posted}
+use Rattle.tp_history.specs.declared.posted.Posted.{Posted}
 use Rattle.tp_config.specs.declared.port_type.CompId.{CompId}
 use Rattle.tp_config.specs.declared.port_type.RouteId.{RouteId}
 use Rattle.tp_inbox.specs.declared.channel.Channel.{Channel}
-use Rattle.tp_inbox.specs.declared.entry.Entry.{Entry}
+use Rattle.tp_history.specs.declared.entry.Entry.{Entry}
 use Rattle.tp_inbox.specs.declared.envelope.Envelope.{Envelope}
 use Rattle.tp_inbox.specs.declared.rule.View.{View}
 use Rattle.tp_inbox.specs.declared.sender.Sender.TheInside as sender
 use Rattle.tp_inbox.specs.declared.owner.Owner.TheInside as owner
-use Rattle.tp_inbox.specs.Envelopes.{of, has, one_of, before, AreRouted, AreWhole, EndsWith, AreCounts, Ledger}
+use Rattle.tp_inbox.specs.Envelopes.{of, has, one_of, envelopes_before, AreRouted, AreWhole, EndsWith, AreCounts, Ledger}
 use Rattle.tp_inbox.specs.Rule.{sender_pass, Sound}
 use Rattle.tp_inbox.specs.Routed.{arrivals_of, posted_of, route_at}
 use Rattle.tp_inbox.specs.Places.{AreFiled}
@@ -48,8 +48,8 @@ pub record IsSender (s : sender.Inside) : Type 0 where
   pub counts : AreTold s.places.items s.counts.items s.pass.me.view.client.put
 
 -- what the owner has taken out is counted as the notifier counts what was announced
-abbrev pub IsCounted : ℕ → View → Type 0
-IsCounted n v = n ≡ length v.taken % 2 ^ 64
+abbrev pub IsTakenCount : ℕ → View → Type 0
+IsTakenCount n v = n ≡ length v.taken % 2 ^ 64
 
 -- an owner's pass is of its inbox's queue; what it has taken out is what was drained, and then what is in hand, and is
 -- counted as the notifier counts what was announced; the counts are those of what was drained, and each route's place
@@ -60,11 +60,11 @@ pub record IsOwner (s : owner.Inside) : Type 0 where
   pub made : s.pass.me.view.client.made ≡ length (arc_value s.channel).routes.items
   pub known : s.pass.me.view.client.known ≡ []
   pub ends : EndsWith s.pass.me.view.client.taken (one_of s.hand)
-  pub taken : IsCounted s.taken s.pass.me.view.client
+  pub taken : IsTakenCount s.taken s.pass.me.view.client
   pub counts : AreCounts
       (length (arc_value s.channel).routes.items)
       s.counts.items
-      (before s.pass.me.view.client.taken (one_of s.hand))
+      (envelopes_before s.pass.me.view.client.taken (one_of s.hand))
   pub places : AreFiled (length (arc_value s.channel).routes.items) (arc_value s.channel).routes.items s.places
   pub sources : s.sources.items ≡ []
   pub sources_room : length (arc_value s.channel).routes.items ≤ vec_capacity s.sources
@@ -83,9 +83,9 @@ Fetches v None w = (w.taken ≡ v.taken) × AreWhole w.taken w.known
 -- the envelope behind all that was drained: the one that was in hand, or one more that was taken out; or none, where
 -- none was in hand
 abbrev pub GivesNext : View → Option Envelope → Option Envelope → View → Type 0
-GivesNext v hand (Some e) w = w.taken ≡ before v.taken (one_of hand) ++ e ∷ []
+GivesNext v hand (Some e) w = w.taken ≡ envelopes_before v.taken (one_of hand) ++ e ∷ []
 GivesNext v hand None w = (hand ≡ None) × (w.taken ≡ v.taken)
 
 -- what was drained
 abbrev pub drained_of : owner.Inside → List Entry
-drained_of s = arrivals_of (arc_value s.channel).routes.items (before s.pass.me.view.client.taken (one_of s.hand))
+drained_of s = arrivals_of (arc_value s.channel).routes.items (envelopes_before s.pass.me.view.client.taken (one_of s.hand))

@@ -1,8 +1,8 @@
 -- Envelopes, read route by route.
 use Rattle.std.specs.Prelude.{◌≡◌, ℕ, ◌<◌, ◌==◌, ◌-◌, ◌||◌, Bool, false, cond, Option, Some, None, List, [], ◌∷◌, ◌++◌, length, take, filter, slice_index_or, All}
 use Rattle.tp_inbox.specs.declared.envelope.Envelope.{Envelope}
-use Rattle.tp_inbox.specs.declared.stamped.Stamped.{Stamped}
-use Rattle.tp_inbox.specs.History.{numbered}
+use Rattle.tp_history.specs.declared.stamped.Stamped.{Stamped}
+use Rattle.tp_history.specs.History.{numbered}
 
 -- the numbers and messages of the envelopes of route p, in order
 abbrev pub of : ℕ → List Envelope → List (ℕ × Stamped)
@@ -28,8 +28,8 @@ has [] p = false
 has (q ∷ qs) p = (p == q) || has qs p
 
 -- the envelopes of the routes at these places, in order
-abbrev pub among : List ℕ → List Envelope → List Envelope
-among ps es = filter (λ (e : Envelope). has ps e.place) es
+abbrev pub on_routes : List ℕ → List Envelope → List Envelope
+on_routes ps es = filter (λ (e : Envelope). has ps e.place) es
 
 -- the places of a sender's routes, and what it has put on them, in its order over all of them
 abbrev pub Ledger : Type 0
@@ -37,22 +37,22 @@ Ledger = List ℕ × List Envelope
 
 -- of each sender, what of its routes is among these envelopes begins what it has put
 abbrev pub AreFronts : List Envelope → List Ledger → Type 0
-AreFronts es known = All (λ (x : Ledger). Begins (among x.0 es) x.1) known
+AreFronts es known = All (λ (x : Ledger). Begins (on_routes x.0 es) x.1) known
 
 -- of each sender, what of its routes is among these envelopes is what it has put
 abbrev pub AreWhole : List Envelope → List Ledger → Type 0
-AreWhole es known = All (λ (x : Ledger). among x.0 es ≡ x.1) known
+AreWhole es known = All (λ (x : Ledger). on_routes x.0 es ≡ x.1) known
 
 abbrev pub one_of : Option Envelope → List Envelope
 one_of None = []
 one_of (Some e) = e ∷ []
 
 -- what stands before `kept` at the end of `all`
-abbrev pub before : List Envelope → List Envelope → List Envelope
-before all kept = take (length all - length kept) all
+abbrev pub envelopes_before : List Envelope → List Envelope → List Envelope
+envelopes_before all kept = take (length all - length kept) all
 
 abbrev pub EndsWith : List Envelope → List Envelope → Type 0
-EndsWith all kept = all ≡ before all kept ++ kept
+EndsWith all kept = all ≡ envelopes_before all kept ++ kept
 
 -- how many of these envelopes each of the first n routes has
 abbrev pub AreCounts : ℕ → List ℕ → List Envelope → Type 0

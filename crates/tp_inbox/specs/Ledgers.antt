@@ -2,14 +2,14 @@
 use Rattle.std.specs.Prelude.{◌≡◌, ◌==◌, ℕ, cond, List, [], ◌∷◌, ◌++◌, length, map, take, All}
 use Rattle.std.specs.Global.{Global}
 use Rattle.crossbeam_queue.specs.SegTies.{SegId}
-use Rattle.tp_inbox.specs.declared.stamped.Stamped.{Stamped}
+use Rattle.tp_history.specs.declared.stamped.Stamped.{Stamped}
 use Rattle.tp_config.specs.declared.port_type.CompId.{CompId}
 use Rattle.tp_config.specs.declared.port_type.RouteId.{RouteId}
-use Rattle.tp_inbox.specs.declared.posted.Posted.{Posted}
-use Rattle.tp_inbox.specs.declared.entry.Entry.{Entry}
-use Rattle.tp_inbox.specs.History.{arrived_on, posted_on}
+use Rattle.tp_history.specs.declared.posted.Posted.{Posted}
+use Rattle.tp_history.specs.declared.entry.Entry.{Entry}
+use Rattle.tp_history.specs.History.{arrived_on, posted_on}
 use Rattle.tp_inbox.specs.Routed.{route_at, routes_by, sources_of}
-use Rattle.tp_inbox.specs.Desks.{Journal}
+use Rattle.tp_history.specs.Desks.{Journal}
 
 -- which inbox it is: whose, how many ports that component has, the routes into it, and its queue
 pub record Inbox : Type 0 where
@@ -20,7 +20,7 @@ pub record Inbox : Type 0 where
 
 -- a sender: its inbox, the component that sends by it, its routes, which are all from that component into the inbox,
 -- and what it has put, in its order over all of them
-pub record Sending : Type 0 where
+pub record SenderLedger : Type 0 where
   pub inbox : Inbox
   pub source : CompId
   pub routes : List RouteId
@@ -44,55 +44,55 @@ abbrev pub drained_on : Draining → RouteId → ℕ
 drained_on d route = cond (route.to.comp.0 == d.inbox.comp.0) (length (arrived_on route d.drained)) 0
 
 -- what a sender has put on this one of its routes
-abbrev pub put_on_way : Sending → ℕ → List (ℕ × Stamped)
+abbrev pub put_on_way : SenderLedger → ℕ → List (ℕ × Stamped)
 put_on_way s way = posted_on (route_at s.routes way) s.ledger
 
 -- a sender that has put one more message, on this route, nothing else changed
-abbrev pub posting : Sending → RouteId → Stamped → Sending
+abbrev pub posting : SenderLedger → RouteId → Stamped → SenderLedger
 posting s r m =
     record s { ledger = s.ledger ++ record { route = r; number = length (posted_on r s.ledger); stamped = m } ∷ [] }
 
 -- the same, on this one of its routes
-abbrev pub putting : Sending → ℕ → Stamped → Sending
+abbrev pub putting : SenderLedger → ℕ → Stamped → SenderLedger
 putting s way m = posting s (route_at s.routes way) m
 
 -- a sender for this component into this inbox that has those of the inbox's first n routes which are from it, and has
 -- put nothing
-abbrev pub sender_by : Inbox → ℕ → CompId → Sending
+abbrev pub sender_by : Inbox → ℕ → CompId → SenderLedger
 sender_by inbox n source =
     record { inbox = inbox; source = source; routes = routes_by source (take n inbox.routes); ledger = [] }
 
 -- the senders of this inbox, as far as they are made of its first n routes
-abbrev pub AreMade : Inbox → ℕ → List Sending → Type 0
+abbrev pub AreMade : Inbox → ℕ → List SenderLedger → Type 0
 AreMade inbox n senders = senders ≡ map (sender_by inbox n) (sources_of (take n inbox.routes))
 
 -- a sender for this component into this inbox, with all routes from it, that has put nothing
-abbrev pub new_sender : Inbox → CompId → Sending
+abbrev pub new_sender : Inbox → CompId → SenderLedger
 new_sender inbox source = record { inbox = inbox; source = source; routes = routes_by source inbox.routes; ledger = [] }
 
 -- a sender into this inbox that has this one route, and has put nothing
-abbrev pub first_sender : Inbox → RouteId → Sending
+abbrev pub first_sender : Inbox → RouteId → SenderLedger
 first_sender inbox r = record { inbox = inbox; source = r.source; routes = r ∷ []; ledger = [] }
 
 -- a sender that has one route more, nothing else changed
-abbrev pub extended : Sending → RouteId → Sending
+abbrev pub extended : SenderLedger → RouteId → SenderLedger
 extended s r = record s { routes = s.routes ++ r ∷ [] }
 
 -- which sender it is, whatever it has put
-abbrev pub end_of : Sending → Inbox × CompId × List RouteId
+abbrev pub end_of : SenderLedger → Inbox × CompId × List RouteId
 end_of s = (s.inbox, s.source, s.routes)
 
 -- a sender of this inbox, with all routes from its component
-abbrev pub IsSenderInto : Inbox → Sending → Type 0
+abbrev pub IsSenderInto : Inbox → SenderLedger → Type 0
 IsSenderInto inbox s = (s.inbox ≡ inbox) × (s.routes ≡ routes_by s.source inbox.routes)
 
 -- the senders of this inbox, one for each component that has routes into it, in the order of the first of these
-abbrev pub AreSenders : Inbox → List Sending → Type 0
+abbrev pub AreSenders : Inbox → List SenderLedger → Type 0
 AreSenders inbox senders =
-    All (IsSenderInto inbox) senders × (map (λ (s : Sending). s.source) senders ≡ sources_of inbox.routes)
+    All (IsSenderInto inbox) senders × (map (λ (s : SenderLedger). s.source) senders ≡ sources_of inbox.routes)
 
 -- what a sender has put, beside the component that sends by it
-abbrev pub put_by : Sending → CompId × List Posted
+abbrev pub put_by : SenderLedger → CompId × List Posted
 put_by s = (s.source, s.ledger)
 
 -- the desk is that of the inbox's component

@@ -1,16 +1,16 @@
 -- The routes into a component, and the arrivals that envelopes of these routes make.
 use Rattle.std.specs.Prelude.{◌≡◌, ◌≢◌, ℕ, ◌<◌, cond, ◌==◌, List, [], ◌∷◌, ◌++◌, map, filter, slice_index_or, All, AllPairs, Contains}
 use Rattle.std.specs.List.{list_any}
-use Rattle.tp_queue.specs.declared.event.Env.{Env}
+use Rattle.tp_event.specs.declared.event.Env.{Env}
 use Rattle.tp_value.specs.declared.message.Message.{Message}
 use Rattle.tp_config.specs.declared.port_type.CompId.{CompId}
 use Rattle.tp_config.specs.declared.port_type.RouteId.{RouteId}
-use Rattle.tp_inbox.specs.declared.entry.Entry.{Entry}
-use Rattle.tp_inbox.specs.declared.entry.Entry.TheVariants as entry
+use Rattle.tp_history.specs.declared.entry.Entry.{Entry}
+use Rattle.tp_history.specs.declared.entry.Entry.TheVariants as entry
 use Rattle.tp_inbox.specs.declared.envelope.Envelope.{Envelope}
-use Rattle.tp_inbox.specs.declared.stamped.Stamped.{Stamped}
-use Rattle.tp_inbox.specs.declared.posted.Posted.{Posted}
-use Rattle.tp_inbox.specs.History.{numbered, arrived_on, arrived_from}
+use Rattle.tp_history.specs.declared.stamped.Stamped.{Stamped}
+use Rattle.tp_history.specs.declared.posted.Posted.{Posted}
+use Rattle.tp_history.specs.History.{numbered, arrived_on, arrived_from}
 use Rattle.tp_inbox.specs.Envelopes.{Begins}
 
 -- these are routes into a component with so many ports, and no two are equal
@@ -70,13 +70,13 @@ IsArrivalOn routes (entry.Arrive port env stamp) =
 IsArrivalOn routes _ = ⊥
 
 -- on each of these routes the arrivals are numbered from 0
-abbrev pub AreNumbered : List RouteId → List Entry → Type 0
-AreNumbered routes es = All (λ (r : RouteId). (ms : List Stamped) × (arrived_on r es ≡ numbered 0 ms)) routes
+abbrev pub AreArrivalsNumbered : List RouteId → List Entry → Type 0
+AreArrivalsNumbered routes es = All (λ (r : RouteId). (ms : List Stamped) × (arrived_on r es ≡ numbered 0 ms)) routes
 
 -- these are arrivals on these routes alone, and numbered from 0 on each
 pub record AreArrivals (routes : List RouteId) (es : List Entry) : Type 0 where
   pub routed : All (IsArrivalOn routes) es
-  pub order : AreNumbered routes es
+  pub order : AreArrivalsNumbered routes es
 
 -- from each of these components, what came to this one begins what it has put there: with its routes and numbers, in
 -- its order over all routes

@@ -4,7 +4,7 @@ use mathlib.Core.Option.{Option, some, none}
 use lib.ListN.{get_elem?}
 use Rattle.tp_inbox.specs.declared.envelope.Envelope.{Envelope}
 use Rattle.tp_inbox.specs.declared.rule.View.{View}
-use Rattle.tp_inbox.specs.Envelopes.{InOrder, AreFronts, AreWhole, AreRouted, Ledger, has, among}
+use Rattle.tp_inbox.specs.Envelopes.{InOrder, AreFronts, AreWhole, AreRouted, Ledger, has, on_routes}
 
 -- the pass of a sender: the places of its routes, and what it has put on them
 abbrev pub sender_pass : List ℕ → List Envelope → View
@@ -26,7 +26,7 @@ spent = record { sends = false; places = []; put = []; owns = false; made = 0; t
 abbrev pub FitsSender : ℕ → (ℕ → Option ℕ) → List Envelope → ℕ → View → Type 0
 FitsSender made holder all pass v =
     v.sends ≡ true
-    → ((p : ℕ) → has v.places p ≡ true → (p < made) × (holder p ≡ some pass)) × (among v.places all ≡ v.put)
+    → ((p : ℕ) → has v.places p ≡ true → (p < made) × (holder p ≡ some pass)) × (on_routes v.places all ≡ v.put)
 
 -- the owner's, of which there is one: it knows what was taken out, how many routes there are, and what those put that
 -- have joined, whose routes nobody has any more
@@ -55,8 +55,8 @@ Takes v e w =
     (w ≡ owner_pass v.made (v.taken ++ e ∷ []) v.known)
     × (e.place < v.made) × InOrder (v.taken ++ e ∷ []) × AreFronts (v.taken ++ e ∷ []) v.known
 
-abbrev pub Puts : View → Envelope → View → Type 0
-Puts v e w = w ≡ sender_pass v.places (v.put ++ e ∷ [])
+abbrev pub PutsEnvelope : View → Envelope → View → Type 0
+PutsEnvelope v e w = w ≡ sender_pass v.places (v.put ++ e ∷ [])
 
 -- of each sender that has joined, what was taken out and what the queue holds is what it has put
 abbrev pub Knows : View → List Envelope → Type 0

@@ -1,5 +1,5 @@
 //! What an inbox carries.
-use crate::stamped::Stamped;
+use tp_history::stamped::Stamped;
 
 /// A message on its way into a component.
 #[derive(Drop)]

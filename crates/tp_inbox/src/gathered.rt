@@ -1,15 +1,14 @@
 //! What is left of an inbox once its senders have ended.
 ghost use Rattle.std.specs.Prelude.{◌≡◌, ◌++◌, ◌≤◌, [], All, IfErr, IfOk};
 ghost use Rattle.std.specs.Prelude.{length, map, vec_capacity};
-ghost use Rattle.tp_inbox.specs.History.{arrivals};
+ghost use Rattle.tp_history.specs.History.{arrivals};
 ghost use Rattle.tp_inbox.specs.Envelopes.{one_of};
-ghost use Rattle.tp_inbox.specs.Routed.{AreBegun, AreDelivered, AreNumbered, IsArrivalOn, AreRoutes};
+ghost use Rattle.tp_inbox.specs.Routed.{AreBegun, AreDelivered, AreArrivalsNumbered, IsArrivalOn, AreRoutes};
 ghost use Rattle.tp_inbox.specs.Routed.{arrivals_of, rest_arrivals};
 ghost use Rattle.tp_inbox.specs.Envelopes.{AreRouted};
 ghost use Rattle.tp_inbox.specs.Ledgers.{AreSenders, IsDeskOf, put_by};
 
 use crate::channel::Channel;
-use crate::desk::Desk;
 use crate::envelope::Envelope;
 use crate::owner::{Owner, take_out};
 use crate::rule::{Pass, Route, Take};
@@ -18,7 +17,8 @@ use std::alloc::Global;
 use std::marker::Model;
 use std::sync::{Arc, Wait};
 use tp_config::port_type::CompId;
-use tp_queue::event::Env;
+use tp_event::event::Env;
+use tp_history::desk::Desk;
 use tp_refusal::memory::Memory;
 use tp_value::message::Message;
 
@@ -130,7 +130,7 @@ impl Gathered {
         requires arrivals { arrivals desk.now.log ≡ self.drained }
         ensures delivered { IfOk result (λ rest. AreDelivered self.inbox.comp
             (desk.now.log ++ rest_arrivals rest.items) self.sent) }
-        ensures numbered { IfOk result (λ rest. AreNumbered self.inbox.routes
+        ensures numbered { IfOk result (λ rest. AreArrivalsNumbered self.inbox.routes
             (desk.now.log ++ rest_arrivals rest.items)) }
         ensures routed { IfOk result (λ rest.
             All (IsArrivalOn self.inbox.routes) (rest_arrivals rest.items)) }

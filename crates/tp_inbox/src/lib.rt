@@ -1,16 +1,10 @@
-//! One component's inbox and desk.
+//! One component's inbox.
 #![tactic(auto)]
 
 mod channel;
-pub mod desk;
-pub mod ending;
-pub mod entry;
 mod envelope;
 pub mod gathered;
 pub mod making;
 pub mod owner;
-pub mod posted;
 mod rule;
-pub mod send_fault;
 pub mod sender;
-pub mod stamped;

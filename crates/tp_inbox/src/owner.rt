@@ -1,27 +1,27 @@
 //! The owner of an inbox.
 ghost use Rattle.std.specs.Prelude.{◌≡◌, ◌++◌, ◌<◌, List, None, Some, length, IfOk, OnErr, OnOk, option_map};
 ghost use Rattle.crossbeam_queue.specs.SegTies.{IsSegPassOf};
-ghost use Rattle.tp_inbox.specs.declared.entry.Entry.{Entry};
-ghost use Rattle.tp_inbox.specs.History.{arrivals};
-ghost use Rattle.tp_inbox.specs.Desks.{adding, adding_all};
+ghost use Rattle.tp_history.specs.declared.entry.Entry.{Entry};
+ghost use Rattle.tp_history.specs.History.{arrivals};
+ghost use Rattle.tp_history.specs.Desks.{adding, adding_all};
 ghost use Rattle.tp_inbox.specs.Rule.{Sound};
 ghost use Rattle.tp_inbox.specs.Envelopes.{EndsWith, one_of};
-ghost use Rattle.tp_inbox.specs.Ends.{Fetches, GivesNext, IsCounted, KeepsRoutes};
+ghost use Rattle.tp_inbox.specs.Ends.{Fetches, GivesNext, IsTakenCount, KeepsRoutes};
 ghost use Rattle.tp_inbox.specs.Routed.{AreArrivals, arrival_of};
 ghost use Rattle.tp_inbox.specs.Ledgers.{IsDeskOf, drained_on};
 
 use crate::channel::Channel;
-use crate::desk::Desk;
 use crate::envelope::Envelope;
 use crate::rule::{InboxQueue, Pass, Take};
-use crate::stamped::Stamped;
 use indexmap::IndexMap;
 use std::alloc::Global;
 use std::marker::Model;
 use std::sync::{Arc, Wait};
 use tp_config::port_type::{CompId, RouteId};
+use tp_event::event::Env;
 use tp_floor::notifier::Woken;
-use tp_queue::event::Env;
+use tp_history::desk::Desk;
+use tp_history::stamped::Stamped;
 use tp_refusal::memory::Memory;
 use tp_value::message::Message;
 
@@ -86,12 +86,12 @@ fn next_envelope<R: Wait>(
     requires queue { IsSegPassOf queue.now pass.old }
     requires sound { Sound pass.old.me.view.client }
     requires ends { EndsWith pass.old.me.view.client.taken (one_of hand.old) }
-    requires counted { IsCounted taken.old pass.old.me.view.client }
+    requires counted { IsTakenCount taken.old pass.old.me.view.client }
     ensures queue { IsSegPassOf queue.now pass.new }
     ensures sound { Sound pass.new.me.view.client }
     ensures same { KeepsRoutes pass.old.me.view.client pass.new.me.view.client }
     ensures hand { hand.new ≡ None }
-    ensures counted { IsCounted taken.new pass.new.me.view.client }
+    ensures counted { IsTakenCount taken.new pass.new.me.view.client }
     ensures found { GivesNext pass.old.me.view.client hand.old result pass.new.me.view.client }
 {
     if hand.is_some() {

@@ -28,9 +28,9 @@ pub(crate) struct View {
 }
 
 /// The rule itself.
-pub(crate) struct Delivery;
+pub(crate) struct DeliveryRule;
 
-impl Protocol<Envelope, View> for Delivery {
+impl Protocol<Envelope, View> for DeliveryRule {
     ghost use Rattle.std.specs.Prelude.{[]};
     ghost use Rattle.tp_inbox.specs.Rule.{owner_pass, Delivers};
 
@@ -76,9 +76,9 @@ impl Join<View> for Takeover {
 pub(crate) struct Put;
 
 impl Outcome<Envelope, View> for Put {
-    ghost use Rattle.tp_inbox.specs.Rule.{Puts};
+    ghost use Rattle.tp_inbox.specs.Rule.{PutsEnvelope};
 
-    ghost then = { Puts };
+    ghost then = { PutsEnvelope };
 }
 
 /// An envelope that the owner takes out, and what it learns where it looks into the queue.
@@ -97,7 +97,7 @@ impl Lesson<Envelope, View> for Take {
 }
 
 /// The queue of an inbox.
-pub(crate) type InboxQueue = RuledSegQueue<Envelope, View, Delivery>;
+pub(crate) type InboxQueue = RuledSegQueue<Envelope, View, DeliveryRule>;
 
 /// What a sender or the owner reaches the queue with.
 pub(crate) type Pass = SegPass<Envelope, View>;

@@ -1,7 +1,10 @@
 //! A component's sender into one inbox, with its ledger.
-ghost use Rattle.std.specs.Prelude.{◌≡◌, ◌≢◌, ◌<◌, ◌≤◌, ◌↔◌, [], ◌∷◌, length, All, AllPairs, IfErr, IfOk, OnOk};
+ghost use Rattle.std.specs.Prelude.{◌≡◌, ◌≢◌, ◌<◌, ◌≤◌, ◌↔◌, [], ◌∷◌, length, All, AllPairs, IfErr, IfOk, OnErr, OnOk};
 ghost use Rattle.std.specs.Arc.{arc_value};
 ghost use Rattle.crossbeam_queue.specs.SegTies.{IsSegPassOf};
+ghost use Rattle.tp_history.specs.declared.entry.Entry.TheVariants as entry;
+ghost use Rattle.tp_history.specs.History.{next_of};
+ghost use Rattle.tp_history.specs.Desks.{adding};
 ghost use Rattle.tp_inbox.specs.Rule.{sender_pass};
 ghost use Rattle.tp_inbox.specs.Ends.{inbox_of};
 ghost use Rattle.tp_inbox.specs.Ledgers.{end_of, extended, first_sender, put_on_way, putting};
@@ -10,13 +13,15 @@ ghost use Rattle.tp_inbox.specs.Routed.{route_at};
 use crate::channel::Channel;
 use crate::envelope::Envelope;
 use crate::rule::{Pass, Put, Takeover};
-use crate::stamped::Stamped;
 use std::alloc::Global;
 use std::marker::Model;
 use std::sync::{Arc, Wait};
 use thiserror::Error;
 use tp_config::port_type::{CompId, RouteId};
+use tp_history::desk::Desk;
+use tp_history::stamped::Stamped;
 use tp_refusal::memory::Memory;
+use tp_value::message::Message;
 
 /// How many messages a route takes.
 pub const ROUTE_LIMIT: u64 = 100_000;
@@ -55,9 +60,9 @@ impl Model for Sender {
     ghost use Rattle.tp_value.specs.contracts.value.Value as value_contract;
     ghost use Rattle.std.specs.Coded.{codes};
     ghost use Rattle.std.specs.Prelude.{map};
-    ghost use Rattle.tp_inbox.specs.Ledgers.{Sending};
+    ghost use Rattle.tp_inbox.specs.Ledgers.{SenderLedger};
 
-    ghost Value = { Sending };
+    ghost Value = { SenderLedger };
 
     ghost coded = { Prim.hlevel (codes, value_contract.the_row.coded) };
 
@@ -165,6 +170,43 @@ impl Sender {
             }
             Err(back) => Err((PutFault::Memory, back.stamped)),
         }
+    }
+
+    /// Sends a message: notes it at this desk under the next stamp of its history, and puts it on this
+    /// one of the routes. The two are one: it is noted where it is put, and nowhere else. The desk is
+    /// of one thread, so nobody sees a note before its message is put.
+    ///
+    /// 15 `Limit` only where the route has taken all that it takes; else 50 `Memory` where an
+    /// allocation was refused, or where no stamp is left. Either hands the message back, and
+    /// nothing is put or noted then.
+    pub fn send<R: Wait>(
+        &mut self,
+        rt: &R,
+        desk: &mut Desk,
+        way: usize,
+        message: Message,
+    ) -> Result<(), (PutFault, Message)>
+        requires { way < length self.old.routes }
+        ensures desk { OnOk result (desk.new
+            ≡ adding desk.old (entry.Sent (route_at self.old.routes way)
+            (length (put_on_way self.old way)) (next_of desk.old.log message))) }
+        ensures sender { OnOk result (self.new
+            ≡ putting self.old way (next_of desk.old.log message)) }
+        ensures err { OnErr result ((desk.new ≡ desk.old) × (self.new ≡ self.old)) }
+        ensures back { IfErr result (λ back. back.1 ≡ message) }
+        ensures limit { IfErr result (λ back.
+            back.0 ≡ PutFault.Limit → 100000 ≤ length (put_on_way self.old way)) }
+    {
+        let (route, number) = (self.route(way), self.count(way));
+        let stamped = match desk.note_sending(route, number, message) {
+            Ok(stamped) => stamped,
+            Err((_, back)) => return Err((PutFault::Memory, back)),
+        };
+        let Err((fault, back)) = self.put(rt, way, stamped) else {
+            return Ok(());
+        };
+        desk.withdraw();
+        Err((fault, back.message))
     }
 
     /// How many routes it has: each leads to the inbox's component, and no two are equal. Takes no

@@ -5,10 +5,10 @@ use Rattle.std.proofs.lemmas.List.Elements.{All-append, All-nil, All-filter, All
 use Rattle.std.proofs.lemmas.Option.{slice_get-get_or, slice_get_within}
 use Rattle.tp_order.specs.declared.demand.Demand.{Demand}
 use Rattle.tp_order.specs.Order.{IsBelow, IsListing, IsOrder, StandsBefore}
-use Rattle.tp_order.specs.Circle.{IsWanted, LeadsTo}
-use Rattle.tp_judge.specs.declared.line.Line.{Line}
+use Rattle.tp_order.specs.Circle.{IsDemandedBefore, LeadsThrough}
+use Rattle.tp_judge.specs.declared.line.IndexedLine.{IndexedLine}
 use Rattle.tp_judge.specs.declared.line.By.TheVariants as by
-use Rattle.tp_judge.specs.declared.trace.Trace.{Trace}
+use Rattle.tp_judge.specs.declared.trace.IndexedTrace.{IndexedTrace}
 use Rattle.tp_judge.specs.Lines.{is_number, key_of}
 use Rattle.tp_judge.specs.Lawful.{AreWithin}
 use Rattle.tp_judge.specs.Delivered.{Delivered}
@@ -25,9 +25,9 @@ where_below count (Some false) demands all = All-nil (IsBelow count)
 where_below count None demands all = All-nil (IsBelow count)
 
 -- all demands are on numbers of the trace
-pub demands_below : (trace : Trace) → AreWithin trace → All (IsBelow trace.numbers) (demands_of trace)
+pub demands_below : (trace : IndexedTrace) → AreWithin trace → All (IsBelow trace.numbers) (demands_of trace)
 demands_below trace within =
-    let P : Line → Type 0 = λ line. line.number < trace.numbers in
+    let P : IndexedLine → Type 0 = λ line. line.number < trace.numbers in
     let lines = trace.lines.items in
     let small = within.numbers in
     All-append (IsBelow trace.numbers) (from_each (section_demands trace) trace.components)
@@ -41,11 +41,11 @@ demands_below trace within =
     (All-filter (λ line. is_number k (key_of by.Sent line)) P lines small)
     (All-filter (λ line. is_number k (key_of by.Came line)) P lines small))))
 
-from_drop : (xs : List Line) (k : ℕ) (b : Line) → slice_get (drop 1 xs) k ≡ Some b → slice_get xs (suc k) ≡ Some b
+from_drop : (xs : List IndexedLine) (k : ℕ) (b : IndexedLine) → slice_get (drop 1 xs) k ≡ Some b → slice_get xs (suc k) ≡ Some b
 from_drop [] k b at = at
 from_drop (x ∷ xs) k b at = at
 
-to_drop : (xs : List Line) (k : ℕ) (b : Line) → slice_get xs (suc k) ≡ Some b → slice_get (drop 1 xs) k ≡ Some b
+to_drop : (xs : List IndexedLine) (k : ℕ) (b : IndexedLine) → slice_get xs (suc k) ≡ Some b → slice_get (drop 1 xs) k ≡ Some b
 to_drop [] k b at = at
 to_drop (x ∷ xs) k b at = at
 
@@ -55,10 +55,10 @@ where_has (Some true) demands d has = (refl, has)
 where_has (Some false) demands d has = absurd (let low = has.1 in omega arith)
 where_has None demands d has = absurd (let low = has.1 in omega arith)
 
-before_by : (trace : Trace) (d e : Demand) → d ≡ e → HappensBefore trace e.before e.after → HappensBefore trace d.before d.after
+before_by : (trace : IndexedTrace) (d e : Demand) → d ≡ e → HappensBefore trace e.before e.after → HappensBefore trace d.before d.after
 before_by trace d e is = subst (λ (f : Demand). HappensBefore trace f.before f.after) (sym is)
 
-by_section : (trace : Trace) (d : Demand) → Contains (from_each (section_demands trace) trace.components) d
+by_section : (trace : IndexedTrace) (d : Demand) → Contains (from_each (section_demands trace) trace.components) d
     → HappensBefore trace d.before d.after
 by_section trace d has =
     let each = in_each (section_demands trace) trace.components d has in
@@ -67,7 +67,7 @@ by_section trace d has =
     before_by trace d _ pair.5
     (earlier each.0 pair.0 (suc pair.0) pair.1 pair.2 each.1 (omega arith) pair.3 (from_drop row pair.0 pair.2 pair.4))
 
-by_route : (trace : Trace) → Delivered trace → (d : Demand) → Contains (from_each (route_demands trace) (length trace.joined.items)) d
+by_route : (trace : IndexedTrace) → Delivered trace → (d : Demand) → Contains (from_each (route_demands trace) (length trace.joined.items)) d
     → HappensBefore trace d.before d.after
 by_route trace delivered d has =
     let each = in_each (route_demands trace) (length trace.joined.items) d has in
@@ -81,7 +81,7 @@ by_route trace delivered d has =
     (sent route pair.0 pair.0 pair.1 pair.2 parcel.0 parcel.0 there.0 pair.3 pair.4 parcel.1
     (ap (λ l. slice_get l pair.0) (sym lawful.same) ∙ parcel.1) refl)
 
-wanted_before : (trace : Trace) → Delivered trace → (x y : ℕ) → IsWanted (demands_of trace) x y → HappensBefore trace x y
+wanted_before : (trace : IndexedTrace) → Delivered trace → (x y : ℕ) → IsDemandedBefore (demands_of trace) x y → HappensBefore trace x y
 wanted_before trace delivered x y has = ⊎_elim
     (λ (h : Contains (from_each (section_demands trace) trace.components) (record { before = x; after = y })).
     by_section trace (record { before = x; after = y }) h)
@@ -91,15 +91,15 @@ wanted_before trace delivered x y has = ⊎_elim
     (from_each (route_demands trace) (length trace.joined.items)) (record { before = x; after = y }) has)
 
 -- what the demands lead to happens behind
-pub leads_before : (trace : Trace) → Delivered trace → (further x y : ℕ) → LeadsTo (demands_of trace) further x y
+pub leads_before : (trace : IndexedTrace) → Delivered trace → (further x y : ℕ) → LeadsThrough (demands_of trace) further x y
     → HappensBefore trace x y
 leads_before trace delivered zero x y wanted = wanted_before trace delivered x y wanted
 leads_before trace delivered (suc further) x y leads =
     between x leads.0 y (wanted_before trace delivered x leads.0 leads.1) (leads_before trace delivered further leads.0 y leads.2)
 
-next_wanted : (trace : Trace) (component k : ℕ) (a b : Line) → component < trace.components
+next_wanted : (trace : IndexedTrace) (component k : ℕ) (a b : IndexedLine) → component < trace.components
     → slice_get (section_of trace component) k ≡ Some a → slice_get (section_of trace component) (suc k) ≡ Some b
-    → IsWanted (demands_of trace) a.number b.number
+    → IsDemandedBefore (demands_of trace) a.number b.number
 next_wanted trace component k a b below at next =
     let row = section_of trace component in
     Contains-append_left (from_each (section_demands trace) trace.components)
@@ -107,9 +107,9 @@ next_wanted trace component k a b below at next =
     (each_has (section_demands trace) trace.components component (record { before = a.number; after = b.number }) below
     (pairs_have row (drop 1 row) k a b at (to_drop row k b next)))
 
-chain : (trace : Trace) (component : ℕ) → component < trace.components → (more k : ℕ) (a b : Line)
+chain : (trace : IndexedTrace) (component : ℕ) → component < trace.components → (more k : ℕ) (a b : IndexedLine)
     → slice_get (section_of trace component) k ≡ Some a → slice_get (section_of trace component) (suc (k + more)) ≡ Some b
-    → LeadsTo (demands_of trace) more a.number b.number
+    → LeadsThrough (demands_of trace) more a.number b.number
 chain trace component below zero k a b at end =
     let row = section_of trace component in
     let same : suc k ≡ suc (k + 0) = omega arith in
@@ -126,15 +126,15 @@ chain trace component below (suc more) k a b at end =
     )
 
 -- what is led to leads on
-pub leads_on : (demands : List Demand) (f g x y z : ℕ) → LeadsTo demands f x y → LeadsTo demands g y z
-    → (h : ℕ) × LeadsTo demands h x z
+pub leads_on : (demands : List Demand) (f g x y z : ℕ) → LeadsThrough demands f x y → LeadsThrough demands g y z
+    → (h : ℕ) × LeadsThrough demands h x z
 leads_on demands zero g x y z wanted then' = (suc g, (y, wanted, then'))
 leads_on demands (suc f) g x y z leads then' =
     let rest = leads_on demands f g leads.0 y z leads.2 then' in (suc rest.0, (leads.0, leads.1, rest.1))
 
 -- to what happens behind the demands lead
-pub before_leads : (trace : Trace) → Delivered trace → (x y : ℕ) → HappensBefore trace x y
-    → (further : ℕ) × LeadsTo (demands_of trace) further x y
+pub before_leads : (trace : IndexedTrace) → Delivered trace → (x y : ℕ) → HappensBefore trace x y
+    → (further : ℕ) × LeadsThrough (demands_of trace) further x y
 before_leads trace delivered x y (earlier component j k a b below order at end) =
     let row = section_of trace component in
     let same : suc (j + (k - suc j)) ≡ k = omega arith in
@@ -167,7 +167,7 @@ stands_on count order listing x y z first second =
     (first.0, second.1, omega arith, first.3, second.4)
 
 leads_stands : (count : ℕ) (demands : List Demand) (order : List ℕ) → IsOrder count demands order → (further x y : ℕ)
-    → LeadsTo demands further x y → StandsBefore order x y
+    → LeadsThrough demands further x y → StandsBefore order x y
 leads_stands count demands order is zero x y wanted =
     All-contains (λ d. StandsBefore order d.before d.after) demands (record { before = x; after = y }) is.met wanted
 leads_stands count demands order is (suc further) x y leads =
@@ -176,7 +176,7 @@ leads_stands count demands order is (suc further) x y leads =
     (leads_stands count demands order is further leads.0 y leads.2)
 
 -- what can be ordered has no circle
-pub ordered_no_circle : (trace : Trace) (count : ℕ) (order : List ℕ) → Delivered trace → IsOrder count (demands_of trace) order
+pub ordered_no_circle : (trace : IndexedTrace) (count : ℕ) (order : List ℕ) → Delivered trace → IsOrder count (demands_of trace) order
     → NoCircle trace
 ordered_no_circle trace count order delivered is n happens =
     let leads = before_leads trace delivered n n happens in

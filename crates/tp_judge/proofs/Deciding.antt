@@ -6,10 +6,10 @@ use Rattle.std.proofs.lemmas.Option.{slice_get_within}
 use Rattle.tp_order.specs.declared.demand.Demand.{Demand}
 use Rattle.tp_order.specs.Circle.{IsCircle, LiesOnCircle}
 use Rattle.tp_order.specs.Order.{IsBelow, IsOrder, StandsBefore}
-use Rattle.tp_judge.specs.declared.line.Line.{Line}
-use Rattle.tp_judge.specs.declared.trace.Trace.{Trace}
+use Rattle.tp_judge.specs.declared.line.IndexedLine.{IndexedLine}
+use Rattle.tp_judge.specs.declared.trace.IndexedTrace.{IndexedTrace}
 use Rattle.tp_judge.specs.Delivered.{Delivered}
-use Rattle.tp_judge.specs.Lawful.{AreRouted}
+use Rattle.tp_judge.specs.Lawful.{AreLinesRouted}
 use Rattle.tp_judge.specs.OneRun.{IsDelayedAt, IsDemandCircle, IsDemanded, IsDemandedAt, in_section, in_turn, seen_before, unseen_before, IsLeastOf, IsOneRun, LineAt}
 use Rattle.tp_judge.specs.Latest.{AreDemandsUpTo, IsOwn}
 use Rattle.tp_judge.proofs.IntoRuns.{run_of}
@@ -17,12 +17,12 @@ use Rattle.tp_judge.proofs.OfRuns.{leads_stand, run_meets, stands_apart}
 use Rattle.tp_judge.proofs.OwnPlaces.{look_is_own, own_order, own_places, sending_is_own}
 
 -- what is demanded is of lines that say what components did themselves, by a line of the trace
-record AreOwn (trace : Trace) (k x y : ℕ) : Type 0 where
+record AreOwn (trace : IndexedTrace) (k x y : ℕ) : Type 0 where
   first : IsOwn trace x
   second : IsOwn trace y
   below : k < length trace.lines.items
 
-demanded_own : (trace : Trace) (k x y : ℕ) → IsDemandedAt trace k x y → AreOwn trace k x y
+demanded_own : (trace : IndexedTrace) (k x y : ℕ) → IsDemandedAt trace k x y → AreOwn trace k x y
 demanded_own trace k x y (in_section component _ _ below first second) = record {
   first = (component, first);
   second = (component, second);
@@ -44,11 +44,11 @@ demanded_own trace k x y (in_turn component j _ _ _ m n below c sends d sends_ot
   below = slice_get_within trace.lines.items k d.line d.at;
 }
 
-own_below : (trace : Trace) (place : ℕ) → IsOwn trace place → place < length trace.lines.items
+own_below : (trace : IndexedTrace) (place : ℕ) → IsOwn trace place → place < length trace.lines.items
 own_below trace place own = slice_get_within trace.lines.items place own.1.line own.1.at
 
 -- the demands are on places of the trace
-pub run_demands_below : (trace : Trace) (n : ℕ) (demands : List Demand) → AreDemandsUpTo trace n demands
+pub run_demands_below : (trace : IndexedTrace) (n : ℕ) (demands : List Demand) → AreDemandsUpTo trace n demands
     → All (IsBelow (length trace.lines.items)) demands
 run_demands_below trace n demands are =
     All-weaker (λ (d : Demand). IsDemanded trace d.before d.after) (IsBelow (length trace.lines.items))
@@ -58,7 +58,7 @@ run_demands_below trace n demands are =
     demands are.sound
 
 -- an order of all places makes a run
-pub one_run_of : (trace : Trace) (demands : List Demand) (order : List ℕ) → AreRouted trace → Delivered trace
+pub one_run_of : (trace : IndexedTrace) (demands : List Demand) (order : List ℕ) → AreLinesRouted trace → Delivered trace
     → AreDemandsUpTo trace (length trace.lines.items) demands → IsOrder (length trace.lines.items) demands order → IsOneRun trace
 one_run_of trace demands order routed delivered are is =
     let own = own_order trace order is.listing in (
@@ -78,7 +78,7 @@ one_run_of trace demands order routed delivered are is =
     )
 
 -- a circle excludes one
-no_run : (trace : Trace) (n : ℕ) (demands : List Demand) (x : ℕ) → AreRouted trace → Delivered trace → AreDemandsUpTo trace n demands
+no_run : (trace : IndexedTrace) (n : ℕ) (demands : List Demand) (x : ℕ) → AreLinesRouted trace → Delivered trace → AreDemandsUpTo trace n demands
     → LiesOnCircle demands x → IsOneRun trace → ⊥
 no_run trace n demands x routed delivered are lies run =
     let once = run.1.once in
@@ -86,7 +86,7 @@ no_run trace n demands x routed delivered are lies run =
     (λ d asks. run_meets trace run.0 routed delivered run.1 asks.0 d.before d.after asks.1) demands are.sound in
     stands_apart run.0 once x (leads_stand demands run.0 once met lies.0 x x lies.1)
 
-circle_demanded : (trace : Trace) (n : ℕ) (demands : List Demand) (circle : List ℕ) → AreDemandsUpTo trace n demands → IsCircle demands circle
+circle_demanded : (trace : IndexedTrace) (n : ℕ) (demands : List Demand) (circle : List ℕ) → AreDemandsUpTo trace n demands → IsCircle demands circle
     → IsDemandCircle trace circle
 circle_demanded trace n demands circle are is = record {
   some = is.some;
@@ -95,7 +95,7 @@ circle_demanded trace n demands circle are is = record {
   round = All-contains (λ (d : Demand). IsDemanded trace d.before d.after) demands _ are.sound is.round;
 }
 
-pub delayed_of : (trace : Trace) (n : ℕ) (demands : List Demand) (circle : List ℕ) (place : ℕ) (line : Line) → AreRouted trace → Delivered trace
+pub delayed_of : (trace : IndexedTrace) (n : ℕ) (demands : List Demand) (circle : List ℕ) (place : ℕ) (line : IndexedLine) → AreLinesRouted trace → Delivered trace
     → AreDemandsUpTo trace n demands → IsCircle demands circle → LiesOnCircle demands (slice_index circle 0) → IsLeastOf circle place
     → LineAt trace place line → IsDelayedAt trace line.number
 delayed_of trace n demands circle place line routed delivered are is lies least at = record {

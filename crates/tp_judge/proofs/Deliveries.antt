@@ -4,10 +4,10 @@ use Rattle.std.specs.Prelude.{slice_get}
 use Rattle.std.proofs.lemmas.Bool.{cases_lt}
 use Rattle.std.proofs.lemmas.Option.{same_Some}
 use Rattle.tp_judge.specs.declared.line.Parcel.{Parcel}
-use Rattle.tp_judge.specs.declared.line.Line.{Line}
+use Rattle.tp_judge.specs.declared.line.IndexedLine.{IndexedLine}
 use Rattle.tp_judge.specs.declared.place.Rule.TheVariants as rule
-use Rattle.tp_judge.specs.declared.place.Place.{Place}
-use Rattle.tp_judge.specs.Delivered.{AgreesBelow, AreNumbered, IsDelivered, IsFirstArrival, IsOvertaken, IsTold, IsUnlawfulRoute, different, numbering, IsWrongAt, doubled, lost, NeverCame, ParcelAt, parcels}
+use Rattle.tp_judge.specs.declared.place.UnlawfulPlace.{UnlawfulPlace}
+use Rattle.tp_judge.specs.Delivered.{AgreesBelow, AreParcelsNumbered, CameAsSent, IsFirstArrival, IsOvertaken, IsPlaceOfLine, IsUnlawfulRoute, different, numbering, IsWrongAt, doubled, lost, NeverCame, ParcelAt, parcels}
 use Rattle.tp_judge.specs.Routed.{HasNumberFrom, NoNumberFrom}
 
 pub same_parcel : (a b : Parcel) → a.number ≡ b.number → a.message ≡ b.message → a ≡ b
@@ -27,7 +27,7 @@ same_lists (x ∷ xs) (y ∷ ys) agree short =
     ∙ ap (λ l. y ∷ l) (same_lists xs ys (λ k below. agree (suc k) (omega arith)) (omega arith))
 
 -- a number that is none of the first, and that nothing has behind them
-never_here : (sent came : List Line) (n : ℕ) (p : Parcel) → AreNumbered (parcels sent) → AgreesBelow sent came n → n ≤ p.number
+never_here : (sent came : List IndexedLine) (n : ℕ) (p : Parcel) → AreParcelsNumbered (parcels sent) → AgreesBelow sent came n → n ≤ p.number
     → NoNumberFrom came n p.number → NeverCame came p
 never_here sent came n p numbered agree large later = λ j q at. ⊎_elim
     (λ (low : j < n). λ same. let first = numbered j q (agree j low ∙ at) in omega arith)
@@ -35,8 +35,8 @@ never_here sent came n p numbered agree large later = λ j q at. ⊎_elim
     (cases_lt j n)
 
 -- a parcel whose place another took that was sent later, and that never comes behind that
-pub lost_overtaken : (sent came : List Line) (k : ℕ) (p : Parcel) (place : Place) → AreNumbered (parcels sent) → AgreesBelow sent came k
-    → place.rule ≡ rule.Lost → IsTold sent k place → ParcelAt sent k p → NoNumberFrom came k k → IsOvertaken sent came k
+pub lost_overtaken : (sent came : List IndexedLine) (k : ℕ) (p : Parcel) (place : UnlawfulPlace) → AreParcelsNumbered (parcels sent) → AgreesBelow sent came k
+    → place.rule ≡ rule.Lost → IsPlaceOfLine sent k place → ParcelAt sent k p → NoNumberFrom came k k → IsOvertaken sent came k
     → IsWrongAt sent came k place
 lost_overtaken sent came k p place numbered agree is told there later overtaken =
     let number = numbered k p there in
@@ -44,8 +44,8 @@ lost_overtaken sent came k p place numbered agree is told there later overtaken 
     lost p is told there (never_here sent came k p numbered agree (omega arith) none) (inr overtaken)
 
 -- a parcel behind all that came
-pub lost_behind : (sent came : List Line) (k : ℕ) (p : Parcel) (place : Place) → AreNumbered (parcels sent) → AgreesBelow sent came k
-    → place.rule ≡ rule.Lost → IsTold sent k place → ParcelAt sent k p → ((j : ℕ) (q : Parcel) → ParcelAt came j q → j < k)
+pub lost_behind : (sent came : List IndexedLine) (k : ℕ) (p : Parcel) (place : UnlawfulPlace) → AreParcelsNumbered (parcels sent) → AgreesBelow sent came k
+    → place.rule ≡ rule.Lost → IsPlaceOfLine sent k place → ParcelAt sent k p → ((j : ℕ) (q : Parcel) → ParcelAt came j q → j < k)
     → IsUnlawfulRoute sent came place
 lost_behind sent came k p place numbered agree is told there all =
     let number = numbered k p there in
@@ -61,15 +61,15 @@ parcel_there (x ∷ xs) zero below = (x, refl)
 parcel_there (x ∷ xs) (suc i) below = parcel_there xs i (omega arith)
 
 -- a number that came before, where all before it agrees
-pub doubled_here : (sent came : List Line) (k : ℕ) (p : Parcel) (place : Place) → AreNumbered (parcels sent) → AgreesBelow sent came k
-    → place.rule ≡ rule.Doubled → IsTold came k place → ParcelAt came k p → k < length (parcels came) → p.number < k
+pub doubled_here : (sent came : List IndexedLine) (k : ℕ) (p : Parcel) (place : UnlawfulPlace) → AreParcelsNumbered (parcels sent) → AgreesBelow sent came k
+    → place.rule ≡ rule.Doubled → IsPlaceOfLine came k place → ParcelAt came k p → k < length (parcels came) → p.number < k
     → IsWrongAt sent came k place
 doubled_here sent came k p place numbered agree is told there within before =
     let q = parcel_there (parcels came) p.number (omega arith) in
     doubled p.number p q.0 is told there before q.1 (numbered p.number q.0 (agree p.number before ∙ q.1))
 
 -- where the arrivals agree below k, the first from there on with a number that isn't less is the first of all with it
-pub first_arrival : (sent came : List Line) (n k number : ℕ) (p : Parcel) → AreNumbered (parcels sent) → AgreesBelow sent came n
+pub first_arrival : (sent came : List IndexedLine) (n k number : ℕ) (p : Parcel) → AreParcelsNumbered (parcels sent) → AgreesBelow sent came n
     → n ≤ number → ParcelAt came k p → p.number ≡ number
     → ((j : ℕ) (q : Parcel) → n ≤ j → j < k → ParcelAt came j q → q.number ≢ number) → IsFirstArrival came number k p
 first_arrival sent came n k number p numbered agree large at is none = record {
@@ -82,11 +82,11 @@ first_arrival sent came n k number p numbered agree large at is none = record {
 }
 
 -- what was sent where another took its place came behind that
-pub record IsLater (came : List Line) (k m : ℕ) (p q : Parcel) : Type 0 where
+pub record IsLater (came : List IndexedLine) (k m : ℕ) (p q : Parcel) : Type 0 where
   pub behind : k < m
   pub first : IsFirstArrival came p.number m q
 
-pub later_arrival : (sent came : List Line) (k m : ℕ) (p q : Parcel) → AreNumbered (parcels sent) → AgreesBelow sent came k
+pub later_arrival : (sent came : List IndexedLine) (k m : ℕ) (p q : Parcel) → AreParcelsNumbered (parcels sent) → AgreesBelow sent came k
     → ParcelAt sent k p → IsOvertaken sent came k → HasNumberFrom came k k m → ParcelAt came m q → IsLater came k m p q
 later_arrival sent came k m p q numbered agree there over found at =
     let number = numbered k p there in
@@ -104,6 +104,6 @@ later_arrival sent came k m p q numbered agree there over found at =
     }
 
 -- a place on a route excludes that the route is lawful
-pub unlawful_route : (sent came : List Line) (place : Place) → IsUnlawfulRoute sent came place → IsDelivered sent came → ⊥
+pub unlawful_route : (sent came : List IndexedLine) (place : UnlawfulPlace) → IsUnlawfulRoute sent came place → CameAsSent sent came → ⊥
 unlawful_route sent came place (numbering k is told wrong) lawful = wrong.wrong (lawful.numbered k wrong.parcel wrong.at)
 unlawful_route sent came place (different k numbered differs wrong) lawful = differs.here (ap (λ l. slice_get l k) lawful.same)

@@ -5,27 +5,27 @@ use Rattle.std.specs.List.{filter_map}
 use Rattle.std.proofs.lemmas.Bool.{cases_lt, cases_order}
 use Rattle.std.proofs.lemmas.List.{take_all, take-append-drop, take-take}
 use Rattle.std.proofs.lemmas.Option.{slice_get_within}
-use Rattle.tp_order.specs.Order.{StandsAt, StandsBefore}
+use Rattle.tp_order.specs.Order.{IsNumberAt, StandsBefore}
 use Rattle.tp_judge.specs.declared.line.Mention.{Mention}
-use Rattle.tp_judge.specs.declared.trace.Trace.{Trace}
+use Rattle.tp_judge.specs.declared.trace.IndexedTrace.{IndexedTrace}
 use Rattle.tp_judge.specs.Delivered.{Delivered}
-use Rattle.tp_judge.specs.Lawful.{AreRouted}
+use Rattle.tp_judge.specs.Lawful.{AreLinesRouted}
 use Rattle.tp_judge.specs.OneRun.{all_came_to, all_sent_to, came_to, sent_from, ComesAt, IsDemanded, in_section, in_turn, seen_before, unseen_before, IsFrontOf, IsLookAt, IsOwnAt, IsRun, IsSentAt}
 use Rattle.tp_judge.proofs.Ranks.{rank_of, ranked, rank_rises, rank_grows, rank_within, front_given, unranked, same_by_places, same_rank, slice_there, KeepsOrder, keeps_agree, keeps_count}
 use Rattle.tp_judge.proofs.SentCame.{came_for, came_to_from, came_to_some, comes_there, sent_once, sent_there}
 use Rattle.tp_judge.proofs.OwnPlaces.{comes_same, look_is_own, own_not_come, sending_is_own, sent_from_is, sent_from_some}
 
 -- the order has all that components did themselves, each once, and meets what is demanded
-pub record MeetsAll (trace : Trace) (order : List ℕ) : Type 0 where
-  pub routed : AreRouted trace
+pub record MeetsAll (trace : IndexedTrace) (order : List ℕ) : Type 0 where
+  pub routed : AreLinesRouted trace
   pub delivered : Delivered trace
-  pub own : (i place : ℕ) → StandsAt order i place → (component : ℕ) × IsOwnAt trace component place
-  pub each : (component place : ℕ) → IsOwnAt trace component place → (i : ℕ) × StandsAt order i place
-  pub once : (i j place : ℕ) → StandsAt order i place → StandsAt order j place → i ≡ j
+  pub own : (i place : ℕ) → IsNumberAt order i place → (component : ℕ) × IsOwnAt trace component place
+  pub each : (component place : ℕ) → IsOwnAt trace component place → (i : ℕ) × IsNumberAt order i place
+  pub once : (i j place : ℕ) → IsNumberAt order i place → IsNumberAt order j place → i ≡ j
   pub met : (x y : ℕ) → IsDemanded trace x y → StandsBefore order x y
 
 -- a message that came as this one, and was sent as that one, of those to the component
-record IsMatch (trace : Trace) (component : ℕ) (order : List ℕ) (came sent : ℕ) : Type 0 where
+record IsMatch (trace : IndexedTrace) (component : ℕ) (order : List ℕ) (came sent : ℕ) : Type 0 where
   mention : Mention
   place : ℕ
   comes : ComesAt trace component place mention
@@ -33,31 +33,31 @@ record IsMatch (trace : Trace) (component : ℕ) (order : List ℕ) (came sent :
   sending : ℕ
   sends : IsSentAt trace sending mention
   turn : ℕ
-  at : StandsAt order turn sending
+  at : IsNumberAt order turn sending
   sent_is : rank_of (sent_from trace component) order turn ≡ sent
 
 -- it is sent to the component
-match_sent : (trace : Trace) (component : ℕ) (order : List ℕ) (i j : ℕ) → MeetsAll trace order
+match_sent : (trace : IndexedTrace) (component : ℕ) (order : List ℕ) (i j : ℕ) → MeetsAll trace order
     → (x : IsMatch trace component order i j) → sent_from trace component x.sending ≡ Some x.mention
 match_sent trace component order i j meets x =
     sent_from_is trace component x.sending x.mention x.sends x.comes.is.1
     (came_for trace component x.place x.mention meets.routed x.comes)
 
-match_came_at : (trace : Trace) (component : ℕ) (order : List ℕ) (i j : ℕ) (x : IsMatch trace component order i j)
+match_came_at : (trace : IndexedTrace) (component : ℕ) (order : List ℕ) (i j : ℕ) (x : IsMatch trace component order i j)
     → slice_get (filter_map (came_to trace component) trace.lines.items) i ≡ Some x.mention
 match_came_at trace component order i j x =
     ap (slice_get (filter_map (came_to trace component) trace.lines.items)) (sym x.came_is)
     ∙ ranked (came_to trace component) trace.lines.items x.place x.comes.line x.mention x.comes.at
     (came_to_from trace component x.place x.mention x.comes)
 
-match_sent_at : (trace : Trace) (component : ℕ) (order : List ℕ) (i j : ℕ) → MeetsAll trace order
+match_sent_at : (trace : IndexedTrace) (component : ℕ) (order : List ℕ) (i j : ℕ) → MeetsAll trace order
     → (x : IsMatch trace component order i j) → slice_get (filter_map (sent_from trace component) order) j ≡ Some x.mention
 match_sent_at trace component order i j meets x =
     ap (slice_get (filter_map (sent_from trace component) order)) (sym x.sent_is)
     ∙ ranked (sent_from trace component) order x.turn x.sending x.mention x.at (match_sent trace component order i j meets x)
 
 -- each message that came was sent
-match_total : (trace : Trace) (component : ℕ) (order : List ℕ) → MeetsAll trace order → (i : ℕ)
+match_total : (trace : IndexedTrace) (component : ℕ) (order : List ℕ) → MeetsAll trace order → (i : ℕ)
     → i < length (filter_map (came_to trace component) trace.lines.items) → (j : ℕ) × IsMatch trace component order i j
 match_total trace component order meets i below =
     let m = slice_there (filter_map (came_to trace component) trace.lines.items) i below in
@@ -81,7 +81,7 @@ match_total trace component order meets i below =
     )
 
 -- and each that was sent came
-match_onto : (trace : Trace) (component : ℕ) (order : List ℕ) → MeetsAll trace order → (j : ℕ)
+match_onto : (trace : IndexedTrace) (component : ℕ) (order : List ℕ) → MeetsAll trace order → (j : ℕ)
     → j < length (filter_map (sent_from trace component) order) → (i : ℕ) × IsMatch trace component order i j
 match_onto trace component order meets j below =
     let m = slice_there (filter_map (sent_from trace component) order) j below in
@@ -103,7 +103,7 @@ match_onto trace component order meets j below =
     )
 
 -- what came later was sent later
-match_rises : (trace : Trace) (component : ℕ) (order : List ℕ) → MeetsAll trace order → (i j k l : ℕ)
+match_rises : (trace : IndexedTrace) (component : ℕ) (order : List ℕ) → MeetsAll trace order → (i j k l : ℕ)
     → IsMatch trace component order i j → IsMatch trace component order k l → i < k → j < l
 match_rises trace component order meets i j k l x y below = elim (cases_lt x.place y.place) [
   | inl before ↦
@@ -124,7 +124,7 @@ match_rises trace component order meets i j k l x y below = elim (cases_lt x.pla
 ]
 
 -- and one message at each turn
-match_one : (trace : Trace) (component : ℕ) (order : List ℕ) → MeetsAll trace order → (i j k : ℕ)
+match_one : (trace : IndexedTrace) (component : ℕ) (order : List ℕ) → MeetsAll trace order → (i j k : ℕ)
     → IsMatch trace component order i j → IsMatch trace component order i k → j ≡ k
 match_one trace component order meets i j k x y =
     let place = same_rank (came_to trace component) trace.lines.items x.place y.place x.comes.line y.comes.line x.mention y.mention
@@ -136,7 +136,7 @@ match_one trace component order meets i j k x y =
     let turn = meets.once x.turn y.turn y.sending (x.at ∙ ap Some sending) y.at in
     sym x.sent_is ∙ ap (rank_of (sent_from trace component) order) turn ∙ y.sent_is
 
-match_keeps : (trace : Trace) (component : ℕ) (order : List ℕ) → MeetsAll trace order
+match_keeps : (trace : IndexedTrace) (component : ℕ) (order : List ℕ) → MeetsAll trace order
     → KeepsOrder (IsMatch trace component order) (length (filter_map (came_to trace component) trace.lines.items))
     (length (filter_map (sent_from trace component) order))
 match_keeps trace component order meets = record {
@@ -151,7 +151,7 @@ match_keeps trace component order meets = record {
 }
 
 -- what came to a component is what was sent to it, in this order
-came_as_sent : (trace : Trace) (component : ℕ) (order : List ℕ) → MeetsAll trace order
+came_as_sent : (trace : IndexedTrace) (component : ℕ) (order : List ℕ) → MeetsAll trace order
     → filter_map (came_to trace component) trace.lines.items ≡ filter_map (sent_from trace component) order
 came_as_sent trace component order meets =
     let keeps = match_keeps trace component order meets in
@@ -168,7 +168,7 @@ came_as_sent trace component order meets =
     (omega arith)
 
 -- the message that came with this rank, and its sending with the same
-match_at : (trace : Trace) (component : ℕ) (order : List ℕ) → MeetsAll trace order → (i : ℕ)
+match_at : (trace : IndexedTrace) (component : ℕ) (order : List ℕ) → MeetsAll trace order → (i : ℕ)
     → i < length (filter_map (came_to trace component) trace.lines.items) → IsMatch trace component order i i
 match_at trace component order meets i below =
     let x = match_total trace component order meets i below in
@@ -177,7 +177,7 @@ match_at trace component order meets i below =
     subst (IsMatch trace component order i) (sym same) x.1
 
 -- what came before a line is no more than what was sent before it
-came_no_more : (trace : Trace) (component : ℕ) (order : List ℕ) → MeetsAll trace order → (turn place : ℕ) → StandsAt order turn place
+came_no_more : (trace : IndexedTrace) (component : ℕ) (order : List ℕ) → MeetsAll trace order → (turn place : ℕ) → IsNumberAt order turn place
     → IsOwnAt trace component place
     → rank_of (came_to trace component) trace.lines.items place ≤ rank_of (sent_from trace component) order turn
 came_no_more trace component order meets turn place at own =
@@ -206,7 +206,7 @@ came_no_more trace component order meets turn place at own =
     ]
 
 -- and before a look no less
-came_no_less : (trace : Trace) (component : ℕ) (order : List ℕ) → MeetsAll trace order → (turn place : ℕ) → StandsAt order turn place
+came_no_less : (trace : IndexedTrace) (component : ℕ) (order : List ℕ) → MeetsAll trace order → (turn place : ℕ) → IsNumberAt order turn place
     → IsLookAt trace component place
     → rank_of (sent_from trace component) order turn ≤ rank_of (came_to trace component) trace.lines.items place
 came_no_less trace component order meets turn place at look =
@@ -240,11 +240,11 @@ came_no_less trace component order meets turn place at look =
     ]
 
 -- what came before a line, and what was sent before it, as fronts of one list
-came_front : (trace : Trace) (component place : ℕ)
+came_front : (trace : IndexedTrace) (component place : ℕ)
     → all_came_to trace component place ≡ take (rank_of (came_to trace component) trace.lines.items place) (filter_map (came_to trace component) trace.lines.items)
 came_front trace component place = sym (front_given (came_to trace component) trace.lines.items place)
 
-sent_front : (trace : Trace) (component : ℕ) (order : List ℕ) → MeetsAll trace order → (turn : ℕ)
+sent_front : (trace : IndexedTrace) (component : ℕ) (order : List ℕ) → MeetsAll trace order → (turn : ℕ)
     → all_sent_to trace component (take turn order)
     ≡ take (rank_of (sent_from trace component) order turn) (filter_map (came_to trace component) trace.lines.items)
 sent_front trace component order meets turn =
@@ -257,7 +257,7 @@ fronts xs front whole m n below first second = (
   ap (λ l. l ++ drop m (take n xs)) (first ∙ sym (take-take m n xs below)) ∙ take-append-drop m (take n xs) ∙ sym second,
 )
 
-pub run_of : (trace : Trace) (order : List ℕ) → MeetsAll trace order → IsRun trace order
+pub run_of : (trace : IndexedTrace) (order : List ℕ) → MeetsAll trace order → IsRun trace order
 run_of trace order meets = record {
   own = meets.own;
   each = meets.each;

@@ -7,12 +7,12 @@ use Rattle.std.proofs.lemmas.Option.{same_Some, slice_get-get_or}
 use Rattle.tp_judge.specs.declared.line.Mention.{Mention}
 use Rattle.tp_judge.specs.declared.line.Act.{Act}
 use Rattle.tp_judge.specs.declared.line.Act.TheVariants as act
-use Rattle.tp_judge.specs.declared.line.Line.{Line}
+use Rattle.tp_judge.specs.declared.line.IndexedLine.{IndexedLine}
 use Rattle.tp_judge.specs.declared.line.By.TheVariants as by
 use Rattle.tp_judge.specs.declared.run_demands.Latest.{Latest}
 use Rattle.tp_judge.specs.declared.run_demands.Making.{Making}
 use Rattle.tp_judge.specs.declared.run_demands.Which.{Which}
-use Rattle.tp_judge.specs.declared.trace.Trace.{Trace}
+use Rattle.tp_judge.specs.declared.trace.IndexedTrace.{IndexedTrace}
 use Rattle.tp_judge.specs.Delivered.{Delivered, IsJoined}
 use Rattle.tp_judge.specs.Lawful.{AreWithin}
 use Rattle.tp_judge.specs.Lines.{HasKeyBelow}
@@ -23,21 +23,21 @@ use Rattle.tp_judge.proofs.Demanding.{arrival_made, own_made, quiet_made}
 use Rattle.tp_judge.proofs.SentCame.{all_at}
 
 -- what is read at a place
-pub line_read : (trace : Trace) (place : ℕ) (line : Line) → place < length trace.lines.items → line ≡ get_or trace.lines.items place line
+pub line_read : (trace : IndexedTrace) (place : ℕ) (line : IndexedLine) → place < length trace.lines.items → line ≡ get_or trace.lines.items place line
     → LineAt trace place line
 line_read trace place line below is = slice_get-get_or trace.lines.items place line below ∙ ap Some (sym is)
 
 -- each line is of a component
-pub component_below : (trace : Trace) (place : ℕ) (line : Line) → AreWithin trace → LineAt trace place line
+pub component_below : (trace : IndexedTrace) (place : ℕ) (line : IndexedLine) → AreWithin trace → LineAt trace place line
     → line.component < trace.components
 component_below trace place line within at =
     all_at (HasKeyBelow by.Component trace.components) trace.lines.items place line within.sections at
 
-pub same_act : (trace : Trace) (place : ℕ) (line other : Line) → LineAt trace place line → LineAt trace place other → line.act ≡ other.act
-same_act trace place line other first second = ap (λ (l : Line). l.act) (same_Some line other (sym first ∙ second))
+pub same_act : (trace : IndexedTrace) (place : ℕ) (line other : IndexedLine) → LineAt trace place line → LineAt trace place other → line.act ≡ other.act
+same_act trace place line other first second = ap (λ (l : IndexedLine). l.act) (same_Some line other (sym first ∙ second))
 
 -- a line of its own
-pub made_own : (trace : Trace) (n : ℕ) (was now : Making) (line : Line) (latest : Latest) (looks : Bool) → AreWithin trace → Delivered trace
+pub made_own : (trace : IndexedTrace) (n : ℕ) (was now : Making) (line : IndexedLine) (latest : Latest) (looks : Bool) → AreWithin trace → Delivered trace
     → IsMadeUpTo trace n was → IsOwn trace n → LineAt trace n line
     → latest ≡ get_or was.latest.items line.component latest → looks ≡ is_looking line.act
     → now.which ≡ was.which → now.demands.items ≡ two_made was.which was.demands.items latest.own latest.unseen n
@@ -67,7 +67,7 @@ made_own trace n was now line latest looks within delivered made own at read loo
     }
 
 -- an arrival
-pub made_arrival : (trace : Trace) (n s : ℕ) (m : Mention) (was now : Making) (line : Line) (latest : Latest) → AreWithin trace → Delivered trace
+pub made_arrival : (trace : IndexedTrace) (n s : ℕ) (m : Mention) (was now : Making) (line : IndexedLine) (latest : Latest) → AreWithin trace → Delivered trace
     → IsMadeUpTo trace n was → LineAt trace n line → line.act ≡ act.Came m → IsJoined trace m.route → IsSentAt trace s m
     → latest ≡ get_or was.latest.items line.component latest
     → now.which ≡ was.which → now.demands.items ≡ two_made was.which was.demands.items latest.look latest.sending s
@@ -93,7 +93,7 @@ made_arrival trace n s m was now line latest within delivered made at says joine
     }
 
 -- any other line
-made_quiet : (trace : Trace) (n : ℕ) (was : Making) → IsMadeUpTo trace n was → ((component : ℕ) → IsQuiet trace component n)
+made_quiet : (trace : IndexedTrace) (n : ℕ) (was : Making) → IsMadeUpTo trace n was → ((component : ℕ) → IsQuiet trace component n)
     → IsMadeUpTo trace (n + 1) was
 made_quiet trace n was made quiet = record {
   demands = record {
@@ -118,7 +118,7 @@ came_route_same : (a : Act) (m n : Mention) → a ≡ act.Came m → a ≡ act.C
 came_route_same a m n is other = let both : act.Came m ≡ act.Came n = sym is ∙ other in cc
 
 -- what comes by a route with one end
-pub made_unjoined : (trace : Trace) (n : ℕ) (m : Mention) (was : Making) (line : Line) → IsMadeUpTo trace n was → LineAt trace n line
+pub made_unjoined : (trace : IndexedTrace) (n : ℕ) (m : Mention) (was : Making) (line : IndexedLine) → IsMadeUpTo trace n was → LineAt trace n line
     → line.act ≡ act.Came m → slice_get trace.joined.items m.route ≡ Some false → IsMadeUpTo trace (n + 1) was
 made_unjoined trace n m was line made at says apart = made_quiet trace n was made
     (λ component. record {
@@ -130,7 +130,7 @@ made_unjoined trace n m was line made at says apart = made_quiet trace n was mad
     })
 
 -- what was left
-pub made_left : (trace : Trace) (n : ℕ) (m : Mention) (was : Making) (line : Line) → IsMadeUpTo trace n was → LineAt trace n line
+pub made_left : (trace : IndexedTrace) (n : ℕ) (m : Mention) (was : Making) (line : IndexedLine) → IsMadeUpTo trace n was → LineAt trace n line
     → line.act ≡ act.Left m → IsMadeUpTo trace (n + 1) was
 made_left trace n m was line made at says = made_quiet trace n was made
     (λ component. record {
@@ -144,13 +144,13 @@ own_default (act.Came m) not_came not_left = absurd (not_came m refl)
 own_default (act.Left m) not_came not_left = absurd (not_left m refl)
 own_default _ not_came not_left = refl
 
-pub own_at : (trace : Trace) (n : ℕ) (line : Line) → LineAt trace n line → ((m : Mention) → line.act ≡ act.Came m → ⊥)
+pub own_at : (trace : IndexedTrace) (n : ℕ) (line : IndexedLine) → LineAt trace n line → ((m : Mention) → line.act ≡ act.Came m → ⊥)
     → ((m : Mention) → line.act ≡ act.Left m → ⊥) → IsOwn trace n
 own_at trace n line at not_came not_left =
     (line.component, record { line = line; at = at; within = refl; is = own_default line.act not_came not_left })
 
 -- the route of what comes is one of the trace
-pub came_below : (trace : Trace) (place : ℕ) (line : Line) (m : Mention) → AreWithin trace → LineAt trace place line → line.act ≡ act.Came m
+pub came_below : (trace : IndexedTrace) (place : ℕ) (line : IndexedLine) (m : Mention) → AreWithin trace → LineAt trace place line → line.act ≡ act.Came m
     → m.route < length trace.joined.items
 came_below trace place line m within at says =
     subst (λ (a : Act). HasKeyBelow by.Came (length trace.joined.items) (record { number = line.number; component = line.component; act = a })) says

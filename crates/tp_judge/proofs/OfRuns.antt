@@ -7,13 +7,13 @@ use Rattle.std.proofs.lemmas.List.{take_all}
 use Rattle.std.proofs.lemmas.List.Elements.{All-contains}
 use Rattle.std.proofs.lemmas.Option.{none-some, same_Some}
 use Rattle.tp_order.specs.declared.demand.Demand.{Demand}
-use Rattle.tp_order.specs.Circle.{LeadsTo}
-use Rattle.tp_order.specs.Order.{StandsAt, StandsBefore}
+use Rattle.tp_order.specs.Circle.{LeadsThrough}
+use Rattle.tp_order.specs.Order.{IsNumberAt, StandsBefore}
 use Rattle.tp_judge.specs.declared.line.Mention.{Mention}
-use Rattle.tp_judge.specs.declared.line.Line.{Line}
-use Rattle.tp_judge.specs.declared.trace.Trace.{Trace}
+use Rattle.tp_judge.specs.declared.line.IndexedLine.{IndexedLine}
+use Rattle.tp_judge.specs.declared.trace.IndexedTrace.{IndexedTrace}
 use Rattle.tp_judge.specs.Delivered.{Delivered, IsJoined}
-use Rattle.tp_judge.specs.Lawful.{AreRouted}
+use Rattle.tp_judge.specs.Lawful.{AreLinesRouted}
 use Rattle.tp_judge.specs.OneRun.{all_came_to, all_sent_to, came_to, is_looking, sent_from, ComesAt, IsDemandedAt, in_section, in_turn, seen_before, unseen_before, IsLookAt, IsOwnAt, IsRun, IsSentAt}
 use Rattle.tp_judge.proofs.Ranks.{from_front, in_front, rank_of, ranked, rank_rises, rank_grows, unranked}
 use Rattle.tp_judge.proofs.SentCame.{came_for, came_to_from, came_to_some, comes_once, sent_once}
@@ -26,7 +26,7 @@ append_at (x ∷ xs) ys zero m at = at
 append_at (x ∷ xs) ys (suc k) m at = append_at xs ys k m at
 
 -- what came before a line stands among what came before it
-came_among : (trace : Trace) (component j k : ℕ) (m : Mention) → j < k → ComesAt trace component j m
+came_among : (trace : IndexedTrace) (component j k : ℕ) (m : Mention) → j < k → ComesAt trace component j m
     → slice_get (all_came_to trace component k) (rank_of (came_to trace component) (take k trace.lines.items) j) ≡ Some m
 came_among trace component j k m below c =
     ranked (came_to trace component) (take k trace.lines.items) j c.line m (in_front trace.lines.items j k c.line below c.at)
@@ -36,9 +36,9 @@ came_among trace component j k m below c =
 pub record IsSentBefore (order : List ℕ) (turn sending : ℕ) : Type 0 where
   pub first : ℕ
   pub below : first < turn
-  pub at : StandsAt order first sending
+  pub at : IsNumberAt order first sending
 
-sent_among : (trace : Trace) (component : ℕ) (order : List ℕ) (turn sending k : ℕ) (m : Mention) → Delivered trace → IsJoined trace m.route
+sent_among : (trace : IndexedTrace) (component : ℕ) (order : List ℕ) (turn sending k : ℕ) (m : Mention) → Delivered trace → IsJoined trace m.route
     → IsSentAt trace sending m → slice_get (all_sent_to trace component (take turn order)) k ≡ Some m → IsSentBefore order turn sending
 sent_among trace component order turn sending k m delivered joined s at =
     let found = unranked (sent_from trace component) (take turn order) k m at in
@@ -47,7 +47,7 @@ sent_among trace component order turn sending k m delivered joined s at =
     record { first = found.place; below = there.0; at = there.1 ∙ ap Some same }
 
 -- what came before a line was sent before it
-run_seen : (trace : Trace) (order : List ℕ) → Delivered trace → IsRun trace order → (component j k s : ℕ) (m : Mention) → j < k
+run_seen : (trace : IndexedTrace) (order : List ℕ) → Delivered trace → IsRun trace order → (component j k s : ℕ) (m : Mention) → j < k
     → ComesAt trace component j m → IsSentAt trace s m → IsOwnAt trace component k → StandsBefore order s k
 run_seen trace order delivered run component j k s m below c sends own =
     let there = run.each component k own in
@@ -59,7 +59,7 @@ run_seen trace order delivered run component j k s m below c sends own =
     (before.first, there.0, before.below, before.at, there.1)
 
 -- what a line that looks doesn't see is sent behind it
-run_unseen : (trace : Trace) (order : List ℕ) → AreRouted trace → Delivered trace → IsRun trace order → (component j k s : ℕ) (m : Mention)
+run_unseen : (trace : IndexedTrace) (order : List ℕ) → AreLinesRouted trace → Delivered trace → IsRun trace order → (component j k s : ℕ) (m : Mention)
     → j < k → IsLookAt trace component j → ComesAt trace component k m → IsSentAt trace s m → StandsBefore order j s
 run_unseen trace order routed delivered run component j k s m below look c sends =
     let there = run.each component j (look_is_own trace component j look) in
@@ -84,18 +84,18 @@ run_unseen trace order routed delivered run component j k s m below look c sends
       ]
     ]
   where
-    not_both : (trace : Trace) (component j s : ℕ) (m : Mention) → IsLookAt trace component j → IsSentAt trace s m → j ≡ s → ⊥
+    not_both : (trace : IndexedTrace) (component j s : ℕ) (m : Mention) → IsLookAt trace component j → IsSentAt trace s m → j ≡ s → ⊥
     not_both trace component j s m look sends same =
         let line = same_Some look.line sends.line (sym look.at ∙ ap (slice_get trace.lines.items) same ∙ sends.at) in
-        true≢false (sym look.is ∙ ap (λ (l : Line). is_looking l.act) line ∙ ap is_looking sends.is)
+        true≢false (sym look.is ∙ ap (λ (l : IndexedLine). is_looking l.act) line ∙ ap is_looking sends.is)
 
 -- where it was sent, of all that was sent to the component
-record IsSentTurn (trace : Trace) (component : ℕ) (order : List ℕ) (sending rank : ℕ) : Type 0 where
+record IsSentTurn (trace : IndexedTrace) (component : ℕ) (order : List ℕ) (sending rank : ℕ) : Type 0 where
   turn : ℕ
-  at : StandsAt order turn sending
+  at : IsNumberAt order turn sending
   is : rank_of (sent_from trace component) order turn ≡ rank
 
-sent_turn : (trace : Trace) (order : List ℕ) → Delivered trace → IsRun trace order → (component j s : ℕ) (m : Mention)
+sent_turn : (trace : IndexedTrace) (order : List ℕ) → Delivered trace → IsRun trace order → (component j s : ℕ) (m : Mention)
     → ComesAt trace component j m → IsSentAt trace s m
     → IsSentTurn trace component order s (rank_of (came_to trace component) trace.lines.items j)
 sent_turn trace order delivered run component j s m c sends =
@@ -109,7 +109,7 @@ sent_turn trace order delivered run component j s m c sends =
     record { turn = found.place; at = found.at ∙ ap Some same; is = found.is }
 
 -- what came in an order was sent in it
-run_in_turn : (trace : Trace) (order : List ℕ) → Delivered trace → IsRun trace order → (component j k s t : ℕ) (m n : Mention) → j < k
+run_in_turn : (trace : IndexedTrace) (order : List ℕ) → Delivered trace → IsRun trace order → (component j k s t : ℕ) (m n : Mention) → j < k
     → ComesAt trace component j m → IsSentAt trace s m → ComesAt trace component k n → IsSentAt trace t n → StandsBefore order s t
 run_in_turn trace order delivered run component j k s t m n below c sends d sends_other =
     let first = sent_turn trace order delivered run component j s m c sends in
@@ -124,7 +124,7 @@ run_in_turn trace order delivered run component j k s t m n below c sends d send
           absurd (omega arith)
     ]
 
-pub run_meets : (trace : Trace) (order : List ℕ) → AreRouted trace → Delivered trace → IsRun trace order → (k x y : ℕ)
+pub run_meets : (trace : IndexedTrace) (order : List ℕ) → AreLinesRouted trace → Delivered trace → IsRun trace order → (k x y : ℕ)
     → IsDemandedAt trace k x y → StandsBefore order x y
 run_meets trace order routed delivered run k x y (in_section component _ _ below first second) =
     run.kept component x k below first second
@@ -136,7 +136,7 @@ run_meets trace order routed delivered run k x y (in_turn component j _ _ _ m n 
     run_in_turn trace order delivered run component j k x y m n below c sends d sends_other
 
 -- what stands before what stands before another stands before that
-pub stands_through : (order : List ℕ) → ((i j place : ℕ) → StandsAt order i place → StandsAt order j place → i ≡ j) → (x y z : ℕ)
+pub stands_through : (order : List ℕ) → ((i j place : ℕ) → IsNumberAt order i place → IsNumberAt order j place → i ≡ j) → (x y z : ℕ)
     → StandsBefore order x y → StandsBefore order y z → StandsBefore order x z
 stands_through order once x y z first second =
     let same = once first.1 second.0 y first.4 second.3 in
@@ -146,8 +146,8 @@ stands_through order once x y z first second =
 
 -- so the demands lead from what stands before to what stands behind
 pub leads_stand : (demands : List Demand) (order : List ℕ)
-    → ((i j place : ℕ) → StandsAt order i place → StandsAt order j place → i ≡ j)
-    → All (λ d. StandsBefore order d.before d.after) demands → (further x y : ℕ) → LeadsTo demands further x y → StandsBefore order x y
+    → ((i j place : ℕ) → IsNumberAt order i place → IsNumberAt order j place → i ≡ j)
+    → All (λ d. StandsBefore order d.before d.after) demands → (further x y : ℕ) → LeadsThrough demands further x y → StandsBefore order x y
 leads_stand demands order once met zero x y wanted =
     All-contains (λ (d : Demand). StandsBefore order d.before d.after) demands (record { before = x; after = y }) met wanted
 leads_stand demands order once met (suc further) x y leads =
@@ -156,7 +156,7 @@ leads_stand demands order once met (suc further) x y leads =
     (leads_stand demands order once met further leads.0 y leads.2)
 
 -- nothing stands before itself
-pub stands_apart : (order : List ℕ) → ((i j place : ℕ) → StandsAt order i place → StandsAt order j place → i ≡ j) → (x : ℕ)
+pub stands_apart : (order : List ℕ) → ((i j place : ℕ) → IsNumberAt order i place → IsNumberAt order j place → i ≡ j) → (x : ℕ)
     → StandsBefore order x x → ⊥
 stands_apart order once x stands =
     let same = once stands.0 stands.1 x stands.3 stands.4 in

@@ -3,17 +3,17 @@ use Rattle.std.proofs.Common.{◌≡◌, inl, inr, ℕ, zero, suc, ◌<◌, Some
 use Rattle.std.specs.Prelude.{slice_get}
 use Rattle.std.proofs.lemmas.List.{take-take}
 use Rattle.std.proofs.lemmas.Option.{same_Some, slice_get_within}
-use Rattle.tp_queue.specs.declared.event.Env.{Env}
-use Rattle.tp_queue.specs.declared.event.Event.{Event}
+use Rattle.tp_event.specs.declared.event.Env.{Env}
+use Rattle.tp_event.specs.declared.event.Event.{Event}
 use Rattle.tp_queue.specs.History.{queued}
 use Rattle.tp_judge.specs.declared.line.MessageId.{MessageId}
 use Rattle.tp_judge.specs.declared.line.Act.{Act}
 use Rattle.tp_judge.specs.declared.line.Act.TheVariants as act
-use Rattle.tp_judge.specs.declared.line.Line.{Line}
+use Rattle.tp_judge.specs.declared.line.IndexedLine.{IndexedLine}
 use Rattle.tp_judge.specs.declared.place.Rule.{Rule}
 use Rattle.tp_judge.specs.declared.place.Rule.TheVariants as rule
-use Rattle.tp_judge.specs.declared.place.Place.{Place}
-use Rattle.tp_judge.specs.Lines.{envelope, left_of}
+use Rattle.tp_judge.specs.declared.place.UnlawfulPlace.{UnlawfulPlace}
+use Rattle.tp_judge.specs.Lines.{envelope_of, left_of}
 use Rattle.tp_judge.specs.Rules.{history_of, left_in, Breaks, IsBroken, IsReason}
 use Rattle.tp_judge.specs.Lawful.{IsCloser, IsLeftBroken, IsLeftMissing, IsLeftWrong, IsToldFirst, IsUnlawfulPort}
 use Rattle.tp_judge.proofs.Firsts.{neither_less, same_place}
@@ -21,7 +21,7 @@ use Rattle.tp_judge.proofs.Replays.{breaks_unlawful, broken_unlawful}
 use Rattle.tp_judge.proofs.Stepping.{at_seam, split_line}
 
 -- what stands among the first stands there in the whole list
-at_front : (lines : List Line) (n k : ℕ) (line : Line) → k < n → slice_get lines k ≡ Some line → slice_get (take n lines) k ≡ Some line
+at_front : (lines : List IndexedLine) (n k : ℕ) (line : IndexedLine) → k < n → slice_get lines k ≡ Some line → slice_get (take n lines) k ≡ Some line
 at_front [] n k line below at = absurd (cc)
 at_front (x ∷ lines) zero k line below at = absurd (omega arith)
 at_front (x ∷ lines) (suc n) zero line below at = at
@@ -44,32 +44,32 @@ same_reason rule.NotTop _ h e one two = absurd two
 same_reason _ _ h e one two = absurd one
 
 same_rule : (r s : Rule) (h : List (Event MessageId)) (a : Act) → Breaks r h a → Breaks s h a → r ≡ s
-same_rule r s h (act.Took m) one two = same_reason r s h (envelope m) one.1 two.1
-same_rule r s h (act.Found m) one two = same_reason r s h (envelope m) one.1 two.1
-same_rule r s h (act.Dropped m) one two = same_reason r s h (envelope m) one.1 two.1
+same_rule r s h (act.Took m) one two = same_reason r s h (envelope_of m) one.1 two.1
+same_rule r s h (act.Found m) one two = same_reason r s h (envelope_of m) one.1 two.1
+same_rule r s h (act.Dropped m) one two = same_reason r s h (envelope_of m) one.1 two.1
 same_rule r s h _ one two = absurd one
 
 -- no line before the first breaks a rule
-none_sooner : (events : List Line) (a b : Place) (first : IsBroken events a) (second : IsBroken events b) → first.before < second.before → ⊥
+none_sooner : (events : List IndexedLine) (a b : UnlawfulPlace) (first : IsBroken events a) (second : IsBroken events b) → first.before < second.before → ⊥
 none_sooner events a b first second below =
     breaks_unlawful (take second.before events) first.before first.line a.rule
     (at_front events second.before first.before first.line below first.stands)
-    (subst (λ (l : List Line). Breaks a.rule (history_of l) first.line.act)
+    (subst (λ (l : List IndexedLine). Breaks a.rule (history_of l) first.line.act)
     (sym (take-take first.before second.before events (omega arith))) first.breaks)
     second.lawful
 
-one_broken : (events : List Line) (a b : Place) → IsBroken events a → IsBroken events b → a ≡ b
+one_broken : (events : List IndexedLine) (a b : UnlawfulPlace) → IsBroken events a → IsBroken events b → a ≡ b
 one_broken events a b first second =
     let place = neither_less first.before second.before (none_sooner events a b first second) (none_sooner events b a second first) in
     let line = same_Some first.line second.line (sym first.stands ∙ ap (slice_get events) place ∙ second.stands) in
-    let breaks = subst (λ (l : Line). Breaks a.rule (history_of (take second.before events)) l.act) line
+    let breaks = subst (λ (l : IndexedLine). Breaks a.rule (history_of (take second.before events)) l.act) line
     (subst (λ (n : ℕ). Breaks a.rule (history_of (take n events)) first.line.act) place first.breaks) in
     same_place a b
-    (first.told ∙ ap (λ (l : Line). l.number) line ∙ sym second.told)
+    (first.told ∙ ap (λ (l : IndexedLine). l.number) line ∙ sym second.told)
     (same_rule a.rule b.rule (history_of (take second.before events)) second.line.act breaks second.breaks)
 
 -- what is told as left, and is queued first, is queued at its place
-told_there : (h : List (Event MessageId)) (left : List Line) (k : ℕ) (line : Line) (e : Env MessageId) → slice_get left k ≡ Some line
+told_there : (h : List (Event MessageId)) (left : List IndexedLine) (k : ℕ) (line : IndexedLine) (e : Env MessageId) → slice_get left k ≡ Some line
     → left_of line.act ≡ Some e → IsToldFirst h left → slice_get (queued h) (length (left_in (take k left))) ≡ Some e
 told_there h left k line e stands says right =
     let front = left_in (take k left) in
@@ -79,28 +79,28 @@ told_there h left k line e stands says right =
     ap (λ l. slice_get l (length front)) (sym whole) ∙ at_seam front (rest.0 ++ right.0) e
 
 -- no line among these is told wrongly
-none_wrong : (h : List (Event MessageId)) (left closing : List Line) (place : Place) (w : IsLeftWrong h left closing place) (n : ℕ)
+none_wrong : (h : List (Event MessageId)) (left closing : List IndexedLine) (place : UnlawfulPlace) (w : IsLeftWrong h left closing place) (n : ℕ)
     → w.before < n → IsToldFirst h (take n left) → ⊥
 none_wrong h left closing place w n below right =
     w.wrong
     (ap (λ l. slice_get (queued h) (length (left_in l))) (sym (take-take w.before n left (omega arith)))
     ∙ told_there h (take n left) w.before w.line w.env (at_front left n w.before w.line below w.stands) w.says right)
 
-one_left_wrong : (h : List (Event MessageId)) (left closing : List Line) (a b : Place) → IsLeftWrong h left closing a
+one_left_wrong : (h : List (Event MessageId)) (left closing : List IndexedLine) (a b : UnlawfulPlace) → IsLeftWrong h left closing a
     → IsLeftWrong h left closing b → a.line ≡ b.line
 one_left_wrong h left closing a b first second =
     let place = neither_less first.before second.before
     (λ low. none_wrong h left closing a first second.before low second.right)
     (λ high. none_wrong h left closing b second first.before high first.right) in
     let line = same_Some first.line second.line (sym first.stands ∙ ap (slice_get left) place ∙ second.stands) in
-    first.told ∙ ap (λ (l : Line). l.number) line ∙ sym second.told
+    first.told ∙ ap (λ (l : IndexedLine). l.number) line ∙ sym second.told
 
-wrong_missing : (h : List (Event MessageId)) (left closing : List Line) (a b : Place) → IsLeftWrong h left closing a
+wrong_missing : (h : List (Event MessageId)) (left closing : List IndexedLine) (a b : UnlawfulPlace) → IsLeftWrong h left closing a
     → IsLeftMissing h left closing b → ⊥
 wrong_missing h left closing a b w m = w.wrong (told_there h left w.before w.line w.env w.stands w.says m.right)
 
 -- one line closes a section
-same_closer : (closing : List Line) (x y : Line) → IsCloser closing x → IsCloser closing y → x.number ≡ y.number
+same_closer : (closing : List IndexedLine) (x y : IndexedLine) → IsCloser closing x → IsCloser closing y → x.number ≡ y.number
 same_closer closing x y a b =
     let place : a.place ≡ b.place = elim a.which [
       | inl ends ↦ elim b.which [
@@ -113,14 +113,14 @@ same_closer closing x y a b =
         | inr other_none ↦ let one = none.1 in let two = other_none.1 in omega arith
       ]
     ] in
-    ap (λ (l : Line). l.number) (same_Some x y (sym a.at ∙ ap (slice_get closing) place ∙ b.at))
+    ap (λ (l : IndexedLine). l.number) (same_Some x y (sym a.at ∙ ap (slice_get closing) place ∙ b.at))
 
-one_missing : (h : List (Event MessageId)) (left closing : List Line) (a b : Place) → IsLeftMissing h left closing a
+one_missing : (h : List (Event MessageId)) (left closing : List IndexedLine) (a b : UnlawfulPlace) → IsLeftMissing h left closing a
     → IsLeftMissing h left closing b → a.line ≡ b.line
 one_missing h left closing a b first second =
     first.closes.2 ∙ same_closer closing first.closes.0 second.closes.0 first.closes.1 second.closes.1 ∙ sym second.closes.2
 
-one_left : (h : List (Event MessageId)) (left closing : List Line) (a b : Place) → IsLeftBroken h left closing a
+one_left : (h : List (Event MessageId)) (left closing : List IndexedLine) (a b : UnlawfulPlace) → IsLeftBroken h left closing a
     → IsLeftBroken h left closing b → a ≡ b
 one_left h left closing a b first second =
     let line : a.line ≡ b.line = elim first.how [
@@ -136,7 +136,7 @@ one_left h left closing a b first second =
     same_place a b line (first.rule_is ∙ sym second.rule_is)
 
 -- of a port one place can be told
-pub one_at_port : (events left closing : List Line) (a b : Place) → IsUnlawfulPort events left closing a
+pub one_at_port : (events left closing : List IndexedLine) (a b : UnlawfulPlace) → IsUnlawfulPort events left closing a
     → IsUnlawfulPort events left closing b → a ≡ b
 one_at_port events left closing a b (inl first) (inl second) = one_broken events a b first second
 one_at_port events left closing a b (inl broken) (inr left_broken) = absurd (broken_unlawful events a broken left_broken.0)

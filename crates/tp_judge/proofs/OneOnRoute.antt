@@ -3,63 +3,63 @@ use Rattle.std.proofs.Common.{◌≡◌, ◌≢◌, ◌⊎◌, ℕ, ◌<◌, Lis
 use Rattle.std.specs.Prelude.{slice_get}
 use Rattle.std.proofs.lemmas.Option.{same_Some}
 use Rattle.tp_judge.specs.declared.line.Parcel.{Parcel}
-use Rattle.tp_judge.specs.declared.line.Line.{Line}
+use Rattle.tp_judge.specs.declared.line.IndexedLine.{IndexedLine}
 use Rattle.tp_judge.specs.declared.place.Rule.{Rule}
 use Rattle.tp_judge.specs.declared.place.Rule.TheVariants as rule
-use Rattle.tp_judge.specs.declared.place.Place.{Place}
-use Rattle.tp_judge.specs.Delivered.{AreNumbered, DiffersAt, IsFirstArrival, IsMisnumbered, IsOvertaken, IsTold, IsUnlawfulRoute, different, numbering, IsWrongAt, changed, changed_later, doubled, invented, lost, reordered, NeverCame, NeverSent, NothingCame, ParcelAt, parcels}
+use Rattle.tp_judge.specs.declared.place.UnlawfulPlace.{UnlawfulPlace}
+use Rattle.tp_judge.specs.Delivered.{AreParcelsNumbered, DiffersAt, IsFirstArrival, IsMisnumbered, IsOvertaken, IsPlaceOfLine, IsUnlawfulRoute, different, numbering, IsWrongAt, changed, changed_later, doubled, invented, lost, reordered, NeverCame, NeverSent, NothingCame, ParcelAt, parcels}
 use Rattle.tp_judge.proofs.Firsts.{neither_less, same_place}
 
-same_parcel_at : (lines : List Line) (j k : ℕ) (p q : Parcel) → j ≡ k → ParcelAt lines j p → ParcelAt lines k q → p ≡ q
+same_parcel_at : (lines : List IndexedLine) (j k : ℕ) (p q : Parcel) → j ≡ k → ParcelAt lines j p → ParcelAt lines k q → p ≡ q
 same_parcel_at lines j k p q e first second = same_Some p q (sym first ∙ ap (slice_get (parcels lines)) e ∙ second)
 
-same_number_at : (lines : List Line) (k : ℕ) (p q : Parcel) → ParcelAt lines k p → ParcelAt lines k q → p.number ≡ q.number
+same_number_at : (lines : List IndexedLine) (k : ℕ) (p q : Parcel) → ParcelAt lines k p → ParcelAt lines k q → p.number ≡ q.number
 same_number_at lines k p q first second = ap (λ (r : Parcel). r.number) (same_parcel_at lines k k p q refl first second)
 
 -- what a place says: the rule, and where its line stands
-record IsToldAs (r : Rule) (lines : List Line) (k : ℕ) (place : Place) : Type 0 where
+record IsToldAs (r : Rule) (lines : List IndexedLine) (k : ℕ) (place : UnlawfulPlace) : Type 0 where
   rule_is : place.rule ≡ r
-  told : IsTold lines k place
+  told : IsPlaceOfLine lines k place
 
-one_said : (r : Rule) (lines : List Line) (j k : ℕ) (a b : Place) → j ≡ k → IsToldAs r lines j a → IsToldAs r lines k b → a ≡ b
+one_said : (r : Rule) (lines : List IndexedLine) (j k : ℕ) (a b : UnlawfulPlace) → j ≡ k → IsToldAs r lines j a → IsToldAs r lines k b → a ≡ b
 one_said r lines j k a b e first second =
     let same = same_Some first.told.line second.told.line
     (sym first.told.stands ∙ ap (slice_get lines) e ∙ second.told.stands) in
-    same_place a b (first.told.told ∙ ap (λ (l : Line). l.number) same ∙ sym second.told.told) (first.rule_is ∙ sym second.rule_is)
+    same_place a b (first.told.told ∙ ap (λ (l : IndexedLine). l.number) same ∙ sym second.told.told) (first.rule_is ∙ sym second.rule_is)
 
 -- the first place at which a route differs, where all sendings have their numbers
-record IsDifference (sent came : List Line) (k : ℕ) : Type 0 where
-  numbered : AreNumbered (parcels sent)
+record IsDifference (sent came : List IndexedLine) (k : ℕ) : Type 0 where
+  numbered : AreParcelsNumbered (parcels sent)
   differs : DiffersAt sent came k
 
 -- the first arrival with a number is one
-first_once : (came : List Line) (m n j k : ℕ) (p q : Parcel) → m ≡ n → IsFirstArrival came m j p → IsFirstArrival came n k q → j ≡ k
+first_once : (came : List IndexedLine) (m n j k : ℕ) (p q : Parcel) → m ≡ n → IsFirstArrival came m j p → IsFirstArrival came n k q → j ≡ k
 first_once came m n j k p q e first second =
     neither_less j k
     (λ low. second.none_before j p low first.at (first.is ∙ e))
     (λ high. first.none_before k q high second.at (second.is ∙ sym e))
 
 -- what came had come before
-record IsAgain (came : List Line) (k j : ℕ) (p q : Parcel) : Type 0 where
+record IsAgain (came : List IndexedLine) (k j : ℕ) (p q : Parcel) : Type 0 where
   at : ParcelAt came k p
   below : j < k
   before : ParcelAt came j q
   number : q.number ≡ p.number
 
 -- what came there was sent under its number with another message
-record IsOther (sent came : List Line) (k j : ℕ) (p q : Parcel) : Type 0 where
+record IsOther (sent came : List IndexedLine) (k j : ℕ) (p q : Parcel) : Type 0 where
   there : ParcelAt sent j q
   first : IsFirstArrival came q.number k p
   other : q.message ≢ p.message
 
 -- what was sent there came further down, with the same message or another
-record IsFurther (sent came : List Line) (k m : ℕ) (p q : Parcel) : Type 0 where
+record IsFurther (sent came : List IndexedLine) (k m : ℕ) (p q : Parcel) : Type 0 where
   over : IsOvertaken sent came k
   there : ParcelAt sent k q
   first : IsFirstArrival came q.number m p
 
 -- what came there wasn't sent later where it had come before
-again_sent_later : (sent came : List Line) (k j : ℕ) (p q : Parcel) → IsDifference sent came k → IsAgain came k j p q
+again_sent_later : (sent came : List IndexedLine) (k j : ℕ) (p q : Parcel) → IsDifference sent came k → IsAgain came k j p q
     → IsOvertaken sent came k → ⊥
 again_sent_later sent came k j p q d a over =
     let same = same_number_at came k p over.1 a.at over.4 in
@@ -71,11 +71,11 @@ again_sent_later sent came k j p q d a over =
     omega arith
 
 -- nor where it was never sent
-never_sent_later : (sent came : List Line) (k : ℕ) (p : Parcel) → ParcelAt came k p → NeverSent sent p → IsOvertaken sent came k → ⊥
+never_sent_later : (sent came : List IndexedLine) (k : ℕ) (p : Parcel) → ParcelAt came k p → NeverSent sent p → IsOvertaken sent came k → ⊥
 never_sent_later sent came k p at never over = never over.0 over.1 over.3 (same_number_at came k over.1 p over.4 at)
 
 -- nor where it was sent with another message
-other_sent_later : (sent came : List Line) (k j : ℕ) (p q : Parcel) → IsDifference sent came k → IsOther sent came k j p q
+other_sent_later : (sent came : List IndexedLine) (k j : ℕ) (p q : Parcel) → IsDifference sent came k → IsOther sent came k j p q
     → IsOvertaken sent came k → ⊥
 other_sent_later sent came k j p q d o over =
     let same = same_parcel_at came k k p over.1 refl o.first.at over.4 in
@@ -87,31 +87,31 @@ other_sent_later sent came k j p q d o over =
     o.other (ap (λ (r : Parcel). r.message) (both ∙ sym same))
 
 -- what was never sent hadn't come before, where all before it was sent
-again_sent : (sent came : List Line) (k j : ℕ) (p q r : Parcel) → IsDifference sent came k → IsAgain came k j p q
+again_sent : (sent came : List IndexedLine) (k j : ℕ) (p q r : Parcel) → IsDifference sent came k → IsAgain came k j p q
     → ParcelAt came k r → NeverSent sent r → ⊥
 again_sent sent came k j p q r d a at never =
     never j q (d.differs.before j a.below ∙ a.before) (a.number ∙ same_number_at came k p r a.at at)
 
 -- the first arrival with a number hadn't come before
-again_first : (sent came : List Line) (k i j : ℕ) (p q r s : Parcel) → IsAgain came k i p q → IsOther sent came k j r s → ⊥
+again_first : (sent came : List IndexedLine) (k i j : ℕ) (p q r s : Parcel) → IsAgain came k i p q → IsOther sent came k j r s → ⊥
 again_first sent came k i j p q r s a o =
     o.first.none_before i q a.below a.before (a.number ∙ same_number_at came k p r a.at o.first.at ∙ o.first.is)
 
-never_other : (sent came : List Line) (k j : ℕ) (p q r : Parcel) → ParcelAt came k p → NeverSent sent p → IsOther sent came k j q r → ⊥
+never_other : (sent came : List IndexedLine) (k j : ℕ) (p q r : Parcel) → ParcelAt came k p → NeverSent sent p → IsOther sent came k j q r → ⊥
 never_other sent came k j p q r at never o =
     never j r o.there (sym o.first.is ∙ same_number_at came k q p o.first.at at)
 
 -- what came further down came
-further_came : (sent came : List Line) (k m : ℕ) (p q r : Parcel) → IsFurther sent came k m p q → ParcelAt sent k r → NeverCame came r → ⊥
+further_came : (sent came : List IndexedLine) (k m : ℕ) (p q r : Parcel) → IsFurther sent came k m p q → ParcelAt sent k r → NeverCame came r → ⊥
 further_came sent came k m p q r f at never = never m p f.first.at (f.first.is ∙ same_number_at sent k q r f.there at)
 
 -- one arrival is the first of what was sent there
-further_once : (sent came : List Line) (k m n : ℕ) (p q r s : Parcel) → IsFurther sent came k m p q → IsFurther sent came k n r s → m ≡ n
+further_once : (sent came : List IndexedLine) (k m n : ℕ) (p q r s : Parcel) → IsFurther sent came k m p q → IsFurther sent came k n r s → m ≡ n
 further_once sent came k m n p q r s f g =
     first_once came q.number s.number m n p r (same_number_at sent k q s f.there g.there) f.first g.first
 
 -- and has one message
-further_same : (sent came : List Line) (k m n : ℕ) (p q r : Parcel) → IsFurther sent came k m p q → IsFurther sent came k n r r
+further_same : (sent came : List IndexedLine) (k m n : ℕ) (p q r : Parcel) → IsFurther sent came k m p q → IsFurther sent came k n r r
     → q.message ≢ p.message → ⊥
 further_same sent came k m n p q r f g other =
     let here = same_parcel_at came m n p r (further_once sent came k m n p q r r f g) f.first.at g.first.at in
@@ -119,11 +119,11 @@ further_same sent came k m n p q r f g other =
     other (ap (λ (r : Parcel). r.message) (there ∙ sym here))
 
 -- nothing came there, or what was sent later: neither is so of what came there and wasn't
-came_here : (sent came : List Line) (k : ℕ) (p : Parcel) → ParcelAt came k p → (IsOvertaken sent came k → ⊥)
+came_here : (sent came : List IndexedLine) (k : ℕ) (p : Parcel) → ParcelAt came k p → (IsOvertaken sent came k → ⊥)
     → NothingCame came k ⊎ IsOvertaken sent came k → ⊥
 came_here sent came k p at apart either = ⊎_elim (λ (nothing : NothingCame came k). nothing p at) apart either
 
-lost_once : (sent came : List Line) (k : ℕ) (p : Parcel) (a b : Place) → IsDifference sent came k → IsToldAs rule.Lost sent k a
+lost_once : (sent came : List IndexedLine) (k : ℕ) (p : Parcel) (a b : UnlawfulPlace) → IsDifference sent came k → IsToldAs rule.Lost sent k a
     → ParcelAt sent k p → NeverCame came p → NothingCame came k ⊎ IsOvertaken sent came k → IsWrongAt sent came k b → a ≡ b
 lost_once sent came k p a b d says at never either (lost q is told there _ _) =
     one_said rule.Lost sent k k a b refl says (record { rule_is = is; told = told })
@@ -140,7 +140,7 @@ lost_once sent came k p a b d says at never either (changed_later m q r is told 
 lost_once sent came k p a b d says at never either (reordered m q is told over there behind first) =
     absurd (further_came sent came k m q q p (record { over = over; there = there; first = first }) at never)
 
-doubled_once : (sent came : List Line) (k j : ℕ) (p q : Parcel) (a b : Place) → IsDifference sent came k → IsToldAs rule.Doubled came k a
+doubled_once : (sent came : List IndexedLine) (k j : ℕ) (p q : Parcel) (a b : UnlawfulPlace) → IsDifference sent came k → IsToldAs rule.Doubled came k a
     → IsAgain came k j p q → IsWrongAt sent came k b → a ≡ b
 doubled_once sent came k j p q a b d says again (lost r is told there never either) =
     absurd (came_here sent came k p again.at (again_sent_later sent came k j p q d again) either)
@@ -155,7 +155,7 @@ doubled_once sent came k j p q a b d says again (changed_later m r s is told ove
 doubled_once sent came k j p q a b d says again (reordered m r is told over _ _ _) =
     absurd (again_sent_later sent came k j p q d again over)
 
-invented_once : (sent came : List Line) (k : ℕ) (p : Parcel) (a b : Place) → IsDifference sent came k → IsToldAs rule.Invented came k a
+invented_once : (sent came : List IndexedLine) (k : ℕ) (p : Parcel) (a b : UnlawfulPlace) → IsDifference sent came k → IsToldAs rule.Invented came k a
     → ParcelAt came k p → NeverSent sent p → IsWrongAt sent came k b → a ≡ b
 invented_once sent came k p a b d says at never (lost r is told there _ either) =
     absurd (came_here sent came k p at (never_sent_later sent came k p at never) either)
@@ -170,7 +170,7 @@ invented_once sent came k p a b d says at never (changed_later m q r is told ove
 invented_once sent came k p a b d says at never (reordered m q is told over _ _ _) =
     absurd (never_sent_later sent came k p at never over)
 
-changed_once : (sent came : List Line) (k j : ℕ) (p q : Parcel) (a b : Place) → IsDifference sent came k → IsToldAs rule.Changed came k a
+changed_once : (sent came : List IndexedLine) (k j : ℕ) (p q : Parcel) (a b : UnlawfulPlace) → IsDifference sent came k → IsToldAs rule.Changed came k a
     → IsOther sent came k j p q → IsWrongAt sent came k b → a ≡ b
 changed_once sent came k j p q a b d says o (lost r is told there never either) =
     absurd (came_here sent came k p o.first.at (other_sent_later sent came k j p q d o) either)
@@ -185,7 +185,7 @@ changed_once sent came k j p q a b d says o (changed_later m r s is told over _ 
 changed_once sent came k j p q a b d says o (reordered m r is told over _ _ _) =
     absurd (other_sent_later sent came k j p q d o over)
 
-changed_later_once : (sent came : List Line) (k m : ℕ) (p q : Parcel) (a b : Place) → IsDifference sent came k
+changed_later_once : (sent came : List IndexedLine) (k m : ℕ) (p q : Parcel) (a b : UnlawfulPlace) → IsDifference sent came k
     → IsToldAs rule.Changed came m a → IsFurther sent came k m p q → q.message ≢ p.message → IsWrongAt sent came k b → a ≡ b
 changed_later_once sent came k m p q a b d says f apart (lost r is told there never _) =
     absurd (further_came sent came k m p q r f there never)
@@ -202,7 +202,7 @@ changed_later_once sent came k m p q a b d says f apart (changed_later n r s is 
 changed_later_once sent came k m p q a b d says f apart (reordered n r is told over there _ first) =
     absurd (further_same sent came k m n p q r f (record { over = over; there = there; first = first }) apart)
 
-reordered_once : (sent came : List Line) (k m : ℕ) (p : Parcel) (a b : Place) → IsDifference sent came k
+reordered_once : (sent came : List IndexedLine) (k m : ℕ) (p : Parcel) (a b : UnlawfulPlace) → IsDifference sent came k
     → IsToldAs rule.Reordered came m a → IsFurther sent came k m p p → IsWrongAt sent came k b → a ≡ b
 reordered_once sent came k m p a b d says f (lost r is told there never _) =
     absurd (further_came sent came k m p p r f there never)
@@ -219,7 +219,7 @@ reordered_once sent came k m p a b d says f (reordered n r is told over there _ 
     let g : IsFurther sent came k n r r = record { over = over; there = there; first = first } in
     one_said rule.Reordered came m n a b (further_once sent came k m n p p r r f g) says (record { rule_is = is; told = told })
 
-one_wrong : (sent came : List Line) (k : ℕ) (a b : Place) → IsDifference sent came k → IsWrongAt sent came k a → IsWrongAt sent came k b → a ≡ b
+one_wrong : (sent came : List IndexedLine) (k : ℕ) (a b : UnlawfulPlace) → IsDifference sent came k → IsWrongAt sent came k a → IsWrongAt sent came k b → a ≡ b
 one_wrong sent came k a b d (lost p is told there never either) second =
     lost_once sent came k p a b d (record { rule_is = is; told = told }) there never either second
 one_wrong sent came k a b d (doubled j p q is told there below before number) second =
@@ -238,21 +238,21 @@ one_wrong sent came k a b d (reordered m p is told over there behind first) seco
     (record { over = over; there = there; first = first }) second
 
 -- the first place at which a route differs is one, and so is the first sending that has not the next number
-differs_once : (sent came : List Line) (j k : ℕ) → DiffersAt sent came j → DiffersAt sent came k → j ≡ k
+differs_once : (sent came : List IndexedLine) (j k : ℕ) → DiffersAt sent came j → DiffersAt sent came k → j ≡ k
 differs_once sent came j k first second =
     neither_less j k (λ low. first.here (second.before j low)) (λ high. second.here (first.before k high))
 
-misnumbered_once : (sent : List Line) (j k : ℕ) → IsMisnumbered sent j → IsMisnumbered sent k → j ≡ k
+misnumbered_once : (sent : List IndexedLine) (j k : ℕ) → IsMisnumbered sent j → IsMisnumbered sent k → j ≡ k
 misnumbered_once sent j k first second =
     neither_less j k
     (λ low. first.wrong (second.before j first.parcel low first.at))
     (λ high. second.wrong (first.before k second.parcel high second.at))
 
-wrong_moved : (sent came : List Line) (j k : ℕ) (place : Place) → j ≡ k → IsWrongAt sent came j place → IsWrongAt sent came k place
+wrong_moved : (sent came : List IndexedLine) (j k : ℕ) (place : UnlawfulPlace) → j ≡ k → IsWrongAt sent came j place → IsWrongAt sent came k place
 wrong_moved sent came j k place e wrong = subst (λ (n : ℕ). IsWrongAt sent came n place) e wrong
 
 -- of a route one place can be told
-pub one_on_route : (sent came : List Line) (a b : Place) → IsUnlawfulRoute sent came a → IsUnlawfulRoute sent came b → a ≡ b
+pub one_on_route : (sent came : List IndexedLine) (a b : UnlawfulPlace) → IsUnlawfulRoute sent came a → IsUnlawfulRoute sent came b → a ≡ b
 one_on_route sent came a b (numbering j is told wrong) (numbering k other_is other_told other_wrong) =
     one_said rule.Numbering sent j k a b (misnumbered_once sent j k wrong other_wrong)
     (record { rule_is = is; told = told }) (record { rule_is = other_is; told = other_told })

@@ -5,41 +5,41 @@ use Rattle.std.proofs.lemmas.Bool.{cases_lt}
 use Rattle.std.proofs.lemmas.List.Elements.{All-append, All-cons, All-nil, All-head, All-tail, Contains-append_cases, Contains-append_left, Contains-append_right}
 use Rattle.tp_order.specs.declared.demand.Demand.{Demand}
 use Rattle.tp_order.specs.Order.{IsBelow}
-use Rattle.tp_judge.specs.declared.line.Line.{Line}
-use Rattle.tp_judge.specs.Gathered.{seen}
+use Rattle.tp_judge.specs.declared.line.IndexedLine.{IndexedLine}
+use Rattle.tp_judge.specs.Gathered.{lines_at}
 use Rattle.tp_judge.specs.Demands.{from_each, pairs}
 
 -- a demand
-demand : Line → Line → Demand
+demand : IndexedLine → IndexedLine → Demand
 demand a b = record { before = a.number; after = b.number }
 
 -- one pair more
-more : (xs ys : List (Bor Line)) (i : ℕ) (d e : Bor Line) → i < length xs → i < length ys
-    → pairs (seen (take (suc i) xs)) (seen (take (suc i) ys))
-    ≡ pairs (seen (take i xs)) (seen (take i ys)) ++ record { before = (get_or xs i d).now.number; after = (get_or ys i e).now.number } ∷ []
+more : (xs ys : List (Bor IndexedLine)) (i : ℕ) (d e : Bor IndexedLine) → i < length xs → i < length ys
+    → pairs (lines_at (take (suc i) xs)) (lines_at (take (suc i) ys))
+    ≡ pairs (lines_at (take i xs)) (lines_at (take i ys)) ++ record { before = (get_or xs i d).now.number; after = (get_or ys i e).now.number } ∷ []
 more [] ys i d e low high = absurd (omega arith)
 more (x ∷ xs) [] i d e low high = absurd (omega arith)
 more (x ∷ xs) (y ∷ ys) zero d e low high = refl
 more (x ∷ xs) (y ∷ ys) (suc i) d e low high =
     ap (λ l. record { before = x.now.number; after = y.now.number } ∷ l) (more xs ys i d e (omega arith) (omega arith))
 
-pub pairs_more : (xs ys : List (Bor Line)) (i : ℕ) (d e : Bor Line) (old now new : List Demand) → i < length xs → i < length ys
-    → now ≡ old ++ pairs (seen (take i xs)) (seen (take i ys))
+pub pairs_more : (xs ys : List (Bor IndexedLine)) (i : ℕ) (d e : Bor IndexedLine) (old now new : List Demand) → i < length xs → i < length ys
+    → now ≡ old ++ pairs (lines_at (take i xs)) (lines_at (take i ys))
     → new ≡ now ++ record { before = (get_or xs i d).now.number; after = (get_or ys i e).now.number } ∷ []
-    → new ≡ old ++ pairs (seen (take (i + 1) xs)) (seen (take (i + 1) ys))
+    → new ≡ old ++ pairs (lines_at (take (i + 1) xs)) (lines_at (take (i + 1) ys))
 pairs_more xs ys i d e old now new low high was grown =
     grown ∙ ap (λ l. l ++ record { before = (get_or xs i d).now.number; after = (get_or ys i e).now.number } ∷ []) was
-    ∙ append_assoc old (pairs (seen (take i xs)) (seen (take i ys))) _
+    ∙ append_assoc old (pairs (lines_at (take i xs)) (lines_at (take i ys))) _
     ∙ ap (λ l. old ++ l) (sym (more xs ys i d e low high))
-    ∙ ap (λ n. old ++ pairs (seen (take n xs)) (seen (take n ys))) (sym (add-one i))
+    ∙ ap (λ n. old ++ pairs (lines_at (take n xs)) (lines_at (take n ys))) (sym (add-one i))
 
-none_after : (as' : List Line) → pairs as' [] ≡ []
+none_after : (as' : List IndexedLine) → pairs as' [] ≡ []
 none_after [] = refl
 none_after (a ∷ as') = refl
 
 -- all pairs
-pub pairs_all : (xs ys : List (Bor Line)) (n : ℕ) → n ≡ min (length xs) (length ys)
-    → pairs (seen (take n xs)) (seen (take n ys)) ≡ pairs (seen xs) (seen ys)
+pub pairs_all : (xs ys : List (Bor IndexedLine)) (n : ℕ) → n ≡ min (length xs) (length ys)
+    → pairs (lines_at (take n xs)) (lines_at (take n ys)) ≡ pairs (lines_at xs) (lines_at ys)
 pairs_all [] ys zero is = refl
 pairs_all [] ys (suc n) is = refl
 pairs_all (x ∷ xs) [] zero is = refl
@@ -49,8 +49,8 @@ pairs_all (x ∷ xs) (y ∷ ys) (suc n) is =
     ap (λ l. record { before = x.now.number; after = y.now.number } ∷ l) (pairs_all xs ys n (omega arith))
 
 -- what two rows demand
-pub in_pairs : (as' bs : List Line) (d : Demand) → Contains (pairs as' bs) d
-    → (k : ℕ) × (a : Line) × (b : Line) × (slice_get as' k ≡ Some a) × (slice_get bs k ≡ Some b) × (d ≡ record { before = a.number; after = b.number })
+pub in_pairs : (as' bs : List IndexedLine) (d : Demand) → Contains (pairs as' bs) d
+    → (k : ℕ) × (a : IndexedLine) × (b : IndexedLine) × (slice_get as' k ≡ Some a) × (slice_get bs k ≡ Some b) × (d ≡ record { before = a.number; after = b.number })
 in_pairs [] bs d has = absurd (let low = has.1 in omega arith)
 in_pairs (a ∷ as') [] d has = absurd (let low = has.1 in omega arith)
 in_pairs (a ∷ as') (b ∷ bs) d has = ⊎_elim
@@ -64,14 +64,14 @@ in_pairs (a ∷ as') (b ∷ bs) d has = ⊎_elim
     head_or_rest x xs d (zero, low, is) = inl is
     head_or_rest x xs d (suc k, low, is) = inr (k, omega arith, is)
 
-pub pairs_have : (as' bs : List Line) (k : ℕ) (a b : Line) → slice_get as' k ≡ Some a → slice_get bs k ≡ Some b
+pub pairs_have : (as' bs : List IndexedLine) (k : ℕ) (a b : IndexedLine) → slice_get as' k ≡ Some a → slice_get bs k ≡ Some b
     → Contains (pairs as' bs) (record { before = a.number; after = b.number })
 pairs_have [] bs k a b low high = absurd (cc)
 pairs_have (x ∷ as') [] k a b low high = absurd (cc)
 pairs_have (x ∷ as') (y ∷ bs) zero a b low high =
     let first : x ≡ a = cc in
     let second : y ≡ b = cc in
-    (0, omega arith, ap (λ (l : Line). record { before = l.number; after = y.number }) first ∙ ap (λ (l : Line). record { before = a.number; after = l.number }) second)
+    (0, omega arith, ap (λ (l : IndexedLine). record { before = l.number; after = y.number }) first ∙ ap (λ (l : IndexedLine). record { before = a.number; after = l.number }) second)
 pairs_have (x ∷ as') (y ∷ bs) (suc k) a b low high =
     let rest = pairs_have as' bs k a b low high in
     let below = rest.1 in
@@ -94,12 +94,12 @@ each_has f (suc n) k d below has = ⊎_elim
     (cases_lt k n)
 
 -- lines with small numbers make demands on small numbers
-pub pairs_below : (count : ℕ) (as' bs : List Line) → All (λ line. line.number < count) as' → All (λ line. line.number < count) bs
+pub pairs_below : (count : ℕ) (as' bs : List IndexedLine) → All (λ line. line.number < count) as' → All (λ line. line.number < count) bs
     → All (IsBelow count) (pairs as' bs)
 pairs_below count [] bs low high = All-nil (IsBelow count)
 pairs_below count (a ∷ as') [] low high = All-nil (IsBelow count)
 pairs_below count (a ∷ as') (b ∷ bs) low high =
-    let P : Line → Type 0 = λ line. line.number < count in
+    let P : IndexedLine → Type 0 = λ line. line.number < count in
     All-cons (IsBelow count) (record { before = a.number; after = b.number }) (pairs as' bs)
     (All-head P a as' low, All-head P b bs high)
     (pairs_below count as' bs (All-tail P a as' low) (All-tail P b bs high))

@@ -12,22 +12,22 @@ use Rattle.std.proofs.lemmas.Option.{none-some, same_Some, slice_get-get_or}
 use Rattle.tp_judge.specs.declared.line.Parcel.{Parcel}
 use Rattle.tp_judge.specs.declared.line.Act.{Act}
 use Rattle.tp_judge.specs.declared.line.Act.TheVariants as act
-use Rattle.tp_judge.specs.declared.line.Line.{Line}
-use Rattle.tp_judge.specs.declared.trace.Trace.{Trace}
+use Rattle.tp_judge.specs.declared.line.IndexedLine.{IndexedLine}
+use Rattle.tp_judge.specs.declared.trace.IndexedTrace.{IndexedTrace}
 use Rattle.tp_judge.specs.declared.line.By.TheVariants as by
 use Rattle.tp_judge.specs.Lawful.{AreWithin}
 use Rattle.tp_judge.specs.Lines.{sent_route, HasKeyBelow}
 use Rattle.tp_judge.specs.OneRun.{LineAt}
-use Rattle.tp_judge.specs.Sendings.{sent_parcel, sent_parcels, AreSendings, IsNextSending, IsSendingsRow}
+use Rattle.tp_judge.specs.Sendings.{sent_parcel, sent_parcels, AreSendingRows, IsNextSending, IsSendingsRow}
 use Rattle.tp_judge.proofs.SentCame.{all_at}
 use Rattle.tp_judge.proofs.Stepping.{take_got}
 
 -- one line more
-more_sent : (trace : Trace) (route n : ℕ) (line : Line) → LineAt trace n line
+more_sent : (trace : IndexedTrace) (route n : ℕ) (line : IndexedLine) → LineAt trace n line
     → length (sent_parcels route (take (n + 1) trace.lines.items))
     ≡ length (sent_parcels route (take n trace.lines.items)) + length (option_to_list (sent_parcel route line.act))
 more_sent trace route n line at =
-    let f : Line → Option Parcel = λ line. sent_parcel route line.act in
+    let f : IndexedLine → Option Parcel = λ line. sent_parcel route line.act in
     ap (λ l. length (filter_map f l)) (take_got trace.lines.items n line at)
     ∙ ap length (filter_map-append f (take n trace.lines.items) (line ∷ []) ∙ ap (λ l. filter_map f (take n trace.lines.items) ++ l) (alone (f line)))
     ∙ length-append (filter_map f (take n trace.lines.items)) (option_to_list (f line))
@@ -36,7 +36,7 @@ more_sent trace route n line at =
     alone None = refl
     alone (Some p) = refl
 
-row_same : (trace : Trace) (n route : ℕ) (line : Line) (row : List ℕ) → LineAt trace n line → sent_parcel route line.act ≡ None
+row_same : (trace : IndexedTrace) (n route : ℕ) (line : IndexedLine) (row : List ℕ) → LineAt trace n line → sent_parcel route line.act ≡ None
     → IsSendingsRow trace n route row → IsSendingsRow trace (n + 1) route row
 row_same trace n route line row at none was =
     let size = was.size in
@@ -53,7 +53,7 @@ push_cases (z ∷ xs) y (suc k) x at = elim (push_cases xs y k x at) [
   | inr last ↦ inr (ap suc last.0, last.1)
 ]
 
-row_more : (trace : Trace) (n route : ℕ) (line : Line) (row : List ℕ) (p : Parcel) → LineAt trace n line
+row_more : (trace : IndexedTrace) (n route : ℕ) (line : IndexedLine) (row : List ℕ) (p : Parcel) → LineAt trace n line
     → sent_parcel route line.act ≡ Some p → IsSendingsRow trace n route row → IsSendingsRow trace (n + 1) route (row ++ n ∷ [])
 row_more trace n route line row p at is was =
     let size = was.size in
@@ -85,8 +85,8 @@ other_route route other (act.Sent m) is apart =
     cond-false (m.route == route) (Some m.parcel) None (ne_eqb m.route route (λ e. apart (sym e ∙ same_Some m.route other is)))
 other_route route other _ is apart = refl
 
-pub sendings_none : (trace : Trace) (rows : List (Vec ℕ Global)) → length rows ≡ length trace.joined.items
-    → All (λ row. row.items ≡ []) rows → AreSendings trace 0 rows
+pub sendings_none : (trace : IndexedTrace) (rows : List (Vec ℕ Global)) → length rows ≡ length trace.joined.items
+    → All (λ row. row.items ≡ []) rows → AreSendingRows trace 0 rows
 sendings_none trace rows size empty = record {
   size = size;
   each = λ route row below.
@@ -94,17 +94,17 @@ sendings_none trace rows size empty = record {
       subst (IsSendingsRow trace 0 route) (sym none) (record { size = refl; each = λ before place there. absurd (none-some place there) });
 }
 
-pub sendings_same : (trace : Trace) (n : ℕ) (line : Line) (rows : List (Vec ℕ Global)) → LineAt trace n line → sent_route line.act ≡ None
-    → AreSendings trace n rows → AreSendings trace (n + 1) rows
+pub sendings_same : (trace : IndexedTrace) (n : ℕ) (line : IndexedLine) (rows : List (Vec ℕ Global)) → LineAt trace n line → sent_route line.act ≡ None
+    → AreSendingRows trace n rows → AreSendingRows trace (n + 1) rows
 sendings_same trace n line rows at none was = record {
   size = was.size;
   each = λ route row below.
       row_same trace n route line (get_or rows route row).items at (no_route route line.act none) (was.each route row below);
 }
 
-pub sendings_more : (trace : Trace) (n route : ℕ) (line : Line) (rows : List (Vec ℕ Global)) (old new : Vec ℕ Global) → LineAt trace n line
+pub sendings_more : (trace : IndexedTrace) (n route : ℕ) (line : IndexedLine) (rows : List (Vec ℕ Global)) (old new : Vec ℕ Global) → LineAt trace n line
     → sent_route line.act ≡ Some route → route < length trace.joined.items → old ≡ get_or rows route old
-    → new.items ≡ old.items ++ n ∷ [] → AreSendings trace n rows → AreSendings trace (n + 1) (set rows route new)
+    → new.items ≡ old.items ++ n ∷ [] → AreSendingRows trace n rows → AreSendingRows trace (n + 1) (set rows route new)
 sendings_more trace n route line rows old new at is within read grown was =
     let size = was.size in
     let p = this_route route line.act is in
@@ -124,12 +124,12 @@ sendings_more trace n route line rows old new at is within read grown was =
     }
 
 -- a line that is read
-pub line_of : (trace : Trace) (lines : List Line) (n : ℕ) (d : Line) → lines ≡ trace.lines.items → n < length lines
+pub line_of : (trace : IndexedTrace) (lines : List IndexedLine) (n : ℕ) (d : IndexedLine) → lines ≡ trace.lines.items → n < length lines
     → LineAt trace n (get_or lines n d)
 line_of trace lines n d is below = ap (λ l. slice_get l n) (sym is) ∙ slice_get-get_or lines n d below
 
 -- the route of a sending is one of the trace
-pub sent_below : (trace : Trace) (n route : ℕ) (line : Line) → AreWithin trace → LineAt trace n line → sent_route line.act ≡ Some route
+pub sent_below : (trace : IndexedTrace) (n route : ℕ) (line : IndexedLine) → AreWithin trace → LineAt trace n line → sent_route line.act ≡ Some route
     → route < length trace.joined.items
 sent_below trace n route line within at is =
     subst (λ (o : Option ℕ). IfSome o (λ key. key < length trace.joined.items)) is

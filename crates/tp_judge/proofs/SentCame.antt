@@ -9,12 +9,12 @@ use Rattle.tp_judge.specs.declared.line.Parcel.{Parcel}
 use Rattle.tp_judge.specs.declared.line.Mention.{Mention}
 use Rattle.tp_judge.specs.declared.line.Act.{Act}
 use Rattle.tp_judge.specs.declared.line.Act.TheVariants as act
-use Rattle.tp_judge.specs.declared.line.Line.{Line}
+use Rattle.tp_judge.specs.declared.line.IndexedLine.{IndexedLine}
 use Rattle.tp_judge.specs.declared.line.By.TheVariants as by
-use Rattle.tp_judge.specs.declared.trace.Trace.{Trace}
+use Rattle.tp_judge.specs.declared.trace.IndexedTrace.{IndexedTrace}
 use Rattle.tp_judge.specs.Lines.{came_route, is_number, lines_with, parcel_of, sent_route}
-use Rattle.tp_judge.specs.Lawful.{AreRouted, IsRouted, IsRoutedAct}
-use Rattle.tp_judge.specs.Delivered.{AreNumbered, Delivered, IsJoined, parcels}
+use Rattle.tp_judge.specs.Lawful.{AreLinesRouted, IsRouted, IsRoutedAct}
+use Rattle.tp_judge.specs.Delivered.{AreParcelsNumbered, Delivered, IsJoined, parcels}
 use Rattle.tp_judge.specs.OneRun.{came_mention, came_to, kept_for, is_joined, sent_mention, sent_to, ComesAt, IsSentAt, LineAt}
 use Rattle.tp_judge.specs.Sendings.{came_parcel, came_parcels, sent_parcel, sent_parcels, HasCome, IsSendingsRow}
 use Rattle.tp_judge.proofs.Ranks.{rank_of, ranked, same_rank, unranked}
@@ -29,12 +29,12 @@ true_there None is = absurd (false≢true is)
 true_there (Some b) is = ap Some is
 
 -- a message that is kept for a component
-pub record IsKept (trace : Trace) (component receiver : ℕ) (m n : Mention) : Type 0 where
+pub record IsKept (trace : IndexedTrace) (component receiver : ℕ) (m n : Mention) : Type 0 where
   pub same : m ≡ n
   pub joined : IsJoined trace n.route
   pub for : receiver ≡ component
 
-kept_some : (trace : Trace) (component receiver : ℕ) (m n : Mention) → kept_for trace component receiver m ≡ Some n
+kept_some : (trace : IndexedTrace) (component receiver : ℕ) (m n : Mention) → kept_for trace component receiver m ≡ Some n
     → IsKept trace component receiver m n
 kept_some trace component receiver m n is =
     let both = cond_some (is_joined trace m && (receiver == component)) m n is in
@@ -45,19 +45,19 @@ kept_some trace component receiver m n is =
       for = eqb-true receiver component parts.1;
     }
 
-kept_from : (trace : Trace) (component receiver : ℕ) (m : Mention) → IsJoined trace m.route → receiver ≡ component
+kept_from : (trace : IndexedTrace) (component receiver : ℕ) (m : Mention) → IsJoined trace m.route → receiver ≡ component
     → kept_for trace component receiver m ≡ Some m
 kept_from trace component receiver m joined is =
     cond-true (is_joined trace m && (receiver == component)) (Some m) None
     (and_from (is_joined trace m) (receiver == component) (ap (λ o. unwrap_or o false) joined) (eq-eqb receiver component is))
 
 -- what is sent to a component
-pub record IsSending (trace : Trace) (component : ℕ) (a : Act) (m : Mention) : Type 0 where
+pub record IsSending (trace : IndexedTrace) (component : ℕ) (a : Act) (m : Mention) : Type 0 where
   pub is : a ≡ act.Sent m
   pub joined : IsJoined trace m.route
   pub for : slice_index trace.owners.items m.port ≡ component
 
-sending_act : (trace : Trace) (component : ℕ) (a : Act) (m : Mention)
+sending_act : (trace : IndexedTrace) (component : ℕ) (a : Act) (m : Mention)
     → option_and_then (λ n. kept_for trace component (slice_index trace.owners.items n.port) n) (sent_mention a) ≡ Some m
     → IsSending trace component a m
 sending_act trace component (act.Sent n) m is =
@@ -69,17 +69,17 @@ sending_act trace component (act.Sent n) m is =
     }
 sending_act trace component _ m is = absurd (none-some m is)
 
-pub sent_to_some : (trace : Trace) (component : ℕ) (line : Line) (m : Mention) → sent_to trace component line ≡ Some m
+pub sent_to_some : (trace : IndexedTrace) (component : ℕ) (line : IndexedLine) (m : Mention) → sent_to trace component line ≡ Some m
     → IsSending trace component line.act m
 sent_to_some trace component line m is = sending_act trace component line.act m is
 
-pub sent_to_from : (trace : Trace) (component : ℕ) (line : Line) (m : Mention) → line.act ≡ act.Sent m → IsJoined trace m.route
+pub sent_to_from : (trace : IndexedTrace) (component : ℕ) (line : IndexedLine) (m : Mention) → line.act ≡ act.Sent m → IsJoined trace m.route
     → slice_index trace.owners.items m.port ≡ component → sent_to trace component line ≡ Some m
 sent_to_from trace component line m is joined for =
     ap (λ a. option_and_then (λ n. kept_for trace component (slice_index trace.owners.items n.port) n) (sent_mention a)) is
     ∙ kept_from trace component (slice_index trace.owners.items m.port) m joined for
 
-came_act : (trace : Trace) (component place : ℕ) (line : Line) (a : Act) (m : Mention) → LineAt trace place line → line.act ≡ a
+came_act : (trace : IndexedTrace) (component place : ℕ) (line : IndexedLine) (a : Act) (m : Mention) → LineAt trace place line → line.act ≡ a
     → option_and_then (λ n. kept_for trace component line.component n) (came_mention a) ≡ Some m
     → ComesAt trace component place m
 came_act trace component place line (act.Came n) m at says is =
@@ -88,18 +88,18 @@ came_act trace component place line (act.Came n) m at says is =
 came_act trace component place line _ m at says is = absurd (none-some m is)
 
 -- what came to it
-pub came_to_some : (trace : Trace) (component place : ℕ) (line : Line) (m : Mention) → LineAt trace place line
+pub came_to_some : (trace : IndexedTrace) (component place : ℕ) (line : IndexedLine) (m : Mention) → LineAt trace place line
     → came_to trace component line ≡ Some m → ComesAt trace component place m
 came_to_some trace component place line m at is = came_act trace component place line line.act m at refl is
 
-pub came_to_from : (trace : Trace) (component place : ℕ) (m : Mention) (c : ComesAt trace component place m)
+pub came_to_from : (trace : IndexedTrace) (component place : ℕ) (m : Mention) (c : ComesAt trace component place m)
     → came_to trace component c.line ≡ Some m
 came_to_from trace component place m c =
     ap (λ a. option_and_then (λ n. kept_for trace component c.line.component n) (came_mention a)) c.is.0
     ∙ kept_from trace component c.line.component m c.is.1 c.within
 
 -- the parcels of a route, by its lines and by all lines
-filter_parcels : (b : Bool) (line : Line) (lines : List Line)
+filter_parcels : (b : Bool) (line : IndexedLine) (lines : List IndexedLine)
     → parcels (cond b (line ∷ lines) lines) ≡ cond b (cons_option (parcel_of line.act) (parcels lines)) (parcels lines)
 filter_parcels true line lines = refl
 filter_parcels false line lines = refl
@@ -118,14 +118,14 @@ came_one : (route : ℕ) (a : Act) (rest : List Parcel)
 came_one route (act.Came m) rest = by_test (m.route == route) m.parcel rest
 came_one route _ rest = refl
 
-same_sent : (route : ℕ) (lines : List Line) → parcels (lines_with by.Sent route lines) ≡ sent_parcels route lines
+same_sent : (route : ℕ) (lines : List IndexedLine) → parcels (lines_with by.Sent route lines) ≡ sent_parcels route lines
 same_sent route [] = refl
 same_sent route (line ∷ lines) =
     filter_parcels (is_number route (sent_route line.act)) line (lines_with by.Sent route lines)
     ∙ ap (λ l. cond (is_number route (sent_route line.act)) (cons_option (parcel_of line.act) l) l) (same_sent route lines)
     ∙ sent_one route line.act (sent_parcels route lines)
 
-same_came : (route : ℕ) (lines : List Line) → parcels (lines_with by.Came route lines) ≡ came_parcels route lines
+same_came : (route : ℕ) (lines : List IndexedLine) → parcels (lines_with by.Came route lines) ≡ came_parcels route lines
 same_came route [] = refl
 same_came route (line ∷ lines) =
     filter_parcels (is_number route (came_route line.act)) line (lines_with by.Came route lines)
@@ -133,17 +133,17 @@ same_came route (line ∷ lines) =
     ∙ came_one route line.act (came_parcels route lines)
 
 -- a lawful route, by all lines
-record IsMatched (trace : Trace) (route : ℕ) : Type 0 where
+record IsMatched (trace : IndexedTrace) (route : ℕ) : Type 0 where
   same : sent_parcels route trace.lines.items ≡ came_parcels route trace.lines.items
-  numbered : AreNumbered (sent_parcels route trace.lines.items)
+  numbered : AreParcelsNumbered (sent_parcels route trace.lines.items)
 
-matched : (trace : Trace) (route : ℕ) → Delivered trace → IsJoined trace route → IsMatched trace route
+matched : (trace : IndexedTrace) (route : ℕ) → Delivered trace → IsJoined trace route → IsMatched trace route
 matched trace route delivered joined =
     let lines = trace.lines.items in
     let lawful = delivered route (slice_get_within trace.joined.items route true joined) joined in
     record {
       same = sym (same_sent route lines) ∙ lawful.same ∙ same_came route lines;
-      numbered = subst AreNumbered (same_sent route lines) lawful.numbered;
+      numbered = subst AreParcelsNumbered (same_sent route lines) lawful.numbered;
     }
 
 came_gives : (m : Mention) (a : Act) → a ≡ act.Came m → came_parcel m.route a ≡ Some m.parcel
@@ -153,42 +153,42 @@ sent_gives : (m : Mention) (a : Act) → a ≡ act.Sent m → sent_parcel m.rout
 sent_gives m a is = ap (sent_parcel m.route) is ∙ cond-true (m.route == m.route) (Some m.parcel) None (eq-eqb m.route m.route refl)
 
 -- what came stands at its rank among all that was sent
-came_there : (trace : Trace) (component place : ℕ) (m : Mention) → Delivered trace → ComesAt trace component place m
+came_there : (trace : IndexedTrace) (component place : ℕ) (m : Mention) → Delivered trace → ComesAt trace component place m
     → slice_get (sent_parcels m.route trace.lines.items) (rank_of (λ line. came_parcel m.route line.act) trace.lines.items place) ≡ Some m.parcel
 came_there trace component place m delivered c =
     let both = matched trace m.route delivered c.is.1 in
-    let rank = rank_of (λ (line : Line). came_parcel m.route line.act) trace.lines.items place in
+    let rank = rank_of (λ (line : IndexedLine). came_parcel m.route line.act) trace.lines.items place in
     ap (λ l. slice_get l rank) both.same
-    ∙ ranked (λ (line : Line). came_parcel m.route line.act) trace.lines.items place c.line m.parcel c.at (came_gives m c.line.act c.is.0)
+    ∙ ranked (λ (line : IndexedLine). came_parcel m.route line.act) trace.lines.items place c.line m.parcel c.at (came_gives m c.line.act c.is.0)
 
 -- its number is its rank
-came_number : (trace : Trace) (component place : ℕ) (m : Mention) → Delivered trace → ComesAt trace component place m
+came_number : (trace : IndexedTrace) (component place : ℕ) (m : Mention) → Delivered trace → ComesAt trace component place m
     → m.parcel.number ≡ rank_of (λ line. came_parcel m.route line.act) trace.lines.items place
 came_number trace component place m delivered c =
     let both = matched trace m.route delivered c.is.1 in
-    both.numbered (rank_of (λ (line : Line). came_parcel m.route line.act) trace.lines.items place) m.parcel
+    both.numbered (rank_of (λ (line : IndexedLine). came_parcel m.route line.act) trace.lines.items place) m.parcel
     (came_there trace component place m delivered c)
 
-sent_number : (trace : Trace) (place : ℕ) (m : Mention) → Delivered trace → IsJoined trace m.route → IsSentAt trace place m
+sent_number : (trace : IndexedTrace) (place : ℕ) (m : Mention) → Delivered trace → IsJoined trace m.route → IsSentAt trace place m
     → m.parcel.number ≡ rank_of (λ line. sent_parcel m.route line.act) trace.lines.items place
 sent_number trace place m delivered joined s =
     let both = matched trace m.route delivered joined in
-    both.numbered (rank_of (λ (line : Line). sent_parcel m.route line.act) trace.lines.items place) m.parcel
-    (ranked (λ (line : Line). sent_parcel m.route line.act) trace.lines.items place s.line m.parcel s.at (sent_gives m s.line.act s.is))
+    both.numbered (rank_of (λ (line : IndexedLine). sent_parcel m.route line.act) trace.lines.items place) m.parcel
+    (ranked (λ (line : IndexedLine). sent_parcel m.route line.act) trace.lines.items place s.line m.parcel s.at (sent_gives m s.line.act s.is))
 
 -- a message is sent once
-pub sent_once : (trace : Trace) (s t : ℕ) (m : Mention) → Delivered trace → IsJoined trace m.route → IsSentAt trace s m → IsSentAt trace t m
+pub sent_once : (trace : IndexedTrace) (s t : ℕ) (m : Mention) → Delivered trace → IsJoined trace m.route → IsSentAt trace s m → IsSentAt trace t m
     → s ≡ t
 sent_once trace s t m delivered joined first second =
-    same_rank (λ (line : Line). sent_parcel m.route line.act) trace.lines.items s t first.line second.line m.parcel m.parcel
+    same_rank (λ (line : IndexedLine). sent_parcel m.route line.act) trace.lines.items s t first.line second.line m.parcel m.parcel
     first.at second.at (sent_gives m first.line.act first.is) (sent_gives m second.line.act second.is)
     (sym (sent_number trace s m delivered joined first) ∙ sent_number trace t m delivered joined second)
 
 -- and comes once
-pub comes_once : (trace : Trace) (component other j k : ℕ) (m : Mention) → Delivered trace → ComesAt trace component j m
+pub comes_once : (trace : IndexedTrace) (component other j k : ℕ) (m : Mention) → Delivered trace → ComesAt trace component j m
     → ComesAt trace other k m → j ≡ k
 comes_once trace component other j k m delivered first second =
-    same_rank (λ (line : Line). came_parcel m.route line.act) trace.lines.items j k first.line second.line m.parcel m.parcel
+    same_rank (λ (line : IndexedLine). came_parcel m.route line.act) trace.lines.items j k first.line second.line m.parcel m.parcel
     first.at second.at (came_gives m first.line.act first.is.0) (came_gives m second.line.act second.is.0)
     (sym (came_number trace component j m delivered first) ∙ came_number trace other k m delivered second)
 
@@ -214,25 +214,25 @@ same_mention m n port route parcel =
     ∙ ap (λ x. record { port = n.port; route = n.route; parcel = x }) parcel
 
 -- a line names a route with its port
-sent_port : (trace : Trace) (r : AreRouted trace) (place : ℕ) (line : Line) (m : Mention) → LineAt trace place line → line.act ≡ act.Sent m
+sent_port : (trace : IndexedTrace) (r : AreLinesRouted trace) (place : ℕ) (line : IndexedLine) (m : Mention) → LineAt trace place line → line.act ≡ act.Sent m
     → m.port ≡ slice_index r.ports m.route
 sent_port trace r place line m at is =
     subst (λ (a : Act). IsRoutedAct trace r.ports line.component a) is
     (all_at (IsRouted trace r.ports) trace.lines.items place line r.each at)
 
-came_port : (trace : Trace) (r : AreRouted trace) (place : ℕ) (line : Line) (m : Mention) → LineAt trace place line → line.act ≡ act.Came m
+came_port : (trace : IndexedTrace) (r : AreLinesRouted trace) (place : ℕ) (line : IndexedLine) (m : Mention) → LineAt trace place line → line.act ≡ act.Came m
     → (m.port ≡ slice_index r.ports m.route) × (line.component ≡ slice_index trace.owners.items m.port)
 came_port trace r place line m at is =
     subst (λ (a : Act). IsRoutedAct trace r.ports line.component a) is
     (all_at (IsRouted trace r.ports) trace.lines.items place line r.each at)
 
 -- what came to a component was for it
-pub came_for : (trace : Trace) (component place : ℕ) (m : Mention) → AreRouted trace → ComesAt trace component place m
+pub came_for : (trace : IndexedTrace) (component place : ℕ) (m : Mention) → AreLinesRouted trace → ComesAt trace component place m
     → slice_index trace.owners.items m.port ≡ component
 came_for trace component place m r c = sym (came_port trace r place c.line m c.at c.is.0).1 ∙ c.within
 
 -- the line that sends what came
-sends_it : (trace : Trace) (component place sending : ℕ) (m : Mention) (line : Line) → AreRouted trace → ComesAt trace component place m
+sends_it : (trace : IndexedTrace) (component place sending : ℕ) (m : Mention) (line : IndexedLine) → AreLinesRouted trace → ComesAt trace component place m
     → LineAt trace sending line → sent_parcel m.route line.act ≡ Some m.parcel → IsSentAt trace sending m
 sends_it trace component place sending m line r c at is =
     let n = sent_inverse m.route line.act m.parcel is in
@@ -242,23 +242,23 @@ sends_it trace component place sending m line r c at is =
     record { line = line; at = at; is = n.1 ∙ ap act.Sent (same_mention n.0 m port n.2 n.3) }
 
 -- what came was sent
-pub sent_there : (trace : Trace) (component place : ℕ) (m : Mention) → AreRouted trace → Delivered trace
+pub sent_there : (trace : IndexedTrace) (component place : ℕ) (m : Mention) → AreLinesRouted trace → Delivered trace
     → ComesAt trace component place m → (s : ℕ) × IsSentAt trace s m
 sent_there trace component place m r delivered c =
-    let found = unranked (λ (line : Line). sent_parcel m.route line.act) trace.lines.items
-    (rank_of (λ (line : Line). came_parcel m.route line.act) trace.lines.items place) m.parcel
+    let found = unranked (λ (line : IndexedLine). sent_parcel m.route line.act) trace.lines.items
+    (rank_of (λ (line : IndexedLine). came_parcel m.route line.act) trace.lines.items place) m.parcel
     (came_there trace component place m delivered c) in
     (found.place, sends_it trace component place found.place m found.element r c found.at found.gives)
 
 -- and what was sent comes, to the component that it's for
-pub comes_there : (trace : Trace) (component place : ℕ) (m : Mention) → AreRouted trace → Delivered trace → IsJoined trace m.route
+pub comes_there : (trace : IndexedTrace) (component place : ℕ) (m : Mention) → AreLinesRouted trace → Delivered trace → IsJoined trace m.route
     → slice_index trace.owners.items m.port ≡ component → IsSentAt trace place m → (k : ℕ) × ComesAt trace component k m
 comes_there trace component place m r delivered joined for s =
     let both = matched trace m.route delivered joined in
-    let rank = rank_of (λ (line : Line). sent_parcel m.route line.act) trace.lines.items place in
+    let rank = rank_of (λ (line : IndexedLine). sent_parcel m.route line.act) trace.lines.items place in
     let there = ap (λ l. slice_get l rank) (sym both.same)
-    ∙ ranked (λ (line : Line). sent_parcel m.route line.act) trace.lines.items place s.line m.parcel s.at (sent_gives m s.line.act s.is) in
-    let found = unranked (λ (line : Line). came_parcel m.route line.act) trace.lines.items rank m.parcel there in
+    ∙ ranked (λ (line : IndexedLine). sent_parcel m.route line.act) trace.lines.items place s.line m.parcel s.at (sent_gives m s.line.act s.is) in
+    let found = unranked (λ (line : IndexedLine). came_parcel m.route line.act) trace.lines.items rank m.parcel there in
     let n = came_inverse m.route found.element.act m.parcel found.gives in
     let first = came_port trace r found.place found.element n.0 found.at n.1 in
     let second = sent_port trace r place s.line m s.at s.is in
@@ -274,21 +274,21 @@ comes_there trace component place m r delivered joined for s =
     )
 
 -- the row of its route has where it was sent, at its number
-pub row_has : (trace : Trace) (m : Mention) (row : List ℕ) → AreRouted trace → Delivered trace → HasCome trace m
+pub row_has : (trace : IndexedTrace) (m : Mention) (row : List ℕ) → AreLinesRouted trace → Delivered trace → HasCome trace m
     → IsSendingsRow trace (length trace.lines.items) m.route row
     → (m.parcel.number < length row) × IsSentAt trace (slice_index row m.parcel.number) m
 row_has trace m row r delivered come is =
     let lines = trace.lines.items in
     let c = come.2 in
     let place = come.1 in
-    let rank = rank_of (λ (line : Line). came_parcel m.route line.act) lines place in
+    let rank = rank_of (λ (line : IndexedLine). came_parcel m.route line.act) lines place in
     let number : m.parcel.number ≡ rank = came_number trace come.0 place m delivered c in
     let there = came_there trace come.0 place m delivered c in
     let below = slice_get_within (sent_parcels m.route lines) rank m.parcel there in
     let size = is.size ∙ ap (λ l. length (sent_parcels m.route l)) (take_all (length lines) lines (omega arith)) in
     let within : m.parcel.number < length row = omega (arith, number, below, size) in
     let next = is.each m.parcel.number (slice_index row m.parcel.number) (slice_get-get_or row m.parcel.number 0 within) in
-    let sent_at = ranked (λ (line : Line). sent_parcel m.route line.act) lines (slice_index row m.parcel.number) next.line next.parcel next.at next.sends in
+    let sent_at = ranked (λ (line : IndexedLine). sent_parcel m.route line.act) lines (slice_index row m.parcel.number) next.line next.parcel next.at next.sends in
     let same : Some next.parcel ≡ Some m.parcel =
     sym sent_at ∙ ap (slice_get (sent_parcels m.route lines)) (next.is ∙ number) ∙ there in
     (within, sends_it trace come.0 place (slice_index row m.parcel.number) m next.line r c next.at (next.sends ∙ same))

@@ -6,35 +6,35 @@ use Rattle.std.specs.Option.{option_to_list}
 use Rattle.std.proofs.lemmas.List.{take_more}
 use Rattle.std.proofs.lemmas.Option.{get_or_from_slice_get, slice_get_within}
 use Rattle.std.proofs.lemmas.List.Elements.{filter_map-append}
-use Rattle.tp_judge.specs.declared.line.Line.{Line}
-use Rattle.tp_judge.specs.Gathered.{seen}
+use Rattle.tp_judge.specs.declared.line.IndexedLine.{IndexedLine}
+use Rattle.tp_judge.specs.Gathered.{lines_at}
 
 alone : {Y : Type 0} (o : Option Y) → cons_option o [] ≡ option_to_list o
 alone None = refl
 alone (Some y) = refl
 
-seen-append : (xs ys : List (Bor Line)) → seen (xs ++ ys) ≡ seen xs ++ seen ys
+seen-append : (xs ys : List (Bor IndexedLine)) → lines_at (xs ++ ys) ≡ lines_at xs ++ lines_at ys
 seen-append [] ys = refl
 seen-append (x ∷ xs) ys = ap (λ l. x.now ∷ l) (seen-append xs ys)
 
 -- what one line more gives stands behind what those before it give
-pub filter_map-more : {Y : Type 0} (f : Line → Option Y) (xs : List (Bor Line)) (i : ℕ) (d : Bor Line) → i < length xs
-    → filter_map f (seen (take (i + 1) xs)) ≡ filter_map f (seen (take i xs)) ++ option_to_list (f (get_or xs i d).now)
+pub filter_map-more : {Y : Type 0} (f : IndexedLine → Option Y) (xs : List (Bor IndexedLine)) (i : ℕ) (d : Bor IndexedLine) → i < length xs
+    → filter_map f (lines_at (take (i + 1) xs)) ≡ filter_map f (lines_at (take i xs)) ++ option_to_list (f (get_or xs i d).now)
 filter_map-more f xs i d within =
-    ap (λ l. filter_map f (seen l)) (take_more xs i d within)
+    ap (λ l. filter_map f (lines_at l)) (take_more xs i d within)
     ∙ ap (filter_map f) (seen-append (take i xs) (get_or xs i d ∷ []))
-    ∙ filter_map-append f (seen (take i xs)) ((get_or xs i d).now ∷ [])
-    ∙ ap (λ l. filter_map f (seen (take i xs)) ++ l) (alone (f (get_or xs i d).now))
+    ∙ filter_map-append f (lines_at (take i xs)) ((get_or xs i d).now ∷ [])
+    ∙ ap (λ l. filter_map f (lines_at (take i xs)) ++ l) (alone (f (get_or xs i d).now))
 
 -- what stands at a place
-pub seen_at : (xs : List (Bor Line)) (i : ℕ) (d : Bor Line) → i < length xs → slice_get (seen xs) i ≡ Some (get_or xs i d).now
+pub seen_at : (xs : List (Bor IndexedLine)) (i : ℕ) (d : Bor IndexedLine) → i < length xs → slice_get (lines_at xs) i ≡ Some (get_or xs i d).now
 seen_at [] i d within = absurd (omega arith)
 seen_at (x ∷ xs) zero d within = refl
 seen_at (x ∷ xs) (suc i) d within = seen_at xs i d (omega arith)
 
 -- the first of them
-pub seen-take : (i : ℕ) (xs : List (Bor Line)) → take i (seen xs) ≡ seen (take i xs)
-seen-take i xs = take-map (λ (line : Bor Line). line.now) i xs
+pub seen-take : (i : ℕ) (xs : List (Bor IndexedLine)) → take i (lines_at xs) ≡ lines_at (take i xs)
+seen-take i xs = take-map (λ (line : Bor IndexedLine). line.now) i xs
 
 -- one more of the list
 pub take_got : {X : Type 0} (xs : List X) (n : ℕ) (x : X) → slice_get xs n ≡ Some x → take (n + 1) xs ≡ take n xs ++ x ∷ []
@@ -46,12 +46,12 @@ cons_option-append None xs ys = refl
 cons_option-append (Some y) xs ys = refl
 
 -- what the lines give is cut at what one of them gives
-pub split_line : {Y : Type 0} (f : Line → Option Y) (lines : List Line) (k : ℕ) (line : Line) (y : Y)
+pub split_line : {Y : Type 0} (f : IndexedLine → Option Y) (lines : List IndexedLine) (k : ℕ) (line : IndexedLine) (y : Y)
     → slice_get lines k ≡ Some line → f line ≡ Some y → (rest : List Y) × (filter_map f lines ≡ filter_map f (take k lines) ++ y ∷ rest)
 split_line f [] k line y stands is = absurd (cc)
 split_line f (x ∷ xs) zero line y stands is =
     let same : x ≡ line = cc in
-    (filter_map f xs, ap (λ (l : Line). cons_option (f l) (filter_map f xs)) same ∙ ap (λ o. cons_option o (filter_map f xs)) is)
+    (filter_map f xs, ap (λ (l : IndexedLine). cons_option (f l) (filter_map f xs)) same ∙ ap (λ o. cons_option o (filter_map f xs)) is)
 split_line f (x ∷ xs) (suc k) line y stands is =
     let rest = split_line f xs k line y stands is in
     (rest.0, ap (cons_option (f x)) rest.1 ∙ cons_option-append (f x) (filter_map f (take k xs)) (y ∷ rest.0))

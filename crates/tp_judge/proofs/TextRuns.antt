@@ -8,13 +8,13 @@ use Rattle.std.proofs.lemmas.List.FromFn.{get_or-range_with_len, length-range_wi
 use Rattle.std.proofs.lemmas.Option.{get_or_from_slice_get, slice_get-get_or, slice_get_within}
 use Rattle.tp_order.specs.declared.demand.Demand.{Demand}
 use Rattle.tp_order.specs.Places.{no_demand}
-use Rattle.tp_order.specs.Order.{IsBelow, IsListing, StandsAt, StandsBefore}
+use Rattle.tp_order.specs.Order.{IsBelow, IsListing, IsNumberAt, StandsBefore}
 use Rattle.tp_judge.specs.declared.run_demands.Making.{Making}
 use Rattle.tp_judge.specs.declared.run_demands.Which.{Which}
 use Rattle.tp_judge.specs.declared.run_demands.Which.TheVariants as which
-use Rattle.tp_judge.specs.declared.trace.Trace.{Trace}
+use Rattle.tp_judge.specs.declared.trace.IndexedTrace.{IndexedTrace}
 use Rattle.tp_judge.specs.Delivered.{Delivered}
-use Rattle.tp_judge.specs.Lawful.{AreRouted}
+use Rattle.tp_judge.specs.Lawful.{AreLinesRouted}
 use Rattle.tp_judge.specs.Latest.{is_made, AreDemandsUpTo, AreMadeUpTo, IsMadeUpTo}
 use Rattle.tp_judge.specs.OneRun.{IsDemanded, IsOneRun}
 use Rattle.tp_judge.proofs.Deciding.{one_run_of, run_demands_below}
@@ -24,20 +24,20 @@ filter_all : (demands : List Demand) → filter (is_made which.All) demands ≡ 
 filter_all [] = refl
 filter_all (d ∷ demands) = ap (λ l. d ∷ l) (filter_all demands)
 
-pub all_made : (trace : Trace) (n : ℕ) (made : List Demand) → AreMadeUpTo trace which.All n made → AreDemandsUpTo trace n made
+pub all_made : (trace : IndexedTrace) (n : ℕ) (made : List Demand) → AreMadeUpTo trace which.All n made → AreDemandsUpTo trace n made
 all_made trace n made are = subst (AreDemandsUpTo trace n) (sym (are.made_are ∙ filter_all are.all)) are.demands
 
 -- the numbers below the count, in their order
 abbrev in_order : ℕ → List ℕ
 in_order count = range_with_len 0 count
 
-stands_there : (count x : ℕ) → x < count → StandsAt (in_order count) x x
+stands_there : (count x : ℕ) → x < count → IsNumberAt (in_order count) x x
 stands_there count x below =
     let size = length-range_with_len 0 count in
     let is : get_or (in_order count) x 0 ≡ x = let e = get_or-range_with_len 0 count x 0 below in omega arith in
     slice_get-get_or (in_order count) x 0 (omega arith) ∙ ap Some is
 
-is_there : (count i x : ℕ) → StandsAt (in_order count) i x → (x ≡ i) × (i < count)
+is_there : (count i x : ℕ) → IsNumberAt (in_order count) i x → (x ≡ i) × (i < count)
 is_there count i x at =
     let size = length-range_with_len 0 count in
     let within = slice_get_within (in_order count) i x at in
@@ -76,7 +76,7 @@ met count demands below on =
     (d.before, d.after, less, stands_there count d.before here.0, stands_there count d.after here.1))
 
 -- at first none is asked for
-pub none_made : (trace : Trace) (these : Which) (made : List Demand) → made ≡ [] → AreMadeUpTo trace these 0 made
+pub none_made : (trace : IndexedTrace) (these : Which) (made : List Demand) → made ≡ [] → AreMadeUpTo trace these 0 made
 none_made trace these made none = record {
   all = [];
   demands = record {
@@ -87,13 +87,13 @@ none_made trace these made none = record {
 }
 
 -- in the end each line asked
-pub all_lines : (trace : Trace) (these : Which) (making : Making) (n : ℕ) → n ≡ length trace.lines.items → making.which ≡ these
+pub all_lines : (trace : IndexedTrace) (these : Which) (making : Making) (n : ℕ) → n ≡ length trace.lines.items → making.which ≡ these
     → IsMadeUpTo trace n making → AreMadeUpTo trace these (length trace.lines.items) making.demands.items
 all_lines trace these making n all same made =
     subst (λ (w : Which). AreMadeUpTo trace w (length trace.lines.items) making.demands.items) same
     (subst (λ (k : ℕ). AreMadeUpTo trace making.which k making.demands.items) all made.demands)
 
-pub text_run : (trace : Trace) (made : List Demand) → AreRouted trace → Delivered trace
+pub text_run : (trace : IndexedTrace) (made : List Demand) → AreLinesRouted trace → Delivered trace
     → AreMadeUpTo trace which.Backward (length trace.lines.items) made → made ≡ [] → IsOneRun trace
 text_run trace made routed delivered are none =
     let count = length trace.lines.items in

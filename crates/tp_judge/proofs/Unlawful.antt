@@ -2,10 +2,10 @@
 use Rattle.std.proofs.Common.{◌≡◌, ◌⊎◌, inl, inr, ℕ, Some, List, [], ◌∷◌, length, refl, ap, sym, ◌∙◌, take, arith}
 use Rattle.std.specs.Prelude.{slice_get}
 use Rattle.std.proofs.lemmas.Option.{none-some}
-use Rattle.tp_queue.specs.declared.event.Event.{Event}
+use Rattle.tp_event.specs.declared.event.Event.{Event}
 use Rattle.tp_judge.specs.declared.line.MessageId.{MessageId}
-use Rattle.tp_judge.specs.declared.line.Line.{Line}
-use Rattle.tp_judge.specs.declared.place.Place.{Place}
+use Rattle.tp_judge.specs.declared.line.IndexedLine.{IndexedLine}
+use Rattle.tp_judge.specs.declared.place.UnlawfulPlace.{UnlawfulPlace}
 use Rattle.tp_judge.specs.Lines.{left_of}
 use Rattle.tp_judge.specs.Rules.{history_of, left_in}
 use Rattle.tp_judge.specs.Lawful.{IsLawfulPort, IsLeftMissing, IsLeftWrong, IsToldLeft, IsUnlawfulPort}
@@ -13,11 +13,11 @@ use Rattle.tp_judge.proofs.Replays.{broken_unlawful}
 use Rattle.tp_judge.proofs.Stepping.{at_seam, split_line}
 
 -- where a line stands, a first one does
-pub first_there : (closing : List Line) (k : ℕ) (line : Line) → slice_get closing k ≡ Some line → (x : Line) × (slice_get closing 0 ≡ Some x)
+pub first_there : (closing : List IndexedLine) (k : ℕ) (line : IndexedLine) → slice_get closing k ≡ Some line → (x : IndexedLine) × (slice_get closing 0 ≡ Some x)
 first_there [] k line at = absurd (none-some line at)
 first_there (x ∷ closing) k line at = (x, refl)
 
-unlawful_left : (h : List (Event MessageId)) (left closing : List Line) (place : Place)
+unlawful_left : (h : List (Event MessageId)) (left closing : List IndexedLine) (place : UnlawfulPlace)
     → IsLeftWrong h left closing place ⊎ IsLeftMissing h left closing place → IsToldLeft h left closing → ⊥
 unlawful_left h left closing place (inl w) told =
     let same = rw w.closed at told in
@@ -31,7 +31,7 @@ unlawful_left h left closing place (inr m) told =
     let missing = m.missing in
     omega arith
 
-pub unlawful_port : (events left closing : List Line) (place : Place) → IsUnlawfulPort events left closing place
+pub unlawful_port : (events left closing : List IndexedLine) (place : UnlawfulPlace) → IsUnlawfulPort events left closing place
     → IsLawfulPort events left closing → ⊥
 unlawful_port events left closing place (inl broken) lawful = broken_unlawful events place broken lawful.lawful
 unlawful_port events left closing place (inr broken) lawful =

@@ -1,30 +1,30 @@
 -- What happens before what in a trace. A line is known by its number in the text.
 use Rattle.std.specs.Prelude.{◌≡◌, ◌<◌, ℕ, Some, List, slice_get}
 use Rattle.tp_judge.specs.declared.line.Parcel.{Parcel}
-use Rattle.tp_judge.specs.declared.line.Line.{Line}
+use Rattle.tp_judge.specs.declared.line.IndexedLine.{IndexedLine}
 use Rattle.tp_judge.specs.declared.line.By.TheVariants as by
-use Rattle.tp_judge.specs.declared.trace.Trace.{Trace}
+use Rattle.tp_judge.specs.declared.trace.IndexedTrace.{IndexedTrace}
 use Rattle.tp_judge.specs.Lines.{lines_with}
 use Rattle.tp_judge.specs.Delivered.{IsJoined, ParcelAt}
 
 -- the lines of a section, and those of a route
-abbrev pub section_of : Trace → ℕ → List Line
+abbrev pub section_of : IndexedTrace → ℕ → List IndexedLine
 section_of trace component = lines_with by.Component component trace.lines.items
 
-abbrev pub sent_on : Trace → ℕ → List Line
+abbrev pub sent_on : IndexedTrace → ℕ → List IndexedLine
 sent_on trace route = lines_with by.Sent route trace.lines.items
 
-abbrev pub came_on : Trace → ℕ → List Line
+abbrev pub came_on : IndexedTrace → ℕ → List IndexedLine
 came_on trace route = lines_with by.Came route trace.lines.items
 
 -- the one line happens before the other
-pub data HappensBefore (trace : Trace) : ℕ → ℕ → Type 0 where
+pub data HappensBefore (trace : IndexedTrace) : ℕ → ℕ → Type 0 where
   -- it stands before it in its section
-  earlier : (component j k : ℕ) (a b : Line) → component < trace.components → j < k
+  earlier : (component j k : ℕ) (a b : IndexedLine) → component < trace.components → j < k
       → slice_get (section_of trace component) j ≡ Some a → slice_get (section_of trace component) k ≡ Some b
       → HappensBefore trace a.number b.number
   -- or it is a sending, of which the other is the arrival: on its route, with its number
-  sent : (route j k : ℕ) (a b : Line) (p q : Parcel) → IsJoined trace route
+  sent : (route j k : ℕ) (a b : IndexedLine) (p q : Parcel) → IsJoined trace route
       → slice_get (sent_on trace route) j ≡ Some a → slice_get (came_on trace route) k ≡ Some b
       → ParcelAt (sent_on trace route) j p → ParcelAt (came_on trace route) k q → p.number ≡ q.number
       → HappensBefore trace a.number b.number
@@ -32,5 +32,5 @@ pub data HappensBefore (trace : Trace) : ℕ → ℕ → Type 0 where
   between : (x y z : ℕ) → HappensBefore trace x y → HappensBefore trace y z → HappensBefore trace x z
 
 -- **no circle**: no line happens before itself
-abbrev pub NoCircle : Trace → Type 0
+abbrev pub NoCircle : IndexedTrace → Type 0
 NoCircle trace = (n : ℕ) → HappensBefore trace n n → ⊥

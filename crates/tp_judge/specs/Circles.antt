@@ -2,15 +2,15 @@
 use Rattle.std.specs.Prelude.{◌≡◌, ℕ, List}
 use Rattle.tp_order.specs.Circle.{IsCircle}
 use Rattle.tp_judge.specs.declared.place.Rule.TheVariants as rule
-use Rattle.tp_judge.specs.declared.place.Place.{Place}
-use Rattle.tp_judge.specs.declared.trace.Trace.{Trace}
+use Rattle.tp_judge.specs.declared.place.UnlawfulPlace.{UnlawfulPlace}
+use Rattle.tp_judge.specs.declared.trace.IndexedTrace.{IndexedTrace}
 use Rattle.tp_judge.specs.Before.{HappensBefore}
 use Rattle.tp_judge.specs.Demands.{demands_of}
 use Rattle.tp_judge.specs.OneRun.{IsLeastOf}
 
 -- a line that happens before itself, the first in the text of a circle on which each line comes directly before the
 -- next: as the one before it in its section, or as the sending of what came there
-pub record IsCirclePlace (trace : Trace) (place : Place) : Type 0 where
+pub record IsCirclePlace (trace : IndexedTrace) (place : UnlawfulPlace) : Type 0 where
   pub rule_is : place.rule ≡ rule.Circle
   pub happens : HappensBefore trace place.line place.line
   pub circle : List ℕ

@@ -2,128 +2,128 @@
 use Rattle.std.specs.Prelude.{◌≡◌, ◌≢◌, ◌<◌, ◌⊎◌, ℕ, true, Some, IsSome, List, length, slice_get}
 use Rattle.std.specs.List.{filter_map}
 use Rattle.tp_judge.specs.declared.line.Parcel.{Parcel}
-use Rattle.tp_judge.specs.declared.line.Line.{Line}
+use Rattle.tp_judge.specs.declared.line.IndexedLine.{IndexedLine}
 use Rattle.tp_judge.specs.declared.line.By.TheVariants as by
 use Rattle.tp_judge.specs.declared.place.Rule.TheVariants as rule
-use Rattle.tp_judge.specs.declared.place.Place.{Place}
-use Rattle.tp_judge.specs.declared.trace.Trace.{Trace}
+use Rattle.tp_judge.specs.declared.place.UnlawfulPlace.{UnlawfulPlace}
+use Rattle.tp_judge.specs.declared.trace.IndexedTrace.{IndexedTrace}
 use Rattle.tp_judge.specs.Lines.{lines_with, parcel_of}
 
 -- the line names a parcel that was sent, or came
-abbrev pub NamesParcel : Line → Type 0
+abbrev pub NamesParcel : IndexedLine → Type 0
 NamesParcel line = IsSome (parcel_of line.act)
 
 -- the parcels that these lines name
-abbrev pub parcels : List Line → List Parcel
+abbrev pub parcels : List IndexedLine → List Parcel
 parcels lines = filter_map (λ line. parcel_of line.act) lines
 
 -- the k-th parcel, from 0
-abbrev pub ParcelAt : List Line → ℕ → Parcel → Type 0
+abbrev pub ParcelAt : List IndexedLine → ℕ → Parcel → Type 0
 ParcelAt lines k p = slice_get (parcels lines) k ≡ Some p
 
 -- they are numbered 0, 1, 2 and so on
-abbrev pub AreNumbered : List Parcel → Type 0
-AreNumbered ps = (k : ℕ) (p : Parcel) → slice_get ps k ≡ Some p → p.number ≡ k
+abbrev pub AreParcelsNumbered : List Parcel → Type 0
+AreParcelsNumbered ps = (k : ℕ) (p : Parcel) → slice_get ps k ≡ Some p → p.number ≡ k
 
 -- **a route**: what was sent is what came, in that order and each once, numbered from 0
-pub record IsDelivered (sent came : List Line) : Type 0 where
+pub record CameAsSent (sent came : List IndexedLine) : Type 0 where
   pub same : parcels sent ≡ parcels came
-  pub numbered : AreNumbered (parcels sent)
+  pub numbered : AreParcelsNumbered (parcels sent)
 
 -- the place is the k-th of these lines
-pub record IsTold (lines : List Line) (k : ℕ) (place : Place) : Type 0 where
-  pub line : Line
+pub record IsPlaceOfLine (lines : List IndexedLine) (k : ℕ) (place : UnlawfulPlace) : Type 0 where
+  pub line : IndexedLine
   pub stands : slice_get lines k ≡ Some line
   pub told : place.line ≡ line.number
 
 -- the first sending that has not the next number
-pub record IsMisnumbered (sent : List Line) (k : ℕ) : Type 0 where
+pub record IsMisnumbered (sent : List IndexedLine) (k : ℕ) : Type 0 where
   pub before : (j : ℕ) (p : Parcel) → j < k → ParcelAt sent j p → p.number ≡ j
   pub parcel : Parcel
   pub at : ParcelAt sent k parcel
   pub wrong : parcel.number ≢ k
 
 -- what came at the places below this one was sent there
-abbrev pub AgreesBelow : List Line → List Line → ℕ → Type 0
+abbrev pub AgreesBelow : List IndexedLine → List IndexedLine → ℕ → Type 0
 AgreesBelow sent came n = (k : ℕ) → k < n → slice_get (parcels sent) k ≡ slice_get (parcels came) k
 
 -- the first place at which what came isn't what was sent there
-pub record DiffersAt (sent came : List Line) (k : ℕ) : Type 0 where
+pub record DiffersAt (sent came : List IndexedLine) (k : ℕ) : Type 0 where
   pub before : AgreesBelow sent came k
   pub here : slice_get (parcels sent) k ≢ slice_get (parcels came) k
 
 -- no sending has the parcel's number
-abbrev pub NeverSent : List Line → Parcel → Type 0
+abbrev pub NeverSent : List IndexedLine → Parcel → Type 0
 NeverSent sent p = (j : ℕ) (q : Parcel) → ParcelAt sent j q → q.number ≢ p.number
 
 -- no arrival has it
-abbrev pub NeverCame : List Line → Parcel → Type 0
+abbrev pub NeverCame : List IndexedLine → Parcel → Type 0
 NeverCame came p = (j : ℕ) (q : Parcel) → ParcelAt came j q → q.number ≢ p.number
 
 -- nothing came at this place: there are no more arrivals
-abbrev pub NothingCame : List Line → ℕ → Type 0
+abbrev pub NothingCame : List IndexedLine → ℕ → Type 0
 NothingCame came k = (p : Parcel) → ParcelAt came k p → ⊥
 
 -- what came at the place was sent at a later one
-abbrev pub IsOvertaken : List Line → List Line → ℕ → Type 0
+abbrev pub IsOvertaken : List IndexedLine → List IndexedLine → ℕ → Type 0
 IsOvertaken sent came k = (m : ℕ) × (p : Parcel) × (k < m) × ParcelAt sent m p × ParcelAt came k p
 
 -- the first arrival with the number is this one, at this place
-pub record IsFirstArrival (came : List Line) (number k : ℕ) (p : Parcel) : Type 0 where
+pub record IsFirstArrival (came : List IndexedLine) (number k : ℕ) (p : Parcel) : Type 0 where
   pub at : ParcelAt came k p
   pub is : p.number ≡ number
   pub none_before : (j : ℕ) (q : Parcel) → j < k → ParcelAt came j q → q.number ≢ number
 
 -- what is wrong at this place of the route, the first at which what came isn't what was sent there. It is what is wrong
 -- with what came there. Where nothing came, or what was sent later, it is what became of the one that was sent there
-pub data IsWrongAt (sent came : List Line) (k : ℕ) (place : Place) : Type 0 where
+pub data IsWrongAt (sent came : List IndexedLine) (k : ℕ) (place : UnlawfulPlace) : Type 0 where
   -- what was sent there never came; in its place nothing did, or what was sent later
-  lost : (p : Parcel) → place.rule ≡ rule.Lost → IsTold sent k place → ParcelAt sent k p → NeverCame came p
+  lost : (p : Parcel) → place.rule ≡ rule.Lost → IsPlaceOfLine sent k place → ParcelAt sent k p → NeverCame came p
       → NothingCame came k ⊎ IsOvertaken sent came k → IsWrongAt sent came k place
   -- what came there has a number that had come before
-  doubled : (j : ℕ) (p q : Parcel) → place.rule ≡ rule.Doubled → IsTold came k place → ParcelAt came k p
+  doubled : (j : ℕ) (p q : Parcel) → place.rule ≡ rule.Doubled → IsPlaceOfLine came k place → ParcelAt came k p
       → j < k → ParcelAt came j q → q.number ≡ p.number → IsWrongAt sent came k place
   -- what came there was never sent
-  invented : (p : Parcel) → place.rule ≡ rule.Invented → IsTold came k place → ParcelAt came k p → NeverSent sent p
+  invented : (p : Parcel) → place.rule ≡ rule.Invented → IsPlaceOfLine came k place → ParcelAt came k p → NeverSent sent p
       → IsWrongAt sent came k place
   -- what came there is the first with its number, and was sent under that with another message
-  changed : (j : ℕ) (p q : Parcel) → place.rule ≡ rule.Changed → IsTold came k place → ParcelAt sent j q
+  changed : (j : ℕ) (p q : Parcel) → place.rule ≡ rule.Changed → IsPlaceOfLine came k place → ParcelAt sent j q
       → IsFirstArrival came q.number k p → q.message ≢ p.message → IsWrongAt sent came k place
   -- what was sent there came further down with another message, and in its place what was sent later
-  changed_later : (m : ℕ) (p q : Parcel) → place.rule ≡ rule.Changed → IsTold came m place → IsOvertaken sent came k
+  changed_later : (m : ℕ) (p q : Parcel) → place.rule ≡ rule.Changed → IsPlaceOfLine came m place → IsOvertaken sent came k
       → ParcelAt sent k q → k < m → IsFirstArrival came q.number m p → q.message ≢ p.message → IsWrongAt sent came k place
   -- what was sent there came further down, and in its place what was sent later
-  reordered : (m : ℕ) (p : Parcel) → place.rule ≡ rule.Reordered → IsTold came m place → IsOvertaken sent came k
+  reordered : (m : ℕ) (p : Parcel) → place.rule ≡ rule.Reordered → IsPlaceOfLine came m place → IsOvertaken sent came k
       → ParcelAt sent k p → k < m → IsFirstArrival came p.number m p → IsWrongAt sent came k place
 
 -- the first place where the route isn't lawful. Each of these lines names one parcel
-pub data IsUnlawfulRoute (sent came : List Line) (place : Place) : Type 0 where
+pub data IsUnlawfulRoute (sent came : List IndexedLine) (place : UnlawfulPlace) : Type 0 where
   -- a sending has not the next number
-  numbering : (k : ℕ) → place.rule ≡ rule.Numbering → IsTold sent k place → IsMisnumbered sent k
+  numbering : (k : ℕ) → place.rule ≡ rule.Numbering → IsPlaceOfLine sent k place → IsMisnumbered sent k
       → IsUnlawfulRoute sent came place
   -- or each has, and what came differs from what was sent
-  different : (k : ℕ) → AreNumbered (parcels sent) → DiffersAt sent came k → IsWrongAt sent came k place
+  different : (k : ℕ) → AreParcelsNumbered (parcels sent) → DiffersAt sent came k → IsWrongAt sent came k place
       → IsUnlawfulRoute sent came place
 
 -- both ends of the route have a section
-abbrev pub IsJoined : Trace → ℕ → Type 0
+abbrev pub IsJoined : IndexedTrace → ℕ → Type 0
 IsJoined trace route = slice_get trace.joined.items route ≡ Some true
 
 -- the route is lawful, if both its ends have a section
-abbrev pub IsDeliveredAt : Trace → ℕ → Type 0
+abbrev pub IsDeliveredAt : IndexedTrace → ℕ → Type 0
 IsDeliveredAt trace route = IsJoined trace route
-    → IsDelivered (lines_with by.Sent route trace.lines.items) (lines_with by.Came route trace.lines.items)
+    → CameAsSent (lines_with by.Sent route trace.lines.items) (lines_with by.Came route trace.lines.items)
 
 -- where it isn't
-pub record IsUnlawfulOn (trace : Trace) (route : ℕ) (place : Place) : Type 0 where
+pub record IsUnlawfulOn (trace : IndexedTrace) (route : ℕ) (place : UnlawfulPlace) : Type 0 where
   pub joined : IsJoined trace route
   pub broken : IsUnlawfulRoute (lines_with by.Sent route trace.lines.items)
       (lines_with by.Came route trace.lines.items) place
 
 -- **delivery**: all routes are lawful
-abbrev pub Delivered : Trace → Type 0
+abbrev pub Delivered : IndexedTrace → Type 0
 Delivered trace = (route : ℕ) → route < length trace.joined.items → IsDeliveredAt trace route
 
 -- the first place at which some route isn't
-abbrev pub IsRoutePlace : Trace → Place → Type 0
+abbrev pub IsRoutePlace : IndexedTrace → UnlawfulPlace → Type 0
 IsRoutePlace trace place = (route : ℕ) × (route < length trace.joined.items) × IsUnlawfulOn trace route place

@@ -1,12 +1,12 @@
 -- What an order of the lines has to meet.
 use Rattle.std.specs.Prelude.{ℕ, zero, suc, Bool, true, false, Option, Some, None, List, [], ◌∷◌, ◌++◌, drop, length, slice_get}
 use Rattle.tp_order.specs.declared.demand.Demand.{Demand}
-use Rattle.tp_judge.specs.declared.line.Line.{Line}
-use Rattle.tp_judge.specs.declared.trace.Trace.{Trace}
+use Rattle.tp_judge.specs.declared.line.IndexedLine.{IndexedLine}
+use Rattle.tp_judge.specs.declared.trace.IndexedTrace.{IndexedTrace}
 use Rattle.tp_judge.specs.Before.{section_of, sent_on, came_on}
 
 -- each of the first lines comes before the one at its place among the others
-abbrev pub pairs : List Line → List Line → List Demand
+abbrev pub pairs : List IndexedLine → List IndexedLine → List Demand
 pairs [] bs = []
 pairs (a ∷ as') [] = []
 pairs (a ∷ as') (b ∷ bs) = record { before = a.number; after = b.number } ∷ pairs as' bs
@@ -17,7 +17,7 @@ from_each f zero = []
 from_each f (suc n) = from_each f n ++ f n
 
 -- each line of a section comes before the next
-abbrev pub section_demands : Trace → ℕ → List Demand
+abbrev pub section_demands : IndexedTrace → ℕ → List Demand
 section_demands trace component = pairs (section_of trace component) (drop 1 (section_of trace component))
 
 abbrev pub where_joined : Option Bool → List Demand → List Demand
@@ -26,10 +26,10 @@ where_joined (Some false) demands = []
 where_joined None demands = []
 
 -- each sending comes before its arrival
-abbrev pub route_demands : Trace → ℕ → List Demand
+abbrev pub route_demands : IndexedTrace → ℕ → List Demand
 route_demands trace route =
     where_joined (slice_get trace.joined.items route) (pairs (sent_on trace route) (came_on trace route))
 
-abbrev pub demands_of : Trace → List Demand
+abbrev pub demands_of : IndexedTrace → List Demand
 demands_of trace = from_each (section_demands trace) trace.components
     ++ from_each (route_demands trace) (length trace.joined.items)

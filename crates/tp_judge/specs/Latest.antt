@@ -1,15 +1,15 @@
 -- What components did last, and the demands of the lines so far.
 use Rattle.std.specs.Prelude.{◌≡◌, ◌<◌, ◌≤◌, ◌⊎◌, ℕ, Bool, true, nat_le, filter, Option, Some, None, List, [], ◌∷◌, All, cond, length, slice_index_or}
 use Rattle.tp_order.specs.declared.demand.Demand.{Demand}
-use Rattle.tp_order.specs.Circle.{LeadsTo}
+use Rattle.tp_order.specs.Circle.{LeadsThrough}
 use Rattle.tp_judge.specs.declared.line.Mention.{Mention}
 use Rattle.tp_judge.specs.declared.line.Act.TheVariants as act
-use Rattle.tp_judge.specs.declared.line.Line.{Line}
+use Rattle.tp_judge.specs.declared.line.IndexedLine.{IndexedLine}
 use Rattle.tp_judge.specs.declared.run_demands.Latest.{Latest}
 use Rattle.tp_judge.specs.declared.run_demands.Making.{Making}
 use Rattle.tp_judge.specs.declared.run_demands.Which.{Which}
 use Rattle.tp_judge.specs.declared.run_demands.Which.TheVariants as which
-use Rattle.tp_judge.specs.declared.trace.Trace.{Trace}
+use Rattle.tp_judge.specs.declared.trace.IndexedTrace.{IndexedTrace}
 use Rattle.tp_judge.specs.OneRun.{ComesAt, IsDemanded, IsDemandedAt, IsLookAt, IsOwnAt, IsSentAt, LineAt}
 
 -- the one before the other, if there is one
@@ -37,7 +37,7 @@ IsLatest P end None = (j : ℕ) → j < end → P j → ⊥
 IsLatest P end (Some k) = (k < end) × P k × ((j : ℕ) → j < end → P j → j ≤ k)
 
 -- what came last to the component, before the end, was sent there
-pub record IsLatestSending (trace : Trace) (end component sending : ℕ) : Type 0 where
+pub record IsLatestSending (trace : IndexedTrace) (end component sending : ℕ) : Type 0 where
   pub place : ℕ
   pub mention : Mention
   pub below : place < end
@@ -45,30 +45,30 @@ pub record IsLatestSending (trace : Trace) (end component sending : ℕ) : Type 
   pub sent : IsSentAt trace sending mention
   pub last : (j : ℕ) (m : Mention) → j < end → ComesAt trace component j m → j ≤ place
 
-abbrev pub IsLatestSent : Trace → ℕ → ℕ → Option ℕ → Type 0
+abbrev pub IsLatestSent : IndexedTrace → ℕ → ℕ → Option ℕ → Type 0
 IsLatestSent trace end component None = (j : ℕ) (m : Mention) → j < end → ComesAt trace component j m → ⊥
 IsLatestSent trace end component (Some sending) = IsLatestSending trace end component sending
 
 -- the component did something itself behind all that came before the end
-abbrev pub IsAllSeen : Trace → ℕ → ℕ → Type 0
+abbrev pub IsAllSeen : IndexedTrace → ℕ → ℕ → Type 0
 IsAllSeen trace end component = (j : ℕ) (m : Mention) → j < end → ComesAt trace component j m
     → (k : ℕ) × (j < k) × (k < end) × IsOwnAt trace component k
 
 -- what the component did last before the end
-pub record IsLatestOf (trace : Trace) (end component : ℕ) (latest : Latest) : Type 0 where
+pub record IsLatestOf (trace : IndexedTrace) (end component : ℕ) (latest : Latest) : Type 0 where
   pub own : IsLatest (IsOwnAt trace component) end latest.own
   pub look : IsLatest (IsLookAt trace component) end latest.look
   pub sending : IsLatestSent trace end component latest.sending
   pub unseen : (latest.unseen ≡ latest.sending) ⊎ ((latest.unseen ≡ None) × IsAllSeen trace end component)
 
 -- the demands lead from the one to the other
-abbrev pub Leads : List Demand → ℕ → ℕ → Type 0
-Leads demands x y = (further : ℕ) × LeadsTo demands further x y
+abbrev pub DemandsLead : List Demand → ℕ → ℕ → Type 0
+DemandsLead demands x y = (further : ℕ) × LeadsThrough demands further x y
 
 -- each of them is demanded of a run, and they lead wherever a line before the end asks it
-pub record AreDemandsUpTo (trace : Trace) (end : ℕ) (demands : List Demand) : Type 0 where
+pub record AreDemandsUpTo (trace : IndexedTrace) (end : ℕ) (demands : List Demand) : Type 0 where
   pub sound : All (λ d. IsDemanded trace d.before d.after) demands
-  pub complete : (k x y : ℕ) → k < end → IsDemandedAt trace k x y → Leads demands x y
+  pub complete : (k x y : ℕ) → k < end → IsDemandedAt trace k x y → DemandsLead demands x y
 
 -- whether the demand is made: each is, or each that goes back in the text
 abbrev pub is_made : Which → Demand → Bool
@@ -76,21 +76,21 @@ is_made which.All d = true
 is_made which.Backward d = nat_le d.after d.before
 
 -- those that are made of such demands
-pub record AreMadeUpTo (trace : Trace) (these : Which) (end : ℕ) (made : List Demand) : Type 0 where
+pub record AreMadeUpTo (trace : IndexedTrace) (these : Which) (end : ℕ) (made : List Demand) : Type 0 where
   pub all : List Demand
   pub demands : AreDemandsUpTo trace end all
   pub made_are : made ≡ filter (is_made these) all
 
-pub record IsMadeUpTo (trace : Trace) (end : ℕ) (making : Making) : Type 0 where
+pub record IsMadeUpTo (trace : IndexedTrace) (end : ℕ) (making : Making) : Type 0 where
   pub demands : AreMadeUpTo trace making.which end making.demands.items
   pub size : length making.latest.items ≡ trace.components
   pub each : (component : ℕ) (latest : Latest) → component < trace.components
       → IsLatestOf trace end component (slice_index_or making.latest.items component latest)
 
 -- a line at this place says what its component did itself
-abbrev pub IsOwn : Trace → ℕ → Type 0
+abbrev pub IsOwn : IndexedTrace → ℕ → Type 0
 IsOwn trace place = (component : ℕ) × IsOwnAt trace component place
 
 -- the message comes by the line at this place
-abbrev pub IsArrival : Trace → ℕ → Mention → Type 0
-IsArrival trace place m = (line : Line) × LineAt trace place line × (line.act ≡ act.Came m)
+abbrev pub IsArrival : IndexedTrace → ℕ → Mention → Type 0
+IsArrival trace place m = (line : IndexedLine) × LineAt trace place line × (line.act ≡ act.Came m)

@@ -1,14 +1,14 @@
 -- What the lines of a trace say, and how they are gathered.
 use Rattle.std.specs.Prelude.{◌==◌, ◌<◌, ℕ, Bool, false, Option, Some, None, List, IfSome, filter}
-use Rattle.tp_queue.specs.declared.event.Env.{Env}
-use Rattle.tp_queue.specs.declared.event.Event.{Event}
-use Rattle.tp_queue.specs.declared.event.Event.TheVariants as event
+use Rattle.tp_event.specs.declared.event.Env.{Env}
+use Rattle.tp_event.specs.declared.event.Event.{Event}
+use Rattle.tp_event.specs.declared.event.Event.TheVariants as event
 use Rattle.tp_judge.specs.declared.line.MessageId.{MessageId}
 use Rattle.tp_judge.specs.declared.line.Parcel.{Parcel}
 use Rattle.tp_judge.specs.declared.line.Mention.{Mention}
 use Rattle.tp_judge.specs.declared.line.Act.{Act}
 use Rattle.tp_judge.specs.declared.line.Act.TheVariants as act
-use Rattle.tp_judge.specs.declared.line.Line.{Line}
+use Rattle.tp_judge.specs.declared.line.IndexedLine.{IndexedLine}
 use Rattle.tp_judge.specs.declared.line.By.{By}
 use Rattle.tp_judge.specs.declared.line.By.TheVariants as by
 
@@ -32,7 +32,11 @@ event_port (act.Cleared port) = Some port
 event_port (act.Started port) = Some port
 event_port (act.Stopped port) = Some port
 event_port (act.Halted port) = Some port
-event_port _ = None
+event_port (act.Sent m) = None
+event_port (act.Left m) = None
+event_port act.Else = None
+event_port act.End = None
+event_port act.Other = None
 
 -- the port in whose queue something was left
 abbrev pub left_port : Act → Option ℕ
@@ -46,7 +50,7 @@ closed_by component act.End = Some component
 closed_by component _ = None
 
 -- the number by which a line is gathered
-abbrev pub key_of : By → Line → Option ℕ
+abbrev pub key_of : By → IndexedLine → Option ℕ
 key_of by.Sent line = sent_route line.act
 key_of by.Came line = came_route line.act
 key_of by.Port line = event_port line.act
@@ -59,32 +63,36 @@ is_number key None = false
 is_number key (Some n) = n == key
 
 -- the lines with this number, in their order
-abbrev pub lines_with : By → ℕ → List Line → List Line
+abbrev pub lines_with : By → ℕ → List IndexedLine → List IndexedLine
 lines_with by key lines = filter (λ line. is_number key (key_of by line)) lines
 
 -- the line's number by that is below the count, if it has one
-abbrev pub HasKeyBelow : By → ℕ → Line → Type 0
+abbrev pub HasKeyBelow : By → ℕ → IndexedLine → Type 0
 HasKeyBelow by count line = IfSome (key_of by line) (λ key. key < count)
 
 -- a message as a port's queue has it: its sender there is known by the route
-abbrev pub envelope : Mention → Env MessageId
-envelope m = record { sender = m.route; number = m.parcel.number; msg = m.parcel.message }
+abbrev pub envelope_of : Mention → Env MessageId
+envelope_of m = record { sender = m.route; number = m.parcel.number; msg = m.parcel.message }
 
 -- what happened at a port
 abbrev pub event_of : Act → Option (Event MessageId)
-event_of (act.Came m) = Some (event.Arrive (envelope m))
-event_of (act.Took m) = Some (event.Took (envelope m))
-event_of (act.Found m) = Some (event.Found (envelope m))
-event_of (act.Dropped m) = Some (event.Dropped (envelope m))
+event_of (act.Came m) = Some (event.Arrive (envelope_of m))
+event_of (act.Took m) = Some (event.Took (envelope_of m))
+event_of (act.Found m) = Some (event.Found (envelope_of m))
+event_of (act.Dropped m) = Some (event.Dropped (envelope_of m))
 event_of (act.Cleared port) = Some event.Cleared
 event_of (act.Started port) = Some event.Started
 event_of (act.Stopped port) = Some event.Stopped
 event_of (act.Halted port) = Some event.Halted
-event_of _ = None
+event_of (act.Sent m) = None
+event_of (act.Left m) = None
+event_of act.Else = None
+event_of act.End = None
+event_of act.Other = None
 
 -- what was left in a queue
 abbrev pub left_of : Act → Option (Env MessageId)
-left_of (act.Left m) = Some (envelope m)
+left_of (act.Left m) = Some (envelope_of m)
 left_of _ = None
 
 -- what was sent, or came
@@ -95,7 +103,7 @@ parcel_of _ = None
 
 -- what was taken out, or found
 abbrev pub looked_at : Act → Option (Env MessageId)
-looked_at (act.Took m) = Some (envelope m)
-looked_at (act.Found m) = Some (envelope m)
-looked_at (act.Dropped m) = Some (envelope m)
+looked_at (act.Took m) = Some (envelope_of m)
+looked_at (act.Found m) = Some (envelope_of m)
+looked_at (act.Dropped m) = Some (envelope_of m)
 looked_at _ = None

@@ -28,14 +28,14 @@
 --     2  a  sent b.p 0 call
 use Rattle.std.specs.Prelude.{◌≡◌, ◌<◌, ◌≤◌, ◌+◌, ◌-◌, ◌==◌, ◌&&◌, ◌++◌, ℕ, Bool, true, false, Option, Some, None, List, All, Contains, cond, length, take, slice_get, slice_index, option_and_then, unwrap_or}
 use Rattle.std.specs.List.{filter_map}
-use Rattle.tp_order.specs.Order.{StandsAt, StandsBefore}
+use Rattle.tp_order.specs.Order.{IsNumberAt, StandsBefore}
 use Rattle.tp_judge.specs.declared.line.Mention.{Mention}
 use Rattle.tp_judge.specs.declared.line.Act.{Act}
 use Rattle.tp_judge.specs.declared.line.Act.TheVariants as act
-use Rattle.tp_judge.specs.declared.line.Line.{Line}
+use Rattle.tp_judge.specs.declared.line.IndexedLine.{IndexedLine}
 use Rattle.tp_judge.specs.declared.one_run.OneRun.{OneRun}
 use Rattle.tp_judge.specs.declared.one_run.OneRun.TheVariants as answer
-use Rattle.tp_judge.specs.declared.trace.Trace.{Trace}
+use Rattle.tp_judge.specs.declared.trace.IndexedTrace.{IndexedTrace}
 use Rattle.tp_judge.specs.Delivered.{IsJoined}
 
 -- whether the line says what its component did itself, and not what came to it or was left
@@ -69,37 +69,37 @@ came_mention (act.Came m) = Some m
 came_mention _ = None
 
 -- whether both ends of the message's route have a section
-abbrev pub is_joined : Trace → Mention → Bool
+abbrev pub is_joined : IndexedTrace → Mention → Bool
 is_joined trace m = unwrap_or (slice_get trace.joined.items m.route) false
 
 -- the message, where it's on such a route and for this component
-abbrev pub kept_for : Trace → ℕ → ℕ → Mention → Option Mention
+abbrev pub kept_for : IndexedTrace → ℕ → ℕ → Mention → Option Mention
 kept_for trace component receiver m = cond (is_joined trace m && (receiver == component)) (Some m) None
 
 -- what the line sends to a port of this component
-abbrev pub sent_to : Trace → ℕ → Line → Option Mention
+abbrev pub sent_to : IndexedTrace → ℕ → IndexedLine → Option Mention
 sent_to trace component line =
     option_and_then (λ m. kept_for trace component (slice_index trace.owners.items m.port) m) (sent_mention line.act)
 
 -- what came by the line, in the section of this component
-abbrev pub came_to : Trace → ℕ → Line → Option Mention
+abbrev pub came_to : IndexedTrace → ℕ → IndexedLine → Option Mention
 came_to trace component line =
     option_and_then (λ m. kept_for trace component line.component m) (came_mention line.act)
 
 -- the line at this place
-abbrev pub LineAt : Trace → ℕ → Line → Type 0
+abbrev pub LineAt : IndexedTrace → ℕ → IndexedLine → Type 0
 LineAt trace place line = slice_get trace.lines.items place ≡ Some line
 
 -- what the line at this place sends to the component
-abbrev pub sent_from : Trace → ℕ → ℕ → Option Mention
+abbrev pub sent_from : IndexedTrace → ℕ → ℕ → Option Mention
 sent_from trace component place = option_and_then (sent_to trace component) (slice_get trace.lines.items place)
 
 -- what the lines at these places send to it, in their order
-abbrev pub all_sent_to : Trace → ℕ → List ℕ → List Mention
+abbrev pub all_sent_to : IndexedTrace → ℕ → List ℕ → List Mention
 all_sent_to trace component places = filter_map (sent_from trace component) places
 
 -- what came in the component's section before this place
-abbrev pub all_came_to : Trace → ℕ → ℕ → List Mention
+abbrev pub all_came_to : IndexedTrace → ℕ → ℕ → List Mention
 all_came_to trace component place = filter_map (came_to trace component) (take place trace.lines.items)
 
 -- the one list is the other, or its front
@@ -107,54 +107,54 @@ abbrev pub IsFrontOf : List Mention → List Mention → Type 0
 IsFrontOf front whole = (rest : List Mention) × (front ++ rest ≡ whole)
 
 -- at this place stands a line of the component's section, and what it says is so
-pub record IsLineOf (trace : Trace) (says : Act → Type 0) (component place : ℕ) : Type 0 where
-  pub line : Line
+pub record IsLineOf (trace : IndexedTrace) (says : Act → Type 0) (component place : ℕ) : Type 0 where
+  pub line : IndexedLine
   pub at : LineAt trace place line
   pub within : line.component ≡ component
   pub is : says line.act
 
 -- a line of the component's section that says what it did itself
-abbrev pub IsOwnAt : Trace → ℕ → ℕ → Type 0
+abbrev pub IsOwnAt : IndexedTrace → ℕ → ℕ → Type 0
 IsOwnAt trace component place = IsLineOf trace (λ a. is_own a ≡ true) component place
 
 -- one with which it looked at ports
-abbrev pub IsLookAt : Trace → ℕ → ℕ → Type 0
+abbrev pub IsLookAt : IndexedTrace → ℕ → ℕ → Type 0
 IsLookAt trace component place = IsLineOf trace (λ a. is_looking a ≡ true) component place
 
 -- **a run**: an order of all lines that say what components did themselves, such that
-pub record IsRun (trace : Trace) (order : List ℕ) : Type 0 where
-  pub own : (i place : ℕ) → StandsAt order i place → (component : ℕ) × IsOwnAt trace component place
-  pub each : (component place : ℕ) → IsOwnAt trace component place → (i : ℕ) × StandsAt order i place
-  pub once : (i j place : ℕ) → StandsAt order i place → StandsAt order j place → i ≡ j
+pub record IsRun (trace : IndexedTrace) (order : List ℕ) : Type 0 where
+  pub own : (i place : ℕ) → IsNumberAt order i place → (component : ℕ) × IsOwnAt trace component place
+  pub each : (component place : ℕ) → IsOwnAt trace component place → (i : ℕ) × IsNumberAt order i place
+  pub once : (i j place : ℕ) → IsNumberAt order i place → IsNumberAt order j place → i ≡ j
   -- it keeps the order of each section
   pub kept : (component j k : ℕ) → j < k → IsOwnAt trace component j → IsOwnAt trace component k
       → StandsBefore order j k
   -- what came before a line in its section was sent by lines before it, in this order
-  pub sent : (component i place : ℕ) → StandsAt order i place → IsOwnAt trace component place
+  pub sent : (component i place : ℕ) → IsNumberAt order i place → IsOwnAt trace component place
       → IsFrontOf (all_came_to trace component place) (all_sent_to trace component (take i order))
   -- where the line looks at ports that is all that was sent to its component by lines before it
-  pub seen : (component i place : ℕ) → StandsAt order i place → IsLookAt trace component place
+  pub seen : (component i place : ℕ) → IsNumberAt order i place → IsLookAt trace component place
       → all_came_to trace component place ≡ all_sent_to trace component (take i order)
   -- in the end all that was sent has come
   pub ended : (component : ℕ)
       → all_came_to trace component (length trace.lines.items) ≡ all_sent_to trace component order
 
 -- **one run**: there is such an order
-abbrev pub IsOneRun : Trace → Type 0
+abbrev pub IsOneRun : IndexedTrace → Type 0
 IsOneRun trace = (order : List ℕ) × IsRun trace order
 
 -- the message is sent at this place
-pub record IsSentAt (trace : Trace) (place : ℕ) (m : Mention) : Type 0 where
-  pub line : Line
+pub record IsSentAt (trace : IndexedTrace) (place : ℕ) (m : Mention) : Type 0 where
+  pub line : IndexedLine
   pub at : LineAt trace place line
   pub is : line.act ≡ act.Sent m
 
 -- it comes there, to this component, by a route both ends of which have a section
-abbrev pub ComesAt : Trace → ℕ → ℕ → Mention → Type 0
+abbrev pub ComesAt : IndexedTrace → ℕ → ℕ → Mention → Type 0
 ComesAt trace component place m = IsLineOf trace (λ a. (a ≡ act.Came m) × IsJoined trace m.route) component place
 
 -- what the line at the first place asks of a run: that the one at the second stands before the one at the third
-pub data IsDemandedAt (trace : Trace) : ℕ → ℕ → ℕ → Type 0 where
+pub data IsDemandedAt (trace : IndexedTrace) : ℕ → ℕ → ℕ → Type 0 where
   -- the lines of a section stand in their order
   in_section : (component j k : ℕ) → j < k → IsOwnAt trace component j → IsOwnAt trace component k
       → IsDemandedAt trace k j k
@@ -169,7 +169,7 @@ pub data IsDemandedAt (trace : Trace) : ℕ → ℕ → ℕ → Type 0 where
       → ComesAt trace component k n → IsSentAt trace t n → IsDemandedAt trace k s t
 
 -- some line asks for it
-abbrev pub IsDemanded : Trace → ℕ → ℕ → Type 0
+abbrev pub IsDemanded : IndexedTrace → ℕ → ℕ → Type 0
 IsDemanded trace x y = (k : ℕ) × IsDemandedAt trace k x y
 
 -- the first of these numbers, by their size
@@ -177,7 +177,7 @@ abbrev pub IsLeastOf : List ℕ → ℕ → Type 0
 IsLeastOf xs least = Contains xs least × All (λ x. least ≤ x) xs
 
 -- a circle of the demands: each of these places has to stand before the next, and the last before the first
-pub record IsDemandCircle (trace : Trace) (circle : List ℕ) : Type 0 where
+pub record IsDemandCircle (trace : IndexedTrace) (circle : List ℕ) : Type 0 where
   pub some : 0 < length circle
   pub next : (i : ℕ) → i + 1 < length circle
       → IsDemanded trace (slice_index circle i) (slice_index circle (i + 1))
@@ -185,17 +185,17 @@ pub record IsDemandCircle (trace : Trace) (circle : List ℕ) : Type 0 where
 
 -- the trace isn't one run, and the line of this number is the first, in the order of the text, of a circle of the
 -- demands
-pub record IsDelayedAt (trace : Trace) (number : ℕ) : Type 0 where
+pub record IsDelayedAt (trace : IndexedTrace) (number : ℕ) : Type 0 where
   pub none : IsOneRun trace → ⊥
   pub circle : List ℕ
   pub is_circle : IsDemandCircle trace circle
   pub place : ℕ
   pub first : IsLeastOf circle place
-  pub line : Line
+  pub line : IndexedLine
   pub at : LineAt trace place line
   pub told : number ≡ line.number
 
 -- what is said of a trace whose routes are lawful
-abbrev pub IsRunAnswer : Trace → OneRun → Type 0
-IsRunAnswer trace answer.OneRun = IsOneRun trace
-IsRunAnswer trace (answer.Delayed number) = IsDelayedAt trace number
+abbrev pub IsOneRunAnswer : IndexedTrace → OneRun → Type 0
+IsOneRunAnswer trace answer.OneRun = IsOneRun trace
+IsOneRunAnswer trace (answer.Delayed number) = IsDelayedAt trace number

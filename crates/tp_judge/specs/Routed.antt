@@ -1,11 +1,11 @@
 -- Where something came with a number, from a place on.
 use Rattle.std.specs.Prelude.{◌≡◌, ◌≢◌, ◌<◌, ◌≤◌, ℕ, List}
 use Rattle.tp_judge.specs.declared.line.Parcel.{Parcel}
-use Rattle.tp_judge.specs.declared.line.Line.{Line}
+use Rattle.tp_judge.specs.declared.line.IndexedLine.{IndexedLine}
 use Rattle.tp_judge.specs.Delivered.{ParcelAt}
 
 -- the first that came with this number, from the one place on, is there
-pub record HasNumberFrom (came : List Line) (from number k : ℕ) : Type 0 where
+pub record HasNumberFrom (came : List IndexedLine) (from number k : ℕ) : Type 0 where
   pub behind : from ≤ k
   pub parcel : Parcel
   pub at : ParcelAt came k parcel
@@ -13,5 +13,5 @@ pub record HasNumberFrom (came : List Line) (from number k : ℕ) : Type 0 where
   pub none_before : (j : ℕ) (p : Parcel) → from ≤ j → j < k → ParcelAt came j p → p.number ≢ number
 
 -- nothing did
-abbrev pub NoNumberFrom : List Line → ℕ → ℕ → Type 0
+abbrev pub NoNumberFrom : List IndexedLine → ℕ → ℕ → Type 0
 NoNumberFrom came from number = (k : ℕ) (p : Parcel) → from ≤ k → ParcelAt came k p → p.number ≢ number

@@ -2,26 +2,26 @@
 use Rattle.std.specs.Prelude.{◌≡◌, ◌≢◌, ◌-◌, ◌≤◌, ◌++◌, ℕ, Option, Some, None, List, take, slice_get, MatchOption, ⊤}
 use Rattle.std.specs.List.{filter_map}
 use Rattle.std.specs.Option.{option_to_list}
-use Rattle.tp_queue.specs.declared.event.Env.{Env}
-use Rattle.tp_queue.specs.declared.event.Event.{Event}
-use Rattle.tp_queue.specs.declared.event.Status.TheVariants as status
+use Rattle.tp_event.specs.declared.event.Env.{Env}
+use Rattle.tp_event.specs.declared.event.Event.{Event}
+use Rattle.tp_event.specs.declared.event.Status.TheVariants as status
 use Rattle.tp_queue.specs.History.{Lawful, queued, status_of, top, limit, gone}
 use Rattle.tp_queue.specs.Queues.{QueueState, StandsFor}
 use Rattle.tp_judge.specs.declared.line.MessageId.{MessageId}
 use Rattle.tp_judge.specs.declared.line.Act.{Act}
 use Rattle.tp_judge.specs.declared.line.Act.TheVariants as act
-use Rattle.tp_judge.specs.declared.line.Line.{Line}
+use Rattle.tp_judge.specs.declared.line.IndexedLine.{IndexedLine}
 use Rattle.tp_judge.specs.declared.place.Rule.{Rule}
 use Rattle.tp_judge.specs.declared.place.Rule.TheVariants as rule
-use Rattle.tp_judge.specs.declared.place.Place.{Place}
+use Rattle.tp_judge.specs.declared.place.UnlawfulPlace.{UnlawfulPlace}
 use Rattle.tp_judge.specs.Lines.{event_of, left_of, looked_at}
 
 -- the history that these lines tell
-abbrev pub history_of : List Line → List (Event MessageId)
+abbrev pub history_of : List IndexedLine → List (Event MessageId)
 history_of lines = filter_map (λ line. event_of line.act) lines
 
 -- what these lines tell as left
-abbrev pub left_in : List Line → List (Env MessageId)
+abbrev pub left_in : List IndexedLine → List (Env MessageId)
 left_in lines = filter_map (λ line. left_of line.act) lines
 
 -- it is queued, and not ahead of the mark
@@ -55,9 +55,9 @@ Replays h a after (Some broken) = Breaks broken h a
 
 -- the first of the port's lines that breaks a rule: those before it are a lawful history, and behind that it breaks this
 -- one
-pub record IsBroken (events : List Line) (place : Place) : Type 0 where
+pub record IsBroken (events : List IndexedLine) (place : UnlawfulPlace) : Type 0 where
   pub before : ℕ
-  pub line : Line
+  pub line : IndexedLine
   pub stands : slice_get events before ≡ Some line
   pub told : place.line ≡ line.number
   pub lawful : Lawful (history_of (take before events))

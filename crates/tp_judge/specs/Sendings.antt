@@ -7,8 +7,8 @@ use Rattle.tp_judge.specs.declared.line.Mention.{Mention}
 use Rattle.tp_judge.specs.declared.line.Parcel.{Parcel}
 use Rattle.tp_judge.specs.declared.line.Act.{Act}
 use Rattle.tp_judge.specs.declared.line.Act.TheVariants as act
-use Rattle.tp_judge.specs.declared.line.Line.{Line}
-use Rattle.tp_judge.specs.declared.trace.Trace.{Trace}
+use Rattle.tp_judge.specs.declared.line.IndexedLine.{IndexedLine}
+use Rattle.tp_judge.specs.declared.trace.IndexedTrace.{IndexedTrace}
 use Rattle.tp_judge.specs.OneRun.{ComesAt, LineAt}
 
 -- what a line sends on this route
@@ -22,32 +22,32 @@ came_parcel route (act.Came m) = cond (m.route == route) (Some m.parcel) None
 came_parcel route _ = None
 
 -- all that these lines send on it
-abbrev pub sent_parcels : ℕ → List Line → List Parcel
+abbrev pub sent_parcels : ℕ → List IndexedLine → List Parcel
 sent_parcels route lines = filter_map (λ line. sent_parcel route line.act) lines
 
 -- all that comes by them on it
-abbrev pub came_parcels : ℕ → List Line → List Parcel
+abbrev pub came_parcels : ℕ → List IndexedLine → List Parcel
 came_parcels route lines = filter_map (λ line. came_parcel route line.act) lines
 
 -- the line at this place sends on the route, behind so many others
-pub record IsNextSending (trace : Trace) (route before place : ℕ) : Type 0 where
-  pub line : Line
+pub record IsNextSending (trace : IndexedTrace) (route before place : ℕ) : Type 0 where
+  pub line : IndexedLine
   pub at : LineAt trace place line
   pub parcel : Parcel
   pub sends : sent_parcel route line.act ≡ Some parcel
   pub is : length (sent_parcels route (take place trace.lines.items)) ≡ before
 
 -- the row has the places of the route's sendings before the end, in their order
-pub record IsSendingsRow (trace : Trace) (end route : ℕ) (row : List ℕ) : Type 0 where
+pub record IsSendingsRow (trace : IndexedTrace) (end route : ℕ) (row : List ℕ) : Type 0 where
   pub size : length row ≡ length (sent_parcels route (take end trace.lines.items))
   pub each : (before place : ℕ) → slice_get row before ≡ Some place → IsNextSending trace route before place
 
 -- there is such a row for each route
-pub record AreSendings (trace : Trace) (end : ℕ) (rows : List (Vec ℕ Global)) : Type 0 where
+pub record AreSendingRows (trace : IndexedTrace) (end : ℕ) (rows : List (Vec ℕ Global)) : Type 0 where
   pub size : length rows ≡ length trace.joined.items
   pub each : (route : ℕ) (row : Vec ℕ Global) → route < length trace.joined.items
       → IsSendingsRow trace end route (slice_index_or rows route row).items
 
 -- the message came, by a route both ends of which have a section
-abbrev pub HasCome : Trace → Mention → Type 0
+abbrev pub HasCome : IndexedTrace → Mention → Type 0
 HasCome trace m = (component : ℕ) × (place : ℕ) × ComesAt trace component place m

@@ -9,9 +9,9 @@ ghost use Rattle.tp_judge.specs.RouteRows.{AreRouteRows};
 
 use crate::delivery::RouteRows;
 use crate::demands::make_demands;
-use crate::place::{Place, Rule};
+use crate::place::{Rule, UnlawfulPlace};
 use crate::text_order::stands_in_order;
-use crate::trace::Trace;
+use crate::trace::IndexedTrace;
 use std::alloc::Global;
 use tp_order::answer::Answer;
 use tp_order::order::order_or_circle;
@@ -35,9 +35,9 @@ pub(crate) fn least(xs: &[usize]) -> usize
 /// first, in the order of the text, of the circle that is found.
 pub(crate) fn circle_place(
     alloc: Global,
-    trace: &Trace,
+    trace: &IndexedTrace,
     rows: &RouteRows<'_>,
-) -> Result<Option<Place>, Memory>
+) -> Result<Option<UnlawfulPlace>, Memory>
     requires within { AreWithin trace.now }
     requires delivered { Delivered trace.now }
     requires rows { AreRouteRows trace.now rows.now }
@@ -50,7 +50,7 @@ pub(crate) fn circle_place(
     let demands = make_demands(alloc, trace, rows)?;
     match order_or_circle(alloc, trace.numbers, &demands)? {
         Answer::Ordered(_) => Ok(None),
-        Answer::Circle(circle) => Ok(Some(Place {
+        Answer::Circle(circle) => Ok(Some(UnlawfulPlace {
             line: least(&circle) as u32,
             rule: Rule::Circle,
         })),

@@ -5,34 +5,37 @@ ghost use Rattle.tp_judge.specs.Lawful.{AreWithin};
 ghost use Rattle.tp_judge.specs.RouteRows.{AreRouteRows};
 ghost use Rattle.tp_judge.specs.ToldOf.{AreToldOfRoutes};
 
-use crate::gathering::gather;
-use crate::line::{By, Line};
-use crate::place::Place;
+use crate::gathering::gather_rows;
+use crate::line::{By, IndexedLine};
+use crate::place::UnlawfulPlace;
 use crate::routes::route_place;
-use crate::trace::Trace;
+use crate::trace::IndexedTrace;
 use std::alloc::Global;
 use tp_refusal::memory::Memory;
 
 /// The lines of a trace, gathered by routes.
 #[derive(Drop)]
 pub(crate) struct RouteRows<'t> {
-    pub(crate) sent: Vec<Vec<&'t Line>>,
-    pub(crate) came: Vec<Vec<&'t Line>>,
+    pub(crate) sent: Vec<Vec<&'t IndexedLine>>,
+    pub(crate) came: Vec<Vec<&'t IndexedLine>>,
 }
 
 /// The lines of each route: those that send by it, and those that say what came by it.
-pub(crate) fn gather_routes<'t>(alloc: Global, trace: &'t Trace) -> Result<RouteRows<'t>, Memory>
+pub(crate) fn gather_routes<'t>(
+    alloc: Global,
+    trace: &'t IndexedTrace,
+) -> Result<RouteRows<'t>, Memory>
     requires { AreWithin trace.now }
     ensures { IfOk result (AreRouteRows trace.now) }
 {
     let routes = trace.joined.len();
-    let sent = gather(alloc, &trace.lines, By::Sent, routes)?;
-    let came = gather(alloc, &trace.lines, By::Came, routes)?;
+    let sent = gather_rows(alloc, &trace.lines, By::Sent, routes)?;
+    let came = gather_rows(alloc, &trace.lines, By::Came, routes)?;
     Ok(RouteRows { sent, came })
 }
 
 /// The first line at which this route isn't lawful, in the order of sending, if there is one.
-fn place_on(trace: &Trace, rows: &RouteRows<'_>, route: usize) -> Option<Place>
+fn place_on(trace: &IndexedTrace, rows: &RouteRows<'_>, route: usize) -> Option<UnlawfulPlace>
     requires rows { AreRouteRows trace.now rows.now }
     requires route { route < length trace.now.joined.items }
     ensures { MatchOption result (IsDeliveredAt trace.now route) (IsUnlawfulOn trace.now route) }
@@ -46,9 +49,9 @@ fn place_on(trace: &Trace, rows: &RouteRows<'_>, route: usize) -> Option<Place>
 /// For each route that isn't lawful the first line at which it isn't, in the order of sending.
 pub(crate) fn route_places(
     alloc: Global,
-    trace: &Trace,
+    trace: &IndexedTrace,
     rows: &RouteRows<'_>,
-) -> Result<Vec<Place>, Memory>
+) -> Result<Vec<UnlawfulPlace>, Memory>
     requires { AreRouteRows trace.now rows.now }
     ensures lawful { IfOk result (λ places. (places.items ≡ []) ↔ Delivered trace.now) }
     ensures told { IfOk result (λ places. All (IsRoutePlace trace.now) places.items) }

@@ -1,22 +1,26 @@
 //! The demands on an order of the lines: what happens before what.
 ghost use Rattle.std.specs.Prelude.{◌≡◌, ◌++◌, ◌<◌, IfOk, OnOk, drop, length};
 ghost use Rattle.tp_judge.specs.Demands.{demands_of, from_each, pairs, route_demands, section_demands};
-ghost use Rattle.tp_judge.specs.Gathered.{AreGathered, seen};
+ghost use Rattle.tp_judge.specs.Gathered.{AreGathered, lines_at};
 ghost use Rattle.tp_judge.specs.Lawful.{AreWithin};
 ghost use Rattle.tp_judge.specs.RouteRows.{AreRouteRows};
 
 use crate::delivery::RouteRows;
-use crate::gathering::gather;
-use crate::line::{By, Line};
-use crate::trace::Trace;
+use crate::gathering::gather_rows;
+use crate::line::{By, IndexedLine};
+use crate::trace::IndexedTrace;
 use std::alloc::Global;
 use tp_order::demand::Demand;
 use tp_refusal::memory::Memory;
 
 /// Each of the first lines comes before the one at its place among the others.
-fn add_pairs(demands: &mut Vec<Demand>, before: &[&Line], after: &[&Line]) -> Result<(), Memory>
+fn add_pairs(
+    demands: &mut Vec<Demand>,
+    before: &[&IndexedLine],
+    after: &[&IndexedLine],
+) -> Result<(), Memory>
     ensures { OnOk result (demands.new.items
-        ≡ demands.old.items ++ pairs (seen before.now) (seen after.now)) }
+        ≡ demands.old.items ++ pairs (lines_at before.now) (lines_at after.now)) }
 {
     let count = before.len().min(after.len());
     for place in 0..count {
@@ -29,9 +33,9 @@ fn add_pairs(demands: &mut Vec<Demand>, before: &[&Line], after: &[&Line]) -> Re
 }
 
 /// Each line of a section comes before the next.
-fn add_section(demands: &mut Vec<Demand>, row: &[&Line]) -> Result<(), Memory>
+fn add_section(demands: &mut Vec<Demand>, row: &[&IndexedLine]) -> Result<(), Memory>
     ensures { OnOk result (demands.new.items
-        ≡ demands.old.items ++ pairs (seen row.now) (drop 1 (seen row.now))) }
+        ≡ demands.old.items ++ pairs (lines_at row.now) (drop 1 (lines_at row.now))) }
 {
     match row.split_first() {
         None => Ok(()),
@@ -42,7 +46,7 @@ fn add_section(demands: &mut Vec<Demand>, row: &[&Line]) -> Result<(), Memory>
 /// Each sending of a route both ends of which have a section comes before its arrival.
 fn add_route(
     demands: &mut Vec<Demand>,
-    trace: &Trace,
+    trace: &IndexedTrace,
     rows: &RouteRows<'_>,
     route: usize,
 ) -> Result<(), Memory>
@@ -57,12 +61,12 @@ fn add_route(
 }
 
 /// Each line comes before the next of its section.
-fn sections_in_order(alloc: Global, trace: &Trace) -> Result<Vec<Demand>, Memory>
+fn sections_in_order(alloc: Global, trace: &IndexedTrace) -> Result<Vec<Demand>, Memory>
     requires { AreWithin trace.now }
     ensures { IfOk result (λ demands. demands.items
         ≡ from_each (section_demands trace.now) trace.now.components) }
 {
-    let rows = gather(alloc, &trace.lines, By::Component, trace.components)?;
+    let rows = gather_rows(alloc, &trace.lines, By::Component, trace.components)?;
     let mut demands = Vec::new(alloc);
     for component in 0..trace.components {
         add_section(&mut demands, &rows[component])?;
@@ -73,7 +77,7 @@ fn sections_in_order(alloc: Global, trace: &Trace) -> Result<Vec<Demand>, Memory
 /// All demands of a trace.
 pub(crate) fn make_demands(
     alloc: Global,
-    trace: &Trace,
+    trace: &IndexedTrace,
     rows: &RouteRows<'_>,
 ) -> Result<Vec<Demand>, Memory>
     requires within { AreWithin trace.now }

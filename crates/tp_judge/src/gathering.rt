@@ -3,7 +3,7 @@ ghost use Rattle.std.specs.Prelude.{◌≡◌, [], All, IfOk, length};
 ghost use Rattle.tp_judge.specs.Gathered.{AreGathered};
 ghost use Rattle.tp_judge.specs.Lines.{HasKeyBelow};
 
-use crate::line::{By, Line};
+use crate::line::{By, IndexedLine};
 use std::alloc::Global;
 use tp_refusal::memory::Memory;
 
@@ -21,12 +21,12 @@ pub(crate) fn empty_rows<T: Drop>(alloc: Global, count: usize) -> Result<Vec<Vec
 
 /// For each number below the count the lines that have it, in their order, in time linear in the
 /// count and the number of lines.
-pub(crate) fn gather<'t>(
+pub(crate) fn gather_rows<'t>(
     alloc: Global,
-    lines: &'t [Line],
+    lines: &'t [IndexedLine],
     by: By,
     count: usize,
-) -> Result<Vec<Vec<&'t Line>>, Memory>
+) -> Result<Vec<Vec<&'t IndexedLine>>, Memory>
     requires { All (HasKeyBelow by count) lines.now }
     ensures { IfOk result (λ rows. AreGathered by count lines.now rows.items) }
 {

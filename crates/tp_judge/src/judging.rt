@@ -1,20 +1,20 @@
 //! All three rules.
 ghost use Rattle.std.specs.Prelude.{◌≡◌, ◌↔◌, [], All, IfOk, OnOk};
 ghost use Rattle.std.specs.List.Sorted.{IsPermutation};
-ghost use Rattle.tp_judge.specs.Judged.{AreInOrder, IsLawful, IsOrderly, IsOrderPlace, IsPlace};
+ghost use Rattle.tp_judge.specs.Judged.{AreInOrder, IsLawful, IsOrderly, IsOrderPlace, IsUnlawfulPlace};
 ghost use Rattle.tp_judge.specs.Lawful.{AreWithin};
 ghost use Rattle.tp_judge.specs.ToldOf.{AreToldOf, AreToldOfOrder};
 
 use crate::circles::circle_place;
 use crate::delivery::{gather_routes, route_places};
-use crate::place::Place;
+use crate::place::UnlawfulPlace;
 use crate::ports::port_places;
-use crate::trace::Trace;
+use crate::trace::IndexedTrace;
 use std::alloc::Global;
 use tp_refusal::memory::Memory;
 
 /// The places of routes, and where there are none that of a circle.
-fn order_places(alloc: Global, trace: &Trace) -> Result<Vec<Place>, Memory>
+fn order_places(alloc: Global, trace: &IndexedTrace) -> Result<Vec<UnlawfulPlace>, Memory>
     requires { AreWithin trace.now }
     ensures lawful { IfOk result (λ places. (places.items ≡ []) ↔ IsOrderly trace.now) }
     ensures told { IfOk result (λ places. All (IsOrderPlace trace.now) places.items) }
@@ -36,7 +36,7 @@ fn order_places(alloc: Global, trace: &Trace) -> Result<Vec<Place>, Memory>
 }
 
 /// Puts places in the order of their lines; those of one line stay as they are.
-fn put_in_order(places: &mut Vec<Place>) -> Result<(), Memory>
+fn put_in_order(places: &mut Vec<UnlawfulPlace>) -> Result<(), Memory>
     ensures sorted { OnOk result (AreInOrder places.new.items) }
     ensures same { OnOk result (IsPermutation places.old.items places.new.items) }
 {
@@ -46,10 +46,10 @@ fn put_in_order(places: &mut Vec<Place>) -> Result<(), Memory>
 
 /// The places where a trace isn't lawful, in the order of their lines: the first of each port and
 /// of each route that isn't, and where all routes are lawful one of a circle, if there is any.
-pub fn judge(alloc: Global, trace: &Trace) -> Result<Vec<Place>, Memory>
+pub fn judge(alloc: Global, trace: &IndexedTrace) -> Result<Vec<UnlawfulPlace>, Memory>
     requires { AreWithin trace.now }
     ensures lawful { IfOk result (λ places. (places.items ≡ []) ↔ IsLawful trace.now) }
-    ensures told { IfOk result (λ places. All (IsPlace trace.now) places.items) }
+    ensures told { IfOk result (λ places. All (IsUnlawfulPlace trace.now) places.items) }
     ensures all { IfOk result (λ places. AreToldOf trace.now places.items) }
     ensures sorted { IfOk result (λ places. AreInOrder places.items) }
 {

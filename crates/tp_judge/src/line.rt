@@ -61,7 +61,7 @@ pub enum Act {
 
 /// A line of a section.
 #[derive(Clone, Copy)]
-pub struct Line {
+pub struct IndexedLine {
     /// Its number in the text.
     pub number: u32,
     /// The component whose section it is in. A component has one section at most.
@@ -87,7 +87,7 @@ pub enum By {
     Component,
 }
 
-impl Line {
+impl IndexedLine {
     /// The number by which the line is gathered, if it is at all.
     pub fn key(&self, by: By) -> Option<u32>
         ensures { result ≡ key_of by self.now }
@@ -144,7 +144,7 @@ impl Act {
             Act::Cleared(port) | Act::Started(port) | Act::Stopped(port) | Act::Halted(port) => {
                 Some(port)
             }
-            _ => None,
+            Act::Sent(_) | Act::Left(_) | Act::Else | Act::End | Act::Other => None,
         }
     }
 

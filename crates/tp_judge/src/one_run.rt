@@ -1,12 +1,12 @@
 //! Whether a trace is one run.
 ghost use Rattle.std.specs.Prelude.{IfOk, IsTrue};
 ghost use Rattle.tp_judge.specs.Delivered.{Delivered};
-ghost use Rattle.tp_judge.specs.Lawful.{AreRouted, AreWithin};
-ghost use Rattle.tp_judge.specs.OneRun.{IsOneRun, IsRunAnswer};
+ghost use Rattle.tp_judge.specs.Lawful.{AreLinesRouted, AreWithin};
+ghost use Rattle.tp_judge.specs.OneRun.{IsOneRun, IsOneRunAnswer};
 
 use crate::circles::least;
 use crate::run_demands::{Which, make_run_demands, make_those};
-use crate::trace::Trace;
+use crate::trace::IndexedTrace;
 use std::alloc::Global;
 use tp_order::answer::Answer;
 use tp_order::order::order_or_circle;
@@ -25,9 +25,9 @@ pub enum OneRun {
 
 /// Whether the order of the text is that of a run. To see it takes less than to look for an order,
 /// and a trace whose text has another order pays little for the look.
-fn runs_in_order(alloc: Global, trace: &Trace) -> Result<bool, Memory>
+fn runs_in_order(alloc: Global, trace: &IndexedTrace) -> Result<bool, Memory>
     requires within { AreWithin trace.now }
-    requires routed { AreRouted trace.now }
+    requires routed { AreLinesRouted trace.now }
     requires delivered { Delivered trace.now }
     ensures { IfOk result (λ runs. IsTrue runs → IsOneRun trace.now) }
 {
@@ -40,11 +40,11 @@ fn runs_in_order(alloc: Global, trace: &Trace) -> Result<bool, Memory>
 /// port is that at the end of its route.
 ///
 /// 50 `Memory` only where an allocation was refused.
-pub fn one_run(alloc: Global, trace: &Trace) -> Result<OneRun, Memory>
+pub fn one_run(alloc: Global, trace: &IndexedTrace) -> Result<OneRun, Memory>
     requires within { AreWithin trace.now }
-    requires routed { AreRouted trace.now }
+    requires routed { AreLinesRouted trace.now }
     requires delivered { Delivered trace.now }
-    ensures { IfOk result (IsRunAnswer trace.now) }
+    ensures { IfOk result (IsOneRunAnswer trace.now) }
 {
     if runs_in_order(alloc, trace)? {
         return Ok(OneRun::OneRun);

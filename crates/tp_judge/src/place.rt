@@ -29,7 +29,7 @@ pub enum Rule {
 
 /// A line that breaks a rule.
 #[derive(Clone, Copy)]
-pub struct Place {
+pub struct UnlawfulPlace {
     /// The line's number in the text.
     pub line: u32,
     /// The rule that it breaks.

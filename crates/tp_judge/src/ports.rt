@@ -1,26 +1,26 @@
 //! The rule on ports.
 ghost use Rattle.std.specs.Prelude.{◌≡◌, ◌↔◌, ◌<◌, [], All, IfOk, IsTrue, MatchOption, Some, length, slice_get};
 ghost use Rattle.tp_queue.specs.Queues.{AtHistory};
-ghost use Rattle.tp_judge.specs.Gathered.{seen};
+ghost use Rattle.tp_judge.specs.Gathered.{lines_at};
 ghost use Rattle.tp_judge.specs.Lawful.{AreWithin, IsCloserNumber, IsCloserOf, IsLawfulAt, IsLawfulPort};
 ghost use Rattle.tp_judge.specs.Lawful.{IsLeftBroken, IsPortPlace, IsToldLeft, IsUnlawfulAt};
 ghost use Rattle.tp_judge.specs.Lawful.{IsUnlawfulPort, LawfulPorts};
 ghost use Rattle.tp_judge.specs.PortRows.{AreClosers, ArePortRows};
-ghost use Rattle.tp_judge.specs.Lines.{envelope};
+ghost use Rattle.tp_judge.specs.Lines.{envelope_of};
 ghost use Rattle.tp_judge.specs.ToldOf.{AreToldOfPorts};
 
-use crate::gathering::gather;
-use crate::line::{Act, By, Line, Mention, MessageId};
-use crate::place::{Place, Rule};
+use crate::gathering::gather_rows;
+use crate::line::{Act, By, IndexedLine, Mention, MessageId};
+use crate::place::{Rule, UnlawfulPlace};
 use crate::replaying::{Replayed, is_env, replay};
-use crate::trace::Trace;
+use crate::trace::IndexedTrace;
 use std::alloc::Global;
 use tp_queue::queue::Queue;
 use tp_refusal::memory::Memory;
 
 /// Whether this is queued at this place.
 fn is_queued(queue: &Queue<MessageId>, place: u64, mention: Mention) -> bool
-    ensures { IsTrue result ↔ (slice_get queue.now.entries place ≡ Some (envelope mention)) }
+    ensures { IsTrue result ↔ (slice_get queue.now.entries place ≡ Some (envelope_of mention)) }
 {
     match queue.queued_at(place) {
         None => false,
@@ -30,9 +30,9 @@ fn is_queued(queue: &Queue<MessageId>, place: u64, mention: Mention) -> bool
 
 /// The number of the line at which it is told that something isn't told as left: the first that
 /// says that the component ended, or the last where none does.
-fn closer_number(closing: &[&Line]) -> u32
+fn closer_number(closing: &[&IndexedLine]) -> u32
     requires { 0 < length closing.now }
-    ensures { IsCloserNumber (seen closing.now) result }
+    ensures { IsCloserNumber (lines_at closing.now) result }
 {
     for line in closing {
         if let Act::End = line.act {
@@ -43,8 +43,8 @@ fn closer_number(closing: &[&Line]) -> u32
 }
 
 /// The same, and `None` where the section is open.
-fn closer_of(closing: &[&Line]) -> Option<u32>
-    ensures { IsCloserOf (seen closing.now) result }
+fn closer_of(closing: &[&IndexedLine]) -> Option<u32>
+    ensures { IsCloserOf (lines_at closing.now) result }
 {
     if closing.is_empty() {
         return None;
@@ -53,7 +53,7 @@ fn closer_of(closing: &[&Line]) -> Option<u32>
 }
 
 /// Of each component the same: once, and not again for each of its ports.
-fn closers_of(alloc: Global, closing: &[Vec<&Line>]) -> Result<Vec<Option<u32>>, Memory>
+fn closers_of(alloc: Global, closing: &[Vec<&IndexedLine>]) -> Result<Vec<Option<u32>>, Memory>
     ensures { IfOk result (λ closers. AreClosers closing.now closers.items) }
 {
     let mut closers = Vec::with_capacity(alloc, closing.len())?;
@@ -67,14 +67,14 @@ fn closers_of(alloc: Global, closing: &[Vec<&Line>]) -> Result<Vec<Option<u32>>,
 /// closed by the line of this number, or open.
 fn left_place(
     queue: &Queue<MessageId>,
-    left: &[&Line],
-    closing: &[&Line],
+    left: &[&IndexedLine],
+    closing: &[&IndexedLine],
     closer: Option<u32>,
-) -> Option<Place>
-    requires { IsCloserOf (seen closing.now) closer }
+) -> Option<UnlawfulPlace>
+    requires { IsCloserOf (lines_at closing.now) closer }
     ensures { AtHistory queue.now (λ h. MatchOption result
-        (IsToldLeft h (seen left.now) (seen closing.now))
-        (IsLeftBroken h (seen left.now) (seen closing.now))) }
+        (IsToldLeft h (lines_at left.now) (lines_at closing.now))
+        (IsLeftBroken h (lines_at left.now) (lines_at closing.now))) }
 {
     // Of an open section nothing is asked.
     let Some(closer) = closer else {
@@ -87,7 +87,7 @@ fn left_place(
     for line in left {
         if let Act::Left(mention) = line.act {
             if !is_queued(queue, told, mention) {
-                return Some(Place {
+                return Some(UnlawfulPlace {
                     line: line.number,
                     rule: Rule::Left,
                 });
@@ -96,7 +96,7 @@ fn left_place(
         }
     }
     if told < count {
-        return Some(Place {
+        return Some(UnlawfulPlace {
             line: closer,
             rule: Rule::Left,
         });
@@ -107,15 +107,15 @@ fn left_place(
 /// The first line at which the port isn't lawful, if there is one.
 fn port_place(
     alloc: Global,
-    events: &[&Line],
-    left: &[&Line],
-    closing: &[&Line],
+    events: &[&IndexedLine],
+    left: &[&IndexedLine],
+    closing: &[&IndexedLine],
     closer: Option<u32>,
-) -> Result<Option<Place>, Memory>
-    requires { IsCloserOf (seen closing.now) closer }
+) -> Result<Option<UnlawfulPlace>, Memory>
+    requires { IsCloserOf (lines_at closing.now) closer }
     ensures { IfOk result (λ place. MatchOption place
-        (IsLawfulPort (seen events.now) (seen left.now) (seen closing.now))
-        (IsUnlawfulPort (seen events.now) (seen left.now) (seen closing.now))) }
+        (IsLawfulPort (lines_at events.now) (lines_at left.now) (lines_at closing.now))
+        (IsUnlawfulPort (lines_at events.now) (lines_at left.now) (lines_at closing.now))) }
 {
     match replay(alloc, events)? {
         Replayed::Unlawful(place) => Ok(Some(place)),
@@ -126,20 +126,20 @@ fn port_place(
 /// The lines of a trace, gathered by ports and by what closes sections.
 #[derive(Drop)]
 struct PortRows<'t> {
-    events: Vec<Vec<&'t Line>>,
-    left: Vec<Vec<&'t Line>>,
-    closing: Vec<Vec<&'t Line>>,
+    events: Vec<Vec<&'t IndexedLine>>,
+    left: Vec<Vec<&'t IndexedLine>>,
+    closing: Vec<Vec<&'t IndexedLine>>,
     closers: Vec<Option<u32>>,
 }
 
-fn gather_ports<'t>(alloc: Global, trace: &'t Trace) -> Result<PortRows<'t>, Memory>
+fn gather_ports<'t>(alloc: Global, trace: &'t IndexedTrace) -> Result<PortRows<'t>, Memory>
     requires { AreWithin trace.now }
     ensures { IfOk result (ArePortRows trace.now) }
 {
     let ports = trace.owners.len();
-    let events = gather(alloc, &trace.lines, By::Port, ports)?;
-    let left = gather(alloc, &trace.lines, By::Left, ports)?;
-    let closing = gather(alloc, &trace.lines, By::Closing, trace.components)?;
+    let events = gather_rows(alloc, &trace.lines, By::Port, ports)?;
+    let left = gather_rows(alloc, &trace.lines, By::Left, ports)?;
+    let closing = gather_rows(alloc, &trace.lines, By::Closing, trace.components)?;
     let closers = closers_of(alloc, &closing)?;
     Ok(PortRows {
         events,
@@ -152,10 +152,10 @@ fn gather_ports<'t>(alloc: Global, trace: &'t Trace) -> Result<PortRows<'t>, Mem
 /// The first line at which this port isn't lawful, if there is one.
 fn place_at(
     alloc: Global,
-    trace: &Trace,
+    trace: &IndexedTrace,
     rows: &PortRows<'_>,
     port: usize,
-) -> Result<Option<Place>, Memory>
+) -> Result<Option<UnlawfulPlace>, Memory>
     requires within { AreWithin trace.now }
     requires rows { ArePortRows trace.now rows.now }
     requires port { port < length trace.now.owners.items }
@@ -173,7 +173,7 @@ fn place_at(
 }
 
 /// For each port that isn't lawful the first line at which it isn't.
-pub(crate) fn port_places(alloc: Global, trace: &Trace) -> Result<Vec<Place>, Memory>
+pub(crate) fn port_places(alloc: Global, trace: &IndexedTrace) -> Result<Vec<UnlawfulPlace>, Memory>
     requires { AreWithin trace.now }
     ensures lawful { IfOk result (λ places. (places.items ≡ []) ↔ LawfulPorts trace.now) }
     ensures told { IfOk result (λ places. All (IsPortPlace trace.now) places.items) }

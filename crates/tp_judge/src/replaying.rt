@@ -1,19 +1,19 @@
 //! A port's own lines, replayed at a queue.
 ghost use Rattle.std.specs.Prelude.{◌≡◌, ◌++◌, ◌∷◌, [], ◌↔◌, IfOk, OnOk, IsTrue, Some};
 ghost use Rattle.std.specs.Option.{option_to_list};
-ghost use Rattle.tp_queue.specs.declared.event.Event.TheVariants as event;
+ghost use Rattle.tp_event.specs.declared.event.Event.TheVariants as event;
 ghost use Rattle.tp_queue.specs.History.{top};
 ghost use Rattle.tp_queue.specs.Queues.{AtHistory, StandsFor};
-ghost use Rattle.tp_judge.specs.Gathered.{seen};
-ghost use Rattle.tp_judge.specs.Lines.{envelope, event_of};
+ghost use Rattle.tp_judge.specs.Gathered.{lines_at};
+ghost use Rattle.tp_judge.specs.Lines.{envelope_of, event_of};
 ghost use Rattle.tp_judge.specs.Replayed.{IsReplay};
 ghost use Rattle.tp_judge.specs.declared.line.Act.TheVariants as acts;
 ghost use Rattle.tp_judge.specs.Rules.{IsBehind, IsOperation, IsReason, Replays};
 
-use crate::line::{Act, Line, Mention, MessageId};
-use crate::place::{Place, Rule};
+use crate::line::{Act, IndexedLine, Mention, MessageId};
+use crate::place::{Rule, UnlawfulPlace};
 use std::alloc::Global;
-use tp_queue::event::{Env, Status};
+use tp_event::event::{Env, Status};
 use tp_queue::queue::Queue;
 use tp_refusal::memory::Memory;
 
@@ -23,12 +23,12 @@ pub(crate) enum Replayed {
     /// All lines are lawful, and this is the queue behind them.
     Lawful(Queue<MessageId>),
     /// The first that isn't.
-    Unlawful(Place),
+    Unlawful(UnlawfulPlace),
 }
 
 /// The parcel in a queue.
 fn wrapped(mention: Mention) -> Env<MessageId>
-    ensures { result ≡ envelope mention }
+    ensures { result ≡ envelope_of mention }
 {
     Env {
         sender: mention.route,
@@ -39,7 +39,7 @@ fn wrapped(mention: Mention) -> Env<MessageId>
 
 /// Whether this is what stands at the place of the queue.
 pub(crate) fn is_env(env: &Env<MessageId>, mention: Mention) -> bool
-    ensures { IsTrue result ↔ (env.now ≡ envelope mention) }
+    ensures { IsTrue result ↔ (env.now ≡ envelope_of mention) }
 {
     env.sender == mention.route
         && env.number == mention.parcel.number
@@ -48,7 +48,7 @@ pub(crate) fn is_env(env: &Env<MessageId>, mention: Mention) -> bool
 
 /// Whether this is the top.
 fn is_top(queue: &Queue<MessageId>, mention: Mention) -> bool
-    ensures { AtHistory queue.now (λ h. IsTrue result ↔ (top h ≡ Some (envelope mention))) }
+    ensures { AtHistory queue.now (λ h. IsTrue result ↔ (top h ≡ Some (envelope_of mention))) }
 {
     match queue.top() {
         None => false,
@@ -58,7 +58,7 @@ fn is_top(queue: &Queue<MessageId>, mention: Mention) -> bool
 
 /// Whether this stands behind the mark.
 fn is_behind(queue: &Queue<MessageId>, mention: Mention) -> bool
-    ensures { AtHistory queue.now (λ h. IsTrue result ↔ IsBehind h (envelope mention)) }
+    ensures { AtHistory queue.now (λ h. IsTrue result ↔ IsBehind h (envelope_of mention)) }
 {
     for place in queue.ahead()..queue.queued_len() {
         match queue.queued_at(place) {
@@ -75,7 +75,7 @@ fn is_behind(queue: &Queue<MessageId>, mention: Mention) -> bool
 
 /// Why this can't be taken, found or discarded, since it isn't the top.
 fn reason(queue: &Queue<MessageId>, mention: Mention) -> Rule
-    ensures { AtHistory queue.now (λ h. IsReason result h (envelope mention)) }
+    ensures { AtHistory queue.now (λ h. IsReason result h (envelope_of mention)) }
 {
     match queue.status() {
         Status::Stopped => Rule::Stopped,
@@ -87,7 +87,7 @@ fn reason(queue: &Queue<MessageId>, mention: Mention) -> Rule
 /// It comes.
 fn arrive(queue: &mut Queue<MessageId>, mention: Mention) -> Result<(), Memory>
     ensures { OnOk result (AtHistory queue.old (λ h.
-        StandsFor queue.new (h ++ event.Arrive (envelope mention) ∷ []))) }
+        StandsFor queue.new (h ++ event.Arrive (envelope_of mention) ∷ []))) }
 {
     match queue.arrive(wrapped(mention)) {
         Ok(()) => Ok(()),
@@ -133,7 +133,9 @@ fn operate(queue: &mut Queue<MessageId>, act: Act)
         Act::Halted(_) => {
             queue.halt();
         }
-        _ => {}
+        // Each is named, so that an act at a port that is new isn't passed over.
+        Act::Sent(_) | Act::Came(_) | Act::Took(_) | Act::Found(_) | Act::Dropped(_) => {}
+        Act::Left(_) | Act::Else | Act::End | Act::Other => {}
     }
 }
 
@@ -151,15 +153,15 @@ fn step(queue: &mut Queue<MessageId>, act: Act) -> Result<Option<Rule>, Memory>
 }
 
 /// The port's lines, one after another, at a queue that is new.
-pub(crate) fn replay(alloc: Global, events: &[&Line]) -> Result<Replayed, Memory>
-    ensures { IfOk result (IsReplay (seen events.now)) }
+pub(crate) fn replay(alloc: Global, events: &[&IndexedLine]) -> Result<Replayed, Memory>
+    ensures { IfOk result (IsReplay (lines_at events.now)) }
 {
     let mut queue = Queue::new(alloc);
     for line in events {
         match step(&mut queue, line.act)? {
             None => {}
             Some(rule) => {
-                return Ok(Replayed::Unlawful(Place {
+                return Ok(Replayed::Unlawful(UnlawfulPlace {
                     line: line.number,
                     rule,
                 }));

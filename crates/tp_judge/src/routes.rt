@@ -1,19 +1,19 @@
 //! The rule on delivery: one route.
 ghost use Rattle.std.specs.Prelude.{◌≡◌, ◌↔◌, ◌<◌, All, IfSome, IsTrue, MatchOption, length, slice_get};
-ghost use Rattle.tp_judge.specs.Delivered.{AgreesBelow, AreNumbered, DiffersAt, IsDelivered};
-ghost use Rattle.tp_judge.specs.Delivered.{IsMisnumbered, IsOvertaken, IsTold, IsUnlawfulRoute};
+ghost use Rattle.tp_judge.specs.Delivered.{AgreesBelow, AreParcelsNumbered, DiffersAt, CameAsSent};
+ghost use Rattle.tp_judge.specs.Delivered.{IsMisnumbered, IsOvertaken, IsPlaceOfLine, IsUnlawfulRoute};
 ghost use Rattle.tp_judge.specs.Delivered.{IsWrongAt, NamesParcel, ParcelAt, parcels};
-ghost use Rattle.tp_judge.specs.Gathered.{seen};
+ghost use Rattle.tp_judge.specs.Gathered.{lines_at};
 ghost use Rattle.tp_judge.specs.Routed.{HasNumberFrom, NoNumberFrom};
 
-use crate::line::{Line, Parcel};
-use crate::place::{Place, Rule};
+use crate::line::{IndexedLine, Parcel};
+use crate::place::{Rule, UnlawfulPlace};
 
 /// The parcel that the line at this place names.
-fn parcel_at(lines: &[&Line], place: usize) -> Parcel
-    requires names { All NamesParcel (seen lines.now) }
+fn parcel_at(lines: &[&IndexedLine], place: usize) -> Parcel
+    requires names { All NamesParcel (lines_at lines.now) }
     requires within { place < length lines.now }
-    ensures { ParcelAt (seen lines.now) place result }
+    ensures { ParcelAt (lines_at lines.now) place result }
 {
     match lines[place].act.parcel() {
         Some(parcel) => parcel,
@@ -23,24 +23,24 @@ fn parcel_at(lines: &[&Line], place: usize) -> Parcel
 }
 
 /// The line at this place, as one that breaks a rule.
-fn told_at(rule: Rule, lines: &[&Line], place: usize) -> Place
+fn told_at(rule: Rule, lines: &[&IndexedLine], place: usize) -> UnlawfulPlace
     requires { place < length lines.now }
     ensures rule { result.rule ≡ rule }
-    ensures told { IsTold (seen lines.now) place result }
+    ensures told { IsPlaceOfLine (lines_at lines.now) place result }
 {
-    Place {
+    UnlawfulPlace {
         line: lines[place].number,
         rule,
     }
 }
 
 /// The first place at which the number isn't the next, if there is one.
-fn misnumbered(sent: &[&Line]) -> Option<usize>
-    requires { All NamesParcel (seen sent.now) }
+fn misnumbered(sent: &[&IndexedLine]) -> Option<usize>
+    requires { All NamesParcel (lines_at sent.now) }
     ensures within { IfSome result (λ k. k < length sent.now) }
     ensures numbered { MatchOption result
-        (AreNumbered (parcels (seen sent.now)))
-        (IsMisnumbered (seen sent.now)) }
+        (AreParcelsNumbered (parcels (lines_at sent.now)))
+        (IsMisnumbered (lines_at sent.now)) }
 {
     for place in 0..sent.len() {
         if parcel_at(sent, place).number != place as u64 {
@@ -51,12 +51,13 @@ fn misnumbered(sent: &[&Line]) -> Option<usize>
 }
 
 /// Whether what came at this place was sent there.
-fn agrees(sent: &[&Line], came: &[&Line], place: usize) -> bool
-    requires sent { All NamesParcel (seen sent.now) }
-    requires came { All NamesParcel (seen came.now) }
+fn agrees(sent: &[&IndexedLine], came: &[&IndexedLine], place: usize) -> bool
+    requires sent { All NamesParcel (lines_at sent.now) }
+    requires came { All NamesParcel (lines_at came.now) }
     requires within { place < length came.now }
     ensures { IsTrue result
-        ↔ (slice_get (parcels (seen sent.now)) place ≡ slice_get (parcels (seen came.now)) place) }
+        ↔ (slice_get (parcels (lines_at sent.now)) place
+        ≡ slice_get (parcels (lines_at came.now)) place) }
 {
     let parcel = parcel_at(came, place);
     if place >= sent.len() {
@@ -66,13 +67,13 @@ fn agrees(sent: &[&Line], came: &[&Line], place: usize) -> bool
 }
 
 /// The first place at which something came that wasn't sent there, if there is one.
-fn first_difference(sent: &[&Line], came: &[&Line]) -> Option<usize>
-    requires sent { All NamesParcel (seen sent.now) }
-    requires came { All NamesParcel (seen came.now) }
+fn first_difference(sent: &[&IndexedLine], came: &[&IndexedLine]) -> Option<usize>
+    requires sent { All NamesParcel (lines_at sent.now) }
+    requires came { All NamesParcel (lines_at came.now) }
     ensures within { IfSome result (λ k. k < length came.now) }
     ensures differs { MatchOption result
-        (AgreesBelow (seen sent.now) (seen came.now) (length came.now))
-        (DiffersAt (seen sent.now) (seen came.now)) }
+        (AgreesBelow (lines_at sent.now) (lines_at came.now) (length came.now))
+        (DiffersAt (lines_at sent.now) (lines_at came.now)) }
 {
     for place in 0..came.len() {
         if !agrees(sent, came, place) {
@@ -83,11 +84,11 @@ fn first_difference(sent: &[&Line], came: &[&Line]) -> Option<usize>
 }
 
 /// The first place from this one on where something came with the number, if there is one.
-fn find_from(came: &[&Line], from: usize, number: u64) -> Option<usize>
-    requires { All NamesParcel (seen came.now) }
+fn find_from(came: &[&IndexedLine], from: usize, number: u64) -> Option<usize>
+    requires { All NamesParcel (lines_at came.now) }
     ensures { MatchOption result
-        (NoNumberFrom (seen came.now) from number)
-        (HasNumberFrom (seen came.now) from number) }
+        (NoNumberFrom (lines_at came.now) from number)
+        (HasNumberFrom (lines_at came.now) from number) }
 {
     for place in from..came.len() {
         if parcel_at(came, place).number == number {
@@ -98,14 +99,14 @@ fn find_from(came: &[&Line], from: usize, number: u64) -> Option<usize>
 }
 
 /// What is wrong where a message came that was sent later.
-fn overtaken_at(sent: &[&Line], came: &[&Line], place: usize) -> Place
-    requires sent { All NamesParcel (seen sent.now) }
-    requires came { All NamesParcel (seen came.now) }
-    requires numbered { AreNumbered (parcels (seen sent.now)) }
-    requires agrees { AgreesBelow (seen sent.now) (seen came.now) place }
-    requires overtaken { IsOvertaken (seen sent.now) (seen came.now) place }
+fn overtaken_at(sent: &[&IndexedLine], came: &[&IndexedLine], place: usize) -> UnlawfulPlace
+    requires sent { All NamesParcel (lines_at sent.now) }
+    requires came { All NamesParcel (lines_at came.now) }
+    requires numbered { AreParcelsNumbered (parcels (lines_at sent.now)) }
+    requires agrees { AgreesBelow (lines_at sent.now) (lines_at came.now) place }
+    requires overtaken { IsOvertaken (lines_at sent.now) (lines_at came.now) place }
     requires within { place < length sent.now }
-    ensures { IsWrongAt (seen sent.now) (seen came.now) place result }
+    ensures { IsWrongAt (lines_at sent.now) (lines_at came.now) place result }
 {
     let parcel = parcel_at(sent, place);
     match find_from(came, place, place as u64) {
@@ -120,13 +121,13 @@ fn overtaken_at(sent: &[&Line], came: &[&Line], place: usize) -> Place
 }
 
 /// What is wrong where another message came than was sent.
-fn fault_at(sent: &[&Line], came: &[&Line], place: usize) -> Place
-    requires sent { All NamesParcel (seen sent.now) }
-    requires came { All NamesParcel (seen came.now) }
-    requires numbered { AreNumbered (parcels (seen sent.now)) }
+fn fault_at(sent: &[&IndexedLine], came: &[&IndexedLine], place: usize) -> UnlawfulPlace
+    requires sent { All NamesParcel (lines_at sent.now) }
+    requires came { All NamesParcel (lines_at came.now) }
+    requires numbered { AreParcelsNumbered (parcels (lines_at sent.now)) }
     requires within { place < length came.now }
-    requires differs { DiffersAt (seen sent.now) (seen came.now) place }
-    ensures { IsWrongAt (seen sent.now) (seen came.now) place result }
+    requires differs { DiffersAt (lines_at sent.now) (lines_at came.now) place }
+    ensures { IsWrongAt (lines_at sent.now) (lines_at came.now) place result }
 {
     let parcel = parcel_at(came, place);
     if parcel.number >= sent.len() as u64 {
@@ -143,12 +144,12 @@ fn fault_at(sent: &[&Line], came: &[&Line], place: usize) -> Place
 }
 
 /// The first line at which the route isn't lawful, in the order of sending, if there is one.
-pub(crate) fn route_place(sent: &[&Line], came: &[&Line]) -> Option<Place>
-    requires sent { All NamesParcel (seen sent.now) }
-    requires came { All NamesParcel (seen came.now) }
+pub(crate) fn route_place(sent: &[&IndexedLine], came: &[&IndexedLine]) -> Option<UnlawfulPlace>
+    requires sent { All NamesParcel (lines_at sent.now) }
+    requires came { All NamesParcel (lines_at came.now) }
     ensures { MatchOption result
-        (IsDelivered (seen sent.now) (seen came.now))
-        (IsUnlawfulRoute (seen sent.now) (seen came.now)) }
+        (CameAsSent (lines_at sent.now) (lines_at came.now))
+        (IsUnlawfulRoute (lines_at sent.now) (lines_at came.now)) }
 {
     if let Some(place) = misnumbered(sent) {
         return Some(told_at(Rule::Numbering, sent, place));

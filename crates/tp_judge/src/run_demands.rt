@@ -3,12 +3,12 @@ ghost use Rattle.std.specs.Prelude.{◌≡◌, ◌+◌, ◌++◌, ◌<◌, IfOk,
 ghost use Rattle.tp_judge.specs.Delivered.{Delivered};
 ghost use Rattle.tp_judge.specs.Latest.{AreDemandsUpTo, AreMadeUpTo, IsArrival, IsMadeUpTo, IsOwn};
 ghost use Rattle.tp_judge.specs.Latest.{after_arrival, after_own, demand_of, is_made};
-ghost use Rattle.tp_judge.specs.Lawful.{AreRouted, AreWithin};
-ghost use Rattle.tp_judge.specs.Sendings.{AreSendings};
+ghost use Rattle.tp_judge.specs.Lawful.{AreLinesRouted, AreWithin};
+ghost use Rattle.tp_judge.specs.Sendings.{AreSendingRows};
 
 use crate::line::{Act, Mention};
-use crate::sendings::{gather_sendings, sending_of};
-use crate::trace::Trace;
+use crate::sendings::{gather_sendings, sending_place};
+use crate::trace::IndexedTrace;
 use std::alloc::Global;
 use tp_order::demand::Demand;
 use tp_refusal::memory::Memory;
@@ -121,7 +121,7 @@ fn add_arrival(
 }
 
 /// One line more, of what a component did itself.
-fn note_own(making: &mut Making, trace: &Trace, place: usize) -> Result<(), Memory>
+fn note_own(making: &mut Making, trace: &IndexedTrace, place: usize) -> Result<(), Memory>
     requires within { AreWithin trace.now }
     requires delivered { Delivered trace.now }
     requires made { IsMadeUpTo trace.now place making.old }
@@ -141,15 +141,15 @@ fn note_own(making: &mut Making, trace: &Trace, place: usize) -> Result<(), Memo
 /// One line more, by which something came.
 fn note_arrival(
     making: &mut Making,
-    trace: &Trace,
+    trace: &IndexedTrace,
     rows: &[Vec<usize>],
     place: usize,
     mention: Mention,
 ) -> Result<(), Memory>
     requires within { AreWithin trace.now }
-    requires routed { AreRouted trace.now }
+    requires routed { AreLinesRouted trace.now }
     requires delivered { Delivered trace.now }
-    requires rows { AreSendings trace.now (length trace.now.lines.items) rows.now }
+    requires rows { AreSendingRows trace.now (length trace.now.lines.items) rows.now }
     requires made { IsMadeUpTo trace.now place making.old }
     requires came { IsArrival trace.now place mention }
     ensures made { OnOk result (IsMadeUpTo trace.now (place + 1) making.new) }
@@ -159,7 +159,7 @@ fn note_arrival(
         return Ok(());
     }
     let component = trace.lines[place].component as usize;
-    let sending = sending_of(trace, rows, mention);
+    let sending = sending_place(trace, rows, mention);
     let latest = making.latest[component];
     let now = add_arrival(&mut making.demands, making.which, latest, sending)?;
     making.latest[component] = now;
@@ -167,11 +167,16 @@ fn note_arrival(
 }
 
 /// One line more.
-fn note(making: &mut Making, trace: &Trace, rows: &[Vec<usize>], place: usize) -> Result<(), Memory>
+fn note(
+    making: &mut Making,
+    trace: &IndexedTrace,
+    rows: &[Vec<usize>],
+    place: usize,
+) -> Result<(), Memory>
     requires within { AreWithin trace.now }
-    requires routed { AreRouted trace.now }
+    requires routed { AreLinesRouted trace.now }
     requires delivered { Delivered trace.now }
-    requires rows { AreSendings trace.now (length trace.now.lines.items) rows.now }
+    requires rows { AreSendingRows trace.now (length trace.now.lines.items) rows.now }
     requires made { IsMadeUpTo trace.now place making.old }
     requires place { place < length trace.now.lines.items }
     ensures made { OnOk result (IsMadeUpTo trace.now (place + 1) making.new) }
@@ -185,9 +190,13 @@ fn note(making: &mut Making, trace: &Trace, rows: &[Vec<usize>], place: usize) -
 }
 
 /// These of the demands.
-pub(crate) fn make_those(alloc: Global, trace: &Trace, which: Which) -> Result<Vec<Demand>, Memory>
+pub(crate) fn make_those(
+    alloc: Global,
+    trace: &IndexedTrace,
+    which: Which,
+) -> Result<Vec<Demand>, Memory>
     requires within { AreWithin trace.now }
-    requires routed { AreRouted trace.now }
+    requires routed { AreLinesRouted trace.now }
     requires delivered { Delivered trace.now }
     ensures { IfOk result (λ demands.
         AreMadeUpTo trace.now which (length trace.now.lines.items) demands.items) }
@@ -212,9 +221,9 @@ pub(crate) fn make_those(alloc: Global, trace: &Trace, which: Which) -> Result<V
 }
 
 /// All demands.
-pub(crate) fn make_run_demands(alloc: Global, trace: &Trace) -> Result<Vec<Demand>, Memory>
+pub(crate) fn make_run_demands(alloc: Global, trace: &IndexedTrace) -> Result<Vec<Demand>, Memory>
     requires within { AreWithin trace.now }
-    requires routed { AreRouted trace.now }
+    requires routed { AreLinesRouted trace.now }
     requires delivered { Delivered trace.now }
     ensures { IfOk result (λ demands.
         AreDemandsUpTo trace.now (length trace.now.lines.items) demands.items) }

@@ -1,21 +1,24 @@
 //! Where the messages of each route were sent.
 ghost use Rattle.std.specs.Prelude.{IfOk, length};
 ghost use Rattle.tp_judge.specs.Delivered.{Delivered};
-ghost use Rattle.tp_judge.specs.Lawful.{AreRouted, AreWithin};
+ghost use Rattle.tp_judge.specs.Lawful.{AreLinesRouted, AreWithin};
 ghost use Rattle.tp_judge.specs.OneRun.{IsSentAt};
-ghost use Rattle.tp_judge.specs.Sendings.{AreSendings, HasCome};
+ghost use Rattle.tp_judge.specs.Sendings.{AreSendingRows, HasCome};
 
 use crate::gathering::empty_rows;
 use crate::line::{By, Mention};
-use crate::trace::Trace;
+use crate::trace::IndexedTrace;
 use std::alloc::Global;
 use tp_refusal::memory::Memory;
 
 /// Of each route the places of its sendings, in their order.
-pub(crate) fn gather_sendings(alloc: Global, trace: &Trace) -> Result<Vec<Vec<usize>>, Memory>
+pub(crate) fn gather_sendings(
+    alloc: Global,
+    trace: &IndexedTrace,
+) -> Result<Vec<Vec<usize>>, Memory>
     requires { AreWithin trace.now }
     ensures { IfOk result (λ rows.
-        AreSendings trace.now (length trace.now.lines.items) rows.items) }
+        AreSendingRows trace.now (length trace.now.lines.items) rows.items) }
 {
     let mut rows = empty_rows(alloc, trace.joined.len())?;
     for (place, line) in trace.lines.iter().enumerate() {
@@ -27,10 +30,10 @@ pub(crate) fn gather_sendings(alloc: Global, trace: &Trace) -> Result<Vec<Vec<us
 }
 
 /// Where a message was sent that came.
-pub(crate) fn sending_of(trace: &Trace, rows: &[Vec<usize>], mention: Mention) -> usize
-    requires routed { AreRouted trace.now }
+pub(crate) fn sending_place(trace: &IndexedTrace, rows: &[Vec<usize>], mention: Mention) -> usize
+    requires routed { AreLinesRouted trace.now }
     requires delivered { Delivered trace.now }
-    requires rows { AreSendings trace.now (length trace.now.lines.items) rows.now }
+    requires rows { AreSendingRows trace.now (length trace.now.lines.items) rows.now }
     requires come { HasCome trace.now mention }
     ensures { IsSentAt trace.now result mention }
 {

@@ -3,16 +3,16 @@
 ghost use Rattle.std.specs.Prelude.{◌≡◌, ◌<◌, ℕ, IsTrue, length};
 ghost use Rattle.tp_judge.specs.Before.{NoCircle};
 ghost use Rattle.tp_judge.specs.Delivered.{Delivered};
-ghost use Rattle.tp_judge.specs.Gathered.{seen};
+ghost use Rattle.tp_judge.specs.Gathered.{lines_at};
 ghost use Rattle.tp_judge.specs.RouteRows.{AreRouteRows};
 ghost use Rattle.tp_judge.specs.TextOrder.{AreAscending, AreSentFirst, StandBefore};
 
 use crate::delivery::RouteRows;
-use crate::line::Line;
-use crate::trace::Trace;
+use crate::line::IndexedLine;
+use crate::trace::IndexedTrace;
 
 /// Whether each line has a lesser number than those behind it.
-fn are_ascending(lines: &[Line]) -> bool
+fn are_ascending(lines: &[IndexedLine]) -> bool
     ensures { IsTrue result → AreAscending lines.now }
 {
     let mut next = 0u64;
@@ -27,8 +27,8 @@ fn are_ascending(lines: &[Line]) -> bool
 }
 
 /// Whether each of the first lines has a lesser number than the one at its place among the others.
-fn stand_before(before: &[&Line], after: &[&Line]) -> bool
-    ensures { IsTrue result → StandBefore (seen before.now) (seen after.now) }
+fn stand_before(before: &[&IndexedLine], after: &[&IndexedLine]) -> bool
+    ensures { IsTrue result → StandBefore (lines_at before.now) (lines_at after.now) }
 {
     let count = before.len().min(after.len());
     for place in 0..count {
@@ -40,7 +40,7 @@ fn stand_before(before: &[&Line], after: &[&Line]) -> bool
 }
 
 /// Whether on this route each sending stands before its arrival.
-fn is_sent_first(trace: &Trace, rows: &RouteRows<'_>, route: usize) -> bool
+fn is_sent_first(trace: &IndexedTrace, rows: &RouteRows<'_>, route: usize) -> bool
     requires rows { AreRouteRows trace.now rows.now }
     requires route { route < length trace.now.joined.items }
     ensures { IsTrue result → AreSentFirst trace.now route }
@@ -52,7 +52,7 @@ fn is_sent_first(trace: &Trace, rows: &RouteRows<'_>, route: usize) -> bool
 }
 
 /// Whether on each route each sending stands before its arrival.
-fn are_sent_first(trace: &Trace, rows: &RouteRows<'_>) -> bool
+fn are_sent_first(trace: &IndexedTrace, rows: &RouteRows<'_>) -> bool
     requires { AreRouteRows trace.now rows.now }
     ensures { IsTrue result
         → (route : ℕ) → route < length trace.now.joined.items → AreSentFirst trace.now route }
@@ -66,7 +66,7 @@ fn are_sent_first(trace: &Trace, rows: &RouteRows<'_>) -> bool
 }
 
 /// Whether each line stands behind all that happens before it. Then no line happens before itself.
-pub(crate) fn stands_in_order(trace: &Trace, rows: &RouteRows<'_>) -> bool
+pub(crate) fn stands_in_order(trace: &IndexedTrace, rows: &RouteRows<'_>) -> bool
     requires delivered { Delivered trace.now }
     requires rows { AreRouteRows trace.now rows.now }
     ensures { IsTrue result → NoCircle trace.now }

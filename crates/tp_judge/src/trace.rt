@@ -1,11 +1,11 @@
 //! A trace, with numbers in place of its names.
-use crate::line::Line;
+use crate::line::IndexedLine;
 
 /// The lines of all sections, in the order of the text, and what their numbers stand for.
 #[derive(Drop)]
-pub struct Trace {
+pub struct IndexedTrace {
     /// The lines.
-    pub lines: Vec<Line>,
+    pub lines: Vec<IndexedLine>,
     /// Of each port the component that it belongs to.
     pub owners: Vec<u32>,
     /// Of each route whether both ends have a section.

@@ -8,7 +8,7 @@ use Rattle.std.proofs.lemmas.List.Sums.{fails_before_first}
 use Rattle.std.proofs.lemmas.Option.{slice_get-get_or, slice_get-map, same_Some}
 use Rattle.std.proofs.lemmas.Slice.Eq.{bytes_eq-Decides}
 use Rattle.indexmap.specs.IndexSet.{insert_key}
-use Rattle.tp_name.specs.Tables.{AreDistinct, place_of}
+use Rattle.tp_name.specs.Tables.{AreDistinct, place_of_name}
 
 place_map : {X Y : Type 0} (v : X → Y) (p : Y → Bool) (xs : List X) → position_or_len (λ x. p (v x)) xs ≡ position_or_len p (map v xs)
 place_map v p [] = refl
@@ -21,17 +21,17 @@ position_map v p xs =
     ∙ ap (λ m. cond (nat_lt (position_or_len p (map v xs)) m) (Some (position_or_len p (map v xs))) None) (sym (length-map xs v))
 
 -- the name that has the place is the one that was looked for
-pub place_there : (names : List (List ℕ)) (name : List ℕ) (n : ℕ) → Some n ≡ place_of names name → slice_get names n ≡ Some name
+pub place_there : (names : List (List ℕ)) (name : List ℕ) (n : ℕ) → Some n ≡ place_of_name names name → slice_get names n ≡ Some name
 place_there names name n e =
     let p = position-Some (bytes_eq name) names n name (sym e) in
     slice_get-get_or names n name p.0 ∙ ap (λ (x : List ℕ). Some x) (sym ((bytes_eq-Decides name (get_or names n name)).0 p.1))
 
-pub place_known : (names : List (List ℕ)) (name : List ℕ) (n : ℕ) → Some n ≡ place_of names name → Contains names name
+pub place_known : (names : List (List ℕ)) (name : List ℕ) (n : ℕ) → Some n ≡ place_of_name names name → Contains names name
 place_known names name n e =
     let p = position-Some (bytes_eq name) names n name (sym e) in
     (n, p.0, sym ((bytes_eq-Decides name (get_or names n name)).0 p.1))
 
-pub place_unknown : (names : List (List ℕ)) (name : List ℕ) → None ≡ place_of names name → Contains names name → ⊥
+pub place_unknown : (names : List (List ℕ)) (name : List ℕ) → None ≡ place_of_name names name → Contains names name → ⊥
 place_unknown names name e (k, below, is) =
     let here : bytes_eq name (get_or names k name) ≡ true = (bytes_eq-Decides name (get_or names k name)).1 (sym is) in
     by (nat_lt (position_or_len (bytes_eq name) names) (length names)) refl e here
@@ -63,6 +63,6 @@ module _ {K : Type 0} (v : K → List ℕ) where
 
 -- what stands at the place of a name has the name
 pub named_at : {A : Type 0} (names : List (List ℕ)) (f : A → List ℕ) (xs : List A) (name : List ℕ) (k : ℕ) (x : A) → names ≡ map f xs
-    → Some k ≡ place_of names name → slice_get xs k ≡ Some x → f x ≡ name
+    → Some k ≡ place_of_name names name → slice_get xs k ≡ Some x → f x ≡ name
 named_at names f xs name k x named placed there =
     same_Some (f x) name (sym (slice_get-map f xs k ∙ ap (option_map f) there) ∙ ap (λ l. slice_get l k) (sym named) ∙ place_there names name k placed)

@@ -5,8 +5,8 @@ use Rattle.tp_name.specs.declared.fault.ModuleFault.{ModuleFault}
 use Rattle.tp_name.specs.declared.fault.ModuleFault.TheVariants as module_fault
 
 -- a check is refused so: for want of memory, or since what it looked at doesn't obey this rule
-abbrev pub Breaks : Type 0 → ModuleFault → Type 0
-Breaks rule fault = (fault ≡ module_fault.Memory (record {})) ⊎ (rule → ⊥)
+abbrev pub IsRefusedBy : Type 0 → ModuleFault → Type 0
+IsRefusedBy rule fault = (fault ≡ module_fault.Memory (record {})) ⊎ (rule → ⊥)
 
 -- a check tells this: memory was refused, or this rule is broken at this line
 abbrev pub Tells : (ModuleRule → ℕ → Type 0) → ModuleFault → Type 0

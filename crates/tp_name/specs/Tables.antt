@@ -8,8 +8,8 @@ abbrev pub AreDistinct : List (List ℕ) → Type 0
 AreDistinct names = AllPairs (λ a b. a ≢ b) names
 
 -- the place of a name, the first if it stands twice
-abbrev pub place_of : List (List ℕ) → List ℕ → Option ℕ
-place_of names name = position (bytes_eq name) names
+abbrev pub place_of_name : List (List ℕ) → List ℕ → Option ℕ
+place_of_name names name = position (bytes_eq name) names
 
 -- names that have numbers of 32 bits
 pub record IsNumbered (names : List (List ℕ)) : Type 0 where

@@ -68,7 +68,7 @@ impl<'m> Model for NameSet<'m> {
 
 impl<'m> NameSet<'m> {
     ghost use Rattle.std.specs.Prelude.{◌≡◌, ◌<◌, ◌≤◌, ◌∷◌, ◌++◌, ◌^◌, ◌↔◌, ◌⊎◌, [], length, Contains, IfErr, IfNone, IfSome, OnOk, IsErrOf, IsSome, IsTrue, OnErr, is_some};
-    ghost use Rattle.tp_name.specs.Tables.{AreDistinct, IsNumbered, place_of};
+    ghost use Rattle.tp_name.specs.Tables.{AreDistinct, IsNumbered, place_of_name};
     ghost use Rattle.tp_name.specs.Named.{IsAbsent, IsPlace};
 
     /// No names. Takes no memory; a later [`NameSet::add`] takes it from `alloc`.
@@ -118,7 +118,7 @@ impl<'m> NameSet<'m> {
 
     /// The number of the name, or `None` where it is not there. Takes no memory.
     pub fn find(&self, name: &str) -> Option<u32>
-        ensures place { result ≡ place_of self.now name.now }
+        ensures place { result ≡ place_of_name self.now name.now }
         ensures known { IsSome result ↔ Contains self.now name.now }
         ensures there { IfSome result (λ place. IsPlace self.now name.now place) }
         ensures absent { IfNone result (IsAbsent self.now name.now) }
@@ -133,7 +133,7 @@ impl<'m> NameSet<'m> {
 
     /// Whether the name is there. Takes no memory.
     pub fn has(&self, name: &str) -> bool
-        ensures test { result ≡ is_some (place_of self.now name.now) }
+        ensures test { result ≡ is_some (place_of_name self.now name.now) }
         ensures known { IsTrue result ↔ Contains self.now name.now }
     {
         let place = self.find(name);

@@ -7,12 +7,12 @@ use Rattle.tp_play.specs.declared.body.Branch.{Branch}
 use Rattle.tp_play.specs.declared.body.Body.{Body}
 
 -- one more than the most that is allowed
-abbrev pub limit : ℕ
-limit = 100001
+abbrev pub size_limit : ℕ
+size_limit = 100001
 
 -- a number, where more than 100,000 is one number
 abbrev pub capped : ℕ → ℕ
-capped n = if nat_lt n limit then n else limit
+capped n = if nat_lt n size_limit then n else size_limit
 
 -- how many turns there are from the first value to the bound: none where the bound isn't above it
 abbrev pub turns_between : ℤ → ℤ → ℕ

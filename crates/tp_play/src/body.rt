@@ -1,5 +1,5 @@
 //! The bodies of a test case: what its statements stand for.
-use tp_queue::operation::{PortOperation, ReceiveKind};
+use tp_event::operation::{PortOperation, ReceiveKind};
 use tp_value::items::Items;
 use tp_value::shared::Shared;
 use tp_value::template::PatternPart;

@@ -5,13 +5,13 @@ use Rattle.std.specs.List.{filter_map}
 use Rattle.std.specs.Option.{option_map, option_to_list}
 use Rattle.std.proofs.lemmas.List.Elements.{filter_map-append}
 use Rattle.std.proofs.lemmas.List.{length-append}
-use Rattle.tp_queue.specs.declared.event.Env.{Env}
-use Rattle.tp_queue.specs.declared.event.Event.{Event}
-use Rattle.tp_queue.specs.declared.event.Event.TheVariants as event
+use Rattle.tp_event.specs.declared.event.Env.{Env}
+use Rattle.tp_event.specs.declared.event.Event.{Event}
+use Rattle.tp_event.specs.declared.event.Event.TheVariants as event
 use Rattle.tp_port.specs.declared.engine.Engine.{Engine}
 use Rattle.tp_queue.specs.History.{accepted, arrival, top}
 use Rattle.tp_port.specs.Line.{Line, Wish, arrive, receive, check, trigger}
-use Rattle.tp_port.specs.Replay.{Progress, seen_in, seen_if, seen, sighted, answer, events_of, found, meets, triggered, from_of, sender_number, envelope_or_no, triggered_text, envelope}
+use Rattle.tp_port.specs.Replay.{Progress, seen_in, seen_if, with_sender, sighted, answer, events_of, found, meets, triggered, from_of, sender_number, envelope_or_no, triggered_text, arriving}
 use Rattle.tp_queue.specs.Queues.{AtHistory, StandsFor}
 use Rattle.tp_port.specs.Carried.{CarriesLine, HasReached}
 use Rattle.tp_queue.proofs.Words.{accepted_more}
@@ -129,17 +129,17 @@ carries_trigger old new wish from seen number queue text few same =
 
 -- the envelope of an arrival, by what the engine had come to
 envelope_is : (old new : Engine) (s : Progress) (name : List ℕ) (value : ℤ) (sender : ℕ) → HasReached old s
-    → new.senders ≡ seen old.senders name → sender ≡ sender_number new.senders name
-    → record { sender = sender; number = old.arrivals; msg = value } ≡ envelope (sighted s (arrive name value)) name value
+    → new.senders ≡ with_sender old.senders name → sender ≡ sender_number new.senders name
+    → record { sender = sender; number = old.arrivals; msg = value } ≡ arriving (sighted s (arrive name value)) name value
 envelope_is old new s name value sender come sighting number =
-    let sent : sender ≡ sender_number (seen s.senders name) name =
-    number ∙ ap (λ n. sender_number n name) (sighting ∙ ap (λ n. seen n name) come.senders) in
+    let sent : sender ≡ sender_number (with_sender s.senders name) name =
+    number ∙ ap (λ n. sender_number n name) (sighting ∙ ap (λ n. with_sender n name) come.senders) in
     ap (λ n. record { sender = n; number = old.arrivals; msg = value }) sent
-    ∙ ap (λ n. record { sender = sender_number (seen s.senders name) name; number = n; msg = value }) come.counted
+    ∙ ap (λ n. record { sender = sender_number (with_sender s.senders name) name; number = n; msg = value }) come.counted
 
 -- an arrival
 pub carries_arrive : (old new : Engine) (name : List ℕ) (value : ℤ) (sender : ℕ)
-    → new.senders ≡ seen old.senders name → sender ≡ sender_number new.senders name
+    → new.senders ≡ with_sender old.senders name → sender ≡ sender_number new.senders name
     → AtHistory old.queue (λ h. StandsFor new.queue (h ++ event.Arrive (record { sender = sender; number = old.arrivals; msg = value }) ∷ []))
     → string_bytes new.answers ≡ string_bytes old.answers ++ codes "queued\n"
     → length new.senders ≤ length old.senders + 1 → new.arrivals ≡ old.arrivals + 1
@@ -148,7 +148,7 @@ carries_arrive old new name value sender sighting number queue text few more =
     let line : Line = arrive name value in
     record {
       progress = λ s come.
-          let env : Env ℤ = envelope (sighted s line) name value in
+          let env : Env ℤ = arriving (sighted s line) name value in
           record {
             senders = seen_by old new line s come sighting;
             queue =

@@ -4,18 +4,19 @@ use Rattle.std.specs.Prelude.{ℤ, ◌&&◌, IfSome, option_and_then, if◌then�
 use Rattle.std.specs.Option.{option_to_list}
 use Rattle.std.specs.Cmp.{signed_Decides}
 use Rattle.std.proofs.lemmas.Bool.{eqb-true}
-use Rattle.tp_queue.specs.declared.event.Env.{Env}
-use Rattle.tp_queue.specs.declared.event.Event.{Event}
-use Rattle.tp_queue.specs.declared.event.Event.TheVariants as event
-use Rattle.tp_queue.specs.declared.event.TriggerAnswer.TheVariants as answer
+use Rattle.tp_event.specs.declared.event.Env.{Env}
+use Rattle.tp_event.specs.declared.event.Event.{Event}
+use Rattle.tp_event.specs.declared.event.Event.TheVariants as event
+use Rattle.tp_event.specs.declared.event.TriggerAnswer.TheVariants as answer
 use Rattle.tp_port.specs.declared.pattern.Pattern.{Pattern}
 use Rattle.tp_port.specs.declared.pattern.Pattern.TheVariants as pattern
 use Rattle.tp_queue.specs.History.{top}
 use Rattle.tp_port.specs.Admits.{Admits}
-use Rattle.tp_queue.specs.Answers.{Satisfies, Finds, Checks, checked}
+use Rattle.tp_event.specs.Criteria.{Satisfies}
+use Rattle.tp_queue.specs.Answers.{Finds, Checks, checked}
 use Rattle.tp_queue.specs.Calls.{ReceivesFor, TriggersFor}
 use Rattle.tp_queue.specs.Queues.{QueueState, StandsFor}
-use Rattle.tp_port.specs.Replay.{is_wanted, is_from, meets, found}
+use Rattle.tp_port.specs.Replay.{is_admitted, is_from, meets, found}
 
 both : (a b : Bool) → a ≡ true → b ≡ true → (a && b) ≡ true
 both a b e f = ap (λ x. x && b) e ∙ f
@@ -24,11 +25,11 @@ each : (a b : Bool) → (a && b) ≡ true → (a ≡ true) × (b ≡ true)
 each true b e = (refl, e)
 each false b e = absurd (cc)
 
-wanted_true : (value : Pattern) (n : ℤ) → Admits value n → is_wanted value n ≡ true
+wanted_true : (value : Pattern) (n : ℤ) → Admits value n → is_admitted value n ≡ true
 wanted_true pattern.Any n a = refl
 wanted_true (pattern.Number w) n a = (signed_Decides n w).1 a
 
-wanted_only : (value : Pattern) (n : ℤ) → is_wanted value n ≡ true → Admits value n
+wanted_only : (value : Pattern) (n : ℤ) → is_admitted value n ≡ true → Admits value n
 wanted_only pattern.Any n e = tt
 wanted_only (pattern.Number w) n e = (signed_Decides n w).0 e
 
@@ -41,11 +42,11 @@ from_only None sender e = tt
 from_only (Some s) sender e = eqb-true sender s e
 
 meets_true : (value : Pattern) (from : Option ℕ) (e : Env ℤ) → Satisfies (Admits value) from e → meets value from e ≡ true
-meets_true value from e s = both (is_wanted value e.msg) (is_from from e.sender) (wanted_true value e.msg s.0) (from_true from e.sender s.1)
+meets_true value from e s = both (is_admitted value e.msg) (is_from from e.sender) (wanted_true value e.msg s.0) (from_true from e.sender s.1)
 
 meets_only : (value : Pattern) (from : Option ℕ) (e : Env ℤ) → meets value from e ≡ true → Satisfies (Admits value) from e
 meets_only value from e h =
-    let p = each (is_wanted value e.msg) (is_from from e.sender) h in (wanted_only value e.msg p.0, from_only from e.sender p.1)
+    let p = each (is_admitted value e.msg) (is_from from e.sender) h in (wanted_only value e.msg p.0, from_only from e.sender p.1)
 
 not_true : (b : Bool) → (b ≡ true → ⊥) → b ≡ false
 not_true true n = absurd (n refl)

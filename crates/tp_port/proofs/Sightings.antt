@@ -4,7 +4,7 @@ use Rattle.std.specs.Prelude.{nat_eq, if◌then◌else◌}
 use Rattle.std.specs.List.{list_any, position_or_len}
 use Rattle.std.specs.Cmp.Lexicographic.{pointwise}
 use Rattle.std.specs.Cmp.Lexicographic.{nat_list_eq_equiv}
-use Rattle.tp_port.specs.Replay.{seen, sender_number}
+use Rattle.tp_port.specs.Replay.{with_sender, sender_number}
 
 any_map : {X Y : Type 0} (v : X → Y) (p : Y → Bool) (xs : List X) → list_any (λ x. p (v x)) xs ≡ list_any p (map v xs)
 any_map v p [] = refl
@@ -24,7 +24,7 @@ map_either v false xs x = map_push v xs x
 
 -- the names, once a key of this name is inserted
 pub seen_keys : {X : Type 0} (v : X → List ℕ) (keys : List X) (key : X)
-    → map v (if list_any (λ k. pointwise nat_eq (v key) (v k)) keys then keys else keys ++ key ∷ []) ≡ seen (map v keys) (v key)
+    → map v (if list_any (λ k. pointwise nat_eq (v key) (v k)) keys then keys else keys ++ key ∷ []) ≡ with_sender (map v keys) (v key)
 seen_keys v keys key =
     map_either v (list_any (λ k. pointwise nat_eq (v key) (v k)) keys) keys key
     ∙ ap (λ b. cond b (map v keys) (map v keys ++ v key ∷ [])) (any_map v (pointwise nat_eq (v key)) keys)
@@ -40,10 +40,10 @@ place_either true p names name e = refl
 place_either false p names name e = place_push p names name e
 
 -- a sender has its number from its first sight on
-pub number_seen : (senders : List (List ℕ)) (name : List ℕ) → sender_number (seen senders name) name ≡ sender_number senders name
+pub number_seen : (senders : List (List ℕ)) (name : List ℕ) → sender_number (with_sender senders name) name ≡ sender_number senders name
 number_seen senders name =
     place_either (list_any (pointwise nat_eq name) senders) (pointwise nat_eq name) senders name (nat_list_eq_equiv.refl name)
 
 pub number_key : {X : Type 0} (v : X → List ℕ) (keys : List X) (key : X)
-    → position_or_len (λ k. pointwise nat_eq (v key) (v k)) keys ≡ sender_number (seen (map v keys) (v key)) (v key)
+    → position_or_len (λ k. pointwise nat_eq (v key) (v k)) keys ≡ sender_number (with_sender (map v keys) (v key)) (v key)
 number_key v keys key = place_map v (pointwise nat_eq (v key)) keys ∙ sym (number_seen (map v keys) (v key))

@@ -12,7 +12,7 @@ use Rattle.tp_port.specs.declared.pattern.Pattern.TheVariants as pattern
 use Rattle.tp_port.specs.declared.command.Verb.{Verb}
 use Rattle.tp_port.specs.declared.command.Verb.TheVariants as verb
 use Rattle.tp_text.specs.Cutting.{lines_of}
-use Rattle.tp_port.specs.Line.{Line, arrive, receive, check, trigger, clear, start, stop, halt, Wish, IsWish, IsLine, PatternFits, Spells, Says, operands, verb_of, verb_text, pattern_text, from_words, wish_words}
+use Rattle.tp_port.specs.Line.{Line, arrive, receive, check, trigger, clear, start, stop, halt, Wish, IsWish, IsQueueLine, PatternFits, Spells, Says, operands, verb_of, verb_text, pattern_text, from_words, wish_words}
 
 -- from a verb's word back to the verb, by its first two bytes and its third
 abbrev verb_at : ℕ → ℕ → ℕ → Verb
@@ -84,14 +84,14 @@ same_wish a b p q e =
     ap (λ x. record { value = x; from = a.from }) (same_pattern a.value b.value p.0 q.0 v)
     ∙ ap (λ x. record { value = b.value; from = x }) (same_from a.from b.from f)
 
-same_arrival : (name word : List ℕ) (n m : ℤ) → IsLine (arrive name n) → IsLine (arrive word m)
+same_arrival : (name word : List ℕ) (n m : ℤ) → IsQueueLine (arrive name n) → IsQueueLine (arrive word m)
     → name ∷ signed_decimal n ∷ [] ≡ word ∷ signed_decimal m ∷ [] → arrive name n ≡ arrive word m
 same_arrival name word n m p q e =
     let w : name ≡ word = cc in
     let d : signed_decimal n ≡ signed_decimal m = cc in
     ap (λ x. arrive x n) w ∙ ap (arrive word) (same_signed n m p.1 q.1 d)
 
-same_line : (a b : Line) → verb_of a ≡ verb_of b → operands a ≡ operands b → IsLine a → IsLine b → a ≡ b
+same_line : (a b : Line) → verb_of a ≡ verb_of b → operands a ≡ operands b → IsQueueLine a → IsQueueLine b → a ≡ b
 same_line (arrive name n) (arrive word m) e f p q = same_arrival name word n m p q f
 same_line (arrive name n) (receive want) e f p q = absurd (cc)
 same_line (arrive name n) (check want) e f p q = absurd (cc)

@@ -7,7 +7,7 @@ use Rattle.tp_text.specs.Cutting.{lines_of}
 use Rattle.tp_port.specs.declared.replay.QueueFault.{QueueFault}
 use Rattle.tp_port.specs.declared.replay.QueueFault.TheVariants as queue_fault
 use Rattle.tp_port.specs.Line.{Line, Says, IsGood, IsFirstBad}
-use Rattle.tp_text.specs.Reading.{IsFull}
+use Rattle.tp_text.specs.Reading.{IsCapacity}
 use Rattle.tp_text.specs.declared.watched.Watched.{Watched}
 use Rattle.tp_text.specs.Watching.{Writes}
 use Rattle.tp_port.specs.Replay.{queue_text}
@@ -48,7 +48,7 @@ IsReadFaultOf text taken (queue_fault.BadLine n) = (length text ≤ 1048576) × 
 IsReadFaultOf text taken queue_fault.Read = taken ≤ 1048576
 IsReadFaultOf text taken queue_fault.Write = (length text ≤ 1048576) × All IsGood (lines_of text)
 IsReadFaultOf text taken queue_fault.Limit = (1048576 < length text) × (taken ≡ 1048577)
-IsReadFaultOf text taken queue_fault.Memory = (taken ≤ 1048576) × (IsFull taken ⊎ All IsGood (lines_of text))
+IsReadFaultOf text taken queue_fault.Memory = (taken ≤ 1048576) × (IsCapacity taken ⊎ All IsGood (lines_of text))
 
 -- the same of what the reader has, where that is known
 abbrev pub HasFault : Option (List ℕ) → Option (List ℕ) → QueueFault → Type 0

@@ -97,23 +97,23 @@ abbrev pub IsWish : Wish → Type 0
 IsWish wish = PatternFits wish.value × IfSome wish.from IsName
 
 -- an arrival's sender is a name, and its value has 64 signed bits
-abbrev pub IsArrival : List ℕ → ℤ → Type 0
-IsArrival name n = IsName name × FitsSigned w64 n
+abbrev pub IsArriveLine : List ℕ → ℤ → Type 0
+IsArriveLine name n = IsName name × FitsSigned w64 n
 
 -- names are names, and integers have 64 signed bits
-abbrev pub IsLine : Line → Type 0
-IsLine (arrive name n) = IsArrival name n
-IsLine (receive wish) = IsWish wish
-IsLine (check wish) = IsWish wish
-IsLine (trigger wish) = IsWish wish
-IsLine clear = Unit {0}
-IsLine start = Unit {0}
-IsLine stop = Unit {0}
-IsLine halt = Unit {0}
+abbrev pub IsQueueLine : Line → Type 0
+IsQueueLine (arrive name n) = IsArriveLine name n
+IsQueueLine (receive wish) = IsWish wish
+IsQueueLine (check wish) = IsWish wish
+IsQueueLine (trigger wish) = IsWish wish
+IsQueueLine clear = Unit {0}
+IsQueueLine start = Unit {0}
+IsQueueLine stop = Unit {0}
+IsQueueLine halt = Unit {0}
 
 -- the text says the line: its words are the line's, with one space between them and none elsewhere
 abbrev pub Spells : List ℕ → Line → Type 0
-Spells text line = (words_of text ≡ verb_text (verb_of line) ∷ operands line) × IsLine line
+Spells text line = (words_of text ≡ verb_text (verb_of line) ∷ operands line) × IsQueueLine line
 
 -- the text is a line of a queue file
 abbrev pub IsGood : List ℕ → Type 0

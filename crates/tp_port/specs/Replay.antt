@@ -5,9 +5,9 @@ use Rattle.std.specs.Cmp.Lexicographic.{pointwise}
 use Rattle.std.specs.Option.{option_to_list, option_map}
 use Rattle.std.specs.Ordering.{int_eq}
 use Rattle.std.specs.Fmt.{decimal, signed_decimal}
-use Rattle.tp_queue.specs.declared.event.Env.{Env}
-use Rattle.tp_queue.specs.declared.event.Event.{Event}
-use Rattle.tp_queue.specs.declared.event.Event.TheVariants as event
+use Rattle.tp_event.specs.declared.event.Env.{Env}
+use Rattle.tp_event.specs.declared.event.Event.{Event}
+use Rattle.tp_event.specs.declared.event.Event.TheVariants as event
 use Rattle.tp_port.specs.declared.pattern.Pattern.{Pattern}
 use Rattle.tp_port.specs.declared.pattern.Pattern.TheVariants as pattern
 use Rattle.tp_queue.specs.History.{accepted, queued, status_of, top}
@@ -20,16 +20,16 @@ pub record Progress : Type 0 where
   pub history : List (Event ℤ)
 
 -- the senders, once this name is seen
-abbrev pub seen : List (List ℕ) → List ℕ → List (List ℕ)
-seen senders name = if list_any (pointwise nat_eq name) senders then senders else senders ++ name ∷ []
+abbrev pub with_sender : List (List ℕ) → List ℕ → List (List ℕ)
+with_sender senders name = if list_any (pointwise nat_eq name) senders then senders else senders ++ name ∷ []
 
 abbrev pub seen_if : List (List ℕ) → Option (List ℕ) → List (List ℕ)
 seen_if senders None = senders
-seen_if senders (Some name) = seen senders name
+seen_if senders (Some name) = with_sender senders name
 
 -- the senders, once this line is seen
 abbrev pub seen_in : List (List ℕ) → Line → List (List ℕ)
-seen_in senders (arrive name n) = seen senders name
+seen_in senders (arrive name n) = with_sender senders name
 seen_in senders (receive wish) = seen_if senders wish.from
 seen_in senders (check wish) = seen_if senders wish.from
 seen_in senders (trigger wish) = seen_if senders wish.from
@@ -44,12 +44,12 @@ abbrev pub sender_name : List (List ℕ) → ℕ → List ℕ
 sender_name senders number = unwrap_or (slice_get senders number) []
 
 -- the envelope of an `arrive`: its number is that of the `arrive` lines before it
-abbrev pub envelope : Progress → List ℕ → ℤ → Env ℤ
-envelope s name n = record { sender = sender_number s.senders name; number = length (accepted s.history); msg = n }
+abbrev pub arriving : Progress → List ℕ → ℤ → Env ℤ
+arriving s name n = record { sender = sender_number s.senders name; number = length (accepted s.history); msg = n }
 
-abbrev pub is_wanted : Pattern → ℤ → Bool
-is_wanted pattern.Any n = true
-is_wanted (pattern.Number wanted) n = int_eq n wanted
+abbrev pub is_admitted : Pattern → ℤ → Bool
+is_admitted pattern.Any n = true
+is_admitted (pattern.Number wanted) n = int_eq n wanted
 
 abbrev pub is_from : Option ℕ → ℕ → Bool
 is_from None sender = true
@@ -57,7 +57,7 @@ is_from (Some wanted) sender = sender == wanted
 
 -- the envelope has a wanted value, and comes from the wanted sender, if one is named
 abbrev pub meets : Pattern → Option ℕ → Env ℤ → Bool
-meets value from e = is_wanted value e.msg && is_from from e.sender
+meets value from e = is_admitted value e.msg && is_from from e.sender
 
 -- the envelope that a receiving operation succeeds with: the top, if it is wanted
 abbrev pub found : Pattern → Option ℕ → List (Event ℤ) → Option (Env ℤ)
@@ -77,7 +77,7 @@ triggered false e = event.Dropped e
 
 -- the events of a line, none or one, where its senders are seen already
 abbrev pub events_of : Progress → Line → List (Event ℤ)
-events_of s (arrive name n) = event.Arrive (envelope s name n) ∷ []
+events_of s (arrive name n) = event.Arrive (arriving s name n) ∷ []
 events_of s (receive wish) = map event.Took (option_to_list (found_in s wish))
 events_of s (check wish) = map event.Found (option_to_list (found_in s wish))
 events_of s (trigger wish) =

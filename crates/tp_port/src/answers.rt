@@ -7,7 +7,7 @@ ghost use Rattle.std.specs.Prelude.{slice_get};
 
 use crate::senders::Senders;
 use itoa::Buffer;
-use tp_queue::event::Env;
+use tp_event::event::Env;
 use tp_queue::queue::Queue;
 use tp_refusal::memory::Memory;
 

@@ -5,11 +5,11 @@ ghost use Rattle.std.specs.List.{list_all};
 ghost use Rattle.std.specs.Char.{is_ascii_alphanumeric};
 ghost use Rattle.std.specs.Fmt.{signed_decimal};
 ghost use Rattle.tp_text.specs.Cutting.{words_of};
-ghost use Rattle.tp_port.specs.Line.{BeginsAsInteger, IsArrival, IsGood, SaysOneAtMost, IsName, IsWish, PatternFits, Spells, arrival_words, operands, pattern_text, verb_of, verb_text, wish_words};
+ghost use Rattle.tp_port.specs.Line.{BeginsAsInteger, IsArriveLine, IsGood, SaysOneAtMost, IsName, IsWish, PatternFits, Spells, arrival_words, operands, pattern_text, verb_of, verb_text, wish_words};
 ghost use Rattle.tp_port.specs.Command.{IsRead, line_of, wish_of, words_left};
 
 use crate::pattern::Pattern;
-use tp_text::cut::{first_word, text_of};
+use tp_text::cut::{first_word, utf8_text};
 
 /// The most letters and digits that a name has.
 pub const NAME_LIMIT: usize = 20;
@@ -110,7 +110,7 @@ fn name_of(word: &[u8]) -> Option<&str>
         (¬ IsName word.now)
         (λ name. (name.now ≡ word.now) × IsName word.now) }
 {
-    if is_name(word) { text_of(word) } else { None }
+    if is_name(word) { utf8_text(word) } else { None }
 }
 
 /// Whether a word begins as an integer in decimal does, with a digit from 1 to 9, before which a
@@ -129,7 +129,7 @@ fn parse_integer(word: &[u8]) -> Option<i64>
     ensures every { (n : ℤ) → FitsSigned w64 n → word.now ≡ signed_decimal n → result ≡ Some n }
     ensures decimal { IfSome result (λ n. BeginsAsInteger word.now → word.now ≡ signed_decimal n) }
 {
-    let text = text_of(word)?;
+    let text = utf8_text(word)?;
     text.parse::<i64>().ok()
 }
 
@@ -209,8 +209,9 @@ fn criteria_of(words: Option<&[u8]>) -> Option<Criteria<'_>>
 /// The sender and the value of an arrival.
 fn arrival_of(words: Option<&[u8]>) -> Option<(&str, i64)>
     ensures { MatchOption result
-        ((name : _) (n : ℤ) → IsArrival name n → words_left words.entry ≡ arrival_words name n → ⊥)
-        (λ a. IsArrival a.0.now a.1 × (words_left words.entry ≡ arrival_words a.0.now a.1)) }
+        ((name : _) (n : ℤ) → IsArriveLine name n
+        → words_left words.entry ≡ arrival_words name n → ⊥)
+        (λ a. IsArriveLine a.0.now a.1 × (words_left words.entry ≡ arrival_words a.0.now a.1)) }
 {
     let (word, rest) = first_word(words?);
     let sender = name_of(word)?;

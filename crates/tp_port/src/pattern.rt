@@ -1,5 +1,5 @@
 //! The wanted part of a receiving operation in a queue file.
-use tp_queue::payload::Wanted;
+use tp_event::payload::Wanted;
 
 /// Which integers are wanted.
 #[derive(Clone, Copy)]

@@ -1,6 +1,6 @@
 //! A queue file, read, carried out and answered.
 ghost use Rattle.std.specs.Prelude.{◌≡◌, ◌<◌, ◌≤◌, ◌↔◌, length, All, IsErrOf, IfErr, IfOk, IfSome, List, MatchOption, OnOk, Some, false, string_bytes};
-ghost use Rattle.tp_text.specs.Watching.{HasFailed, left_in};
+ghost use Rattle.tp_text.specs.Watching.{HasFailed, reader_left};
 ghost use Rattle.tp_text.specs.Cutting.{lines_of};
 ghost use Rattle.tp_port.specs.Faults.{HasFault, IsFaultOf, IsRefusedFor, IsReplayed};
 ghost use Rattle.tp_port.specs.Line.{IsFirstBad, IsGood, Line, Says};
@@ -151,15 +151,15 @@ pub fn replay<R: Read, W: Write>(
     writer: &mut Watched<W>,
 ) -> Result<(), QueueFault>
     ensures written { OnOk result
-        (IsReplayed W.contents (left_in R.remaining reader.old) writer.old writer.new) }
+        (IsReplayed W.contents (reader_left R.remaining reader.old) writer.old writer.new) }
     ensures well { OnOk result (writer.new.failed ≡ false) }
     ensures short { OnOk result
-        (IfSome (left_in R.remaining reader.old) (λ text. length text ≤ 1048576)) }
+        (IfSome (reader_left R.remaining reader.old) (λ text. length text ≤ 1048576)) }
     ensures fault { IfErr result
-        (HasFault (left_in R.remaining reader.old) (left_in R.remaining reader.new)) }
+        (HasFault (reader_left R.remaining reader.old) (reader_left R.remaining reader.new)) }
     ensures unread { IsErrOf result QueueFault.Read → HasFailed reader.new }
     ensures cut { IsErrOf result QueueFault.Write
-        → IsReplayed W.contents (left_in R.remaining reader.old) writer.old writer.new }
+        → IsReplayed W.contents (reader_left R.remaining reader.old) writer.old writer.new }
     ensures failed { IsErrOf result QueueFault.Write → HasFailed writer.new }
     ensures unwritten { IfErr result (λ fault.
         (fault ≡ QueueFault.Write → ⊥) → writer.new ≡ writer.old) }

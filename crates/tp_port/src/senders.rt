@@ -1,6 +1,6 @@
 //! The senders of a queue file.
 ghost use Rattle.std.specs.Prelude.{◌≡◌, ◌+◌, ◌<◌, ◌≤◌, ◌^◌, [], length, IfOk, OnOk};
-ghost use Rattle.tp_port.specs.Replay.{sender_name, sender_number, seen, seen_if};
+ghost use Rattle.tp_port.specs.Replay.{sender_name, sender_number, with_sender, seen_if};
 ghost use Rattle.std.specs.Option.{option_copied, option_map};
 
 use indexmap::IndexSet;
@@ -35,7 +35,7 @@ impl<'t> Senders<'t> {
     /// The number of the sender of this name, which is seen from now on.
     pub fn number(&mut self, name: &'t str) -> Result<u32, Memory>
         requires { length self.old < 2 ^ 32 }
-        ensures seen { OnOk result (self.new ≡ seen self.old name.now) }
+        ensures seen { OnOk result (self.new ≡ with_sender self.old name.now) }
         ensures number { IfOk result (λ number. number ≡ sender_number self.new name.now) }
         ensures few { OnOk result (length self.new ≤ length self.old + 1) }
     {

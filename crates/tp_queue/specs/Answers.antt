@@ -1,17 +1,14 @@
 -- What the calls of a queue answer.
-use Rattle.std.specs.Prelude.{◌≡◌, ℕ, Option, Some, None, List, [], ◌∷◌, ◌++◌, length, IfSome, Bool, true, false}
-use Rattle.tp_queue.specs.declared.event.Env.{Env}
-use Rattle.tp_queue.specs.declared.event.Event.{Event}
-use Rattle.tp_queue.specs.declared.event.Event.TheVariants as event
-use Rattle.tp_queue.specs.declared.event.TriggerAnswer.{TriggerAnswer}
-use Rattle.tp_queue.specs.declared.event.TriggerAnswer.TheVariants as trigger_answer
-use Rattle.tp_queue.specs.declared.event.Status.{Status}
-use Rattle.tp_queue.specs.declared.event.Status.TheVariants as status
+use Rattle.std.specs.Prelude.{◌≡◌, ℕ, Option, Some, None, List, [], ◌∷◌, ◌++◌, length, Bool, true, false}
+use Rattle.tp_event.specs.declared.event.Env.{Env}
+use Rattle.tp_event.specs.declared.event.Event.{Event}
+use Rattle.tp_event.specs.declared.event.Event.TheVariants as event
+use Rattle.tp_event.specs.declared.event.TriggerAnswer.{TriggerAnswer}
+use Rattle.tp_event.specs.declared.event.TriggerAnswer.TheVariants as trigger_answer
+use Rattle.tp_event.specs.declared.event.Status.{Status}
+use Rattle.tp_event.specs.declared.event.Status.TheVariants as status
+use Rattle.tp_event.specs.Criteria.{Satisfies}
 use Rattle.tp_queue.specs.History.{top, queued}
-
--- the envelope is admitted, and comes from the named sender, if one is named
-abbrev pub Satisfies : {M : Type 0} → (M → Type 0) → Option ℕ → Env M → Type 0
-Satisfies admits from e = admits e.msg × IfSome from (λ sender. e.sender ≡ sender)
 
 -- a receiving operation succeeds with this envelope
 abbrev pub Finds : {M : Type 0} → (M → Type 0) → Option ℕ → List (Event M) → Env M → Type 0

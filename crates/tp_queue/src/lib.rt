@@ -1,7 +1,4 @@
-//! The queue of one message port: its events, what is queued, and what can be received.
+//! The queue of one message port: what is queued, and what can be received.
 #![tactic(auto)]
 
-pub mod event;
-pub mod operation;
-pub mod payload;
 pub mod queue;

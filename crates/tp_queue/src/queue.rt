@@ -1,18 +1,18 @@
 //! The queue of a message port, which keeps no history.
 ghost use Rattle.std.specs.Prelude.{◌≡◌, ◌↔◌, ◌≤◌, ◌∷◌, ◌++◌, [], IfErr, IsTrue, OnOk, length, slice_get};
 ghost use Rattle.std.specs.Option.{option_copied};
-ghost use Rattle.tp_queue.specs.declared.event.Event.TheVariants as event;
-ghost use Rattle.tp_queue.specs.declared.event.Status.TheVariants as status;
+ghost use Rattle.tp_event.specs.declared.event.Event.TheVariants as event;
+ghost use Rattle.tp_event.specs.declared.event.Status.TheVariants as status;
 ghost use Rattle.tp_queue.specs.History.{gone, limit, queued, status_of, top};
 ghost use Rattle.tp_queue.specs.Answers.{Checks, checked, halted_count};
 ghost use Rattle.tp_queue.specs.Calls.{Offers, ReceivesFor, TakesOut, TriggersFor};
 ghost use Rattle.tp_queue.specs.Queues.{AtHistory, HasHistory, StandsFor};
 
-use crate::event::{Env, Status, TriggerAnswer};
-use crate::payload::Wanted;
 use std::alloc::Global;
 use std::collections::VecDeque;
 use std::marker::Model;
+use tp_event::event::{Env, Status, TriggerAnswer};
+use tp_event::payload::Wanted;
 use tp_refusal::memory::Memory;
 
 /// The queue of one message port (ES 201 873-1, 9.1; ES 201 873-4, port states), seen by contracts

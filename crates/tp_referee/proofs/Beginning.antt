@@ -5,7 +5,7 @@ use Rattle.tp_trace.specs.Line.{Told, begins, passed, operated, otherwise, noted
 use Rattle.tp_trace.specs.Tree.{names_of}
 use Rattle.tp_referee.specs.declared.tables.Tables.{Tables}
 use Rattle.tp_referee.specs.Kept.{Keeps}
-use Rattle.tp_referee.specs.Numbering.{IsComponent}
+use Rattle.tp_referee.specs.Numbering.{IsComponentNumber}
 use Rattle.tp_referee.specs.Turns.{IsBegunBy, is_beginning}
 
 -- how many sections these lines begin
@@ -58,7 +58,7 @@ there (ended words ∷ tolds) (suc place) name at = there tolds place name at
 there (resulted word ∷ tolds) (suc place) name at = there tolds place name at
 
 pub begun_there : (t : Tables) (tolds : List Told) (place begun : ℕ) (told : Told) → slice_get tolds place ≡ Some told
-    → begun ≡ begun_by (take place tolds) → Keeps (names_of tolds) t.components → IsBegunBy told (IsComponent t begun)
+    → begun ≡ begun_by (take place tolds) → Keeps (names_of tolds) t.components → IsBegunBy told (IsComponentNumber t begun)
 begun_there t tolds place begun (begins name) at is kept =
     kept begun name (ap (slice_get (names_of tolds)) is ∙ there tolds place name at)
 begun_there t tolds place begun (passed fate letter) at is kept = tt

@@ -3,17 +3,17 @@ use Rattle.std.proofs.Common.{◌≡◌, ℕ, ◌+◌, ◌<◌, ◌≤◌, Some,
 use Rattle.std.specs.List.{AllZip}
 use Rattle.std.proofs.lemmas.Option.{slice_get_within, slice_get-get_or}
 use Rattle.indexmap.specs.IndexSet.{insert_key}
-use Rattle.tp_trace.specs.declared.line.Fate.{Fate}
-use Rattle.tp_trace.specs.declared.line.Fate.TheVariants as fate
+use Rattle.tp_trace.specs.declared.line.MessageVerb.{MessageVerb}
+use Rattle.tp_trace.specs.declared.line.MessageVerb.TheVariants as fate
 use Rattle.tp_trace.specs.Line.{Letter, Told, begins, passed, operated, otherwise, noted, ended, resulted}
 use Rattle.tp_judge.specs.declared.line.Mention.{Mention}
 use Rattle.tp_judge.specs.declared.line.Act.{Act}
-use Rattle.tp_judge.specs.declared.line.Line.{Line}
+use Rattle.tp_judge.specs.declared.line.IndexedLine.{IndexedLine}
 use Rattle.tp_referee.specs.declared.tables.PortKey.{PortKey}
 use Rattle.tp_referee.specs.declared.tables.Tables.{Tables}
 use Rattle.tp_referee.specs.Kept.{Keeps}
-use Rattle.tp_referee.specs.Numbering.{IsAct, IsLine, IsMention, IsPassed, IsPort, Stand, receiver_of}
-use Rattle.tp_referee.specs.Turns.{Grows, IsWhole}
+use Rattle.tp_referee.specs.Numbering.{IsAct, IsLine, IsMention, IsPassed, IsPortNumber, Stand, receiver_of}
+use Rattle.tp_referee.specs.Turns.{KeepsNumbers, IsWhole}
 use Rattle.tp_referee.proofs.Apart.{port_eq}
 use Rattle.tp_referee.proofs.Keeping.{key_at}
 use Rattle.tp_referee.proofs.Zips.{zip_weaker}
@@ -32,7 +32,7 @@ whole_more t key whole low k port e =
     ]
 
 -- the receiver is one of the two
-pub receiver_below : (f : Fate) (here other n : ℕ) → here < n → other < n → receiver_of f here other < n
+pub receiver_below : (f : MessageVerb) (here other n : ℕ) → here < n → other < n → receiver_of f here other < n
 receiver_below fate.Sent here other n h o = o
 receiver_below fate.Came here other n h o = h
 receiver_below fate.Took here other n h o = h
@@ -40,7 +40,7 @@ receiver_below fate.Found here other n h o = h
 receiver_below fate.Dropped here other n h o = h
 receiver_below fate.Left here other n h o = h
 
-pub Grows-none : (t : Tables) → Grows 0 t t
+pub Grows-none : (t : Tables) → KeepsNumbers 0 t t
 Grows-none t = record {
   components = λ k x e. e;
   names = λ k x e. e;
@@ -50,7 +50,7 @@ Grows-none t = record {
   few = omega arith;
 }
 
-pub Grows-then : (j k n : ℕ) (a b c : Tables) → j + k ≤ n → Grows j a b → Grows k b c → Grows n a c
+pub Grows-then : (j k n : ℕ) (a b c : Tables) → j + k ≤ n → KeepsNumbers j a b → KeepsNumbers k b c → KeepsNumbers n a c
 Grows-then j k n a b c within g h = record {
   components = λ i x e. h.components i x (g.components i x e);
   names = λ i x e. h.names i x (g.names i x e);
@@ -60,11 +60,11 @@ Grows-then j k n a b c within g h = record {
   few = omega (arith, g.few, h.few, within);
 }
 
-pub Grows-weaker : (j n : ℕ) (a b : Tables) → j ≤ n → Grows j a b → Grows n a b
+pub Grows-weaker : (j n : ℕ) (a b : Tables) → j ≤ n → KeepsNumbers j a b → KeepsNumbers n a b
 Grows-weaker j n a b within g = Grows-then j 0 n a b b (omega (arith, within)) g (Grows-none b)
 
-module _ (n : ℕ) (old new : Tables) (g : Grows n old new) where
-  pub port_grows : (port component : ℕ) (name : List ℕ) → IsPort old port component name → IsPort new port component name
+module _ (n : ℕ) (old new : Tables) (g : KeepsNumbers n old new) where
+  pub port_grows : (port component : ℕ) (name : List ℕ) → IsPortNumber old port component name → IsPortNumber new port component name
   port_grows port component name p = record { word = p.word; there = g.ports _ _ p.there; named = g.names _ _ p.named }
 
   pub mention_grows : (sender receiver : ℕ) (letter : Letter) (m : Mention) → IsMention old sender receiver letter m → IsMention new sender receiver letter m
@@ -75,7 +75,7 @@ module _ (n : ℕ) (old new : Tables) (g : Grows n old new) where
     message = g.messages _ _ h.message;
   }
 
-  passed_grows : (here : ℕ) (fate : Fate) (letter : Letter) (a : Act) → IsPassed old here fate letter a → IsPassed new here fate letter a
+  passed_grows : (here : ℕ) (fate : MessageVerb) (letter : Letter) (a : Act) → IsPassed old here fate letter a → IsPassed new here fate letter a
   passed_grows here fate letter a h = record {
     mention = h.mention;
     is = h.is;
@@ -93,12 +93,12 @@ module _ (n : ℕ) (old new : Tables) (g : Grows n old new) where
   act_grows here (ended words) a h = h
   act_grows here (resulted word) a h = h
 
-  line_grows : (stand : Stand) (line : Line) → IsLine old stand line → IsLine new stand line
+  line_grows : (stand : Stand) (line : IndexedLine) → IsLine old stand line → IsLine new stand line
   line_grows stand line h = record {
     number = h.number;
     section = g.components _ _ h.section;
     says = act_grows line.component stand.told line.act h.says;
   }
 
-  pub lines_grow : (stands : List Stand) (lines : List Line) → AllZip (IsLine old) stands lines → AllZip (IsLine new) stands lines
+  pub lines_grow : (stands : List Stand) (lines : List IndexedLine) → AllZip (IsLine old) stands lines → AllZip (IsLine new) stands lines
   lines_grow = zip_weaker (IsLine old) (IsLine new) line_grows

@@ -4,19 +4,19 @@ use Rattle.std.specs.Prelude.{◌↔◌, IsTrue}
 use Rattle.std.proofs.lemmas.Option.{same_Some}
 use Rattle.tp_trace.specs.Line.{Told}
 use Rattle.tp_trace.specs.Tree.{names_of}
-use Rattle.tp_judge.specs.declared.trace.Trace.{Trace}
+use Rattle.tp_judge.specs.declared.trace.IndexedTrace.{IndexedTrace}
 use Rattle.tp_referee.specs.declared.tables.PortKey.{PortKey}
 use Rattle.tp_referee.specs.declared.tables.Tables.{Tables}
-use Rattle.tp_referee.specs.Numbering.{AreJoined, IsComponent}
+use Rattle.tp_referee.specs.Numbering.{AreJoined, IsComponentNumber}
 use Rattle.tp_referee.specs.Joining.{AreJoinedBy, AreSections, IsJoinedBy}
 use Rattle.tp_referee.proofs.Keeping.{at_view}
 use Rattle.tp_referee.proofs.Zips.{zip_get}
 
-module _ (tolds : List Told) (t : Tables) (trace : Trace) (sections : List Bool)
+module _ (tolds : List Told) (t : Tables) (trace : IndexedTrace) (sections : List Bool)
     (are : AreSections tolds t.components sections)
     (owned : trace.owners.items ≡ map (λ (p : PortKey). p.component) t.ports.keys)
     (routed : AreJoinedBy trace.owners.items sections t.routes.keys trace.joined.items) where
-  has : (c : ℕ) (name : List ℕ) → IsComponent t c name → (slice_get sections c ≡ Some true) ↔ Contains (names_of tolds) name
+  has : (c : ℕ) (name : List ℕ) → IsComponentNumber t c name → (slice_get sections c ≡ Some true) ↔ Contains (names_of tolds) name
   has c name is =
       let s = zip_get (λ n flag. IsTrue flag ↔ Contains (names_of tolds) n) t.components sections c name are is in
       (λ e. s.2.0 (same_Some s.0 true (sym s.1 ∙ e)), λ h. s.1 ∙ ap Some (s.2.1 h))

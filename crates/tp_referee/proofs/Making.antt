@@ -2,11 +2,11 @@
 use Rattle.std.proofs.Common.{◌≡◌, ◌+◌, ◌≤◌, Bool, List, length, map}
 use Rattle.std.specs.List.{AllZip}
 use Rattle.tp_trace.specs.Line.{Told}
-use Rattle.tp_judge.specs.declared.trace.Trace.{Trace}
-use Rattle.tp_judge.specs.Lawful.{AreRouted, AreWithin}
+use Rattle.tp_judge.specs.declared.trace.IndexedTrace.{IndexedTrace}
+use Rattle.tp_judge.specs.Lawful.{AreLinesRouted, AreWithin}
 use Rattle.tp_referee.specs.declared.tables.PortKey.{PortKey}
 use Rattle.tp_referee.specs.declared.tables.Tables.{Tables}
-use Rattle.tp_referee.specs.Numbering.{AreDistinct, IsLine, IsNumberingOf, stands_of}
+use Rattle.tp_referee.specs.Numbering.{AreTablesDistinct, IsLine, IsNumberingOf, stands_of}
 use Rattle.tp_referee.specs.Joining.{AreJoinedBy, AreSections}
 use Rattle.tp_referee.specs.Turns.{IsWhole}
 use Rattle.tp_referee.proofs.Joined.{joined_routes}
@@ -15,9 +15,9 @@ use Rattle.tp_referee.proofs.Within.{numbering_within}
 use Rattle.tp_referee.proofs.Zips.{zip_length}
 
 -- what the functions have made of these lines
-pub record Made (tolds : List Told) (t : Tables) (sections : List Bool) (trace : Trace) : Type 0 where
+pub record Made (tolds : List Told) (t : Tables) (sections : List Bool) (trace : IndexedTrace) : Type 0 where
   pub few : length tolds ≤ 268435456
-  pub distinct : AreDistinct t
+  pub distinct : AreTablesDistinct t
   pub whole : IsWhole t
   pub lines : AllZip (IsLine t) (stands_of tolds) trace.lines.items
   pub sections_are : AreSections tolds t.components sections
@@ -26,7 +26,7 @@ pub record Made (tolds : List Told) (t : Tables) (sections : List Bool) (trace :
   pub components : trace.components ≡ length t.components
   pub numbers : trace.numbers ≡ length tolds + 1
 
-module _ (tolds : List Told) (t : Tables) (sections : List Bool) (trace : Trace) (m : Made tolds t sections trace) where
+module _ (tolds : List Told) (t : Tables) (sections : List Bool) (trace : IndexedTrace) (m : Made tolds t sections trace) where
   abbrev numbered : IsNumberingOf tolds trace
   numbered = record {
     tables = t;
@@ -45,5 +45,5 @@ module _ (tolds : List Told) (t : Tables) (sections : List Bool) (trace : Trace)
   pub made_within : AreWithin trace
   made_within = numbering_within tolds trace m.few numbered m.whole
 
-  pub made_routed : AreRouted trace
+  pub made_routed : AreLinesRouted trace
   made_routed = numbering_routed tolds trace numbered

@@ -3,19 +3,19 @@ use Rattle.std.proofs.Common.{◌≡◌, ◌≢◌, inl, inr, ℕ, Option, Some,
 use Rattle.std.specs.Prelude.{◌↔◌, AllPairs}
 use Rattle.std.proofs.lemmas.Bool.{cases_lt}
 use Rattle.std.proofs.lemmas.Option.{same_Some, slice_get_within, get_or_from_slice_get}
-use Rattle.tp_queue.specs.declared.operation.PortOperation.{PortOperation}
-use Rattle.tp_queue.specs.declared.operation.PortOperation.TheVariants as operation
-use Rattle.tp_trace.specs.declared.line.Fate.{Fate}
-use Rattle.tp_trace.specs.declared.line.Fate.TheVariants as fate
+use Rattle.tp_event.specs.declared.operation.PortOperation.{PortOperation}
+use Rattle.tp_event.specs.declared.operation.PortOperation.TheVariants as operation
+use Rattle.tp_trace.specs.declared.line.MessageVerb.{MessageVerb}
+use Rattle.tp_trace.specs.declared.line.MessageVerb.TheVariants as fate
 use Rattle.tp_trace.specs.Line.{Letter, Told, begins, passed, operated, otherwise, noted, ended, resulted}
 use Rattle.tp_judge.specs.declared.line.Act.{Act}
 use Rattle.tp_judge.specs.declared.line.Mention.{Mention}
-use Rattle.tp_judge.specs.declared.line.Line.{Line}
+use Rattle.tp_judge.specs.declared.line.IndexedLine.{IndexedLine}
 use Rattle.tp_referee.specs.declared.tables.PortKey.{PortKey}
 use Rattle.tp_referee.specs.declared.tables.RouteKey.{RouteKey}
 use Rattle.tp_referee.specs.declared.tables.Tables.{Tables}
-use Rattle.tp_referee.specs.Numbering.{AreDistinct, IsAct, IsComponent, IsLine, IsMention, IsPort, Stand, act_of, operation_act, receiver_of, sender_of, stands_of}
-use Rattle.tp_referee.specs.OneToOne.{AreAlike, IsOneToOne, PortName, RouteName, mention_of, message_of, port_in, port_of, route_in, route_of, text_in}
+use Rattle.tp_referee.specs.Numbering.{AreTablesDistinct, IsAct, IsComponentNumber, IsLine, IsMention, IsPortNumber, Stand, act_of, operation_act, receiver_of, sender_of, stands_of}
+use Rattle.tp_referee.specs.OneToOne.{AreNumberedAlike, IsOneToOne, PortName, RouteName, mention_of, message_number, port_in_line, port_of_act, route_in, route_of, message_named}
 use Rattle.tp_referee.proofs.Zips.{zip_get}
 
 -- what stands twice stands at one place
@@ -55,14 +55,14 @@ module _ {N : Type 0} (Is : ℕ → N → Type 0) (one : (p q : ℕ) (a : N) →
     λ e. ap Some (one p q a h (subst (Is q) (sym (same_Some a b e)) k)),
   )
 
-module _ (t : Tables) (d : AreDistinct t) where
+module _ (t : Tables) (d : AreTablesDistinct t) where
   one_in : {X : Type 0} (xs : List X) (p : ℕ) (a b : X) → slice_get xs p ≡ Some a → slice_get xs p ≡ Some b → a ≡ b
   one_in xs p a b e f = same_Some a b (sym e ∙ f)
 
   record PortIs (p : ℕ) (a : PortName) : Type 0 where
     component : ℕ
-    known : IsComponent t component a.component
-    port : IsPort t p component a.name
+    known : IsComponentNumber t component a.component
+    port : IsPortNumber t p component a.name
 
   ports_one : (p q : ℕ) (a : PortName) → PortIs p a → PortIs q a → p ≡ q
   ports_one p q a h k =
@@ -84,7 +84,7 @@ module _ (t : Tables) (d : AreDistinct t) where
   record RouteIs (r : ℕ) (a : RouteName) : Type 0 where
     sender : ℕ
     port : ℕ
-    from : IsComponent t sender a.sender
+    from : IsComponentNumber t sender a.sender
     to : PortIs port a.port
     there : slice_get t.routes.keys r ≡ Some (record { sender = sender; port = port })
 
@@ -125,11 +125,11 @@ module _ (t : Tables) (d : AreDistinct t) where
 
   -- what a line in numbers mentions is what it names
   record Says (here : List ℕ) (told : Told) (a : Act) : Type 0 where
-    ports : Ports (port_of a) (port_in here told)
+    ports : Ports (port_of_act a) (port_in_line here told)
     routes : Routes (route_of (mention_of a)) (route_in here told)
-    texts : Texts (message_of (mention_of a)) (text_in told)
+    texts : Texts (message_number (mention_of a)) (message_named told)
 
-  says_message : (c other : ℕ) (here : List ℕ) (f : Fate) (letter : Letter) (m : Mention) → IsComponent t c here → IsComponent t other letter.component
+  says_message : (c other : ℕ) (here : List ℕ) (f : MessageVerb) (letter : Letter) (m : Mention) → IsComponentNumber t c here → IsComponentNumber t other letter.component
       → IsMention t (sender_of f c other) (receiver_of f c other) letter m → Says here (passed f letter) (act_of f m)
   says_message c other here fate.Sent letter m h o is =
       let port : PortIs m.port (record { component = letter.component; name = letter.port }) = record { component = other; known = o; port = is.port } in
@@ -150,13 +150,13 @@ module _ (t : Tables) (d : AreDistinct t) where
       let port : PortIs m.port (record { component = here; name = letter.port }) = record { component = c; known = h; port = is.port } in
       record { ports = port; routes = record { sender = other; port = m.port; from = o; to = port; there = is.route }; texts = is.message }
 
-  says_operation : (c p : ℕ) (here name : List ℕ) (o : PortOperation) → IsComponent t c here → IsPort t p c name → Says here (operated o name) (operation_act o p)
+  says_operation : (c p : ℕ) (here name : List ℕ) (o : PortOperation) → IsComponentNumber t c here → IsPortNumber t p c name → Says here (operated o name) (operation_act o p)
   says_operation c p here name operation.Start h is = record { ports = record { component = c; known = h; port = is }; routes = tt; texts = tt }
   says_operation c p here name operation.Stop h is = record { ports = record { component = c; known = h; port = is }; routes = tt; texts = tt }
   says_operation c p here name operation.Halt h is = record { ports = record { component = c; known = h; port = is }; routes = tt; texts = tt }
   says_operation c p here name operation.Clear h is = record { ports = record { component = c; known = h; port = is }; routes = tt; texts = tt }
 
-  says_act : (c : ℕ) (here : List ℕ) (told : Told) (a : Act) → IsComponent t c here → IsAct t c told a → Says here told a
+  says_act : (c : ℕ) (here : List ℕ) (told : Told) (a : Act) → IsComponentNumber t c here → IsAct t c told a → Says here told a
   says_act c here (begins name) a h is = subst (Says here (begins name)) (sym is) (record { ports = tt; routes = tt; texts = tt })
   says_act c here (passed f letter) a h is =
       subst (Says here (passed f letter)) (sym is.is) (says_message c is.other here f letter is.mention h is.partner is.mentioned)
@@ -166,7 +166,7 @@ module _ (t : Tables) (d : AreDistinct t) where
   says_act c here (ended words) a h is = subst (Says here (ended words)) (sym is) (record { ports = tt; routes = tt; texts = tt })
   says_act c here (resulted word) a h is = subst (Says here (resulted word)) (sym is) (record { ports = tt; routes = tt; texts = tt })
 
-  lines_alike : (s u : Stand) (l m : Line) → IsLine t s l → IsLine t u m → AreAlike s u l m
+  lines_alike : (s u : Stand) (l m : IndexedLine) → IsLine t s l → IsLine t u m → AreNumberedAlike s u l m
   lines_alike s u l m h k =
       let a = says_act l.component s.component s.told l.act h.section h.says in
       let b = says_act m.component u.component u.told m.act k.section k.says in

@@ -2,22 +2,22 @@
 use Rattle.std.proofs.Common.{◌≡◌, ℕ, List, map, slice_get, ap, sym, ◌∙◌, subst}
 use Rattle.std.specs.Prelude.{slice_index}
 use Rattle.std.proofs.lemmas.Option.{get_or_from_slice_get}
-use Rattle.tp_queue.specs.declared.operation.PortOperation.{PortOperation}
-use Rattle.tp_queue.specs.declared.operation.PortOperation.TheVariants as operation
-use Rattle.tp_trace.specs.declared.line.Fate.{Fate}
-use Rattle.tp_trace.specs.declared.line.Fate.TheVariants as fate
+use Rattle.tp_event.specs.declared.operation.PortOperation.{PortOperation}
+use Rattle.tp_event.specs.declared.operation.PortOperation.TheVariants as operation
+use Rattle.tp_trace.specs.declared.line.MessageVerb.{MessageVerb}
+use Rattle.tp_trace.specs.declared.line.MessageVerb.TheVariants as fate
 use Rattle.tp_trace.specs.Line.{Letter, Told, begins, passed, operated, otherwise, noted, ended, resulted}
 use Rattle.tp_judge.specs.declared.line.Mention.{Mention}
 use Rattle.tp_judge.specs.declared.line.Act.{Act}
-use Rattle.tp_judge.specs.declared.trace.Trace.{Trace}
+use Rattle.tp_judge.specs.declared.trace.IndexedTrace.{IndexedTrace}
 use Rattle.tp_referee.specs.declared.tables.PortKey.{PortKey}
 use Rattle.tp_referee.specs.declared.tables.RouteKey.{RouteKey}
 use Rattle.tp_referee.specs.Numbering.{IsAct, IsMention, IsNumberingOf, act_of, operation_act, receiver_of, sender_of}
-use Rattle.tp_judge.specs.Lawful.{AreRouted, IsRouted, IsRoutedAct}
+use Rattle.tp_judge.specs.Lawful.{AreLinesRouted, IsRouted, IsRoutedAct}
 use Rattle.tp_referee.proofs.Keeping.{at_view}
 use Rattle.tp_referee.proofs.Within.{each_line}
 
-module _ (tolds : List Told) (trace : Trace) (h : IsNumberingOf tolds trace) where
+module _ (tolds : List Told) (trace : IndexedTrace) (h : IsNumberingOf tolds trace) where
   ends : List ℕ
   ends = map (λ (r : RouteKey). r.port) h.tables.routes.keys
 
@@ -35,7 +35,7 @@ module _ (tolds : List Told) (trace : Trace) (h : IsNumberingOf tolds trace) whe
   abbrev Routed : ℕ → Act → Type 0
   Routed c a = IsRoutedAct trace (map (λ (r : RouteKey). r.port) h.tables.routes.keys) c a
 
-  passing : (c other : ℕ) (f : Fate) (letter : Letter) (m : Mention) → IsMention h.tables (sender_of f c other) (receiver_of f c other) letter m
+  passing : (c other : ℕ) (f : MessageVerb) (letter : Letter) (m : Mention) → IsMention h.tables (sender_of f c other) (receiver_of f c other) letter m
       → Routed c (act_of f m)
   passing c other fate.Sent letter m is = end_of c other letter m is
   passing c other fate.Came letter m is = (end_of other c letter m is, owner_of other c letter m is)
@@ -59,7 +59,7 @@ module _ (tolds : List Told) (trace : Trace) (h : IsNumberingOf tolds trace) whe
   act_routed c (ended words) a is = subst (Routed c) (sym is) tt
   act_routed c (resulted word) a is = subst (Routed c) (sym is) tt
 
-  pub numbering_routed : AreRouted trace
+  pub numbering_routed : AreLinesRouted trace
   numbering_routed = record {
     ports = map (λ (r : RouteKey). r.port) h.tables.routes.keys;
     each = each_line tolds h.tables trace.lines.items h.lines (IsRouted trace (map (λ (r : RouteKey). r.port) h.tables.routes.keys))

@@ -3,24 +3,24 @@ use Rattle.std.proofs.Common.{◌≡◌, ℕ, zero, suc, ◌<◌, ◌≤◌, ◌
 use Rattle.std.specs.List.{AllZip}
 use Rattle.std.proofs.lemmas.List.Sums.{fold_push}
 use Rattle.std.proofs.lemmas.Option.{slice_get_within}
-use Rattle.tp_trace.specs.declared.form.Place.TheVariants as stand
+use Rattle.tp_trace.specs.declared.form.TracePosition.TheVariants as stand
 use Rattle.tp_trace.specs.Line.{Told, begins, passed, operated, otherwise, noted, ended, resulted}
-use Rattle.tp_trace.specs.Tree.{IsTrace, may_stand, names_of, place_behind, place_of}
-use Rattle.tp_judge.specs.declared.line.Line.{Line}
+use Rattle.tp_trace.specs.Tree.{IsTrace, may_stand, names_of, place_behind, place_after}
+use Rattle.tp_judge.specs.declared.line.IndexedLine.{IndexedLine}
 use Rattle.tp_referee.specs.declared.tables.Tables.{Tables}
 use Rattle.tp_referee.specs.Kept.{Keeps}
-use Rattle.tp_referee.specs.Numbering.{IsComponent, IsLine, Stand, stands_from, stands_of}
-use Rattle.tp_referee.specs.Turns.{Grows, IsAdded, IsInside, IsTurn, size}
+use Rattle.tp_referee.specs.Numbering.{IsComponentNumber, IsLine, Stand, stands_from, stands_of}
+use Rattle.tp_referee.specs.Turns.{KeepsNumbers, IsAdded, IsInside, IsTurn, size}
 use Rattle.tp_referee.proofs.Growing.{lines_grow}
 use Rattle.tp_referee.proofs.Zips.{drop_here, take_next, zip_push}
 
 -- the lines below this place are numbered, and where the next stands in a section, it is that of the component `here`
-pub record Numbered (tolds : List Told) (place : ℕ) (t : Tables) (here : ℕ) (lines : List Line) : Type 0 where
+pub record Numbered (tolds : List Told) (place : ℕ) (t : Tables) (here : ℕ) (lines : List IndexedLine) : Type 0 where
   pub done : List Stand
   pub name : List ℕ
   pub cut : stands_of tolds ≡ done ++ stands_from name (place + 1) (drop place tolds)
   pub zipped : AllZip (IsLine t) done lines
-  pub section : (told : Told) → slice_get tolds place ≡ Some told → IsInside told → IsComponent t here name
+  pub section : (told : Told) → slice_get tolds place ≡ Some told → IsInside told → IsComponentNumber t here name
   pub sections : Keeps (names_of tolds) t.components
   pub few : size t ≤ length tolds + 5 * place
 
@@ -43,13 +43,13 @@ names_few (noted n word ∷ tolds) = let few = names_few tolds in omega arith
 names_few (ended words ∷ tolds) = let few = names_few tolds in omega arith
 names_few (resulted word ∷ tolds) = let few = names_few tolds in omega arith
 
-pub Numbered-first : (tolds : List Told) (t : Tables) (here : ℕ) (lines : List Line) → IsTrace tolds → t.components ≡ names_of tolds
+pub Numbered-first : (tolds : List Told) (t : Tables) (here : ℕ) (lines : List IndexedLine) → IsTrace tolds → t.components ≡ names_of tolds
     → size t ≡ length (names_of tolds) → lines ≡ [] → Numbered tolds 0 t here lines
 Numbered-first tolds t here lines trace same none empty = record {
   done = [];
   name = [];
   cut = refl;
-  zipped = subst (λ (l : List Line). AllZip (IsLine t) [] l) (sym empty) tt;
+  zipped = subst (λ (l : List IndexedLine). AllZip (IsLine t) [] l) (sym empty) tt;
   section = λ told e inside. absurd (not_in_front told (trace 0 told e).fits inside);
   sections = subst (Keeps (names_of tolds)) (sym same) (λ k x e. e);
   few = let most = names_few tolds in omega (arith, none);
@@ -60,11 +60,11 @@ nothing_behind : (tolds : List Told) (place : ℕ) (word : List ℕ) → IsTrace
     → (told : Told) → slice_get tolds (place + 1) ≡ Some told → ⊥
 nothing_behind tolds place word trace at told e =
     let before : place_behind (take (place + 1) tolds) ≡ stand.Behind =
-    ap place_behind (take_next tolds place (resulted word) at) ∙ fold_push (λ _ told. place_of told) stand.Front (take place tolds) (resulted word) in
+    ap place_behind (take_next tolds place (resulted word) at) ∙ fold_push (λ _ told. place_after told) stand.Front (take place tolds) (resulted word) in
     let fits : may_stand stand.Behind told ≡ true = ap (λ p. may_stand p told) (sym before) ∙ (trace (place + 1) told e).fits in
     cc
 
-module _ (tolds : List Told) (place : ℕ) (old new : Tables) (here after : ℕ) (lines more : List Line) (trace : IsTrace tolds) (g : Grows 5 old new)
+module _ (tolds : List Told) (place : ℕ) (old new : Tables) (here after : ℕ) (lines more : List IndexedLine) (trace : IsTrace tolds) (g : KeepsNumbers 5 old new)
     (was : Numbered tolds place old here lines) where
   few_more : size new ≤ length tolds + 5 * (place + 1)
   few_more = omega (arith, g.few, was.few)
@@ -72,12 +72,12 @@ module _ (tolds : List Told) (place : ℕ) (old new : Tables) (here after : ℕ)
   still_sections : Keeps (names_of tolds) new.components
   still_sections = λ k x e. g.components k x (was.sections k x e)
 
-  begun : (name : List ℕ) → slice_get tolds place ≡ Some (begins name) → IsComponent new after name → more ≡ lines → Numbered tolds (place + 1) new after more
+  begun : (name : List ℕ) → slice_get tolds place ≡ Some (begins name) → IsComponentNumber new after name → more ≡ lines → Numbered tolds (place + 1) new after more
   begun name at here_is same = record {
     done = was.done;
     name = name;
     cut = was.cut ∙ ap (λ l. was.done ++ stands_from was.name (place + 1) l) (drop_here tolds place (begins name) at);
-    zipped = subst (λ (l : List Line). AllZip (IsLine new) was.done l) (sym same) (lines_grow 5 old new g was.done lines was.zipped);
+    zipped = subst (λ (l : List IndexedLine). AllZip (IsLine new) was.done l) (sym same) (lines_grow 5 old new g was.done lines was.zipped);
     section = λ told e inside. here_is;
     sections = still_sections;
     few = few_more;
@@ -88,7 +88,7 @@ module _ (tolds : List Told) (place : ℕ) (old new : Tables) (here after : ℕ)
     done = was.done;
     name = was.name;
     cut = was.cut ∙ ap (λ l. was.done ++ stands_from was.name (place + 1) l) (drop_here tolds place (resulted word) at);
-    zipped = subst (λ (l : List Line). AllZip (IsLine new) was.done l) (sym same) (lines_grow 5 old new g was.done lines was.zipped);
+    zipped = subst (λ (l : List IndexedLine). AllZip (IsLine new) was.done l) (sym same) (lines_grow 5 old new g was.done lines was.zipped);
     section = λ told e inside. absurd (nothing_behind tolds place word trace at told e);
     sections = still_sections;
     few = few_more;
@@ -101,16 +101,16 @@ module _ (tolds : List Told) (place : ℕ) (old new : Tables) (here after : ℕ)
   stood told at inside step added =
       let s : Stand = record { component = was.name; number = place + 1; told = told } in
       let rest = stands_from was.name (place + 1 + 1) (drop (place + 1) tolds) in
-      let known : IsComponent new here was.name = g.components _ _ (was.section told at inside) in
+      let known : IsComponentNumber new here was.name = g.components _ _ (was.section told at inside) in
       record {
         done = was.done ++ s ∷ [];
         name = was.name;
         cut = was.cut ∙ ap (λ l. was.done ++ stands_from was.name (place + 1) l) (drop_here tolds place told at) ∙ ap (λ l. was.done ++ l) step
             ∙ sym (append_assoc was.done (s ∷ []) rest);
-        zipped = subst (λ (l : List Line). AllZip (IsLine new) (was.done ++ s ∷ []) l) (sym added.added)
+        zipped = subst (λ (l : List IndexedLine). AllZip (IsLine new) (was.done ++ s ∷ []) l) (sym added.added)
             (zip_push (IsLine new) was.done lines s (record { number = place + 1; component = here; act = added.act })
             (lines_grow 5 old new g was.done lines was.zipped) (record { number = refl; section = known; says = added.says }));
-        section = λ next e in'. subst (λ n. IsComponent new n was.name) (sym added.stays) known;
+        section = λ next e in'. subst (λ n. IsComponentNumber new n was.name) (sym added.stays) known;
         sections = still_sections;
         few = few_more;
       }
@@ -131,7 +131,7 @@ drop_past [] (suc k) h = refl
 drop_past (x ∷ xs) zero h = absurd (omega arith)
 drop_past (x ∷ xs) (suc k) h = drop_past xs k (omega arith)
 
-pub all_numbered : (tolds : List Told) (place : ℕ) (t : Tables) (here : ℕ) (lines : List Line) → length tolds ≤ place
+pub all_numbered : (tolds : List Told) (place : ℕ) (t : Tables) (here : ℕ) (lines : List IndexedLine) → length tolds ≤ place
     → Numbered tolds place t here lines → AllZip (IsLine t) (stands_of tolds) lines
 all_numbered tolds place t here lines past was =
     let whole : stands_of tolds ≡ was.done =
@@ -139,6 +139,6 @@ all_numbered tolds place t here lines past was =
     subst (λ (l : List Stand). AllZip (IsLine t) l lines) (sym whole) was.zipped
 
 -- the component of a line that stands in a section has a number
-pub known_here : (tolds : List Told) (place : ℕ) (t : Tables) (here : ℕ) (lines : List Line) (told : Told) → slice_get tolds place ≡ Some told
+pub known_here : (tolds : List Told) (place : ℕ) (t : Tables) (here : ℕ) (lines : List IndexedLine) (told : Told) → slice_get tolds place ≡ Some told
     → Numbered tolds place t here lines → IsInside told → here < length t.components
 known_here tolds place t here lines told at was inside = slice_get_within t.components here was.name (was.section told at inside)

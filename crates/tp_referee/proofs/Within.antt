@@ -5,17 +5,17 @@ use Rattle.std.specs.List.{AllZip}
 use Rattle.std.proofs.lemmas.List.{length-map}
 use Rattle.std.proofs.lemmas.Option.{slice_get_within, slice_get-get_or}
 use Rattle.std.proofs.lemmas.List.Elements.{All-nil, All-cons, All-map}
-use Rattle.tp_queue.specs.declared.operation.PortOperation.{PortOperation}
-use Rattle.tp_queue.specs.declared.operation.PortOperation.TheVariants as operation
-use Rattle.tp_trace.specs.declared.line.Fate.{Fate}
-use Rattle.tp_trace.specs.declared.line.Fate.TheVariants as fate
+use Rattle.tp_event.specs.declared.operation.PortOperation.{PortOperation}
+use Rattle.tp_event.specs.declared.operation.PortOperation.TheVariants as operation
+use Rattle.tp_trace.specs.declared.line.MessageVerb.{MessageVerb}
+use Rattle.tp_trace.specs.declared.line.MessageVerb.TheVariants as fate
 use Rattle.tp_trace.specs.Line.{Told, begins, passed, operated, otherwise, noted, ended, resulted}
 use Rattle.tp_judge.specs.declared.line.Mention.{Mention}
 use Rattle.tp_judge.specs.declared.line.Act.{Act}
 use Rattle.tp_judge.specs.declared.line.Act.TheVariants as act
 use Rattle.tp_judge.specs.declared.line.By.TheVariants as by
-use Rattle.tp_judge.specs.declared.line.Line.{Line}
-use Rattle.tp_judge.specs.declared.trace.Trace.{Trace}
+use Rattle.tp_judge.specs.declared.line.IndexedLine.{IndexedLine}
+use Rattle.tp_judge.specs.declared.trace.IndexedTrace.{IndexedTrace}
 use Rattle.tp_judge.specs.Lawful.{AreWithin}
 use Rattle.tp_judge.specs.Lines.{HasKeyBelow, came_route, closed_by, event_port, left_port, sent_route}
 use Rattle.tp_referee.specs.declared.tables.PortKey.{PortKey}
@@ -29,7 +29,7 @@ Below key n a = IfSome (key a) (λ k. k < n)
 
 -- a number that every mention and every operation has below the count, and no other line has
 module _ (key : Act → Option ℕ) (n : ℕ) (t : Tables) (here : ℕ)
-    (passing : (f : Fate) (m : Mention) → m.port < length t.ports.keys → m.route < length t.routes.keys → Below key n (act_of f m))
+    (passing : (f : MessageVerb) (m : Mention) → m.port < length t.ports.keys → m.route < length t.routes.keys → Below key n (act_of f m))
     (operating : (o : PortOperation) (p : ℕ) → p < length t.ports.keys → Below key n (operation_act o p))
     (otherwise_not : Below key n act.Else) (end_not : Below key n act.End) (other_not : Below key n act.Other) where
   act_below : (told : Told) (a : Act) → IsAct t here told a → Below key n a
@@ -45,7 +45,7 @@ module _ (key : Act → Option ℕ) (n : ℕ) (t : Tables) (here : ℕ)
   act_below (resulted word) a h = subst (Below key n) (sym h) other_not
 
 module _ (t : Tables) where
-  events : (f : Fate) (m : Mention) → m.port < length t.ports.keys → m.route < length t.routes.keys → Below event_port (length t.ports.keys) (act_of f m)
+  events : (f : MessageVerb) (m : Mention) → m.port < length t.ports.keys → m.route < length t.routes.keys → Below event_port (length t.ports.keys) (act_of f m)
   events fate.Sent m p r = tt
   events fate.Came m p r = p
   events fate.Took m p r = p
@@ -59,7 +59,7 @@ module _ (t : Tables) where
   event_operations operation.Halt p h = h
   event_operations operation.Clear p h = h
 
-  lefts : (f : Fate) (m : Mention) → m.port < length t.ports.keys → m.route < length t.routes.keys → Below left_port (length t.ports.keys) (act_of f m)
+  lefts : (f : MessageVerb) (m : Mention) → m.port < length t.ports.keys → m.route < length t.routes.keys → Below left_port (length t.ports.keys) (act_of f m)
   lefts fate.Sent m p r = tt
   lefts fate.Came m p r = tt
   lefts fate.Took m p r = tt
@@ -73,7 +73,7 @@ module _ (t : Tables) where
   left_operations operation.Halt p h = tt
   left_operations operation.Clear p h = tt
 
-  sents : (f : Fate) (m : Mention) → m.port < length t.ports.keys → m.route < length t.routes.keys → Below sent_route (length t.routes.keys) (act_of f m)
+  sents : (f : MessageVerb) (m : Mention) → m.port < length t.ports.keys → m.route < length t.routes.keys → Below sent_route (length t.routes.keys) (act_of f m)
   sents fate.Sent m p r = r
   sents fate.Came m p r = tt
   sents fate.Took m p r = tt
@@ -87,7 +87,7 @@ module _ (t : Tables) where
   sent_operations operation.Halt p h = tt
   sent_operations operation.Clear p h = tt
 
-  cames : (f : Fate) (m : Mention) → m.port < length t.ports.keys → m.route < length t.routes.keys → Below came_route (length t.routes.keys) (act_of f m)
+  cames : (f : MessageVerb) (m : Mention) → m.port < length t.ports.keys → m.route < length t.routes.keys → Below came_route (length t.routes.keys) (act_of f m)
   cames fate.Sent m p r = tt
   cames fate.Came m p r = r
   cames fate.Took m p r = tt
@@ -122,8 +122,8 @@ numbers_below name n m (noted note word ∷ tolds) h =
 numbers_below name n m (ended words ∷ tolds) h =
     All-cons (λ (s : Stand). s.number < m) _ _ (omega arith) (numbers_below name (n + 1) m tolds (omega arith))
 
-module _ (tolds : List Told) (t : Tables) (lines : List Line) (zipped : AllZip (IsLine t) (stands_of tolds) lines) where
-  pub each_line : (P : Line → Type 0) → ((s : Stand) (l : Line) → IsLine t s l → P l) → All P lines
+module _ (tolds : List Told) (t : Tables) (lines : List IndexedLine) (zipped : AllZip (IsLine t) (stands_of tolds) lines) where
+  pub each_line : (P : IndexedLine → Type 0) → ((s : Stand) (l : IndexedLine) → IsLine t s l → P l) → All P lines
   each_line P f =
       zip_all (IsLine t) (λ (s : Stand). s.number < 1 + length tolds) P (λ s l h low. f s l h) (stands_of tolds) lines zipped
       (numbers_below [] 1 (1 + length tolds) tolds (omega arith))
@@ -158,9 +158,9 @@ module _ (tolds : List Told) (t : Tables) (lines : List Line) (zipped : AllZip (
       each_line (HasKeyBelow by.Component (length t.components))
       (λ s l h. slice_get_within t.components l.component s.component h.section)
 
-  pub numbers_within : All (λ (l : Line). l.number < length tolds + 1) lines
+  pub numbers_within : All (λ (l : IndexedLine). l.number < length tolds + 1) lines
   numbers_within =
-      zip_all (IsLine t) (λ (s : Stand). s.number < 1 + length tolds) (λ (l : Line). l.number < length tolds + 1) (λ s l h low. omega (arith, h.number, low))
+      zip_all (IsLine t) (λ (s : Stand). s.number < 1 + length tolds) (λ (l : IndexedLine). l.number < length tolds + 1) (λ s l h low. omega (arith, h.number, low))
       (stands_of tolds) lines zipped (numbers_below [] 1 (1 + length tolds) tolds (omega arith))
 
 owners_within : (t : Tables) → IsWhole t → All (λ owner. owner < length t.components) (map (λ (p : PortKey). p.component) t.ports.keys)
@@ -169,7 +169,7 @@ owners_within t whole =
     (λ k d low. whole k (get_or t.ports.keys k d) (slice_get-get_or t.ports.keys k d low))
 
 -- **within**: a numbering whose tables are whole
-pub numbering_within : (tolds : List Told) (trace : Trace) → length tolds ≤ 268435456 → (h : IsNumberingOf tolds trace) → IsWhole h.tables → AreWithin trace
+pub numbering_within : (tolds : List Told) (trace : IndexedTrace) → length tolds ≤ 268435456 → (h : IsNumberingOf tolds trace) → IsWhole h.tables → AreWithin trace
 numbering_within tolds trace few h whole =
     let t = h.tables in
     let lines = trace.lines.items in
@@ -183,6 +183,6 @@ numbering_within tolds trace few h whole =
       sent = subst (λ n. All (HasKeyBelow by.Sent n) lines) (sym h.routes) (sent_within tolds t lines h.lines);
       came = subst (λ n. All (HasKeyBelow by.Came n) lines) (sym h.routes) (came_within tolds t lines h.lines);
       sections = subst (λ n. All (HasKeyBelow by.Component n) lines) (sym h.components) (sections_within tolds t lines h.lines);
-      numbers = subst (λ n. All (λ (l : Line). l.number < n) lines) (sym h.numbers) (numbers_within tolds t lines h.lines);
+      numbers = subst (λ n. All (λ (l : IndexedLine). l.number < n) lines) (sym h.numbers) (numbers_within tolds t lines h.lines);
       few = omega (arith, h.numbers, few);
     }

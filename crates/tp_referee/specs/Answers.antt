@@ -4,7 +4,7 @@ use Rattle.std.specs.List.{flat_map}
 use Rattle.std.specs.Fmt.{decimal}
 use Rattle.tp_judge.specs.declared.place.Rule.{Rule}
 use Rattle.tp_judge.specs.declared.place.Rule.TheVariants as rule
-use Rattle.tp_judge.specs.declared.place.Place.{Place}
+use Rattle.tp_judge.specs.declared.place.UnlawfulPlace.{UnlawfulPlace}
 use Rattle.tp_judge.specs.declared.one_run.OneRun.{OneRun}
 use Rattle.tp_judge.specs.declared.one_run.OneRun.TheVariants as run
 use Rattle.tp_referee.specs.declared.ruling.Ruling.{Ruling}
@@ -24,7 +24,7 @@ rule_text rule.Reordered = codes "Reordered"
 rule_text rule.Circle = codes "Circle"
 
 -- the line of a place
-abbrev pub place_text : Place → List ℕ
+abbrev pub place_text : UnlawfulPlace → List ℕ
 place_text place = codes "unlawful " ++ rule_text place.rule ++ codes " line " ++ decimal place.line ++ codes "\n"
 
 abbrev pub run_text : OneRun → List ℕ

@@ -2,11 +2,11 @@
 use Rattle.std.specs.Prelude.{◌≡◌, ◌+◌, ◌<◌, ◌≤◌, ℕ, Some, Bool, true, false, List, [], ◌∷◌, ◌++◌, length, slice_get, ⊤}
 use Rattle.tp_trace.specs.Line.{Told, begins, resulted}
 use Rattle.tp_judge.specs.declared.line.Act.{Act}
-use Rattle.tp_judge.specs.declared.line.Line.{Line}
+use Rattle.tp_judge.specs.declared.line.IndexedLine.{IndexedLine}
 use Rattle.tp_referee.specs.declared.tables.PortKey.{PortKey}
 use Rattle.tp_referee.specs.declared.tables.Tables.{Tables}
 use Rattle.tp_referee.specs.Kept.{Keeps}
-use Rattle.tp_referee.specs.Numbering.{IsAct, IsComponent}
+use Rattle.tp_referee.specs.Numbering.{IsAct, IsComponentNumber}
 
 -- how much stands in the tables
 abbrev pub size : Tables → ℕ
@@ -21,7 +21,7 @@ abbrev pub IsWhole : Tables → Type 0
 IsWhole t = (k : ℕ) (port : PortKey) → slice_get t.ports.keys k ≡ Some port → port.component < length t.components
 
 -- nothing loses its number, and so many are new at most
-pub record Grows (n : ℕ) (old new : Tables) : Type 0 where
+pub record KeepsNumbers (n : ℕ) (old new : Tables) : Type 0 where
   pub components : Keeps old.components new.components
   pub names : Keeps old.names new.names
   pub ports : Keeps old.ports.keys new.ports.keys
@@ -46,7 +46,7 @@ IsBegunBy (begins name) P = P name
 IsBegunBy _ P = ⊤
 
 -- one line more, which stands in a section
-pub record IsAdded (t : Tables) (here number : ℕ) (told : Told) (after : ℕ) (lines more : List Line) : Type 0 where
+pub record IsAdded (t : Tables) (here number : ℕ) (told : Told) (after : ℕ) (lines more : List IndexedLine) : Type 0 where
   pub stays : after ≡ here
   pub act : Act
   pub says : IsAct t here told act
@@ -54,7 +54,7 @@ pub record IsAdded (t : Tables) (here number : ℕ) (told : Told) (after : ℕ) 
 
 -- the line of this number is taken, in the section of the component of that number, and behind it the section is that
 -- of the component of the number `after`
-abbrev pub IsTurn : Tables → ℕ → ℕ → Told → ℕ → List Line → List Line → Type 0
-IsTurn t here number (begins name) after lines more = IsComponent t after name × (more ≡ lines)
+abbrev pub IsTurn : Tables → ℕ → ℕ → Told → ℕ → List IndexedLine → List IndexedLine → Type 0
+IsTurn t here number (begins name) after lines more = IsComponentNumber t after name × (more ≡ lines)
 IsTurn t here number (resulted word) after lines more = (after ≡ here) × (more ≡ lines)
 IsTurn t here number told after lines more = IsAdded t here number told after lines more

@@ -2,17 +2,17 @@
 ghost use Rattle.std.specs.Prelude.{◌≡◌, ◌<◌, ◌≤◌, ◌+◌, IfOk, OnOk, length, slice_get};
 ghost use Rattle.std.specs.List.{AllZip};
 ghost use Rattle.tp_trace.specs.Tree.{IsTrace, names_of, told_of};
-ghost use Rattle.tp_judge.specs.Lawful.{AreRouted, AreWithin};
+ghost use Rattle.tp_judge.specs.Lawful.{AreLinesRouted, AreWithin};
 ghost use Rattle.tp_referee.specs.Kept.{Keeps};
-ghost use Rattle.tp_referee.specs.Numbering.{IsComponent, IsLine, IsNumberingOf, stands_of};
+ghost use Rattle.tp_referee.specs.Numbering.{IsComponentNumber, IsLine, IsNumberingOf, stands_of};
 ghost use Rattle.tp_referee.specs.OneToOne.{IsOneToOne};
-ghost use Rattle.tp_referee.specs.Turns.{Grows, HasRoom, IsBegunBy, IsInside, IsTurn, IsWhole, is_beginning, size};
+ghost use Rattle.tp_referee.specs.Turns.{KeepsNumbers, HasRoom, IsBegunBy, IsInside, IsTurn, IsWhole, is_beginning, size};
 
 use crate::joining::{joined_of, owners_of, sections_of};
 use crate::tables::Tables;
 use std::alloc::Global;
-use tp_judge::line::Line as NumberedLine;
-use tp_judge::trace::Trace as NumberedTrace;
+use tp_judge::line::IndexedLine;
+use tp_judge::trace::IndexedTrace;
 use tp_refusal::memory::Memory;
 use tp_trace::line::Line;
 use tp_trace::tree::Trace;
@@ -29,7 +29,7 @@ fn is_beginning(line: &Line<'_>) -> bool
 /// next line stands if it begins none.
 fn step<'t>(
     tables: &mut Tables<'t>,
-    lines: &mut Vec<NumberedLine>,
+    lines: &mut Vec<IndexedLine>,
     here: u32,
     begun: u32,
     number: u32,
@@ -38,10 +38,10 @@ fn step<'t>(
     requires room { HasRoom 5 tables.old }
     requires whole { IsWhole tables.old }
     requires here { IsInside (told_of line.now) → here < length tables.old.components }
-    requires begun { IsBegunBy (told_of line.now) (IsComponent tables.old begun) }
+    requires begun { IsBegunBy (told_of line.now) (IsComponentNumber tables.old begun) }
     ensures turn { IfOk result (λ after.
         IsTurn tables.new here number (told_of line.now) after lines.old.items lines.new.items) }
-    ensures grows { OnOk result (Grows 5 tables.old tables.new) }
+    ensures grows { OnOk result (KeepsNumbers 5 tables.old tables.new) }
     ensures whole { OnOk result (IsWhole tables.new) }
 {
     match line {
@@ -50,7 +50,7 @@ fn step<'t>(
         Line::Result(_) => Ok(here),
         _ => {
             let act = tables.act(here, line)?;
-            lines.push(NumberedLine {
+            lines.push(IndexedLine {
                 number,
                 component: here,
                 act,
@@ -65,7 +65,7 @@ fn number_lines<'t>(
     alloc: Global,
     trace: &Trace<'t>,
     tables: &mut Tables<'t>,
-) -> Result<Vec<NumberedLine>, Memory>
+) -> Result<Vec<IndexedLine>, Memory>
     requires few { length trace.now ≤ 268435456 }
     requires components { tables.old.components ≡ names_of trace.now }
     requires size { size tables.old ≡ length (names_of trace.now) }
@@ -94,11 +94,11 @@ fn number_lines<'t>(
 ///
 /// 50 `Memory` where an allocation was refused. It takes 40 bytes for each line, and what stands in
 /// the tables as long as it works.
-pub fn number_trace(alloc: Global, trace: &Trace<'_>) -> Result<NumberedTrace, Memory>
+pub fn number_trace(alloc: Global, trace: &Trace<'_>) -> Result<IndexedTrace, Memory>
     requires { length trace.now ≤ 268435456 }
     ensures numbering { IfOk result (IsNumberingOf trace.now) }
     ensures within { IfOk result AreWithin }
-    ensures routed { IfOk result AreRouted }
+    ensures routed { IfOk result AreLinesRouted }
 {
     let mut tables = Tables::new(alloc, trace)?;
     let lines = number_lines(alloc, trace, &mut tables)?;
@@ -106,7 +106,7 @@ pub fn number_trace(alloc: Global, trace: &Trace<'_>) -> Result<NumberedTrace, M
     let sections = sections_of(alloc, trace, &tables.components)?;
     let owners = owners_of(alloc, tables.ports.as_slice())?;
     let joined = joined_of(alloc, tables.routes.as_slice(), &owners, &sections)?;
-    Ok(NumberedTrace {
+    Ok(IndexedTrace {
         lines,
         owners,
         joined,

@@ -1,15 +1,15 @@
 //! What is said of the text of a trace.
 ghost use Rattle.std.specs.Prelude.{IfErr, IfOk};
 ghost use Rattle.tp_trace.specs.Faults.{IsFaultOf};
-ghost use Rattle.tp_judge.specs.Lawful.{AreRouted, AreWithin};
+ghost use Rattle.tp_judge.specs.Lawful.{AreLinesRouted, AreWithin};
 ghost use Rattle.tp_referee.specs.Rulings.{IsNumberedText, IsRulingOf, IsRulingOn};
 
 use crate::numbering::number_trace;
 use std::alloc::Global;
 use tp_judge::judging::judge;
 use tp_judge::one_run::{OneRun, one_run};
-use tp_judge::place::Place;
-use tp_judge::trace::Trace;
+use tp_judge::place::UnlawfulPlace;
+use tp_judge::trace::IndexedTrace;
 use tp_refusal::memory::Memory;
 use tp_trace::reading::{TraceFault, read_trace};
 
@@ -19,13 +19,13 @@ pub enum Ruling {
     /// It is lawful, and one run or not.
     Lawful(OneRun),
     /// It isn't lawful at these places, one or more, in the order of their lines.
-    Unlawful(Vec<Place>),
+    Unlawful(Vec<UnlawfulPlace>),
 }
 
 /// What is said of a trace in numbers.
-fn ruling_on(alloc: Global, trace: &Trace) -> Result<Ruling, Memory>
+fn ruling_on(alloc: Global, trace: &IndexedTrace) -> Result<Ruling, Memory>
     requires within { AreWithin trace.now }
-    requires routed { AreRouted trace.now }
+    requires routed { AreLinesRouted trace.now }
     ensures { IfOk result (IsRulingOn trace.now) }
 {
     let places = judge(alloc, trace)?;
@@ -37,10 +37,10 @@ fn ruling_on(alloc: Global, trace: &Trace) -> Result<Ruling, Memory>
 }
 
 /// Reads a text as a trace, and numbers that. Its lines as they are read are there no more then.
-fn number_text(alloc: Global, text: &[u8]) -> Result<Trace, TraceFault>
+fn number_text(alloc: Global, text: &[u8]) -> Result<IndexedTrace, TraceFault>
     ensures numbered { IfOk result (IsNumberedText text.now) }
     ensures within { IfOk result AreWithin }
-    ensures routed { IfOk result AreRouted }
+    ensures routed { IfOk result AreLinesRouted }
     ensures fault { IfErr result (IsFaultOf text.now) }
 {
     let trace = read_trace(alloc, text)?;

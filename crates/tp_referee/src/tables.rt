@@ -1,18 +1,18 @@
 //! What the numbers of a trace stand for.
 ghost use Rattle.std.specs.Prelude.{◌≡◌, ◌<◌, ◌≤◌, [], IfOk, OnOk, Some, length, slice_get};
 ghost use Rattle.tp_trace.specs.Tree.{letter_of, names_of, told_of};
-ghost use Rattle.tp_referee.specs.Numbering.{AreDistinct, IsAct, IsComponent, IsMention, IsOperated, IsPassed, IsPort, act_of, operation_act, receiver_of, sender_of};
-ghost use Rattle.tp_referee.specs.Turns.{Grows, HasRoom, IsWhole, size};
+ghost use Rattle.tp_referee.specs.Numbering.{AreTablesDistinct, IsAct, IsComponentNumber, IsMention, IsOperated, IsPassed, IsPortNumber, act_of, operation_act, receiver_of, sender_of};
+ghost use Rattle.tp_referee.specs.Turns.{KeepsNumbers, HasRoom, IsWhole, size};
 
 use crate::components::Components;
 use crate::numbers::number_of;
 use crate::words::Words;
 use indexmap::IndexSet;
 use std::alloc::Global;
+use tp_event::operation::PortOperation;
 use tp_judge::line::{Act, Mention, MessageId, Parcel};
-use tp_queue::operation::PortOperation;
 use tp_refusal::memory::Memory;
-use tp_trace::line::{Fate, Line, Message};
+use tp_trace::line::{Line, MessageVerb, MessageWords};
 use tp_trace::tree::Trace;
 
 /// A port: the number of its component, and that of its name among the names of ports.
@@ -64,27 +64,31 @@ impl Drop for Tables<'_> {
 }
 
 /// What became of a message.
-fn act_of(fate: Fate, mention: Mention) -> Act
+fn act_of(fate: MessageVerb, mention: Mention) -> Act
     ensures { result ≡ act_of fate mention }
 {
     match fate {
-        Fate::Sent => Act::Sent(mention),
-        Fate::Came => Act::Came(mention),
-        Fate::Took => Act::Took(mention),
-        Fate::Found => Act::Found(mention),
-        Fate::Dropped => Act::Dropped(mention),
-        Fate::Left => Act::Left(mention),
+        MessageVerb::Sent => Act::Sent(mention),
+        MessageVerb::Came => Act::Came(mention),
+        MessageVerb::Took => Act::Took(mention),
+        MessageVerb::Found => Act::Found(mention),
+        MessageVerb::Dropped => Act::Dropped(mention),
+        MessageVerb::Left => Act::Left(mention),
     }
 }
 
 /// Who sent it, and whose port it is for, where it is told here of a message from or to the other.
-fn ends(fate: Fate, here: u32, other: u32) -> (u32, u32)
+fn ends(fate: MessageVerb, here: u32, other: u32) -> (u32, u32)
     ensures sender { result.0 ≡ sender_of fate here other }
     ensures receiver { result.1 ≡ receiver_of fate here other }
 {
     match fate {
-        Fate::Sent => (here, other),
-        Fate::Came | Fate::Took | Fate::Found | Fate::Dropped | Fate::Left => (other, here),
+        MessageVerb::Sent => (here, other),
+        MessageVerb::Came
+        | MessageVerb::Took
+        | MessageVerb::Found
+        | MessageVerb::Dropped
+        | MessageVerb::Left => (other, here),
     }
 }
 
@@ -123,7 +127,7 @@ impl<'t> Tables<'t> {
     /// Named for the sake of its clause, that nothing has two numbers.
     pub fn know_distinct(&self)
         requires { HasRoom 0 self.now }
-        ensures { AreDistinct self.now }
+        ensures { AreTablesDistinct self.now }
     {
         let _ = self.components.len();
         let _ = self.names.len();
@@ -136,8 +140,8 @@ impl<'t> Tables<'t> {
     pub fn component(&mut self, name: &'t [u8]) -> Result<u32, Memory>
         requires room { HasRoom 1 self.old }
         requires whole { IsWhole self.old }
-        ensures there { IfOk result (λ number. IsComponent self.new number name.now) }
-        ensures grows { OnOk result (Grows 1 self.old self.new) }
+        ensures there { IfOk result (λ number. IsComponentNumber self.new number name.now) }
+        ensures grows { OnOk result (KeepsNumbers 1 self.old self.new) }
         ensures whole { OnOk result (IsWhole self.new) }
     {
         self.components.number(name)
@@ -150,7 +154,7 @@ impl<'t> Tables<'t> {
         requires component { component < length self.old.components }
         ensures there { IfOk result (λ number. slice_get self.new.ports.keys number
             ≡ Some (record { component = component; name = name })) }
-        ensures grows { OnOk result (Grows 1 self.old self.new) }
+        ensures grows { OnOk result (KeepsNumbers 1 self.old self.new) }
         ensures whole { OnOk result (IsWhole self.new) }
     {
         number_of(&mut self.ports, PortKey { component, name })
@@ -161,7 +165,7 @@ impl<'t> Tables<'t> {
         requires room { HasRoom 1 self.old }
         requires whole { IsWhole self.old }
         ensures there { IfOk result (λ number. slice_get self.new.names number ≡ Some name.now) }
-        ensures grows { OnOk result (Grows 1 self.old self.new) }
+        ensures grows { OnOk result (KeepsNumbers 1 self.old self.new) }
         ensures whole { OnOk result (IsWhole self.new) }
     {
         self.names.number(name)
@@ -172,8 +176,8 @@ impl<'t> Tables<'t> {
         requires room { HasRoom 2 self.old }
         requires whole { IsWhole self.old }
         requires component { component < length self.old.components }
-        ensures there { IfOk result (λ number. IsPort self.new number component name.now) }
-        ensures grows { OnOk result (Grows 2 self.old self.new) }
+        ensures there { IfOk result (λ number. IsPortNumber self.new number component name.now) }
+        ensures grows { OnOk result (KeepsNumbers 2 self.old self.new) }
         ensures whole { OnOk result (IsWhole self.new) }
     {
         let word = self.name(name)?;
@@ -186,7 +190,7 @@ impl<'t> Tables<'t> {
         requires whole { IsWhole self.old }
         ensures there { IfOk result (λ number. slice_get self.new.routes.keys number
             ≡ Some (record { sender = sender; port = port })) }
-        ensures grows { OnOk result (Grows 1 self.old self.new) }
+        ensures grows { OnOk result (KeepsNumbers 1 self.old self.new) }
         ensures whole { OnOk result (IsWhole self.new) }
     {
         number_of(&mut self.routes, RouteKey { sender, port })
@@ -197,7 +201,7 @@ impl<'t> Tables<'t> {
         requires room { HasRoom 1 self.old }
         requires whole { IsWhole self.old }
         ensures there { IfOk result (λ number. slice_get self.new.messages number ≡ Some text.now) }
-        ensures grows { OnOk result (Grows 1 self.old self.new) }
+        ensures grows { OnOk result (KeepsNumbers 1 self.old self.new) }
         ensures whole { OnOk result (IsWhole self.new) }
     {
         self.messages.number(text)
@@ -208,13 +212,13 @@ impl<'t> Tables<'t> {
         &mut self,
         sender: u32,
         receiver: u32,
-        message: &Message<'t>,
+        message: &MessageWords<'t>,
     ) -> Result<Mention, Memory>
         requires room { HasRoom 4 self.old }
         requires whole { IsWhole self.old }
         requires receiver { receiver < length self.old.components }
         ensures mention { IfOk result (IsMention self.new sender receiver (letter_of message.now)) }
-        ensures grows { OnOk result (Grows 4 self.old self.new) }
+        ensures grows { OnOk result (KeepsNumbers 4 self.old self.new) }
         ensures whole { OnOk result (IsWhole self.new) }
     {
         let port = self.port(receiver, message.port)?;
@@ -232,12 +236,17 @@ impl<'t> Tables<'t> {
     }
 
     /// What became of a message, as it is told in the section of the component of this number.
-    fn passed(&mut self, here: u32, fate: Fate, message: &Message<'t>) -> Result<Act, Memory>
+    fn passed(
+        &mut self,
+        here: u32,
+        fate: MessageVerb,
+        message: &MessageWords<'t>,
+    ) -> Result<Act, Memory>
         requires room { HasRoom 5 self.old }
         requires whole { IsWhole self.old }
         requires here { here < length self.old.components }
         ensures act { IfOk result (IsPassed self.new here fate (letter_of message.now)) }
-        ensures grows { OnOk result (Grows 5 self.old self.new) }
+        ensures grows { OnOk result (KeepsNumbers 5 self.old self.new) }
         ensures whole { OnOk result (IsWhole self.new) }
     {
         let other = self.component(message.component)?;
@@ -257,7 +266,7 @@ impl<'t> Tables<'t> {
         requires whole { IsWhole self.old }
         requires here { here < length self.old.components }
         ensures act { IfOk result (IsOperated self.new here operation name.now) }
-        ensures grows { OnOk result (Grows 2 self.old self.new) }
+        ensures grows { OnOk result (KeepsNumbers 2 self.old self.new) }
         ensures whole { OnOk result (IsWhole self.new) }
     {
         let port = self.port(here, name)?;
@@ -270,7 +279,7 @@ impl<'t> Tables<'t> {
         requires whole { IsWhole self.old }
         requires here { here < length self.old.components }
         ensures act { IfOk result (IsAct self.new here (told_of line.now)) }
-        ensures grows { OnOk result (Grows 5 self.old self.new) }
+        ensures grows { OnOk result (KeepsNumbers 5 self.old self.new) }
         ensures whole { OnOk result (IsWhole self.new) }
     {
         match line {

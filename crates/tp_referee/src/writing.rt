@@ -7,7 +7,7 @@ ghost use Rattle.tp_referee.specs.Answers.{lawful_text, place_text, rule_text, r
 use crate::ruling::Ruling;
 use std::io::Write;
 use tp_judge::one_run::OneRun;
-use tp_judge::place::{Place, Rule};
+use tp_judge::place::{Rule, UnlawfulPlace};
 use tp_text::watched::{Watched, write_bytes, write_number};
 
 /// The word for a rule.
@@ -30,7 +30,7 @@ fn rule_word(rule: Rule) -> &'static [u8]
 }
 
 /// Writes the line of a place.
-fn write_place<W: Write>(writer: &mut Watched<W>, place: Place)
+fn write_place<W: Write>(writer: &mut Watched<W>, place: UnlawfulPlace)
     ensures { Writes W.contents writer.old writer.new (place_text place) }
 {
     write_bytes(b"unlawful ", writer);
@@ -41,7 +41,7 @@ fn write_place<W: Write>(writer: &mut Watched<W>, place: Place)
 }
 
 /// Writes the lines of places.
-fn write_places<W: Write>(writer: &mut Watched<W>, places: &[Place])
+fn write_places<W: Write>(writer: &mut Watched<W>, places: &[UnlawfulPlace])
     ensures { Writes W.contents writer.old writer.new (flat_map place_text places.now) }
 {
     for place in places {

@@ -9,13 +9,13 @@ use Rattle.tp_config.specs.declared.port_type.CompId.{CompId}
 use Rattle.tp_config.specs.declared.port_type.CompType.{CompType}
 use Rattle.tp_config.specs.declared.port_type.PortRef.{PortRef}
 use Rattle.tp_config.specs.declared.port_type.PortType.{PortType}
-use Rattle.tp_config.specs.Setup.{Setup, Member, PortDecl, IsComponent, IsPort, decl_at, names, ports_at}
+use Rattle.tp_config.specs.Setup.{Setup, Member, PortDecl, IsComponent, IsPort, decl_at, names_of_components, ports_at}
 use Rattle.tp_config.specs.Shape.{decl_of, ports_of}
 use Rattle.tp_report.specs.Words.{component_name, port_name}
 
-pub component_is : (s : Setup) (c : CompId) (x : List ℕ) → slice_get (names s) c.0 ≡ Some x → x ≡ component_name s c
+pub component_is : (s : Setup) (c : CompId) (x : List ℕ) → slice_get (names_of_components s) c.0 ≡ Some x → x ≡ component_name s c
 unfolding component_name
-component_is s c x e = sym (get_or_from_slice_get (names s) c.0 x [] e)
+component_is s c x e = sym (get_or_from_slice_get (names_of_components s) c.0 x [] e)
 
 -- a port is one of a component
 pub component_of : (s : Setup) (p : PortRef) → IsPort s p → IsComponent s p.comp

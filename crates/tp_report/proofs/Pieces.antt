@@ -11,12 +11,12 @@ use Rattle.std.proofs.lemmas.Option.{get_or_from_slice_get, slice_get_cases}
 use Rattle.tp_value.specs.declared.types.Types.{Types}
 use Rattle.tp_value.specs.declared.message.Message.{Message}
 use Rattle.tp_value.specs.ValueText.{value_text}
-use Rattle.tp_queue.specs.declared.event.Env.{Env}
+use Rattle.tp_event.specs.declared.event.Env.{Env}
 use Rattle.tp_queue.specs.History.{queued}
 use Rattle.tp_config.specs.declared.port_type.CompId.{CompId}
 use Rattle.tp_play.specs.TestCases.{Made}
-use Rattle.tp_inbox.specs.declared.entry.Entry.{Entry}
-use Rattle.tp_inbox.specs.Desks.{Journal, at_port}
+use Rattle.tp_history.specs.declared.entry.Entry.{Entry}
+use Rattle.tp_history.specs.Desks.{Journal, at_port}
 use Rattle.tp_report.specs.declared.report.CompReport.{CompReport}
 use Rattle.tp_report.specs.declared.report.Report.{Report}
 use Rattle.tp_report.specs.declared.telling.Telling.{Telling}

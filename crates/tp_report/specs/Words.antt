@@ -11,7 +11,7 @@ use Rattle.tp_value.specs.Types as value_types
 use Rattle.tp_value.specs.ValueText.{value_text}
 use Rattle.tp_config.specs.declared.port_type.CompId.{CompId}
 use Rattle.tp_config.specs.declared.port_type.PortRef.{PortRef}
-use Rattle.tp_config.specs.Setup.{Setup, names, port_names}
+use Rattle.tp_config.specs.Setup.{Setup, names_of_components, port_names}
 use Rattle.tp_report.specs.Typed.{is_typed}
 
 -- the rest of a line: each word behind a space, and the end of the line
@@ -26,7 +26,7 @@ line (word ∷ words) = word ++ rest_of_line words
 
 -- the name of a component
 unfoldable pub component_name : Setup → CompId → List ℕ
-component_name s c = slice_index_or (names s) c.0 []
+component_name s c = slice_index_or (names_of_components s) c.0 []
 
 -- the name of a port, as the type of its component declares it
 unfoldable pub port_name : Setup → PortRef → List ℕ
@@ -41,7 +41,7 @@ abbrev pub type_name : Types → Ty → List ℕ
 type_name types ty.Integer = codes "integer"
 type_name types ty.Boolean = codes "boolean"
 type_name types ty.Charstring = codes "charstring"
-type_name types (ty.Named n) = slice_index_or (value_types.names types) n []
+type_name types (ty.Named n) = slice_index_or (value_types.names_of_types types) n []
 
 -- a message: its type and its value, or `-` where the value hasn't the type
 unfoldable pub message_text : Types → Message → List ℕ

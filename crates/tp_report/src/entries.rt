@@ -12,9 +12,9 @@ use crate::opening::{Fate, KeptOpening, KeptOpenings};
 use crate::telling::Telling;
 use std::io::Write;
 use tp_config::port_type::{CompId, PortRef};
-use tp_inbox::entry::Entry;
+use tp_event::event::Env;
+use tp_history::entry::Entry;
 use tp_play::test_case::TestCase;
-use tp_queue::event::Env;
 use tp_text::watched::{Watched, write_bytes};
 use tp_value::message::Message;
 

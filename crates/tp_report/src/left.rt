@@ -10,7 +10,7 @@ use crate::lines::write_envelope;
 use crate::opening::{Fate, KeptOpening};
 use std::io::Write;
 use tp_config::port_type::PortRef;
-use tp_inbox::desk::Desk;
+use tp_history::desk::Desk;
 use tp_play::test_case::TestCase;
 use tp_queue::queue::Queue;
 use tp_text::watched::Watched;

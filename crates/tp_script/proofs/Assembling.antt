@@ -18,7 +18,7 @@ use Rattle.tp_name.proofs.Numbering.{place_there, place_unknown}
 use Rattle.tp_setup.specs.declared.prepared.Prepared.{Prepared}
 use Rattle.tp_setup.specs.Definitions.{component_type_names, functions}
 use Rattle.tp_setup.specs.Rules.{sut}
-use Rattle.tp_setup.specs.Components.{IsMember, component_list, creations, created, interface, main_component, variable, variables}
+use Rattle.tp_setup.specs.Components.{IsMember, component_list, creations, created, interface, main_component, variable_name, variables}
 use Rattle.tp_setup.specs.Configuring.{IsStep, Makes, nothing, one_more, interface_number}
 use Rattle.tp_setup.specs.Starting.{IsStartPlace, IsStartOf, started_names, type_names_of}
 use Rattle.tp_setup.specs.Prepared.{IsPreparedOf}
@@ -96,7 +96,7 @@ module _ (m : Module) (p : Prepared) (of : IsPreparedOf m p) where
   places_count : length p.starts.places.items ≡ length (creations p.case.case.now.setups.items)
   places_count =
       AllZip-long (IsStartPlace (started_names p.case.case.now.starts.items)) (variables p.case.case.now.setups.items) p.starts.places.items of.starts.all
-      ∙ length-map (creations p.case.case.now.setups.items) variable
+      ∙ length-map (creations p.case.case.now.setups.items) variable_name
 
   pub everyone : length p.config.components ≡ instance_count p
   everyone =

@@ -22,8 +22,8 @@ use Rattle.tp_config.specs.declared.port_type.CompType.{CompType}
 use Rattle.tp_config.specs.Setup.{PortDecl}
 use Rattle.tp_config.specs.Shape.{ports_of}
 use Rattle.tp_name.specs.Tables.{AreDistinct}
-use Rattle.tp_setup.specs.Definitions.{among, component_types, definition_names, function_of, functions, name_of, port_of, port_types, test_cases, type_definitions, type_names}
-use Rattle.tp_setup.specs.Resolved.{AreTypes, IsComponentType, IsField, IsNamedType, IsPortDecl, IsPortType, IsTypeDef, Names, port_list}
+use Rattle.tp_setup.specs.Definitions.{of_kind, component_types, definition_names, function_of, functions, name_of, port_type_of, port_types, test_cases, type_definitions, type_names}
+use Rattle.tp_setup.specs.Resolved.{AreTypes, IsComponentType, IsField, IsNamedType, IsPortDecl, IsPortType, IsTypeDef, IsTypeNamed, port_list}
 use Rattle.tp_script.specs.TestCases.{AreKinds}
 
 -- the other list, where what stands beside an item is fixed by it
@@ -65,28 +65,28 @@ pub contains_more : {A : Type 0} (x : A) (xs : List A) (y : A) → Contains xs y
 contains_more x xs y (k, below, is) = (k + 1, omega (arith, below), rw add-one is)
 
 -- the definition behind a definition of one kind
-pub behind : {T : Type 0} (kind : Defined → Option T) (xs : List Definition) (t : T) → Contains (among kind xs) t
+pub behind : {T : Type 0} (kind : Defined → Option T) (xs : List Definition) (t : T) → Contains (of_kind kind xs) t
     → (x : Definition) × Contains xs x × (kind x.defined ≡ Some t)
 behind {T} kind [] t (k, below, is) = absurd (omega (arith, below))
 behind {T} kind (x ∷ xs) t there = by (kind x.defined) refl there (behind kind xs t) where
   later : ((x : Definition) × Contains xs x × (kind x.defined ≡ Some t)) → (y : Definition) × Contains (x ∷ xs) y × (kind y.defined ≡ Some t)
   later r = (r.0, contains_more x xs r.0 r.1, r.2)
 
-  at : (u : T) → kind x.defined ≡ Some u → (k : ℕ) → k < length (u ∷ among kind xs) → get_or (u ∷ among kind xs) k t ≡ t
-      → (Contains (among kind xs) t → (x : Definition) × Contains xs x × (kind x.defined ≡ Some t))
+  at : (u : T) → kind x.defined ≡ Some u → (k : ℕ) → k < length (u ∷ of_kind kind xs) → get_or (u ∷ of_kind kind xs) k t ≡ t
+      → (Contains (of_kind kind xs) t → (x : Definition) × Contains xs x × (kind x.defined ≡ Some t))
       → (y : Definition) × Contains (x ∷ xs) y × (kind y.defined ≡ Some t)
   at u is zero below e more = (x, (0, omega arith, refl), is ∙ ap Some e)
   at u is (suc k) below e more = later (more (k, omega (arith, below), e))
 
-  by : (o : Option T) → kind x.defined ≡ o → Contains (cons_option o (among kind xs)) t
-      → (Contains (among kind xs) t → (x : Definition) × Contains xs x × (kind x.defined ≡ Some t))
+  by : (o : Option T) → kind x.defined ≡ o → Contains (cons_option o (of_kind kind xs)) t
+      → (Contains (of_kind kind xs) t → (x : Definition) × Contains xs x × (kind x.defined ≡ Some t))
       → (y : Definition) × Contains (x ∷ xs) y × (kind y.defined ≡ Some t)
   by None is h more = later (more h)
   by (Some u) is (k, below, e) more = at u is k below e more
 
 -- of one kind and one name there is one definition
 kind_named : {T : Type 0} (kind : Defined → Option T) (name : T → List ℕ) → ((x : Defined) (t : T) → kind x ≡ Some t → name t ≡ name_of x)
-    → (xs : List Definition) (s t : T) → AreDistinct (map (λ (x : Definition). name_of x.defined) xs) → Contains (among kind xs) s → Contains (among kind xs) t
+    → (xs : List Definition) (s t : T) → AreDistinct (map (λ (x : Definition). name_of x.defined) xs) → Contains (of_kind kind xs) s → Contains (of_kind kind xs) t
     → name s ≡ name t → s ≡ t
 kind_named kind name named xs s t apart here there e =
     let x = behind kind xs s here in
@@ -103,7 +103,7 @@ function_name (definition.Component c) f e = absurd (cc)
 function_name (definition.Function g) f e = ap (λ (f : Function). string_bytes f.name) (sym (same_Some g f e))
 function_name (definition.TestCase c) f e = absurd (cc)
 
-port_type_name : (x : Defined) (p : PortType) → port_of x ≡ Some p → string_bytes p.name ≡ name_of x
+port_type_name : (x : Defined) (p : PortType) → port_type_of x ≡ Some p → string_bytes p.name ≡ name_of x
 port_type_name (definition.Record r) p e = absurd (cc)
 port_type_name (definition.List l) p e = absurd (cc)
 port_type_name (definition.Port q) p e = ap (λ (p : PortType). string_bytes p.name) (sym (same_Some q p e))
@@ -118,13 +118,13 @@ one_function_named m f g = kind_named function_of (λ (f : Function). string_byt
 
 one_port_type_named : (m : Module) (p q : PortType) → AreDistinct (definition_names m) → Contains (port_types m) p → Contains (port_types m) q
     → string_bytes p.name ≡ string_bytes q.name → p ≡ q
-one_port_type_named m p q = kind_named port_of (λ (p : PortType). string_bytes p.name) port_type_name m.definitions.items p q
+one_port_type_named m p q = kind_named port_type_of (λ (p : PortType). string_bytes p.name) port_type_name m.definitions.items p q
 
 -- a module with one test case has this one
 pub one_case : (m : Module) (x y : TestCase) → test_cases m ≡ x ∷ [] → test_cases m ≡ y ∷ [] → x ≡ y
 one_case m x y e f = same_Some x y (ap (λ l. slice_get l 0) (sym e ∙ f))
 
-type_fixed : (types : List (List ℕ)) (x : TypeName) (a b : Ty) → Names types x a → Names types x b → a ≡ b
+type_fixed : (types : List (List ℕ)) (x : TypeName) (a b : Ty) → IsTypeNamed types x a → IsTypeNamed types x b → a ≡ b
 type_fixed types x a b h k = same_Some a b (sym h ∙ k)
 
 abbrev field : List ℕ → Ty → Field
@@ -167,8 +167,8 @@ module _ (m : Module) (apart : AreDistinct (definition_names m)) where
       ap (λ n. port n a.ins a.outs) (h.name ∙ sym k.name) ∙ ap (λ i. port b.name i a.outs) (all _ a.ins b.ins here.0 k.lists.lists.0)
       ∙ ap (λ o. port b.name b.ins o) (all _ a.outs b.outs here.1 k.lists.lists.1)
     where
-      all : (xs : List TypeName) (ys zs : List Ty) → AllZip (Names (type_names m)) xs ys → AllZip (Names (type_names m)) xs zs → ys ≡ zs
-      all = zip_fixed (Names (type_names m)) (type_fixed (type_names m))
+      all : (xs : List TypeName) (ys zs : List Ty) → AllZip (IsTypeNamed (type_names m)) xs ys → AllZip (IsTypeNamed (type_names m)) xs zs → ys ≡ zs
+      all = zip_fixed (IsTypeNamed (type_names m)) (type_fixed (type_names m))
 
       same : h.lists.port_type ≡ k.lists.port_type
       same = one_port_type_named m h.lists.port_type k.lists.port_type apart h.lists.there k.lists.there (h.lists.named ∙ sym k.lists.named)

@@ -18,7 +18,7 @@ use Rattle.tp_name.specs.declared.fault.ModuleRule.TheVariants as module_rule
 use Rattle.tp_name.specs.declared.fault.ModuleFault.{ModuleFault}
 use Rattle.tp_name.specs.Refused.{Tells, TellsAt}
 use Rattle.tp_setup.specs.declared.prepared.Prepared.{Prepared}
-use Rattle.tp_setup.specs.Definitions.{among, component_types, function_of, functions, port_types, type_names}
+use Rattle.tp_setup.specs.Definitions.{of_kind, component_types, function_of, functions, port_types, type_names}
 use Rattle.tp_setup.specs.Prepared.{IsPreparedOf, IsWellDeclared}
 use Rattle.tp_setup.specs.Resolved.{IsComponentType}
 use Rattle.tp_setup.specs.Rules.{AreComponentTypesKnown}
@@ -69,7 +69,7 @@ module _ (known : Known) (xs : List Definition) (i : ℕ) (x : Definition) (f : 
       }
 
   -- its body breaks a rule, and those before it stand for something
-  pub function_told : (before : List Body) (fault : ModuleFault) → AllZip (IsFunctionBody known) (among function_of (take i xs)) before
+  pub function_told : (before : List Body) (fault : ModuleFault) → AllZip (IsFunctionBody known) (of_kind function_of (take i xs)) before
       → Tells (FunctionBreaks known f x.line) fault → Tells (FunctionsBreak known xs) fault
   function_told before fault each told =
       tells_map (FunctionBreaks known f x.line) (FunctionsBreak known xs) fault (λ rule line b. record {

@@ -29,11 +29,11 @@ use Rattle.tp_config.specs.declared.port_type.CompType.{CompType}
 use Rattle.tp_config.specs.declared.port_type.Role.TheVariants as role
 use Rattle.tp_config.specs.Setup.{Setup, Member, PortDecl, is_system_member, is_system_role, ports_at}
 use Rattle.tp_config.specs.Shape.{decl_of, ports_of}
-use Rattle.tp_name.specs.Tables.{AreDistinct, place_of}
+use Rattle.tp_name.specs.Tables.{AreDistinct, place_of_name}
 use Rattle.tp_name.proofs.Numbering.{place_there}
-use Rattle.tp_setup.specs.Definitions.{among, component_type_names, declared, function_of, functions, port_type_names, type_names}
+use Rattle.tp_setup.specs.Definitions.{of_kind, component_type_names, declared, function_of, functions, port_type_names, type_names}
 use Rattle.tp_setup.specs.Rules.{IsSound, sut}
-use Rattle.tp_setup.specs.Components.{Declared, IsMember, component_list, creations, created, interface, main_component, variable, variables}
+use Rattle.tp_setup.specs.Components.{Declared, IsMember, component_list, creations, created, interface, main_component, variable_name, variables}
 use Rattle.tp_setup.specs.Configuring.{IsStep, Makes, nothing, one_more, interface_number}
 use Rattle.tp_setup.specs.Starting.{HasParameterType, IsStartPlace, IsStartOf, started_names, type_names_of}
 use Rattle.tp_setup.specs.Sorted.{HasSoundDefinitions}
@@ -44,7 +44,7 @@ use Rattle.tp_body.specs.declared.scope.BehaviourKind.{BehaviourKind}
 use Rattle.tp_body.specs.Scoping.{reference_count}
 use Rattle.tp_play.specs.Playable.{IsPlayable}
 use Rattle.tp_body.proofs.Played.{body_played}
-use Rattle.tp_script.specs.Scopes.{Known, StandsFor}
+use Rattle.tp_script.specs.Scopes.{Known, IsBodyInScope}
 use Rattle.tp_script.specs.Behaviours as d
 use Rattle.tp_play.specs.Behaviours.{Behaviour}
 use Rattle.tp_script.specs.Behaviours.{Does, AreReferences}
@@ -82,7 +82,7 @@ unfolding ports_of
 port_declarations t = length-map t.ports.entries decl_of
 
 -- a name that has a place stands nowhere else
-placed_once : (names : List (List ℕ)) (name : List ℕ) (j k : ℕ) → AreDistinct names → place_of names name ≡ Some j → slice_get names k ≡ Some name → j ≡ k
+placed_once : (names : List (List ℕ)) (name : List ℕ) (j k : ℕ) → AreDistinct names → place_of_name names name ≡ Some j → slice_get names k ≡ Some name → j ≡ k
 placed_once names name j k apart first there = once names name j k apart (place_there names name j (sym first)) there
 
 by_none : {A B : Type 0} {x : A} → None ≡ Some x → B
@@ -105,19 +105,19 @@ function_defined (definition.Function g) f e = ap definition.Function (same_Some
 function_defined (definition.TestCase c) f e = absurd (cc)
 
 -- the function that stands among the definitions obeys their rules
-function_sound : (P : Defined → Type 0) (xs : List Definition) (f : Function) → All (λ (x : Definition). P x.defined) xs → Contains (among function_of xs) f
+function_sound : (P : Defined → Type 0) (xs : List Definition) (f : Function) → All (λ (x : Definition). P x.defined) xs → Contains (of_kind function_of xs) f
     → P (definition.Function f)
 function_sound P [] f each (k, below, is) = absurd (omega (arith, below))
 function_sound P (x ∷ xs) f each there =
     by (function_of x.defined) refl there (λ h. function_sound P xs f (All-tail (λ (x : Definition). P x.defined) x xs each) h) where
-      found : (g : Function) → function_of x.defined ≡ Some g → (k : ℕ) → k < length (g ∷ among function_of xs) → get_or (g ∷ among function_of xs) k f ≡ f
-          → (Contains (among function_of xs) f → P (definition.Function f)) → P (definition.Function f)
+      found : (g : Function) → function_of x.defined ≡ Some g → (k : ℕ) → k < length (g ∷ of_kind function_of xs) → get_or (g ∷ of_kind function_of xs) k f ≡ f
+          → (Contains (of_kind function_of xs) f → P (definition.Function f)) → P (definition.Function f)
       found g is zero below e later =
           subst P (function_defined x.defined g is ∙ ap definition.Function e) (All-head (λ (x : Definition). P x.defined) x xs each)
       found g is (suc k) below e later = later (k, omega (arith, below), e)
 
-      by : (o : Option Function) → function_of x.defined ≡ o → Contains (cons_option o (among function_of xs)) f
-          → (Contains (among function_of xs) f → P (definition.Function f)) → P (definition.Function f)
+      by : (o : Option Function) → function_of x.defined ≡ o → Contains (cons_option o (of_kind function_of xs)) f
+          → (Contains (of_kind function_of xs) f → P (definition.Function f)) → P (definition.Function f)
       by None is h later = later h
       by (Some g) is (k, below, e) later = found g is k below e later
 
@@ -176,12 +176,12 @@ module _ (m : Module) (made : Made) (rules : IsWellDeclared m) (of : IsTestCaseO
       omega (arith, long, length-append tested (interface case), length-map (creations case.setups.items) created)
 
   variable_count : length (variables case.setups.items) ≡ count
-  variable_count = length-map (creations case.setups.items) variable
+  variable_count = length-map (creations case.setups.items) variable_name
 
   -- a component can play what stands for a body that runs on its type, where there are as many references as the body's scope has
   can_play : (k : ℕ) (x : Declared) (plays : BehaviourKind) (runs_on : List ℕ) (parameters : List (List ℕ)) (vs : List Variable)
       (statements : List Statement) (body : Body) (references : List ℕ)
-      → slice_get (component_list case) k ≡ Some x → x.type_name ≡ runs_on → StandsFor known plays runs_on parameters vs statements body
+      → slice_get (component_list case) k ≡ Some x → x.type_name ≡ runs_on → IsBodyInScope known plays runs_on parameters vs statements body
       → length references ≡ length parameters + count + 2 → IsPlayable made.types (port_count config k) (length references) body
   can_play k x plays runs_on parameters vs statements body references here same s long =
       subst (λ t. IsPlayable t (port_count config k) (length references) body) s.is_scope.types
@@ -193,7 +193,7 @@ module _ (m : Module) (made : Made) (rules : IsWellDeclared m) (of : IsTestCaseO
       member = zip_from (IsMember (component_type_names m)) (component_list case) config.components k x members here
 
       same_kind : member.0.kind ≡ s.is_scope.kind
-      same_kind = same_Some member.0.kind s.is_scope.kind (sym member.2.kind ∙ ap (place_of (component_type_names m)) same ∙ s.is_scope.kind_known)
+      same_kind = same_Some member.0.kind s.is_scope.kind (sym member.2.kind ∙ ap (place_of_name (component_type_names m)) same ∙ s.is_scope.kind_known)
 
       ports_are : length s.scope.ports.now.ports.entries ≡ port_count config k
       ports_are =
@@ -309,7 +309,7 @@ module _ (m : Module) (made : Made) (rules : IsWellDeclared m) (of : IsTestCaseO
       own : begun.2.variable ≡ j
       own = placed_once (variables case.setups.items) placed.0 begun.2.variable j
           (subst (λ (c : TestCase). AreDistinct (variables c.setups.items)) same_case rules.variables.sound.distinct)
-          (ap (place_of (variables case.setups.items)) (sym same_variable) ∙ begun.2.variable_known) placed.1
+          (ap (place_of_name (variables case.setups.items)) (sym same_variable) ∙ begun.2.variable_known) placed.1
 
       same_function : begun.2.function ≡ f
       same_function = same_Some begun.2.function f (sym begun.2.function_known ∙ function)

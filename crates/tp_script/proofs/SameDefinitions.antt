@@ -22,7 +22,7 @@ use Rattle.tp_syntax.specs.Contents.{optional_name, type_content}
 use Rattle.tp_syntax.specs.Same.{field_type_content, declared_name_content, direction_content, port_declaration_content, parameter_content, test_case_content, defined_content, definition_content, IsSame}
 use Rattle.tp_value.specs.declared.types.Ty.{Ty}
 use Rattle.tp_value.specs.declared.types.Ty.TheVariants as ty
-use Rattle.tp_name.specs.Tables.{place_of}
+use Rattle.tp_name.specs.Tables.{place_of_name}
 use Rattle.tp_value.specs.declared.types.Field.{Field}
 use Rattle.tp_value.specs.declared.types.TypeDef.{TypeDef}
 use Rattle.tp_value.specs.declared.types.TypeDef.TheVariants as type_def
@@ -30,8 +30,8 @@ use Rattle.tp_config.specs.declared.port_type.CompType.{CompType}
 use Rattle.tp_config.specs.declared.port_type.PortType.{PortType as PortLists}
 use Rattle.tp_config.specs.Setup.{PortDecl}
 use Rattle.tp_config.specs.Shape.{ports_of}
-use Rattle.tp_setup.specs.Definitions.{name_of, type_of, port_of, component_of, function_of, case_of, type_definitions, port_types, component_types, functions, test_cases, definition_names, type_names, port_type_names, component_type_names, declared, declared_ports, inner_names}
-use Rattle.tp_setup.specs.Resolved.{ty_of, Names, IsField, IsTypeDef, IsNamedType, goes_in, goes_out, received, sent, IsPortType, IsMadeOf, IsPortDecl, IsComponentType, port_list}
+use Rattle.tp_setup.specs.Definitions.{name_of, type_of, port_type_of, component_type_of, function_of, case_of, type_definitions, port_types, component_types, functions, test_cases, definition_names, type_names, port_type_names, component_type_names, declared, declared_ports, inner_names}
+use Rattle.tp_setup.specs.Resolved.{ty_of, IsTypeNamed, IsField, IsTypeDef, IsNamedType, goes_in, goes_out, received_types, sent_types, IsPortType, IsMadeOf, IsPortDecl, IsComponentType, port_list}
 use Rattle.tp_setup.specs.Rules.{NamesType, IsSound}
 use Rattle.tp_script.proofs.Zips.{sequence_zip, zip_map, zip_all, zip_zip, zip_contains, zip_nil, zip_flat_map, zip_flat_same, zip_if, zip_weaker, BothOrNone, zip_filter_map}
 
@@ -79,7 +79,7 @@ type_kind (defined.Function x) (defined.Function y) e = tt
 type_kind (defined.TestCase x) (defined.TestCase y) e = tt
 type_kind x y e = absurd (cc)
 
-port_kind : (x y : Defined) → SameDefined x y → BothOrNone SamePort (port_of x) (port_of y)
+port_kind : (x y : Defined) → SameDefined x y → BothOrNone SamePort (port_type_of x) (port_type_of y)
 port_kind (defined.Record x) (defined.Record y) e = tt
 port_kind (defined.List x) (defined.List y) e = tt
 port_kind (defined.Port x) (defined.Port y) e = e
@@ -88,7 +88,7 @@ port_kind (defined.Function x) (defined.Function y) e = tt
 port_kind (defined.TestCase x) (defined.TestCase y) e = tt
 port_kind x y e = absurd (cc)
 
-component_kind : (x y : Defined) → SameDefined x y → BothOrNone SameComponent (component_of x) (component_of y)
+component_kind : (x y : Defined) → SameDefined x y → BothOrNone SameComponent (component_type_of x) (component_type_of y)
 component_kind (defined.Record x) (defined.Record y) e = tt
 component_kind (defined.List x) (defined.List y) e = tt
 component_kind (defined.Port x) (defined.Port y) e = tt
@@ -175,10 +175,10 @@ ty_same types type_name.Boolean type_name.Boolean e = refl
 ty_same types type_name.Charstring type_name.Charstring e = refl
 ty_same types (type_name.Named x) (type_name.Named y) e =
     let same : string_bytes x ≡ string_bytes y = cc in
-    ap (λ (t : List ℕ). option_map ty.Named (place_of types t)) same
+    ap (λ (t : List ℕ). option_map ty.Named (place_of_name types t)) same
 ty_same types x y e = absurd (cc)
 
-names_move : (types : List (List ℕ)) (x y : TypeName) (w : Ty) → SameType x y → Names types x w → Names types y w
+names_move : (types : List (List ℕ)) (x y : TypeName) (w : Ty) → SameType x y → IsTypeNamed types x w → IsTypeNamed types y w
 names_move types x y w e h = sym (ty_same types x y e) ∙ h
 
 known_moves : (types : List (List ℕ)) (x y : TypeName) → SameType x y → NamesType types x → NamesType types y
@@ -208,18 +208,18 @@ directions_zip x y e = sequence_zip direction_content x.directions.items y.direc
 types_zip : (x y : Direction) → SameDirection x y → AllZip SameType x.types.items y.types.items
 types_zip x y e = sequence_zip type_content x.types.items y.types.items cc
 
-received_zip : (x y : Direction) → SameDirection x y → AllZip SameType (received x) (received y)
+received_zip : (x y : Direction) → SameDirection x y → AllZip SameType (received_types x) (received_types y)
 received_zip x y e = zip_if SameType (goes_in x.way) (goes_in y.way) x.types.items y.types.items (ap goes_in (cc e)) (types_zip x y e)
 
-sent_zip : (x y : Direction) → SameDirection x y → AllZip SameType (sent x) (sent y)
+sent_zip : (x y : Direction) → SameDirection x y → AllZip SameType (sent_types x) (sent_types y)
 sent_zip x y e = zip_if SameType (goes_out x.way) (goes_out y.way) x.types.items y.types.items (ap goes_out (cc e)) (types_zip x y e)
 
 port_type_moves : (types : List (List ℕ)) (x y : PortType) (ins outs : List Ty) → SamePort x y → IsPortType types x ins outs → IsPortType types y ins outs
 port_type_moves types x y ins outs e h = (
-  zip_zip SameType (Names types) (Names types) (names_move types) (flat_map received x.directions.items) (flat_map received y.directions.items) ins
-      (zip_flat_map SameDirection SameType received received_zip x.directions.items y.directions.items (directions_zip x y e)) h.0,
-  zip_zip SameType (Names types) (Names types) (names_move types) (flat_map sent x.directions.items) (flat_map sent y.directions.items) outs
-      (zip_flat_map SameDirection SameType sent sent_zip x.directions.items y.directions.items (directions_zip x y e)) h.1,
+  zip_zip SameType (IsTypeNamed types) (IsTypeNamed types) (names_move types) (flat_map received_types x.directions.items) (flat_map received_types y.directions.items) ins
+      (zip_flat_map SameDirection SameType received_types received_zip x.directions.items y.directions.items (directions_zip x y e)) h.0,
+  zip_zip SameType (IsTypeNamed types) (IsTypeNamed types) (names_move types) (flat_map sent_types x.directions.items) (flat_map sent_types y.directions.items) outs
+      (zip_flat_map SameDirection SameType sent_types sent_zip x.directions.items y.directions.items (directions_zip x y e)) h.1,
 )
 
 made_of_moves : (types : List (List ℕ)) (xs ys : List PortType) (name : List ℕ) (w : PortLists) → AllZip SamePort xs ys → IsMadeOf types xs name w → IsMadeOf types ys name w
@@ -322,11 +322,11 @@ type_definitions_zip m n e =
 
 pub port_types_zip : (m n : Module) → IsSame m n → AllZip SamePort (port_types m) (port_types n)
 port_types_zip m n e =
-    zip_filter_map SameDefinition SamePort (λ (x : Definition). port_of x.defined) (λ x y h. port_kind x.defined y.defined (defined_same x y h)) m.definitions.items n.definitions.items (definitions_zip m n e)
+    zip_filter_map SameDefinition SamePort (λ (x : Definition). port_type_of x.defined) (λ x y h. port_kind x.defined y.defined (defined_same x y h)) m.definitions.items n.definitions.items (definitions_zip m n e)
 
 pub component_types_zip : (m n : Module) → IsSame m n → AllZip SameComponent (component_types m) (component_types n)
 component_types_zip m n e =
-    zip_filter_map SameDefinition SameComponent (λ (x : Definition). component_of x.defined) (λ x y h. component_kind x.defined y.defined (defined_same x y h)) m.definitions.items n.definitions.items
+    zip_filter_map SameDefinition SameComponent (λ (x : Definition). component_type_of x.defined) (λ x y h. component_kind x.defined y.defined (defined_same x y h)) m.definitions.items n.definitions.items
     (definitions_zip m n e)
 
 pub functions_zip : (m n : Module) → IsSame m n → AllZip SameFunction (functions m) (functions n)

@@ -33,7 +33,7 @@ use Rattle.tp_body.specs.declared.scope.BehaviourKind.{BehaviourKind}
 use Rattle.tp_body.specs.declared.scope.BehaviourKind.TheVariants as behaviour_kind
 use Rattle.tp_script.specs.declared.fault.ScriptRule.TheVariants as script_rule
 use Rattle.tp_script.specs.declared.fault.TestCaseFault.TheVariants as test_case_fault
-use Rattle.tp_script.specs.Scopes.{Known, StandsFor, IsMainBody, plays_of, IsFunctionBody}
+use Rattle.tp_script.specs.Scopes.{Known, IsBodyInScope, IsMainBody, plays_of, IsFunctionBody}
 use Rattle.tp_script.specs.Behaviours as behaviours
 use Rattle.tp_script.specs.Behaviours.{Does}
 use Rattle.tp_script.specs.TestCases.{known_of, AreKinds, IsTestCaseOf, HasSoundBodies, WellFormed}
@@ -46,13 +46,13 @@ use Rattle.tp_script.proofs.SameSetups.{setups_zip, variables_same, runs_on_same
 -- ---- bodies
 
 stands_moves : (known : Known) (plays : BehaviourKind) (runs_on : List ℕ) (parameters : List (List ℕ)) (xs ys : List Variable) (ss us : List StatementText) (body : Body) → AllZip SameVariable xs ys
-    → AllZip SameStatement ss us → StandsFor known plays runs_on parameters xs ss body → StandsFor known plays runs_on parameters ys us body
+    → AllZip SameStatement ss us → IsBodyInScope known plays runs_on parameters xs ss body → IsBodyInScope known plays runs_on parameters ys us body
 stands_moves known plays runs_on parameters xs ys ss us body vz sz h =
     record { scope = h.scope; is_scope = h.is_scope; is_body = body_moves h.scope xs ys ss us body vz sz h.is_body }
 
 main_moves : (known : Known) (x y : TestCase) (body : Body) → SameCase x y → IsMainBody known x body → IsMainBody known y body
 main_moves known x y body e h =
-    subst (λ (t : List ℕ). StandsFor known behaviour_kind.TestCase t [] y.variables.items y.statements.items body) (runs_on_same x y e)
+    subst (λ (t : List ℕ). IsBodyInScope known behaviour_kind.TestCase t [] y.variables.items y.statements.items body) (runs_on_same x y e)
     (stands_moves known behaviour_kind.TestCase (string_bytes x.runs_on) [] x.variables.items y.variables.items x.statements.items y.statements.items body
     (sequence_zip variable_content x.variables.items y.variables.items (cc e)) (sequence_zip statement_content x.statements.items y.statements.items (cc e)) h)
 
@@ -61,9 +61,9 @@ function_moves known x y body e h =
     let named : string_bytes x.name ≡ string_bytes y.name = cc e in
     let runs_on : string_bytes x.runs_on ≡ string_bytes y.runs_on = cc e in
     let plays : plays_of x ≡ plays_of y = ap (λ (t : List ℕ). if bytes_eq t sut then behaviour_kind.SystemUnderTest else behaviour_kind.Function) named in
-    subst (λ t. StandsFor known t (string_bytes y.runs_on) (map (λ p. declared p.name) y.parameters.items) y.variables.items y.statements.items body) plays
-    (subst (λ (t : List ℕ). StandsFor known (plays_of x) t (map (λ p. declared p.name) y.parameters.items) y.variables.items y.statements.items body) runs_on
-    (subst (λ (t : List (List ℕ)). StandsFor known (plays_of x) (string_bytes x.runs_on) t y.variables.items y.statements.items body) (parameter_names_same x y e)
+    subst (λ t. IsBodyInScope known t (string_bytes y.runs_on) (map (λ p. declared p.name) y.parameters.items) y.variables.items y.statements.items body) plays
+    (subst (λ (t : List ℕ). IsBodyInScope known (plays_of x) t (map (λ p. declared p.name) y.parameters.items) y.variables.items y.statements.items body) runs_on
+    (subst (λ (t : List (List ℕ)). IsBodyInScope known (plays_of x) (string_bytes x.runs_on) t y.variables.items y.statements.items body) (parameter_names_same x y e)
     (stands_moves known (plays_of x) (string_bytes x.runs_on) (map (λ p. declared p.name) x.parameters.items) x.variables.items y.variables.items x.statements.items y.statements.items body
     (sequence_zip variable_content x.variables.items y.variables.items (cc e)) (sequence_zip statement_content x.statements.items y.statements.items (cc e)) h)))
 

@@ -24,12 +24,12 @@ use Rattle.tp_syntax.specs.Same.{end_component_content, end_content, setup_actio
 use Rattle.tp_config.specs.declared.port_type.PortRef.{PortRef}
 use Rattle.tp_config.specs.declared.port_type.Role.TheVariants as role
 use Rattle.tp_config.specs.Setup.{Setup, PortDecl}
-use Rattle.tp_name.specs.Tables.{AreDistinct, IsNumbered, place_of}
+use Rattle.tp_name.specs.Tables.{AreDistinct, IsNumbered, place_of_name}
 use Rattle.tp_setup.specs.declared.starts.Started.{Started}
 use Rattle.tp_setup.specs.declared.starts.Starts.{Starts}
-use Rattle.tp_setup.specs.Components.{creation_of, creations, variable, variables, Declared, created, main_component, interface, component_list, IsMember, HasPorts}
+use Rattle.tp_setup.specs.Components.{creation_of, creations, variable_name, variables, Declared, created, main_component, interface, component_list, IsMember, HasPorts}
 use Rattle.tp_setup.specs.Configuring as configuring
-use Rattle.tp_setup.specs.Configuring.{component_at, IsEnd, Connects, Maps, IsStep, Makes, interface_number, most_variables, IsSetUp, AreSoundVariables}
+use Rattle.tp_setup.specs.Configuring.{end_component_number, IsPortOfEnd, Connects, Maps, IsStep, Makes, interface_number, most_variables, IsSetUp, AreSoundVariables}
 use Rattle.tp_setup.specs.Starting.{component_named, IsArgument, HasParameterType, type_names_of, IsStartOf, started_names, IsStartPlace, AreStarts}
 use Rattle.tp_script.proofs.Zips.{sequence_zip, zip_map, zip_all, zip_zip, zip_get, zip_contains, zip_push, zip_nil, BothOrNone, zip_filter_map}
 use Rattle.tp_script.proofs.SameDefinitions.{SameComponent, SameFunction, SameCase, SameParameter, parameters_zip, declared_ports_same}
@@ -59,7 +59,7 @@ creations_zip : (xs ys : List SetupStatement) → AllZip SameSetup xs ys → All
 creations_zip xs ys z = zip_filter_map SameSetup SameCreation creation_of (λ x y e. creation_kind x y x.action y.action refl refl (action_same x y e)) xs ys z
 
 pub variables_same : (xs ys : List SetupStatement) → AllZip SameSetup xs ys → variables xs ≡ variables ys
-variables_same xs ys z = zip_map SameCreation variable (λ a b h. h.name) (creations xs) (creations ys) (creations_zip xs ys z)
+variables_same xs ys z = zip_map SameCreation variable_name (λ a b h. h.name) (creations xs) (creations ys) (creations_zip xs ys z)
 
 created_same : (xs ys : List SetupStatement) → AllZip SameSetup xs ys → map created (creations xs) ≡ map created (creations ys)
 created_same xs ys z =
@@ -135,16 +135,16 @@ type_names_of_same x y e =
 
 -- ---- the setup
 
-end_component_same : (names : List (List ℕ)) (system : Option ℕ) (x y : EndComponent) → end_component_content x ≡ end_component_content y → component_at names system x ≡ component_at names system y
+end_component_same : (names : List (List ℕ)) (system : Option ℕ) (x y : EndComponent) → end_component_content x ≡ end_component_content y → end_component_number names system x ≡ end_component_number names system y
 end_component_same names system (end_component.Named x) (end_component.Named y) e =
     let same : string_bytes x ≡ string_bytes y = cc e in
-    ap (λ (t : List ℕ). option_map (λ k. k + 1) (place_of names t)) same
+    ap (λ (t : List ℕ). option_map (λ k. k + 1) (place_of_name names t)) same
 end_component_same names system end_component.Mtc end_component.Mtc e = refl
 end_component_same names system end_component.SelfComponent end_component.SelfComponent e = refl
 end_component_same names system end_component.System end_component.System e = refl
 end_component_same names system x y e = absurd (cc e)
 
-end_moves : (s : Setup) (names : List (List ℕ)) (system : Option ℕ) (x y : PairEnd) (p : PortRef) → end_content x ≡ end_content y → IsEnd s names system x p → IsEnd s names system y p
+end_moves : (s : Setup) (names : List (List ℕ)) (system : Option ℕ) (x y : PairEnd) (p : PortRef) → end_content x ≡ end_content y → IsPortOfEnd s names system x p → IsPortOfEnd s names system y p
 end_moves s names system x y p e h =
     let port : string_bytes x.port ≡ string_bytes y.port = cc e in
     record {
@@ -202,7 +202,7 @@ sound_variables_move names xs ys x y z e h =
       has_ports = subst (λ (t : List ℕ). HasPorts ys t h.ports) (runs_on_same x y e) (ports_move xs ys (string_bytes x.runs_on) h.ports z h.has_ports);
       sound = record {
         distinct = subst (λ t. AreDistinct t) (variables_same x.setups.items y.setups.items (setups_zip x y e)) sound.distinct;
-        no_port = zip_all SameCreation (λ (k : Creation). Contains h.ports (variable k) → ⊥) (λ (k : Creation). Contains h.ports (variable k) → ⊥)
+        no_port = zip_all SameCreation (λ (k : Creation). Contains h.ports (variable_name k) → ⊥) (λ (k : Creation). Contains h.ports (variable_name k) → ⊥)
             (λ a b same none there. none (subst (λ (t : List ℕ). Contains h.ports t) (sym same.name) there)) us vs made sound.no_port;
         known = zip_all SameCreation (λ (k : Creation). Contains names (string_bytes k.type_name)) (λ (k : Creation). Contains names (string_bytes k.type_name))
             (λ a b same there. subst (λ (t : List ℕ). Contains names t) same.type_name there) us vs made sound.known;
@@ -217,7 +217,7 @@ sound_variables_move names xs ys x y z e h =
 component_named_same : (names : List (List ℕ)) (x y : ComponentName) → component_content x ≡ component_content y → component_named names x ≡ component_named names y
 component_named_same names (component_name.Named x) (component_name.Named y) e =
     let same : string_bytes x ≡ string_bytes y = cc e in
-    ap (λ (t : List ℕ). option_map (λ k. k + 1) (place_of names t)) same
+    ap (λ (t : List ℕ). option_map (λ k. k + 1) (place_of_name names t)) same
 component_named_same names component_name.Mtc component_name.Mtc e = refl
 component_named_same names component_name.SelfComponent component_name.SelfComponent e = refl
 component_named_same names x y e = absurd (cc e)
@@ -233,7 +233,7 @@ start_moves fs gs names types z x y w e h =
     let runs_on : string_bytes h.function.runs_on ≡ string_bytes i.0.runs_on = cc same in
     record {
       variable = h.variable;
-      variable_known = subst (λ (t : List ℕ). place_of names t ≡ Some h.variable) component h.variable_known;
+      variable_known = subst (λ (t : List ℕ). place_of_name names t ≡ Some h.variable) component h.variable_known;
       function = i.0;
       function_known = i.1;
       named = sym named ∙ h.named ∙ function;

@@ -10,11 +10,11 @@ use Rattle.tp_tree.specs.declared.tree.Module.{Module}
 use Rattle.tp_tree.specs.declared.tree.TestCase.{TestCase}
 use Rattle.tp_tree.specs.declared.tree.Function.{Function}
 use Rattle.tp_tree.specs.declared.tree.ComponentStart.{ComponentStart}
-use Rattle.tp_name.specs.Tables.{AreDistinct, place_of}
+use Rattle.tp_name.specs.Tables.{AreDistinct, place_of_name}
 use Rattle.tp_name.proofs.Numbering.{place_known, place_there, place_unknown}
 use Rattle.tp_setup.specs.Definitions.{definition_names, functions}
 use Rattle.tp_setup.specs.Rules.{sut}
-use Rattle.tp_setup.specs.Components.{creations, interface, variable, variables}
+use Rattle.tp_setup.specs.Components.{creations, interface, variable_name, variables}
 use Rattle.tp_setup.specs.Configuring.{interface_number}
 use Rattle.tp_setup.specs.Starting.{AreStarts, IsStartPlace, IsStartOf, started_names, type_names_of}
 use Rattle.tp_setup.specs.Prepared.{IsWellDeclared}
@@ -45,7 +45,7 @@ size_at_place fs place = option_map_or (λ k. option_map_or size_of_function (sl
 
 -- the size of the function of this name, or 0
 abbrev size_named : List Function → List ℕ → ℕ
-size_named fs name = size_at_place fs (place_of (map function_name fs) name)
+size_named fs name = size_at_place fs (place_of_name (map function_name fs) name)
 
 abbrev size_at_start : List Function → TestCase → Option ℕ → ℕ
 size_at_start fs case place = option_map_or (λ k. option_map_or (λ (x : ComponentStart). size_named fs (string_bytes x.function)) (slice_get case.starts.items k) 0) place 0
@@ -53,7 +53,7 @@ size_at_start fs case place = option_map_or (λ k. option_map_or (λ (x : Compon
 -- the size of what the component of a variable does, or that of the test system interface behind the last
 abbrev size_behind : List Function → TestCase → Option (List ℕ) → ℕ
 size_behind fs case None = size_named fs sut
-size_behind fs case (Some v) = size_at_start fs case (place_of (started_names case.starts.items) v)
+size_behind fs case (Some v) = size_at_start fs case (place_of_name (started_names case.starts.items) v)
 
 -- the size of what the component of this number does, by the text
 abbrev size_at : List Function → TestCase → ℕ → ℕ
@@ -68,12 +68,12 @@ past (x ∷ xs) (suc k) le = past xs k (omega (arith, le))
 module _ (m : Module) (apart : AreDistinct (definition_names m)) where
   -- the function of a name is the one that has it
   named_size : (f : Function) (name : List ℕ) → Contains (functions m) f → string_bytes f.name ≡ name → size_named (functions m) name ≡ size_of_function f
-  named_size f name there is = by (place_of (map function_name (functions m)) name) refl where
+  named_size f name there is = by (place_of_name (map function_name (functions m)) name) refl where
     here : Contains (map function_name (functions m)) name
     here = let i = place_in (functions m) f there in
         contains_at (map function_name (functions m)) i.0 name (slice_get-map function_name (functions m) i.0 ∙ ap (option_map function_name) i.1 ∙ ap Some is)
 
-    by : (o : Option ℕ) → o ≡ place_of (map function_name (functions m)) name → size_at_place (functions m) o ≡ size_of_function f
+    by : (o : Option ℕ) → o ≡ place_of_name (map function_name (functions m)) name → size_at_place (functions m) o ≡ size_of_function f
     by None e = absurd (place_unknown (map function_name (functions m)) name e here)
     by (Some k) e =
         let g = mapped_from function_name (functions m) k name (place_there (map function_name (functions m)) name k e) in
@@ -81,8 +81,8 @@ module _ (m : Module) (apart : AreDistinct (definition_names m)) where
         ∙ ap size_of_function (one_function_named m g.0 f apart (contains_at (functions m) k g.0 g.1) there (g.2 ∙ sym is))
 
   unnamed_size : (name : List ℕ) → (Contains (map function_name (functions m)) name → ⊥) → size_named (functions m) name ≡ 0
-  unnamed_size name absent = by (place_of (map function_name (functions m)) name) refl where
-    by : (o : Option ℕ) → o ≡ place_of (map function_name (functions m)) name → size_at_place (functions m) o ≡ 0
+  unnamed_size name absent = by (place_of_name (map function_name (functions m)) name) refl where
+    by : (o : Option ℕ) → o ≡ place_of_name (map function_name (functions m)) name → size_at_place (functions m) o ≡ 0
     by None e = refl
     by (Some k) e = absurd (absent (place_known (map function_name (functions m)) name k e))
 
@@ -91,7 +91,7 @@ module _ (m : Module) (apart : AreDistinct (definition_names m)) where
   at_interface case n e =
       ap (size_at (functions m) case) (sym (number case.system e) ∙ add-one (length (creations case.setups.items)))
       ∙ ap (size_behind (functions m) case)
-      (past (variables case.setups.items) (length (creations case.setups.items)) (omega (arith, length-map (creations case.setups.items) variable)))
+      (past (variables case.setups.items) (length (creations case.setups.items)) (omega (arith, length-map (creations case.setups.items) variable_name)))
     where
       number : (o : Option (String Global)) → option_map (λ _. length (creations case.setups.items) + 1) o ≡ Some n → length (creations case.setups.items) + 1 ≡ n
       number None f = absurd (cc)

@@ -9,10 +9,10 @@ use Rattle.tp_tree.specs.declared.message.TypeName.TheVariants as type_name
 use Rattle.tp_tree.specs.declared.message.MessageTemplate.{MessageTemplate}
 use Rattle.tp_tree.specs.declared.tree.ComponentName.{ComponentName}
 use Rattle.tp_tree.specs.declared.tree.ComponentName.TheVariants as component_name
-use Rattle.tp_tree.specs.declared.tree.Sent.{Sent as SentText}
-use Rattle.tp_tree.specs.declared.tree.Sent.TheVariants as sent
-use Rattle.tp_tree.specs.declared.tree.Destination.{Destination}
-use Rattle.tp_tree.specs.declared.tree.Destination.TheVariants as destination
+use Rattle.tp_tree.specs.declared.tree.SentExpression.{SentExpression}
+use Rattle.tp_tree.specs.declared.tree.SentExpression.TheVariants as sent
+use Rattle.tp_tree.specs.declared.tree.Receivers.{Receivers}
+use Rattle.tp_tree.specs.declared.tree.Receivers.TheVariants as destination
 use Rattle.tp_tree.specs.declared.tree.Send.{Send}
 use Rattle.tp_tree.specs.declared.tree.Receive.{Receive}
 use Rattle.tp_tree.specs.declared.tree.Control.{Control}
@@ -51,7 +51,7 @@ use Rattle.tp_name.specs.Named.{IsPlace, IsAbsent}
 use Rattle.tp_body.specs.Scoping as scoping
 use Rattle.tp_body.specs.Scoping.{IsPortNamed, IsVariable, IsReference, IsNew}
 use Rattle.tp_body.specs.Bodies as bodies
-use Rattle.tp_body.specs.Bodies.{IsSent, IsReceiver, IsSend, IsWanted, IsFrom, IsValueTarget, IsSenderTarget, IsReceive, IsStatement, IsBlock, IsBranch, IsAfter, AreBranches, IsHeld, AreVariables, IsBody}
+use Rattle.tp_body.specs.Bodies.{IsSent, IsReceiver, IsSend, IsWanted, IsFrom, IsValueTarget, IsSenderTarget, IsReceive, IsStatement, IsBlock, IsBranch, IsAfter, AreBranches, IsVariableType, AreVariables, IsBody}
 use Rattle.tp_script.proofs.Zips.{sequence_zip, zip_push, zip_nil}
 use Rattle.tp_script.proofs.SameMessages.{type_moves, value_moves}
 use Rattle.tp_script.proofs.SameTemplates.{template_moves}
@@ -66,7 +66,7 @@ abbrev SameBranch : BranchText → BranchText → Type 0
 SameBranch x y = branch_content x ≡ branch_content y
 
 module _ (scope : Scope) (variables : Variables) where
-  sent_moves : (turns : List (List ℕ)) (sendable : List Ty) (x : SentText) (w : Sent) → IsSent scope variables turns sendable x w → (y : SentText) → sent_content x ≡ sent_content y
+  sent_moves : (turns : List (List ℕ)) (sendable : List Ty) (x : SentExpression) (w : Sent) → IsSent scope variables turns sendable x w → (y : SentExpression) → sent_content x ≡ sent_content y
       → IsSent scope variables turns sendable y w
   sent_moves turns sendable _ _ (bodies.written x m message there) (sent.Message y) e =
       let kind : type_content x.type_name ≡ type_content y.type_name = cc in
@@ -94,7 +94,7 @@ module _ (scope : Scope) (variables : Variables) where
   not_all component_name.Mtc e = cc
   not_all component_name.SelfComponent e = cc
 
-  receiver_moves : (turns : List (List ℕ)) (x : Option Destination) (w : Receiver) → IsReceiver scope variables turns x w → (y : Option Destination) → to_content x ≡ to_content y
+  receiver_moves : (turns : List (List ℕ)) (x : Option Receivers) (w : Receiver) → IsReceiver scope variables turns x w → (y : Option Receivers) → to_content x ≡ to_content y
       → IsReceiver scope variables turns y w
   receiver_moves turns _ _ bodies.nobody None e = bodies.nobody
   receiver_moves turns _ _ bodies.nobody (Some (destination.Component y)) e = absurd (cc)
@@ -323,7 +323,7 @@ module _ (scope : Scope) (variables : Variables) where
         let i = zip_push SameBranch xs x ys z in
         subst (λ t. AreBranches scope variables turns t (ws ++ w ∷ [])) (sym i.2) (bodies.one_branch_more turns i.0 ws i.1 w (branches_move turns xs ws all i.0 i.3) (branch_moves turns x w one i.1 i.4))
 
-held_moves : (scope : Scope) (x : TypeName) (w : VariableType) → IsHeld scope x w → (y : TypeName) → type_content x ≡ type_content y → IsHeld scope y w
+held_moves : (scope : Scope) (x : TypeName) (w : VariableType) → IsVariableType scope x w → (y : TypeName) → type_content x ≡ type_content y → IsVariableType scope y w
 held_moves scope _ _ (bodies.message x u is) y e = bodies.message y u (type_moves scope.types.now x y u e is)
 held_moves scope _ _ (bodies.component n k none place) (type_name.Named y) e =
     let same : string_bytes n ≡ string_bytes y = cc in

@@ -6,7 +6,7 @@ use Rattle.std.proofs.lemmas.Bool.{cases_lt}
 use Rattle.std.proofs.lemmas.List.Sums.{sum-map, sum_by-cons}
 use Rattle.tp_config.proofs.Look.{get_or_mapped}
 use Rattle.tp_play.specs.declared.body.Body.{Body}
-use Rattle.tp_play.specs.Sizes.{limit, capped, size_of_body}
+use Rattle.tp_play.specs.Sizes.{size_limit, capped, size_of_body}
 use Rattle.tp_body.proofs.Counting.{cap_add, cap_above, cap_below}
 use Rattle.tp_play.specs.declared.bodies.Bodies.{Bodies}
 use Rattle.tp_play.specs.declared.instance.Instance.{Instance}
@@ -52,11 +52,11 @@ module _ (bodies : Bodies) (own : ℕ) (sizes : List ℕ) (own_is : own ≡ capp
       ∙ cap_add (size_of_behaviour (behaviour_of bodies x)) (sum (map size_of_behaviour (map (behaviour_of bodies) instances)))
       ∙ ap capped (sym (sum_cons size_of_behaviour (behaviour_of bodies x) (map (behaviour_of bodies) instances)))
 
-pub few : (n : ℕ) → capped n < limit → n ≤ 100000
-few n lt = by (cases_lt n limit) where
-  by : (n < limit) ⊎ (limit ≤ n) → n ≤ 100000
+pub few : (n : ℕ) → capped n < size_limit → n ≤ 100000
+few n lt = by (cases_lt n size_limit) where
+  by : (n < size_limit) ⊎ (size_limit ≤ n) → n ≤ 100000
   by (inl below) = omega (arith, below)
   by (inr above) = absurd (omega (arith, cap_above n above, lt))
 
-pub many : (n : ℕ) → limit ≤ capped n → n ≤ 100000 → ⊥
+pub many : (n : ℕ) → size_limit ≤ capped n → n ≤ 100000 → ⊥
 many n le few = omega (arith, cap_below n (omega (arith, few)), le)

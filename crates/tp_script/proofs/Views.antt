@@ -12,8 +12,8 @@ use Rattle.tp_config.specs.Shape.{decl_of, ports_of}
 use Rattle.tp_tree.specs.declared.message.TypeName.{TypeName}
 use Rattle.tp_tree.specs.declared.message.MessageTemplate.{MessageTemplate}
 use Rattle.tp_tree.specs.declared.tree.ComponentName.{ComponentName}
-use Rattle.tp_tree.specs.declared.tree.Sent.{Sent as SentText}
-use Rattle.tp_tree.specs.declared.tree.Destination.{Destination}
+use Rattle.tp_tree.specs.declared.tree.SentExpression.{SentExpression}
+use Rattle.tp_tree.specs.declared.tree.Receivers.{Receivers}
 use Rattle.tp_tree.specs.declared.tree.Send.{Send}
 use Rattle.tp_tree.specs.declared.tree.Receive.{Receive}
 use Rattle.tp_tree.specs.declared.tree.Variable.{Variable}
@@ -35,10 +35,10 @@ use Rattle.tp_body.specs.declared.scope.BehaviourKind.{BehaviourKind}
 use Rattle.tp_body.specs.declared.scope.Scope.{Scope}
 use Rattle.tp_body.specs.declared.scope.Variables.{Variables}
 use Rattle.tp_body.specs.Scoping as p
-use Rattle.tp_body.specs.Scoping.{IsPortNamed, IsReference, IsNew, IsType, declared_port_names, declared_port_types, receives, sends}
+use Rattle.tp_body.specs.Scoping.{IsPortNamed, IsReference, IsNew, IsType, declared_port_names, declared_port_types, receivable_types, sendable_types}
 use Rattle.tp_body.specs.Messages.{IsMessage, IsTemplate}
 use Rattle.tp_body.specs.Bodies as b
-use Rattle.tp_body.specs.Bodies.{IsSent, IsReceiver, IsSend, IsWanted, IsFrom, IsReceive, IsStatement, IsBlock, IsBranch, IsAfter, AreBranches, IsHeld, AreVariables, IsBody}
+use Rattle.tp_body.specs.Bodies.{IsSent, IsReceiver, IsSend, IsWanted, IsFrom, IsReceive, IsStatement, IsBlock, IsBranch, IsAfter, AreBranches, IsVariableType, AreVariables, IsBody}
 use Rattle.tp_script.specs.Scopes.{IsScope, Known}
 
 -- two scopes look the same
@@ -76,13 +76,13 @@ module _ (s t : Scope) (same : LookSame s t) where
       no_component = λ e. subst (λ l. IsAbsent l name) same.components (h.no_component (same.behaviour ∙ e));
     }
 
-    sent_seen : {turns : List (List ℕ)} {sendable : List Ty} {x : SentText} {y : Sent} → IsSent s variables turns sendable x y
+    sent_seen : {turns : List (List ℕ)} {sendable : List Ty} {x : SentExpression} {y : Sent} → IsSent s variables turns sendable x y
         → IsSent t variables turns sendable x y
     sent_seen {turns} (b.written x m h listed) = b.written x m (subst (λ types. IsMessage types turns x m) same.types h) listed
     sent_seen (b.counter n k h listed) = b.counter n k h listed
     sent_seen (b.held n k u absent h listed) = b.held n k u absent h listed
 
-    receiver_seen : {turns : List (List ℕ)} {x : Option Destination} {y : Receiver} → IsReceiver s variables turns x y → IsReceiver t variables turns x y
+    receiver_seen : {turns : List (List ℕ)} {x : Option Receivers} {y : Receiver} → IsReceiver s variables turns x y → IsReceiver t variables turns x y
     receiver_seen b.nobody = b.nobody
     receiver_seen (b.reference x k h) = b.reference x k (reference_seen h)
     receiver_seen (b.variable n k absent h) = b.variable n k absent h
@@ -92,7 +92,7 @@ module _ (s t : Scope) (same : LookSame s t) where
     send_seen {turns} {x} {y} h = record {
       port = h.port;
       port_known = port_seen h.port_known;
-      sent = sent_seen (subst (λ k. IsSent s variables turns (sends k h.port) x.sent y.sent) same.behaviour h.sent);
+      sent = sent_seen (subst (λ k. IsSent s variables turns (sendable_types k h.port) x.sent y.sent) same.behaviour h.sent);
       receiver = receiver_seen h.receiver;
     }
 
@@ -112,7 +112,7 @@ module _ (s t : Scope) (same : LookSame s t) where
       port = h.port;
       port_known = port_seen h.port_known;
       same_kind = h.same_kind;
-      wants = wanted_seen (subst (λ k. IsWanted s turns (receives k h.port) x.template y.wanted) same.behaviour h.wants);
+      wants = wanted_seen (subst (λ k. IsWanted s turns (receivable_types k h.port) x.template y.wanted) same.behaviour h.wants);
       from_known = from_seen h.from_known;
       value_known = h.value_known;
       sender_known = h.sender_known;
@@ -146,7 +146,7 @@ module _ (s t : Scope) (same : LookSame s t) where
       branches_seen (b.no_branch turns) = b.no_branch turns
       branches_seen (b.one_branch_more turns xs ys x y h one) = b.one_branch_more turns xs ys x y (branches_seen h) (branch_seen one)
 
-  held_seen : {x : TypeName} {held : VariableType} → IsHeld s x held → IsHeld t x held
+  held_seen : {x : TypeName} {held : VariableType} → IsVariableType s x held → IsVariableType t x held
   held_seen (b.message x u h) = b.message x u (subst (λ types. IsType types x u) same.types h)
   held_seen (b.component n k free h) =
       b.component n k (subst (λ types. type_number types (string_bytes n) ≡ None) same.types free)

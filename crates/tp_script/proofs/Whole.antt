@@ -14,7 +14,7 @@ use Rattle.tp_config.specs.Setup.{PortDecl}
 use Rattle.tp_name.proofs.Numbering.{place_there}
 use Rattle.tp_setup.specs.declared.prepared.Prepared.{Prepared}
 use Rattle.tp_setup.specs.Definitions.{component_type_names, functions}
-use Rattle.tp_setup.specs.Components.{creations, variable, variables}
+use Rattle.tp_setup.specs.Components.{creations, variable_name, variables}
 use Rattle.tp_setup.specs.Configuring.{most_variables}
 use Rattle.tp_setup.specs.Starting.{IsStartPlace, IsStartOf, started_names, type_names_of}
 use Rattle.tp_setup.specs.Prepared.{IsPreparedOf, IsWellDeclared}
@@ -72,7 +72,7 @@ module _ (m : Module) (p : Prepared) (of : IsPreparedOf m p) (rules : IsWellDecl
         omega (
           arith,
           ap length of.variables_are,
-          length-map (creations p.case.case.now.setups.items) variable,
+          length-map (creations p.case.case.now.setups.items) variable_name,
           ap (λ (c : TestCase). length (creations c.setups.items)) same,
           rules.variables.sound.few,
           few_at_most rules.case,

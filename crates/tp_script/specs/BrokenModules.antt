@@ -12,7 +12,7 @@ use Rattle.tp_config.specs.Setup.{Setup}
 use Rattle.tp_name.specs.declared.fault.ModuleRule.{ModuleRule}
 use Rattle.tp_name.specs.declared.fault.ModuleRule.TheVariants.{Limit}
 use Rattle.tp_setup.specs.Broken.{DeclarationsBreak}
-use Rattle.tp_setup.specs.Definitions.{BeginsAmong, among, declared, function_of, test_cases}
+use Rattle.tp_setup.specs.Definitions.{BeginsAmong, of_kind, declared, function_of, test_cases}
 use Rattle.tp_setup.specs.Prepared.{IsConfigOf, IsWellDeclared}
 use Rattle.tp_setup.specs.Resolved.{AreTypes}
 use Rattle.tp_play.specs.declared.body.Body.{Body}
@@ -52,7 +52,7 @@ pub record FunctionsBreak (known : Known) (list : List Definition) (rule : Modul
   pub bodies : List Body
   pub split : list ≡ before ++ definition ∷ after
   pub is : function_of definition.defined ≡ Some function
-  pub obey : AllZip (IsFunctionBody known) (among function_of before) bodies
+  pub obey : AllZip (IsFunctionBody known) (of_kind function_of before) bodies
   pub breaks : FunctionBreaks known function definition.line rule line
 
 -- a body breaks a rule: the test case's own, which begins at this line, or else the first of the functions that does

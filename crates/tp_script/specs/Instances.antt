@@ -5,7 +5,7 @@ use Rattle.std.specs.List.{slice_index_or}
 use Rattle.tp_setup.specs.declared.prepared.Prepared.{Prepared}
 use Rattle.tp_setup.specs.declared.starts.Started.{Started}
 use Rattle.tp_setup.specs.Rules.{sut}
-use Rattle.tp_name.specs.Tables.{place_of}
+use Rattle.tp_name.specs.Tables.{place_of_name}
 use Rattle.tp_play.specs.declared.instance.Instance.{Instance}
 use Rattle.tp_play.specs.declared.instance.Source.{Source}
 use Rattle.tp_play.specs.declared.instance.Source.TheVariants as source
@@ -33,11 +33,11 @@ pub data IsInstance (p : Prepared) : ℕ → Option Instance → Type 0 where
       (map (λ c. c.0) x.references.items)
       → IsInstance p (k + 1) (Some x)
   system : (n place : ℕ) (x : Instance) → IsSome p.case.case.now.system → n ≡ length p.starts.places.items + 1
-      → place_of p.sorted.function_names sut ≡ Some place → x.source ≡ source.Function place
+      → place_of_name p.sorted.function_names sut ≡ Some place → x.source ≡ source.Function place
       → AreReferences n [] (length p.variables) (map (λ c. c.0) x.references.items)
       → IsInstance p n (Some x)
   nobody : (n : ℕ) → IsSome p.case.case.now.system → n ≡ length p.starts.places.items + 1
-      → place_of p.sorted.function_names sut ≡ None
+      → place_of_name p.sorted.function_names sut ≡ None
       → IsInstance p n None
 
 -- the components have these instances of bodies, by their numbers

@@ -14,7 +14,7 @@ use Rattle.tp_value.specs.declared.types.Types.{Types}
 use Rattle.tp_value.specs.Types.{named}
 use Rattle.tp_config.specs.Setup.{PortDecl}
 use Rattle.tp_config.specs.Shape.{ports_of}
-use Rattle.tp_name.specs.Tables.{AreDistinct, IsNumbered, place_of}
+use Rattle.tp_name.specs.Tables.{AreDistinct, IsNumbered, place_of_name}
 use Rattle.tp_setup.specs.Definitions.{declared, inner_names}
 use Rattle.tp_setup.specs.Rules.{AreComponentTypesKnown, sut}
 use Rattle.tp_play.specs.declared.body.Body.{Body}
@@ -39,14 +39,14 @@ pub record IsScope (known : Known) (plays : BehaviourKind) (runs_on : List ℕ) 
   pub component_types : scope.component_types.now ≡ known.component_types
   -- the ports are those of the component type behind `runs on`
   pub kind : ℕ
-  pub kind_known : place_of known.component_types runs_on ≡ Some kind
+  pub kind_known : place_of_name known.component_types runs_on ≡ Some kind
   pub ports : slice_get known.ports kind ≡ Some (ports_of scope.ports.now)
   pub behaviour : scope.behaviour ≡ plays
   pub parameters : scope.parameters.now ≡ names
   pub components : scope.components.now ≡ known.components
 
 -- these variables and statements obey the rules on bodies in such a scope, and stand for this body
-pub record StandsFor (known : Known) (plays : BehaviourKind) (runs_on : List ℕ) (parameters : List (List ℕ))
+pub record IsBodyInScope (known : Known) (plays : BehaviourKind) (runs_on : List ℕ) (parameters : List (List ℕ))
     (variables : List Variable) (statements : List Statement) (body : Body) : Type 0 where
   pub scope : Scope
   pub is_scope : IsScope known plays runs_on parameters scope
@@ -55,7 +55,7 @@ pub record StandsFor (known : Known) (plays : BehaviourKind) (runs_on : List ℕ
 -- the test case's own body
 abbrev pub IsMainBody : Known → TestCase → Body → Type 0
 IsMainBody known case body =
-    StandsFor known behaviour_kind.TestCase (string_bytes case.runs_on) [] case.variables.items case.statements.items
+    IsBodyInScope known behaviour_kind.TestCase (string_bytes case.runs_on) [] case.variables.items case.statements.items
     body
 
 -- a function named `sut` plays the system under test
@@ -65,7 +65,7 @@ plays_of f = if bytes_eq (string_bytes f.name) sut then behaviour_kind.SystemUnd
 -- the body of a function
 abbrev pub IsFunctionBody : Known → Function → Body → Type 0
 IsFunctionBody known f body =
-    StandsFor known (plays_of f) (string_bytes f.runs_on) (map (λ p. declared p.name) f.parameters.items)
+    IsBodyInScope known (plays_of f) (string_bytes f.runs_on) (map (λ p. declared p.name) f.parameters.items)
     f.variables.items f.statements.items body
 
 -- the test case's own body and those of the functions stand for something, where bodies may speak of this

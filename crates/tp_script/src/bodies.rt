@@ -1,10 +1,10 @@
 //! The fourth pass of the checks: the bodies.
 ghost use Rattle.std.specs.Prelude.{◌≡◌, IfErr, IfOk, List, map, string_bytes};
 ghost use Rattle.std.specs.List.{AllZip};
-ghost use Rattle.tp_name.specs.Refused.{Breaks, Tells};
+ghost use Rattle.tp_name.specs.Refused.{IsRefusedBy, Tells};
 ghost use Rattle.tp_name.specs.Tables.{IsNumbered};
 ghost use Rattle.tp_play.specs.declared.body.Body.{Body};
-ghost use Rattle.tp_setup.specs.Definitions.{among, declared, function_of, functions};
+ghost use Rattle.tp_setup.specs.Definitions.{of_kind, declared, function_of, functions};
 ghost use Rattle.tp_script.specs.Instances.{known_in};
 ghost use Rattle.tp_script.specs.BrokenModules.{BodiesBreak, FunctionBreaks, FunctionsBreak, MainBreaks};
 ghost use Rattle.tp_script.specs.Scopes.{CanAllRun, CanRun, HasBodies, HaveOwnNames, IsFunctionBody, IsMainBody, IsSoundKnown, plays_of};
@@ -36,7 +36,8 @@ fn plays(function: &Function) -> BehaviourKind
 /// The test case's own body.
 fn resolve_main(alloc: Global, prepared: &Prepared) -> Result<Body, ModuleFault>
     ensures body { IfOk result (IsMainBody (known_in prepared.now) prepared.now.case.case.now) }
-    ensures refused { IsSoundKnown (known_in prepared.now) → IfErr result (Breaks ((body : Body)
+    ensures refused { IsSoundKnown (known_in prepared.now)
+        → IfErr result (IsRefusedBy ((body : Body)
         × IsMainBody (known_in prepared.now) prepared.now.case.case.now body)) }
     ensures told { IsSoundKnown (known_in prepared.now)
         → CanRun (known_in prepared.now) (string_bytes prepared.now.case.case.now.runs_on)
@@ -67,7 +68,7 @@ fn resolve_function<'m>(
     ensures body { IfOk result (IsFunctionBody (known_in prepared.now) function.now) }
     ensures refused { IsSoundKnown (known_in prepared.now)
         → IsNumbered (map (λ p. declared p.name) function.now.parameters.items)
-        → IfErr result (Breaks ((body : Body)
+        → IfErr result (IsRefusedBy ((body : Body)
         × IsFunctionBody (known_in prepared.now) function.now body)) }
     ensures told { IsSoundKnown (known_in prepared.now)
         → IsNumbered (map (λ p. declared p.name) function.now.parameters.items)
@@ -93,10 +94,10 @@ fn resolve_functions<'m>(
     prepared: &Prepared<'m>,
 ) -> Result<Vec<Body>, ModuleFault>
     ensures bodies { IfOk result (λ bodies. AllZip (IsFunctionBody (known_in prepared.now))
-        (among function_of definitions.now) bodies.items) }
+        (of_kind function_of definitions.now) bodies.items) }
     ensures refused { IsSoundKnown (known_in prepared.now) → HaveOwnNames definitions.now
-        → IfErr result (Breaks ((bodies : List Body) × AllZip
-        (IsFunctionBody (known_in prepared.now)) (among function_of definitions.now) bodies)) }
+        → IfErr result (IsRefusedBy ((bodies : List Body) × AllZip
+        (IsFunctionBody (known_in prepared.now)) (of_kind function_of definitions.now) bodies)) }
     ensures told { IsSoundKnown (known_in prepared.now) → HaveOwnNames definitions.now
         → CanAllRun (known_in prepared.now) definitions.now → IfErr result (
         Tells (FunctionsBreak (known_in prepared.now) definitions.now)) }
@@ -129,7 +130,7 @@ pub fn resolve_bodies<'m>(
     ensures functions { IfOk result (λ b. AllZip (IsFunctionBody (known_in prepared.now))
         (functions parsed.now) b.functions.items) }
     ensures refused { IsSoundKnown (known_in prepared.now)
-        → HaveOwnNames parsed.now.definitions.items → IfErr result (Breaks (HasBodies
+        → HaveOwnNames parsed.now.definitions.items → IfErr result (IsRefusedBy (HasBodies
         (known_in prepared.now) prepared.now.case.case.now (functions parsed.now))) }
     ensures told { IsSoundKnown (known_in prepared.now)
         → HaveOwnNames parsed.now.definitions.items

@@ -1,7 +1,7 @@
 //! The checks of a module, pass by pass.
 ghost use Rattle.std.specs.Prelude.{◌≡◌, ◌≤◌, IfErr, IfOk, OnOk, length, map, sum};
 ghost use Rattle.std.specs.List.{AllZip};
-ghost use Rattle.tp_name.specs.Refused.{Breaks, Tells};
+ghost use Rattle.tp_name.specs.Refused.{IsRefusedBy, Tells};
 ghost use Rattle.tp_script.specs.BrokenModules.{ModuleBreaks};
 ghost use Rattle.tp_setup.specs.Definitions.{functions};
 ghost use Rattle.tp_setup.specs.Prepared.{IsPreparedOf, IsWellDeclared};
@@ -39,7 +39,7 @@ fn resolve_behaviours<'m>(
     ensures few { IfOk result (λ b.
         sum (map size_of_behaviour (map (behaviour_of b.bodies) b.instances.items)) ≤ 100000) }
     ensures refused { IsPreparedOf parsed.now prepared.now → IsWellDeclared parsed.now
-        → IfErr result (Breaks (WellFormed parsed.now)) }
+        → IfErr result (IsRefusedBy (WellFormed parsed.now)) }
     ensures told { IsPreparedOf parsed.now prepared.now → IsWellDeclared parsed.now
         → IfErr result (Tells (ModuleBreaks parsed.now)) }
 {
@@ -80,7 +80,7 @@ fn assemble(prepared: Prepared<'_>, behaviours: Behaviours) -> TestCase
 pub fn check(alloc: Global, parsed: &Module) -> Result<TestCase, ModuleFault>
     ensures well_formed { OnOk result (WellFormed parsed.now) }
     ensures made { IfOk result (IsTestCaseOf parsed.now) }
-    ensures refused { IfErr result (Breaks (WellFormed parsed.now)) }
+    ensures refused { IfErr result (IsRefusedBy (WellFormed parsed.now)) }
     ensures told { IfErr result (Tells (ModuleBreaks parsed.now)) }
 {
     let prepared = prepare(alloc, parsed)?;

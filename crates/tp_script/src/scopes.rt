@@ -2,7 +2,7 @@
 ghost use Rattle.std.specs.Prelude.{◌≡◌, IfErr, IfOk, map, slice_get};
 ghost use Rattle.std.specs.Option.{option_copied};
 ghost use Rattle.tp_body.specs.declared.scope.Scope.{Scope};
-ghost use Rattle.tp_name.specs.Refused.{Breaks};
+ghost use Rattle.tp_name.specs.Refused.{IsRefusedBy};
 ghost use Rattle.tp_name.specs.Tables.{IsNumbered};
 ghost use Rattle.tp_setup.specs.Definitions.{declared};
 ghost use Rattle.tp_script.specs.Instances.{known_in};
@@ -28,7 +28,7 @@ fn kind_at(kinds: &[CompType], place: u32) -> Option<&CompType>
 /// that are equal, 15 `Limit` at the line of one behind 4,294,967,295 others; 50.
 pub fn parameter_names(alloc: Global, parameters: &[Parameter]) -> Result<NameSet<'_>, ModuleFault>
     ensures names { IfOk result (λ names. names ≡ map (λ p. declared p.name) parameters.now) }
-    ensures refused { IfErr result (Breaks (IsNumbered
+    ensures refused { IfErr result (IsRefusedBy (IsNumbered
         (map (λ p. declared p.name) parameters.now))) }
 {
     let mut names = NameSet::new(alloc);
@@ -47,7 +47,7 @@ pub fn scope_of<'m>(
 ) -> Result<Scope<'m>, ModuleFault>
     ensures scope { IfOk result (IsScope
         (known_in prepared.now) behaviour runs_on.now parameters.now) }
-    ensures refused { IfErr result (Breaks ((scope : Scope)
+    ensures refused { IfErr result (IsRefusedBy ((scope : Scope)
         × IsScope (known_in prepared.now) behaviour runs_on.now parameters.now scope)) }
     ensures unknown { IfErr result (λ _. CanRun (known_in prepared.now) runs_on.now → ⊥) }
 {

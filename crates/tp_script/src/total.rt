@@ -1,7 +1,7 @@
 //! The fifth pass of the checks: how many statements there are.
 ghost use Rattle.std.specs.Prelude.{◌≡◌, ◌<◌, ◌≤◌, IfErr, IfOk, OnOk, map, sum};
 ghost use Rattle.std.specs.List.{slice_index_or};
-ghost use Rattle.tp_name.specs.Refused.{Breaks, TellsAt};
+ghost use Rattle.tp_name.specs.Refused.{IsRefusedBy, TellsAt};
 ghost use Rattle.tp_play.specs.Sizes.{capped, size_of_body};
 ghost use Rattle.tp_play.specs.Behaviours.{size_of_behaviour};
 ghost use Rattle.tp_play.specs.Instances.{behaviour_of};
@@ -72,7 +72,7 @@ pub fn check_size(
 ) -> Result<(), ModuleFault>
     ensures few { OnOk result (
         sum (map size_of_behaviour (map (behaviour_of bodies.now) instances.now)) ≤ 100000) }
-    ensures refused { IfErr result (Breaks (
+    ensures refused { IfErr result (IsRefusedBy (
         sum (map size_of_behaviour (map (behaviour_of bodies.now) instances.now)) ≤ 100000)) }
     ensures told { IfErr result (TellsAt line (λ rule. (rule ≡ ModuleRule.Limit) × (100000
         < sum (map size_of_behaviour (map (behaviour_of bodies.now) instances.now))))) }

@@ -9,15 +9,15 @@ use Rattle.tp_name.specs.declared.fault.ModuleFault.{ModuleFault}
 use Rattle.tp_tree.specs.declared.tree.Creation.{Creation}
 use Rattle.tp_config.specs.declared.creating.CreateFault.{CreateFault}
 use Rattle.tp_config.specs.declared.creating.CreateFault.TheVariants as create_fault
-use Rattle.tp_config.specs.Setup.{Setup, Member, names}
+use Rattle.tp_config.specs.Setup.{Setup, Member, names_of_components}
 use Rattle.tp_config.specs.Shape.{member}
 use Rattle.tp_config.specs.Causes.{CanCreate, CreateRefused, IsTaken}
 use Rattle.tp_config.specs.Faults.{create_refusal}
-use Rattle.tp_name.specs.Refused.{Breaks}
+use Rattle.tp_name.specs.Refused.{IsRefusedBy}
 use Rattle.tp_name.specs.Tables.{AreDistinct}
 use Rattle.tp_name.specs.Told.{fault_refusal}
 use Rattle.tp_name.proofs.Telling.{told_memory}
-use Rattle.tp_setup.specs.Components.{AddsAll, CanAdd, CanAddAll, Declared, HasSoundVariables, IsSoundVariable, created, interface, variable}
+use Rattle.tp_setup.specs.Components.{AddsAll, CanAdd, CanAddAll, Declared, HasSoundVariables, IsSoundVariable, created, interface, variable_name}
 use Rattle.tp_setup.proofs.Naming.{distinct_first}
 use Rattle.tp_setup.proofs.Zips.{not_before}
 
@@ -29,18 +29,18 @@ can_create types x s kind can = (free, can.room) where
   free (inr (system, there)) = can.one_interface system there
 
 fault_broken : (s : Setup) (m : Member) (f : CreateFault) (fault : ModuleFault) → CreateRefused s m f → fault_refusal fault ≡ create_refusal f
-    → Breaks (CanCreate s m) fault
+    → IsRefusedBy (CanCreate s m) fault
 fault_broken s m create_fault.Duplicate fault h e = inr h.1
 fault_broken s m create_fault.Limit fault h e = inr h.1
 fault_broken s m create_fault.Memory fault h e = inl (told_memory fault e)
 
 -- a create that is refused
 pub create_broken : (types : List (List ℕ)) (x : Declared) (s : Setup) (name : List ℕ) (kind : ℕ) (f : CreateFault) (fault : ModuleFault)
-    → name ≡ x.name → CreateRefused s (member name kind x.role) f → fault_refusal fault ≡ create_refusal f → Breaks (CanAdd types x s) fault
+    → name ≡ x.name → CreateRefused s (member name kind x.role) f → fault_refusal fault ≡ create_refusal f → IsRefusedBy (CanAdd types x s) fault
 create_broken types x s name kind f fault named h e =
     by (fault_broken s (member name kind x.role) f fault h e)
   where
-    by : Breaks (CanCreate s (member name kind x.role)) fault → Breaks (CanAdd types x s) fault
+    by : IsRefusedBy (CanCreate s (member name kind x.role)) fault → IsRefusedBy (CanAdd types x s) fault
     by (inl want) = inl want
     by (inr broken) = inr (λ can. broken (subst (λ n. CanCreate s (member n kind x.role)) (sym named) (can_create types x s kind can)))
 
@@ -57,75 +57,75 @@ pub all_middle : {A : Type 0} (P : A → Type 0) (xs ys : List A) (x : A) → Al
 all_middle P xs ys x each = subst P (get_or_at xs x ys x (length xs) refl) (each (length xs) x (omega (arith, length-append xs (x ∷ ys))))
 
 module _ (types ports : List (List ℕ)) (most : ℕ) (before more : List Creation) (c : Creation) where
-  variables_split : (names : List (List ℕ)) → names ≡ map variable before
-      → map variable (before ++ c ∷ more) ≡ (names ++ variable c ∷ []) ++ map variable more
+  variables_split : (names : List (List ℕ)) → names ≡ map variable_name before
+      → map variable_name (before ++ c ∷ more) ≡ (names ++ variable_name c ∷ []) ++ map variable_name more
   variables_split names named =
-      map-append variable before (c ∷ more) ∙ ap (λ l. l ++ variable c ∷ map variable more) (sym named)
-      ∙ sym (append_assoc names (variable c ∷ []) (map variable more))
+      map-append variable_name before (c ∷ more) ∙ ap (λ l. l ++ variable_name c ∷ map variable_name more) (sym named)
+      ∙ sym (append_assoc names (variable_name c ∷ []) (map variable_name more))
 
   -- each variable is sound behind those before it
-  pub sound_one : (names : List (List ℕ)) → names ≡ map variable before → length (before ++ c ∷ more) ≤ 64
+  pub sound_one : (names : List (List ℕ)) → names ≡ map variable_name before → length (before ++ c ∷ more) ≤ 64
       → HasSoundVariables types ports most (before ++ c ∷ more) → IsSoundVariable types ports names most c
   sound_one names named small sound =
       let split = variables_split names named in
-      let count : length (before ++ c ∷ more) ≡ length (names ++ variable c ∷ []) + length more =
+      let count : length (before ++ c ∷ more) ≡ length (names ++ variable_name c ∷ []) + length more =
       omega (
         arith,
-        length-map (before ++ c ∷ more) variable,
+        length-map (before ++ c ∷ more) variable_name,
         ap length split,
-        length-append (names ++ variable c ∷ []) (map variable more),
-        length-map more variable,
+        length-append (names ++ variable_name c ∷ []) (map variable_name more),
+        length-map more variable_name,
       ) in
       record {
         numbered = record {
           few = omega (arith, count, small);
-          distinct = distinct_first (names ++ variable c ∷ []) (map variable more) (subst AreDistinct split sound.distinct);
+          distinct = distinct_first (names ++ variable_name c ∷ []) (map variable_name more) (subst AreDistinct split sound.distinct);
         };
-        no_port = all_middle (λ (c : Creation). Contains ports (variable c) → ⊥) before more c sound.no_port;
+        no_port = all_middle (λ (c : Creation). Contains ports (variable_name c) → ⊥) before more c sound.no_port;
         known = all_middle (λ (c : Creation). Contains types (string_bytes c.type_name)) before more c sound.known;
         same = all_middle (λ (c : Creation). string_bytes c.type_name ≡ string_bytes c.created) before more c sound.same;
         few = omega (arith, count, sound.few);
       }
 
-pub names_created : (xs : List Creation) → map (λ (x : Declared). x.name) (map created xs) ≡ map variable xs
+pub names_created : (xs : List Creation) → map (λ (x : Declared). x.name) (map created xs) ≡ map variable_name xs
 names_created [] = refl
-names_created (c ∷ xs) = ap (λ l. variable c ∷ l) (names_created xs)
+names_created (c ∷ xs) = ap (λ l. variable_name c ∷ l) (names_created xs)
 
 -- where all can be added, each can behind those before it
 pub can_one : (types : List (List ℕ)) (before more : List Creation) (c : Creation) (old now : Setup) → Contains types (string_bytes c.type_name)
-    → CanAddAll types (map variable (before ++ c ∷ more)) old → AddsAll types (map created before) old now → CanAdd types (created c) now
+    → CanAddAll types (map variable_name (before ++ c ∷ more)) old → AddsAll types (map created before) old now → CanAdd types (created c) now
 can_one types before more c old now known can added =
-    let here : names now ≡ names old ++ map variable before = added.names_more ∙ ap (λ l. names old ++ l) (names_created before) in
-    let split : names old ++ map variable (before ++ c ∷ more) ≡ names now ++ variable c ∷ map variable more =
-    ap (λ l. names old ++ l) (map-append variable before (c ∷ more))
-    ∙ sym (append_assoc (names old) (map variable before) (variable c ∷ map variable more))
-    ∙ ap (λ l. l ++ variable c ∷ map variable more) (sym here) in
+    let here : names_of_components now ≡ names_of_components old ++ map variable_name before = added.names_more ∙ ap (λ l. names_of_components old ++ l) (names_created before) in
+    let split : names_of_components old ++ map variable_name (before ++ c ∷ more) ≡ names_of_components now ++ variable_name c ∷ map variable_name more =
+    ap (λ l. names_of_components old ++ l) (map-append variable_name before (c ∷ more))
+    ∙ sym (append_assoc (names_of_components old) (map variable_name before) (variable_name c ∷ map variable_name more))
+    ∙ ap (λ l. l ++ variable_name c ∷ map variable_name more) (sym here) in
     record {
       typed = can.typed ∙ ap length (sym added.types_stay);
       known = known;
-      new_name = not_before (names now) (map variable more) (variable c) (subst AreDistinct split can.distinct);
+      new_name = not_before (names_of_components now) (map variable_name more) (variable_name c) (subst AreDistinct split can.distinct);
       one_interface = λ e. absurd (cc);
       room = omega (
         arith,
         can.room,
         ap length here,
-        length-append (names old) (map variable before),
-        length-map before variable,
+        length-append (names_of_components old) (map variable_name before),
+        length-map before variable_name,
         length-map now.components (λ (m : Member). m.name),
         length-map old.components (λ (m : Member). m.name),
-        length-map (before ++ c ∷ more) variable,
+        length-map (before ++ c ∷ more) variable_name,
         length-append before (c ∷ more),
       );
     }
 
 -- where all obey the rules and can be added, so it is with each
 pub create_part : (types ports names : List (List ℕ)) (most : ℕ) (before more all : List Creation) (c : Creation) (old now : Setup)
-    → all ≡ before ++ c ∷ more → names ≡ map variable before → AddsAll types (map created before) old now
-    → HasSoundVariables types ports most all × CanAddAll types (map variable all) old
+    → all ≡ before ++ c ∷ more → names ≡ map variable_name before → AddsAll types (map created before) old now
+    → HasSoundVariables types ports most all × CanAddAll types (map variable_name all) old
     → IsSoundVariable types ports names most c × CanAdd types (created c) now
 create_part types ports names most before more all c old now split named added r =
     let sound : HasSoundVariables types ports most (before ++ c ∷ more) = subst (HasSoundVariables types ports most) split r.0 in
-    let can : CanAddAll types (map variable (before ++ c ∷ more)) old = subst (λ l. CanAddAll types (map variable l) old) split r.1 in (
-      sound_one types ports most before more c names named (omega (arith, can.room, length-map (before ++ c ∷ more) variable)) sound,
+    let can : CanAddAll types (map variable_name (before ++ c ∷ more)) old = subst (λ l. CanAddAll types (map variable_name l) old) split r.1 in (
+      sound_one types ports most before more c names named (omega (arith, can.room, length-map (before ++ c ∷ more) variable_name)) sound,
       can_one types before more c old now (all_middle (λ (c : Creation). Contains types (string_bytes c.type_name)) before more c sound.known) can added,
     )

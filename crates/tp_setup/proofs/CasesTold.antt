@@ -12,7 +12,7 @@ use Rattle.tp_name.specs.Tables.{IsNumbered}
 use Rattle.tp_setup.specs.declared.unique_names.CaseAt.{CaseAt}
 use Rattle.tp_setup.specs.Cases.{cases_of}
 use Rattle.tp_setup.specs.BrokenNames.{DefinedNameBreaks, DefinitionNamesBreak, GivenNamesBreak, given, names_before, second_case}
-use Rattle.tp_setup.specs.Definitions.{BeginsAmong, among, case_of, inner_names, name_of}
+use Rattle.tp_setup.specs.Definitions.{BeginsAmong, of_kind, case_of, inner_names, name_of}
 use Rattle.tp_setup.proofs.NamesTold.{split_here}
 use Rattle.tp_setup.proofs.Steps.{kept_more, pushed}
 
@@ -46,7 +46,7 @@ module _ (xs : List Definition) (i : ℕ) (x : Definition) (lt : i < length xs) 
   begins_more before (Some c) b (inr next) = record { definition = x; there = here; is = next.0; line_is = next.1 }
 
   module _ (names : List (List ℕ)) (case : Option CaseAt) (named : names ≡ names_before (take i xs)) (numbered : IsNumbered names)
-      (cases : among case_of (take i xs) ≡ cases_of case) (each : All (λ (d : Definition). IsNumbered (inner_names d.defined)) (take i xs)) where
+      (cases : of_kind case_of (take i xs) ≡ cases_of case) (each : All (λ (d : Definition). IsNumbered (inner_names d.defined)) (take i xs)) where
     definition_told : (rule : ModuleRule) (line : ℕ) → DefinedNameBreaks (take i xs) x rule line → DefinitionNamesBreak xs rule line
     definition_told rule line b = record {
       before = take i xs;
@@ -69,17 +69,17 @@ module _ (xs : List Definition) (i : ℕ) (x : Definition) (lt : i < length xs) 
     pub second_told : IsNumbered (names ++ name_of x.defined ∷ []) → IsNumbered (inner_names x.defined)
         → 1 < length (cases_of case ++ option_to_list (case_of x.defined)) → DefinitionNamesBreak xs Duplicate x.line
     second_told own inner many =
-        let all : among case_of (take i xs ++ x ∷ []) ≡ cases_of case ++ option_to_list (case_of x.defined) =
-        ap (among case_of) (pushed xs i x lt is) ∙ kept_more (λ (d : Definition). case_of d.defined) xs i x lt is
+        let all : of_kind case_of (take i xs ++ x ∷ []) ≡ cases_of case ++ option_to_list (case_of x.defined) =
+        ap (of_kind case_of) (pushed xs i x lt is) ∙ kept_more (λ (d : Definition). case_of d.defined) xs i x lt is
         ∙ ap (λ l. l ++ option_to_list (case_of x.defined)) cases in
         definition_told Duplicate x.line (second_case (subst (λ l. IsNumbered (l ++ name_of x.defined ∷ [])) named own) inner
         (subst (λ l. 1 < length l) (sym all) many))
 
 -- where a definition is a test case, there is one
-pub some_case : (xs : List Definition) → list_any (λ (x : Definition). is_some (case_of x.defined)) xs ≡ true → among case_of xs ≢ []
+pub some_case : (xs : List Definition) → list_any (λ (x : Definition). is_some (case_of x.defined)) xs ≡ true → of_kind case_of xs ≢ []
 some_case [] e = absurd (cc)
 some_case (x ∷ xs) e = by (case_of x.defined) refl (some_case xs) e where
-  by : (o : Option TestCase) → o ≡ case_of x.defined → (list_any (λ (x : Definition). is_some (case_of x.defined)) xs ≡ true → among case_of xs ≢ [])
-      → (is_some o || list_any (λ (x : Definition). is_some (case_of x.defined)) xs) ≡ true → cons_option o (among case_of xs) ≢ []
+  by : (o : Option TestCase) → o ≡ case_of x.defined → (list_any (λ (x : Definition). is_some (case_of x.defined)) xs ≡ true → of_kind case_of xs ≢ [])
+      → (is_some o || list_any (λ (x : Definition). is_some (case_of x.defined)) xs) ≡ true → cons_option o (of_kind case_of xs) ≢ []
   by None f rest e same = rest e same
   by (Some c) f rest e same = cc

@@ -5,20 +5,20 @@ use Rattle.std.specs.Option.{option_map, option_to_list}
 use Rattle.tp_tree.specs.declared.tree.Creation.{Creation}
 use Rattle.tp_tree.specs.declared.tree.SetupStatement.{SetupStatement}
 use Rattle.tp_config.specs.Setup.{Setup}
-use Rattle.tp_setup.specs.Components.{creation_of, creations, variable, variables}
+use Rattle.tp_setup.specs.Components.{creation_of, creations, variable_name, variables}
 use Rattle.tp_setup.specs.Configuring.{IsStep, Makes, one_more}
 use Rattle.tp_setup.proofs.Steps.{kept_more, pushed}
 
-variable_in : (o : Option Creation) → option_to_list (option_map variable o) ≡ map variable (option_to_list o)
+variable_in : (o : Option Creation) → option_to_list (option_map variable_name o) ≡ map variable_name (option_to_list o)
 variable_in None = refl
 variable_in (Some c) = refl
 
 module _ (xs : List SetupStatement) (i : ℕ) (x : SetupStatement) (lt : i < length xs) (is : x ≡ get_or xs i x) where
-  pub variables_more : (names more : List (List ℕ)) → names ≡ variables (take i xs) → more ≡ names ++ option_to_list (option_map variable (creation_of x))
+  pub variables_more : (names more : List (List ℕ)) → names ≡ variables (take i xs) → more ≡ names ++ option_to_list (option_map variable_name (creation_of x))
       → more ≡ variables (take (i + 1) xs)
   variables_more names more before next =
-      next ∙ ap (λ l. l ++ option_to_list (option_map variable (creation_of x))) before ∙ ap (λ l. variables (take i xs) ++ l) (variable_in (creation_of x))
-      ∙ sym (map-append variable (creations (take i xs)) (option_to_list (creation_of x))) ∙ ap (map variable) (sym (kept_more creation_of xs i x lt is))
+      next ∙ ap (λ l. l ++ option_to_list (option_map variable_name (creation_of x))) before ∙ ap (λ l. variables (take i xs) ++ l) (variable_in (creation_of x))
+      ∙ sym (map-append variable_name (creations (take i xs)) (option_to_list (creation_of x))) ∙ ap (map variable_name) (sym (kept_more creation_of xs i x lt is))
 
   pub makes_more : (system : Option ℕ) (start s t : Setup) (names : List (List ℕ)) → Makes system start (take i xs) s → names ≡ variables (take i xs)
       → IsStep s names system x.action t → Makes system start (take (i + 1) xs) t

@@ -5,10 +5,10 @@ use Rattle.std.specs.List.{AllZip}
 use Rattle.std.proofs.lemmas.List.{map_push, length-map}
 use Rattle.tp_tree.specs.declared.tree.Creation.{Creation}
 use Rattle.tp_tree.specs.declared.tree.SetupStatement.{SetupStatement}
-use Rattle.tp_config.specs.Setup.{Setup, Member, names}
+use Rattle.tp_config.specs.Setup.{Setup, Member, names_of_components}
 use Rattle.tp_name.specs.Tables.{AreDistinct}
 use Rattle.tp_name.proofs.Numbering.{distinct_more}
-use Rattle.tp_setup.specs.Components.{Adds, AddsAll, Declared, HasSoundVariables, IsMember, creation_of, creations, variable}
+use Rattle.tp_setup.specs.Components.{Adds, AddsAll, Declared, HasSoundVariables, IsMember, creation_of, creations, variable_name}
 use Rattle.tp_setup.proofs.Steps.{all_push, kept_more, zip_push}
 
 module _ (xs : List SetupStatement) (i : ℕ) (x : SetupStatement) (lt : i < length xs) (is : x ≡ get_or xs i x) where
@@ -20,18 +20,18 @@ module _ (xs : List SetupStatement) (i : ℕ) (x : SetupStatement) (lt : i < len
   one_creation c this = kept_more creation_of xs i x lt is ∙ ap (λ o. creations (take i xs) ++ option_to_list o) (sym this)
 
 pub sound_more : (types ports names more : List (List ℕ)) (most : ℕ) (xs : List Creation) (c : Creation) → HasSoundVariables types ports most xs
-    → names ≡ map variable xs
-    → more ≡ names ++ variable c ∷ [] → AreDistinct more → (Contains ports (variable c) → ⊥) → Contains types (string_bytes c.type_name)
+    → names ≡ map variable_name xs
+    → more ≡ names ++ variable_name c ∷ [] → AreDistinct more → (Contains ports (variable_name c) → ⊥) → Contains types (string_bytes c.type_name)
     → string_bytes c.type_name ≡ string_bytes c.created
     → length more ≤ most → HasSoundVariables types ports most (xs ++ c ∷ [])
 sound_more types ports names more most xs c before named next distinct apart known same few =
-    let all : more ≡ map variable (xs ++ c ∷ []) = next ∙ ap (λ l. l ++ variable c ∷ []) named ∙ sym (map_push variable xs c) in
+    let all : more ≡ map variable_name (xs ++ c ∷ []) = next ∙ ap (λ l. l ++ variable_name c ∷ []) named ∙ sym (map_push variable_name xs c) in
     record {
       distinct = subst AreDistinct all distinct;
-      no_port = all_push (λ (c : Creation). Contains ports (variable c) → ⊥) xs c before.no_port apart;
+      no_port = all_push (λ (c : Creation). Contains ports (variable_name c) → ⊥) xs c before.no_port apart;
       known = all_push (λ (c : Creation). Contains types (string_bytes c.type_name)) xs c before.known known;
       same = all_push (λ (c : Creation). string_bytes c.type_name ≡ string_bytes c.created) xs c before.same same;
-      few = subst (λ n. n ≤ most) (ap length all ∙ length-map (xs ++ c ∷ []) variable) few;
+      few = subst (λ n. n ≤ most) (ap length all ∙ length-map (xs ++ c ∷ []) variable_name) few;
     }
 
 pub adds_more : (types : List (List ℕ)) (xs : List Declared) (d : Declared) (old mid new : Setup) → AddsAll types xs old mid → Adds types d mid new
@@ -40,11 +40,11 @@ adds_more types xs d old mid new before one = rw one.added (record {
   components = λ first h. subst (λ l. AllZip (IsMember types) l (mid.components ++ one.member ∷ [])) (append_assoc first xs (d ∷ []))
       (zip_push (IsMember types) (first ++ xs) mid.components d one.member (before.components first h) one.is_member);
   names_more = map_push (λ (m : Member). m.name) mid.components one.member ∙ ap (λ l. l ++ one.member.name ∷ []) before.names_more
-      ∙ append_assoc (names old) (map (λ (x : Declared). x.name) xs) (one.member.name ∷ [])
-      ∙ ap (λ n. names old ++ (map (λ (x : Declared). x.name) xs ++ n ∷ [])) one.is_member.name
-      ∙ ap (λ l. names old ++ l) (sym (map_push (λ (x : Declared). x.name) xs d));
+      ∙ append_assoc (names_of_components old) (map (λ (x : Declared). x.name) xs) (one.member.name ∷ [])
+      ∙ ap (λ n. names_of_components old ++ (map (λ (x : Declared). x.name) xs ++ n ∷ [])) one.is_member.name
+      ∙ ap (λ l. names_of_components old ++ l) (sym (map_push (λ (x : Declared). x.name) xs d));
   apart = λ h. subst AreDistinct (sym (map_push (λ (m : Member). m.name) mid.components one.member))
-      (distinct_more (names mid) one.member.name (before.apart h) one.new_name);
+      (distinct_more (names_of_components mid) one.member.name (before.apart h) one.new_name);
   types_stay = before.types_stay;
   connected_stay = before.connected_stay;
   mapped_stay = before.mapped_stay;
@@ -53,7 +53,7 @@ adds_more types xs d old mid new before one = rw one.added (record {
 pub adds_none : (types : List (List ℕ)) (s : Setup) → AddsAll types [] s s
 adds_none types s = record {
   components = λ first h. subst (λ l. AllZip (IsMember types) l s.components) (sym (append-nil first)) h;
-  names_more = sym (append-nil (names s));
+  names_more = sym (append-nil (names_of_components s));
   apart = λ h. h;
   types_stay = refl;
   connected_stay = refl;

@@ -9,7 +9,7 @@ use Rattle.tp_tree.specs.declared.tree.TestCase.{TestCase}
 use Rattle.tp_config.specs.declared.creating.CreateFault.{CreateFault}
 use Rattle.tp_config.specs.declared.creating.CreateFault.TheVariants as create_fault
 use Rattle.tp_config.specs.declared.port_type.Role.TheVariants as role
-use Rattle.tp_config.specs.Setup.{Setup, Member, names as names_in}
+use Rattle.tp_config.specs.Setup.{Setup, Member, names_of_components}
 use Rattle.tp_config.specs.Shape.{member}
 use Rattle.tp_config.specs.Causes.{CreateRefused}
 use Rattle.tp_name.specs.declared.fault.ModuleRule.{ModuleRule}
@@ -20,7 +20,7 @@ use Rattle.tp_name.specs.Refused.{TellsAt}
 use Rattle.tp_setup.specs.Additions.{AdditionBreaks, AwaitsInterface, HasRoomForVariables, InterfaceBreaks, StopsCreating, addition_many, addition_taken, addition_unknown, interface_named}
 use Rattle.tp_setup.specs.BrokenNames.{NameBreaks, already_given, crowded}
 use Rattle.tp_setup.specs.BrokenSetup.{CreationBreaks, component, taken}
-use Rattle.tp_setup.specs.Components.{AddsAll, Declared, HasSoundVariables, IsSoundVariable, created, creation_of, creations, variable, variables}
+use Rattle.tp_setup.specs.Components.{AddsAll, Declared, HasSoundVariables, IsSoundVariable, created, creation_of, creations, variable_name, variables}
 use Rattle.tp_setup.proofs.Adding.{names_created}
 use Rattle.tp_setup.proofs.Naming.{repeated}
 use Rattle.tp_setup.proofs.NamesTold.{split_here}
@@ -33,7 +33,7 @@ pub addition_told : (types : List (List ℕ)) (x : Declared) (s : Setup) (name :
     → (f ≡ create_fault.Memory → fault ≡ module_fault.Memory (record {})) → TellsAt line (AdditionBreaks types x s) fault
 addition_told types x s name kind create_fault.Memory fault line named h duplicate limit memory = rw (memory refl) tt
 addition_told types x s name kind create_fault.Duplicate fault line named (inl (e, inl there), _) duplicate limit memory =
-    rw (duplicate refl) (refl, addition_taken (inl (subst (Contains (names_in s)) named there)))
+    rw (duplicate refl) (refl, addition_taken (inl (subst (Contains (names_of_components s)) named there)))
 addition_told types x s name kind create_fault.Duplicate fault line named (inl (e, inr there), _) duplicate limit memory =
     rw (duplicate refl) (refl, addition_taken (inr there))
 addition_told types x s name kind create_fault.Duplicate fault line named (inr (n, inl (e, h)), _) duplicate limit memory = absurd (cc)
@@ -45,7 +45,7 @@ addition_told types x s name kind create_fault.Limit fault line named (inr (n, i
 
 module _ (types ports others names : List (List ℕ)) (most : ℕ) (c : Creation) where
   -- a variable that can't be added
-  pub taken_told : length names < 4294967295 → (rule : ModuleRule) → NameBreaks names (variable c) rule → CreationBreaks types ports others names most c rule
+  pub taken_told : length names < 4294967295 → (rule : ModuleRule) → NameBreaks names (variable_name c) rule → CreationBreaks types ports others names most c rule
   taken_told small rule (already_given h) = taken h
   taken_told small rule (crowded new many) = absurd (omega (arith, small, many))
 
@@ -54,11 +54,11 @@ module _ (types ports others names : List (List ℕ)) (most : ℕ) (c : Creation
       → AdditionBreaks types (created c) s rule → CreationBreaks types ports others names most c rule
   component_told s room sound rule (addition_unknown absent) = absurd (absent sound.known)
   component_told s room sound rule (addition_taken (inl there)) =
-      by (Contains-append_cases others names (variable c) (subst (λ l. Contains l (variable c)) room.named there))
+      by (Contains-append_cases others names (variable_name c) (subst (λ l. Contains l (variable_name c)) room.named there))
     where
-      by : Contains others (variable c) ⊎ Contains names (variable c) → CreationBreaks types ports others names most c module_rule.Duplicate
+      by : Contains others (variable_name c) ⊎ Contains names (variable_name c) → CreationBreaks types ports others names most c module_rule.Duplicate
       by (inl h) = component sound h
-      by (inr h) = absurd (repeated names (variable c) h sound.numbered.distinct)
+      by (inr h) = absurd (repeated names (variable_name c) h sound.numbered.distinct)
   component_told s room sound rule (addition_taken (inr (e, there))) = absurd (cc)
   component_told s room sound rule (addition_many many) =
       absurd (omega (
@@ -66,21 +66,21 @@ module _ (types ports others names : List (List ℕ)) (most : ℕ) (c : Creation
         many,
         room.room,
         sound.few,
-        length_push names (variable c),
+        length_push names (variable_name c),
         ap length room.named,
         length-append others names,
         length-map s.components (λ (m : Member). m.name),
       ))
 
 -- the room that is left behind the components of some statements
-pub room_more : (types ports others names : List (List ℕ)) (most : ℕ) (before : List Creation) (start now : Setup) → names ≡ map variable before
+pub room_more : (types ports others names : List (List ℕ)) (most : ℕ) (before : List Creation) (start now : Setup) → names ≡ map variable_name before
     → HasSoundVariables types ports most before → AddsAll types (map created before) start now → HasRoomForVariables types others [] most start
     → HasRoomForVariables types others names most now
 room_more types ports others names most before start now named sound added room = record {
   typed = room.typed ∙ ap length (sym added.types_stay);
   named = added.names_more ∙ ap (λ l. l ++ map (λ (x : Declared). x.name) (map created before)) (room.named ∙ append-nil others)
       ∙ ap (λ l. others ++ l) (names_created before ∙ sym named);
-  few = omega (arith, sound.few, ap length named, length-map before variable);
+  few = omega (arith, sound.few, ap length named, length-map before variable_name);
   room = room.room;
 }
 

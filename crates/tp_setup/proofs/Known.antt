@@ -3,33 +3,33 @@ use Rattle.std.proofs.Common.{◌≡◌, ℕ, true, List, Option, None, Some, Al
 use Rattle.std.specs.List.{list_all}
 use Rattle.std.proofs.lemmas.List.Sums.{AllPass-from_list_all, list_all-from_AllPass}
 use Rattle.tp_tree.specs.declared.tree.Direction.{Direction}
-use Rattle.tp_name.specs.Tables.{place_of}
+use Rattle.tp_name.specs.Tables.{place_of_name}
 use Rattle.tp_setup.specs.Resolved.{ty_of}
 use Rattle.tp_setup.specs.Rules.{NamesType, has_known_messages}
 use Rattle.tp_name.proofs.Numbering.{place_known, place_unknown}
 
-pub known : (names : List (List ℕ)) (name : List ℕ) → is_some (place_of names name) ≡ true → Contains names name
-known names name e = by (place_of names name) refl e where
-  by : (o : Option ℕ) → o ≡ place_of names name → is_some o ≡ true → Contains names name
+pub known : (names : List (List ℕ)) (name : List ℕ) → is_some (place_of_name names name) ≡ true → Contains names name
+known names name e = by (place_of_name names name) refl e where
+  by : (o : Option ℕ) → o ≡ place_of_name names name → is_some o ≡ true → Contains names name
   by None f e = absurd (cc)
   by (Some n) f e = place_known names name n f
 
 -- each name is known, where a look-up finds each
-pub each_known : {A : Type 0} (names : List (List ℕ)) (f : A → List ℕ) (xs : List A) → list_all (λ x. is_some (place_of names (f x))) xs ≡ true
+pub each_known : {A : Type 0} (names : List (List ℕ)) (f : A → List ℕ) (xs : List A) → list_all (λ x. is_some (place_of_name names (f x))) xs ≡ true
     → All (λ x. Contains names (f x)) xs
-each_known names f xs e k d below = known names (f (get_or xs k d)) (AllPass-from_list_all (λ x. is_some (place_of names (f x))) xs e k d below)
+each_known names f xs e k d below = known names (f (get_or xs k d)) (AllPass-from_list_all (λ x. is_some (place_of_name names (f x))) xs e k d below)
 
-pub there : (names : List (List ℕ)) (name : List ℕ) → Contains names name → is_some (place_of names name) ≡ true
-there names name h = by (place_of names name) refl where
-  by : (o : Option ℕ) → o ≡ place_of names name → is_some o ≡ true
+pub there : (names : List (List ℕ)) (name : List ℕ) → Contains names name → is_some (place_of_name names name) ≡ true
+there names name h = by (place_of_name names name) refl where
+  by : (o : Option ℕ) → o ≡ place_of_name names name → is_some o ≡ true
   by None f = absurd (place_unknown names name f h)
   by (Some n) f = refl
 
 -- a look-up finds each, where each name is known
 pub each_there : {A : Type 0} (names : List (List ℕ)) (f : A → List ℕ) (xs : List A) → All (λ x. Contains names (f x)) xs
-    → list_all (λ x. is_some (place_of names (f x))) xs ≡ true
+    → list_all (λ x. is_some (place_of_name names (f x))) xs ≡ true
 each_there names f xs each =
-    list_all-from_AllPass (λ x. is_some (place_of names (f x))) xs (λ k d below. there names (f (get_or xs k d)) (each k d below))
+    list_all-from_AllPass (λ x. is_some (place_of_name names (f x))) xs (λ k d below. there names (f (get_or xs k d)) (each k d below))
 
 pub messages_known : (types : List (List ℕ)) (xs : List Direction) → has_known_messages types xs ≡ true → All (λ w. All (NamesType types) w.types.items) xs
 messages_known types xs e k d below =

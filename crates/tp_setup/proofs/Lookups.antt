@@ -8,10 +8,10 @@ use Rattle.tp_tree.specs.declared.tree.ComponentStart.{ComponentStart}
 use Rattle.tp_tree.specs.declared.tree.Creation.{Creation}
 use Rattle.tp_tree.specs.declared.tree.Function.{Function}
 use Rattle.tp_tree.specs.declared.tree.SetupStatement.{SetupStatement}
-use Rattle.tp_name.specs.Tables.{AreDistinct, place_of}
+use Rattle.tp_name.specs.Tables.{AreDistinct, place_of_name}
 use Rattle.tp_name.proofs.Numbering.{place_there, place_unknown}
 use Rattle.tp_setup.specs.declared.starts.Started.{Started}
-use Rattle.tp_setup.specs.Components.{creation_of, creations, variable, variables}
+use Rattle.tp_setup.specs.Components.{creation_of, creations, variable_name, variables}
 use Rattle.tp_setup.specs.Starting.{HasParameterType, IsArgument, IsStartOf, IsStartPlace}
 use Rattle.tp_config.specs.declared.port_type.CompId.{CompId}
 use Rattle.tp_setup.proofs.Creating.{one_creation}
@@ -53,11 +53,11 @@ module _ (functions : List Function) (names : List (List ℕ)) (named : names �
       ∙ ap (option_map (λ (f : Function). string_bytes f.name)) h.function_known ∙ ap (λ (n : List ℕ). Some n) h.named
 
   -- the function of a start is there
-  pub no_function : None ≡ place_of names (string_bytes x.function) → (made : Started) × IsStartOf functions variables types x made → ⊥
+  pub no_function : None ≡ place_of_name names (string_bytes x.function) → (made : Started) × IsStartOf functions variables types x made → ⊥
   no_function none r = place_unknown names (string_bytes x.function) none (contains_at names r.0.function (string_bytes x.function) (stands r.0 r.1))
 
   -- it is the one that stands at the place of its name
-  pub same_function : (place : ℕ) (one : Function) → AreDistinct names → Some place ≡ place_of names (string_bytes x.function)
+  pub same_function : (place : ℕ) (one : Function) → AreDistinct names → Some place ≡ place_of_name names (string_bytes x.function)
       → slice_get functions place ≡ Some one → (made : Started) (h : IsStartOf functions variables types x made) → h.function ≡ one
   same_function place one apart placed there made h =
       let same : made.function ≡ place =
@@ -65,15 +65,15 @@ module _ (functions : List Function) (names : List (List ℕ)) (named : names �
       same_Some h.function one (sym h.function_known ∙ ap (slice_get functions) same ∙ there)
 
   -- it runs on the type of the component
-  pub runs_there : (comp place : ℕ) (one : Function) → AreDistinct names → Some place ≡ place_of names (string_bytes x.function)
-      → slice_get functions place ≡ Some one → option_map (λ k. k + 1) (place_of variables (string_bytes x.component)) ≡ Some comp
+  pub runs_there : (comp place : ℕ) (one : Function) → AreDistinct names → Some place ≡ place_of_name names (string_bytes x.function)
+      → slice_get functions place ≡ Some one → option_map (λ k. k + 1) (place_of_name variables (string_bytes x.component)) ≡ Some comp
       → (made : Started) → IsStartOf functions variables types x made → slice_get types comp ≡ Some (string_bytes one.runs_on)
   runs_there comp place one apart placed there behind made h =
-      ap (slice_get types) (place_behind (place_of variables (string_bytes x.component)) h.variable comp h.variable_known behind) ∙ h.runs_on
+      ap (slice_get types) (place_behind (place_of_name variables (string_bytes x.component)) h.variable comp h.variable_known behind) ∙ h.runs_on
       ∙ ap (λ (f : Function). Some (string_bytes f.runs_on)) (same_function place one apart placed there made h)
 
   -- and is given what it takes
-  pub given_there : (place : ℕ) (one : Function) → AreDistinct names → Some place ≡ place_of names (string_bytes x.function)
+  pub given_there : (place : ℕ) (one : Function) → AreDistinct names → Some place ≡ place_of_name names (string_bytes x.function)
       → slice_get functions place ≡ Some one → (made : Started) × IsStartOf functions variables types x made
       → (made : List CompId) × AllZip (IsArgument variables) x.arguments.items made × AllZip (HasParameterType types) one.parameters.items made
   given_there place one apart placed there r = (
@@ -85,7 +85,7 @@ module _ (functions : List Function) (names : List (List ℕ)) (named : names �
 
 -- a place of a name has an item
 pub item_there : {A : Type 0} (f : A → List ℕ) (xs : List A) (names : List (List ℕ)) (name : List ℕ) (place : ℕ) → names ≡ map f xs
-    → Some place ≡ place_of names name → None ≡ slice_get xs place → ⊥
+    → Some place ≡ place_of_name names name → None ≡ slice_get xs place → ⊥
 item_there f xs names name place named placed none =
     let at : slice_get (map f xs) place ≡ Some name = ap (λ l. slice_get l place) (sym named) ∙ place_there names name place placed in
     let gone : slice_get (map f xs) place ≡ None = slice_get-map f xs place ∙ ap (option_map f) (sym none) in
@@ -100,14 +100,14 @@ module _ (xs : List SetupStatement) (i : ℕ) (x : SetupStatement) (lt : i < len
       ∙ ap (λ l. l ++ creations (drop (i + 1) xs)) (one_creation xs i x lt is c this)
       ∙ append_assoc (creations (take i xs)) (c ∷ []) (creations (drop (i + 1) xs))
 
-  pub variable_among : variables xs ≡ variables (take i xs) ++ variable c ∷ variables (drop (i + 1) xs)
-  variable_among = ap (map variable) creation_among ∙ map-append variable (creations (take i xs)) (c ∷ creations (drop (i + 1) xs))
+  pub variable_among : variables xs ≡ variables (take i xs) ++ variable_name c ∷ variables (drop (i + 1) xs)
+  variable_among = ap (map variable_name) creation_among ∙ map-append variable_name (creations (take i xs)) (c ∷ creations (drop (i + 1) xs))
 
   -- where each component is started, this one is
-  pub not_started : (started : List (List ℕ)) → None ≡ place_of started (variable c)
+  pub not_started : (started : List (List ℕ)) → None ≡ place_of_name started (variable_name c)
       → (places : List ℕ) × AllZip (IsStartPlace started) (variables xs) places → ⊥
   not_started started none r =
-      let at = zip_middle (IsStartPlace started) (variables (take i xs)) (variable c) (variables (drop (i + 1) xs)) r.0
+      let at = zip_middle (IsStartPlace started) (variables (take i xs)) (variable_name c) (variables (drop (i + 1) xs)) r.0
       (subst (λ l. AllZip (IsStartPlace started) l r.0) variable_among r.1) in
-      let there : place_of started (variable c) ≡ Some at.0 = at.1 in
+      let there : place_of_name started (variable_name c) ≡ Some at.0 = at.1 in
       cc

@@ -11,13 +11,13 @@ use Rattle.tp_tree.specs.declared.tree.PortDeclaration.{PortDeclaration}
 use Rattle.tp_config.specs.Setup.{PortDecl}
 use Rattle.tp_setup.specs.Definitions.{declared, declared_ports}
 use Rattle.tp_setup.specs.Resolved.{IsPortDecl, port_list}
-use Rattle.tp_name.specs.Tables.{place_of}
+use Rattle.tp_name.specs.Tables.{place_of_name}
 use Rattle.tp_setup.specs.Resolved.{IsMade, IsMadeOf}
 use Rattle.tp_name.proofs.Numbering.{place_there}
 use Rattle.tp_setup.proofs.Steps.{contains_at, zip_at, zip_there}
 
 pub made_of : (types names : List (List ℕ)) (ports : List PortType) (made : List PortLists) (name : List ℕ) (k : ℕ) (found : PortLists)
-    → names ≡ map (λ (p : PortType). string_bytes p.name) ports → AllZip (IsMade types) ports made → Some k ≡ place_of names name
+    → names ≡ map (λ (p : PortType). string_bytes p.name) ports → AllZip (IsMade types) ports made → Some k ≡ place_of_name names name
     → slice_get made k ≡ Some found → IsMadeOf types ports name found
 made_of types names ports made name k found named each placed there =
     let at = zip_at (IsMade types) ports made k found each there in
@@ -28,7 +28,7 @@ made_of types names ports made name k found named each placed there =
 
 -- a port type whose name is known was made
 pub made_there : (types names : List (List ℕ)) (ports : List PortType) (made : List PortLists) (name : List ℕ) (k : ℕ)
-    → names ≡ map (λ (p : PortType). string_bytes p.name) ports → AllZip (IsMade types) ports made → Some k ≡ place_of names name → None ≡ slice_get made k → ⊥
+    → names ≡ map (λ (p : PortType). string_bytes p.name) ports → AllZip (IsMade types) ports made → Some k ≡ place_of_name names name → None ≡ slice_get made k → ⊥
 made_there types names ports made name k named each placed none = by (slice_get ports k) refl where
   by : (o : Option PortType) → slice_get ports k ≡ o → ⊥
   by (Some x) e = zip_there (IsMade types) ports made k x each e none

@@ -9,7 +9,7 @@ use Rattle.tp_tree.specs.declared.tree.SetupAction.TheVariants as setup_action
 use Rattle.tp_tree.specs.declared.tree.SetupStatement.{SetupStatement}
 use Rattle.tp_config.specs.Setup.{Setup, connecting, mapping}
 use Rattle.tp_name.specs.Tables.{IsNumbered}
-use Rattle.tp_setup.specs.Components.{creation_of, creations, variable, variables}
+use Rattle.tp_setup.specs.Components.{creation_of, creations, variable_name, variables}
 use Rattle.tp_setup.specs.Configuring.{HaveOwnPorts, IsStep, Makes, nothing, one_more}
 use Rattle.tp_setup.proofs.Connecting.{variables_more}
 use Rattle.tp_setup.proofs.Ends.{same_end}
@@ -91,7 +91,7 @@ module _ (system : Option ℕ) (start : Setup) where
   pub next_step : HaveOwnPorts start.types → (xs : List SetupStatement) (i : ℕ) (x : SetupStatement) (s : Setup) (names : List (List ℕ)) → i < length xs
       → x ≡ get_or xs i x → Makes system start (take i xs) s → names ≡ variables (take i xs)
       → ((t : Setup) × Makes system start xs t) × IsNumbered (variables xs)
-      → ((t : Setup) × IsStep s names system x.action t) × IsNumbered (names ++ option_to_list (option_map variable (creation_of x)))
+      → ((t : Setup) × IsStep s names system x.action t) × IsNumbered (names ++ option_to_list (option_map variable_name (creation_of x)))
   next_step own xs i x s names lt is before named r = (
     by (last (take (i + 1) xs) h.0 h.1),
     subst IsNumbered (sym more) (numbered_first (variables (take (i + 1) xs)) (variables (drop (i + 1) xs))
@@ -101,13 +101,13 @@ module _ (system : Option ℕ) (start : Setup) where
       h : (s : Setup) × Makes system start (take (i + 1) xs) s
       h = makes_first (i + 1) xs r.0.0 r.0.1
 
-      more : names ++ option_to_list (option_map variable (creation_of x)) ≡ variables (take (i + 1) xs)
-      more = variables_more xs i x lt is names (names ++ option_to_list (option_map variable (creation_of x))) named refl
+      more : names ++ option_to_list (option_map variable_name (creation_of x)) ≡ variables (take (i + 1) xs)
+      more = variables_more xs i x lt is names (names ++ option_to_list (option_map variable_name (creation_of x))) named refl
 
       rest : variables xs ≡ variables (take (i + 1) xs) ++ variables (drop (i + 1) xs)
       rest =
-          ap variables (sym (take-append-drop (i + 1) xs)) ∙ ap (map variable) (filter_map-append creation_of (take (i + 1) xs) (drop (i + 1) xs))
-          ∙ map-append variable (creations (take (i + 1) xs)) (creations (drop (i + 1) xs))
+          ap variables (sym (take-append-drop (i + 1) xs)) ∙ ap (map variable_name) (filter_map-append creation_of (take (i + 1) xs) (drop (i + 1) xs))
+          ∙ map-append variable_name (creations (take (i + 1) xs)) (creations (drop (i + 1) xs))
 
       by : ((take (i + 1) xs ≡ []) × (h.0 ≡ start)) ⊎ Last (take (i + 1) xs) h.0 → (t : Setup) × IsStep s names system x.action t
       by (inl w) = not_none (take i xs) x (sym (pushed xs i x lt is ∙ w.0))

@@ -15,7 +15,7 @@ use Rattle.tp_tree.specs.declared.tree.TestCase.{TestCase}
 use Rattle.std.proofs.lemmas.List.{map-append}
 use Rattle.std.proofs.lemmas.Option.{same_Some}
 use Rattle.std.specs.Option.{option_to_list}
-use Rattle.tp_setup.specs.Definitions.{among, case_of, component_of, function_of, name_of, port_of, type_of}
+use Rattle.tp_setup.specs.Definitions.{of_kind, case_of, component_type_of, function_of, name_of, port_type_of, type_of}
 use Rattle.tp_value.specs.declared.types.TypeDef.{TypeDef}
 use Rattle.std.specs.List.{AllZip}
 use Rattle.std.proofs.lemmas.List.{get_or_push, length_push}
@@ -43,25 +43,25 @@ distinct_head x xs each k d below = each 0 (suc k) d (omega arith) (omega (arith
 module _ {T : Type 0} (kind : Defined → Option T) where
   -- what holds of each definition holds of those of one kind
   pub all_among : (P : T → Type 0) (Q : Definition → Type 0) → ((x : Definition) (y : T) → kind x.defined ≡ Some y → Q x → P y) → (xs : List Definition)
-      → All Q xs → All P (among kind xs)
+      → All Q xs → All P (of_kind kind xs)
   all_among P Q pass [] each = All-nil P
   all_among P Q pass (x ∷ xs) each = by (kind x.defined) refl (all_among P Q pass xs (All-tail Q x xs each)) where
-    by : (o : Option T) → kind x.defined ≡ o → All P (among kind xs) → All P (cons_option o (among kind xs))
+    by : (o : Option T) → kind x.defined ≡ o → All P (of_kind kind xs) → All P (cons_option o (of_kind kind xs))
     by None e rest = rest
-    by (Some y) e rest = All-cons P y (among kind xs) (pass x y e (All-head Q x xs each)) rest
+    by (Some y) e rest = All-cons P y (of_kind kind xs) (pass x y e (All-head Q x xs each)) rest
 
-  pub length_among : (xs : List Definition) → length (among kind xs) ≤ length xs
+  pub length_among : (xs : List Definition) → length (of_kind kind xs) ≤ length xs
   length_among [] = omega arith
   length_among (x ∷ xs) = by (kind x.defined) (length_among xs) where
-    by : (o : Option T) → length (among kind xs) ≤ length xs → length (cons_option o (among kind xs)) ≤ length (x ∷ xs)
+    by : (o : Option T) → length (of_kind kind xs) ≤ length xs → length (cons_option o (of_kind kind xs)) ≤ length (x ∷ xs)
     by None rest = omega (arith, rest)
     by (Some y) rest = omega (arith, rest)
 
-  pub length_among_take : (xs : List Definition) (i : ℕ) → length (among kind (take i xs)) ≤ length (among kind xs)
+  pub length_among_take : (xs : List Definition) (i : ℕ) → length (of_kind kind (take i xs)) ≤ length (of_kind kind xs)
   length_among_take xs i =
-      let all : among kind xs ≡ among kind (take i xs) ++ among kind (drop i xs) =
-      ap (among kind) (sym (take-append-drop i xs)) ∙ filter_map-append (λ (x : Definition). kind x.defined) (take i xs) (drop i xs) in
-      omega (arith, ap length all, length-append (among kind (take i xs)) (among kind (drop i xs)))
+      let all : of_kind kind xs ≡ of_kind kind (take i xs) ++ of_kind kind (drop i xs) =
+      ap (of_kind kind) (sym (take-append-drop i xs)) ∙ filter_map-append (λ (x : Definition). kind x.defined) (take i xs) (drop i xs) in
+      omega (arith, ap length all, length-append (of_kind kind (take i xs)) (of_kind kind (drop i xs)))
 
   module _ (name : T → List ℕ) (own : (x : Defined) (y : T) → kind x ≡ Some y → name y ≡ name_of x) where
     names : List Definition → List (List ℕ)
@@ -73,52 +73,52 @@ module _ {T : Type 0} (kind : Defined → Option T) where
         subst P (get_or-map (λ (x : Definition). name_of x.defined) xs k d (name_of d.defined) below)
         (each k (name_of d.defined) (omega (arith, length-map xs (λ (x : Definition). name_of x.defined), below)))
 
-    distinct_among : (xs : List Definition) → AreDistinct (names xs) → AreDistinct (map name (among kind xs))
+    distinct_among : (xs : List Definition) → AreDistinct (names xs) → AreDistinct (map name (of_kind kind xs))
     unfolding names
     distinct_among [] each = each
     distinct_among (x ∷ xs) each = by (kind x.defined) refl (distinct_among xs (distinct_tail (name_of x.defined) (names xs) each)) where
-      by : (o : Option T) → kind x.defined ≡ o → AreDistinct (map name (among kind xs)) → AreDistinct (map name (cons_option o (among kind xs)))
+      by : (o : Option T) → kind x.defined ≡ o → AreDistinct (map name (of_kind kind xs)) → AreDistinct (map name (cons_option o (of_kind kind xs)))
       by None e rest = rest
       by (Some y) e rest =
-          AllPairs-cons (λ a b. a ≢ b) (name y) (map name (among kind xs))
-          (All-map (λ b. name y ≢ b) name (among kind xs)
+          AllPairs-cons (λ a b. a ≢ b) (name y) (map name (of_kind kind xs))
+          (All-map (λ b. name y ≢ b) name (of_kind kind xs)
           (all_among (λ z. name y ≢ name z) (λ (d : Definition). name_of x.defined ≢ name_of d.defined)
           (λ d z f apart same. apart (sym (own x.defined y e) ∙ same ∙ own d.defined z f)) xs
           (all_seen (λ b. name_of x.defined ≢ b) xs (distinct_head (name_of x.defined) (names xs) each))))
           rest
 
     -- the names of one kind are numbered where those of all definitions are
-    pub numbered_among : (xs : List Definition) → IsNumbered (map (λ (x : Definition). name_of x.defined) xs) → IsNumbered (map name (among kind xs))
+    pub numbered_among : (xs : List Definition) → IsNumbered (map (λ (x : Definition). name_of x.defined) xs) → IsNumbered (map name (of_kind kind xs))
     unfolding names
     numbered_among xs h = record {
-      few = omega (arith, h.few, length_among xs, length-map (among kind xs) name, length-map xs (λ (x : Definition). name_of x.defined));
+      few = omega (arith, h.few, length_among xs, length-map (of_kind kind xs) name, length-map xs (λ (x : Definition). name_of x.defined));
       distinct = distinct_among xs h.distinct;
     }
 
 -- two test cases up to a definition are two in all
 pub many_cases : (xs : List Definition) (i : ℕ) (x : Definition) (found : List TestCase) → i < length xs → x ≡ get_or xs i x
-    → among case_of (take i xs) ≡ found → 1 < length (found ++ option_to_list (case_of x.defined)) → length (among case_of xs) ≤ 1 → ⊥
+    → of_kind case_of (take i xs) ≡ found → 1 < length (found ++ option_to_list (case_of x.defined)) → length (of_kind case_of xs) ≤ 1 → ⊥
 many_cases xs i x found lt is before many few =
-    let next : among case_of (take (i + 1) xs) ≡ found ++ option_to_list (case_of x.defined) =
+    let next : of_kind case_of (take (i + 1) xs) ≡ found ++ option_to_list (case_of x.defined) =
     kept_more (λ (d : Definition). case_of d.defined) xs i x lt is ∙ ap (λ l. l ++ option_to_list (case_of x.defined)) before in
     omega (arith, ap length next, length_among_take case_of xs (i + 1), many, few)
 
 -- where no definition is a test case, there is none
-pub no_case : (xs : List Definition) → list_any (λ (x : Definition). is_some (case_of x.defined)) xs ≡ false → among case_of xs ≡ []
+pub no_case : (xs : List Definition) → list_any (λ (x : Definition). is_some (case_of x.defined)) xs ≡ false → of_kind case_of xs ≡ []
 no_case [] e = refl
 no_case (x ∷ xs) e = by (case_of x.defined) refl (no_case xs) e where
-  by : (o : Option TestCase) → o ≡ case_of x.defined → (list_any (λ (x : Definition). is_some (case_of x.defined)) xs ≡ false → among case_of xs ≡ [])
-      → (is_some o || list_any (λ (x : Definition). is_some (case_of x.defined)) xs) ≡ false → cons_option o (among case_of xs) ≡ []
+  by : (o : Option TestCase) → o ≡ case_of x.defined → (list_any (λ (x : Definition). is_some (case_of x.defined)) xs ≡ false → of_kind case_of xs ≡ [])
+      → (is_some o || list_any (λ (x : Definition). is_some (case_of x.defined)) xs) ≡ false → cons_option o (of_kind case_of xs) ≡ []
   by None f rest e = rest e
   by (Some c) f rest e = absurd (cc)
 
 pub numbered_kind_first : {T : Type 0} (kind : Defined → Option T) (name : T → List ℕ) (xs : List Definition) (i : ℕ)
-    → IsNumbered (map name (among kind xs)) → IsNumbered (map name (among kind (take i xs)))
+    → IsNumbered (map name (of_kind kind xs)) → IsNumbered (map name (of_kind kind (take i xs)))
 numbered_kind_first kind name xs i h =
-    let all : among kind xs ≡ among kind (take i xs) ++ among kind (drop i xs) =
-    ap (among kind) (sym (take-append-drop i xs)) ∙ filter_map-append (λ (x : Definition). kind x.defined) (take i xs) (drop i xs) in
-    numbered_first (map name (among kind (take i xs))) (map name (among kind (drop i xs)))
-    (subst IsNumbered (ap (map name) all ∙ map-append name (among kind (take i xs)) (among kind (drop i xs))) h)
+    let all : of_kind kind xs ≡ of_kind kind (take i xs) ++ of_kind kind (drop i xs) =
+    ap (of_kind kind) (sym (take-append-drop i xs)) ∙ filter_map-append (λ (x : Definition). kind x.defined) (take i xs) (drop i xs) in
+    numbered_first (map name (of_kind kind (take i xs))) (map name (of_kind kind (drop i xs)))
+    (subst IsNumbered (ap (map name) all ∙ map-append name (of_kind kind (take i xs)) (of_kind kind (drop i xs))) h)
 
 -- a definition of a kind has its own name
 pub type_named : (x : Defined) (y : Defined) → type_of x ≡ Some y → name_of y ≡ name_of x
@@ -129,7 +129,7 @@ type_named (defined.Component c) y e = absurd (cc)
 type_named (defined.Function f) y e = absurd (cc)
 type_named (defined.TestCase t) y e = absurd (cc)
 
-pub port_named : (x : Defined) (y : PortType) → port_of x ≡ Some y → string_bytes y.name ≡ name_of x
+pub port_named : (x : Defined) (y : PortType) → port_type_of x ≡ Some y → string_bytes y.name ≡ name_of x
 port_named (defined.Record r) y e = absurd (cc)
 port_named (defined.List l) y e = absurd (cc)
 port_named (defined.Port p) y e = ap (λ (z : PortType). string_bytes z.name) (sym (same_Some p y e))
@@ -137,7 +137,7 @@ port_named (defined.Component c) y e = absurd (cc)
 port_named (defined.Function f) y e = absurd (cc)
 port_named (defined.TestCase t) y e = absurd (cc)
 
-pub component_named : (x : Defined) (y : ComponentType) → component_of x ≡ Some y → string_bytes y.name ≡ name_of x
+pub component_named : (x : Defined) (y : ComponentType) → component_type_of x ≡ Some y → string_bytes y.name ≡ name_of x
 component_named (defined.Record r) y e = absurd (cc)
 component_named (defined.List l) y e = absurd (cc)
 component_named (defined.Port p) y e = absurd (cc)

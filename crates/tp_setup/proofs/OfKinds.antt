@@ -11,7 +11,7 @@ use Rattle.tp_tree.specs.declared.tree.ComponentType.{ComponentType}
 use Rattle.tp_tree.specs.declared.tree.TestCase.{TestCase}
 use Rattle.tp_setup.specs.declared.sorted.Sorted.{Sorted}
 use Rattle.tp_name.specs.Tables.{IsNumbered}
-use Rattle.tp_setup.specs.Definitions.{component_of, component_type_names, inner_names, name_of, port_of, port_type_names, type_names, type_of}
+use Rattle.tp_setup.specs.Definitions.{component_type_of, component_type_names, inner_names, name_of, port_type_of, port_type_names, type_names, type_of}
 use Rattle.tp_setup.specs.Rules.{AreMessagesKnown, ArePortTypesKnown, AreTypesKnown, HasFewPorts, HasUniqueNames, IsSoundComponent}
 use Rattle.tp_setup.specs.Sorted.{AreSorted, AreSound, HasSoundDefinitions, IsSortedSound, IsSoundIn}
 use Rattle.tp_setup.proofs.Naming.{all_among, numbered_among, type_named}
@@ -25,7 +25,7 @@ type_itself (d.Component c) y e = absurd (cc)
 type_itself (d.Function f) y e = absurd (cc)
 type_itself (d.TestCase t) y e = absurd (cc)
 
-port_itself : (x : Defined) (y : PortType) → port_of x ≡ Some y → x ≡ d.Port y
+port_itself : (x : Defined) (y : PortType) → port_type_of x ≡ Some y → x ≡ d.Port y
 port_itself (d.Record r) y e = absurd (cc)
 port_itself (d.List l) y e = absurd (cc)
 port_itself (d.Port p) y e = ap d.Port (same_Some p y e)
@@ -33,7 +33,7 @@ port_itself (d.Component c) y e = absurd (cc)
 port_itself (d.Function f) y e = absurd (cc)
 port_itself (d.TestCase t) y e = absurd (cc)
 
-component_itself : (x : Defined) (y : ComponentType) → component_of x ≡ Some y → x ≡ d.Component y
+component_itself : (x : Defined) (y : ComponentType) → component_type_of x ≡ Some y → x ≡ d.Component y
 component_itself (d.Record r) y e = absurd (cc)
 component_itself (d.List l) y e = absurd (cc)
 component_itself (d.Port p) y e = absurd (cc)
@@ -64,10 +64,10 @@ sorted_sound m s case sorted unique sound =
             (numbered_among type_of name_of type_named all unique.definitions);
       };
       ports = subst (All (AreMessagesKnown s.type_names)) (sym sorted.ports.items_are)
-          (all_among port_of (AreMessagesKnown s.type_names) rule
+          (all_among port_type_of (AreMessagesKnown s.type_names) rule
           (λ x y e q. subst (AreTypesKnown s.type_names) (port_itself x.defined y e) q.types_known) all each);
       components = subst (All (IsSoundComponent s.port_names)) (sym sorted.components.items_are)
-          (all_among component_of (IsSoundComponent s.port_names) named
+          (all_among component_type_of (IsSoundComponent s.port_names) named
           (λ x y e q. let here = component_itself x.defined y e in record {
             known = subst (ArePortTypesKnown s.port_names) here q.0.port_types_known;
             few = subst HasFewPorts here q.0.few_ports;

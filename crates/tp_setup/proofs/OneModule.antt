@@ -19,12 +19,12 @@ use Rattle.tp_config.specs.Shape.{ports_of}
 use Rattle.tp_name.specs.Tables.{AreDistinct, IsNumbered}
 use Rattle.tp_setup.specs.declared.definitions.Definitions.{Definitions}
 use Rattle.tp_setup.specs.declared.starts.Starts.{Starts}
-use Rattle.tp_setup.specs.Components.{AreNumbered}
+use Rattle.tp_setup.specs.Components.{HaveDistinctPorts}
 use Rattle.tp_setup.specs.Configuring.{AreOwnPorts, AreSoundVariables, CanSetUp, IsSetUp, names_of_ports}
 use Rattle.tp_setup.specs.Defining.{IsDefined}
-use Rattle.tp_setup.specs.Definitions.{component_of, component_type_names, component_types, declared, declared_ports, functions, inner_names, name_of, port_of, port_type_names, port_types, test_cases, type_names}
+use Rattle.tp_setup.specs.Definitions.{component_type_of, component_type_names, component_types, declared, declared_ports, functions, inner_names, name_of, port_type_of, port_type_names, port_types, test_cases, type_names}
 use Rattle.tp_setup.specs.Prepared.{IsWellDeclared}
-use Rattle.tp_setup.specs.Resolved.{IsComponentType, IsPortDecl, Names, port_list, received, sent}
+use Rattle.tp_setup.specs.Resolved.{IsComponentType, IsPortDecl, IsTypeNamed, port_list, received_types, sent_types}
 use Rattle.tp_setup.specs.Rules.{HasUniqueNames}
 use Rattle.tp_setup.specs.Sorted.{component_types_in, functions_in}
 use Rattle.tp_setup.specs.Starting.{AreStarts}
@@ -32,7 +32,7 @@ use Rattle.tp_setup.proofs.Lookups.{same_named}
 use Rattle.tp_setup.proofs.Naming.{all_among, numbered_among}
 use Rattle.tp_setup.proofs.Zips.{zip_same, zip_seen}
 
-own_port : (x : Defined) (p : PortType) → port_of x ≡ Some p → string_bytes p.name ≡ name_of x
+own_port : (x : Defined) (p : PortType) → port_type_of x ≡ Some p → string_bytes p.name ≡ name_of x
 own_port (defined.Record r) p e = absurd (cc)
 own_port (defined.List l) p e = absurd (cc)
 own_port (defined.Port q) p e = ap (λ (p : PortType). string_bytes p.name) (sym (same_Some q p e))
@@ -40,7 +40,7 @@ own_port (defined.Component c) p e = absurd (cc)
 own_port (defined.Function f) p e = absurd (cc)
 own_port (defined.TestCase c) p e = absurd (cc)
 
-own_ports : (x : Defined) (c : ComponentType) → component_of x ≡ Some c → inner_names x ≡ declared_ports c.ports.items
+own_ports : (x : Defined) (c : ComponentType) → component_type_of x ≡ Some c → inner_names x ≡ declared_ports c.ports.items
 own_ports (defined.Record r) c e = absurd (cc)
 own_ports (defined.List l) c e = absurd (cc)
 own_ports (defined.Port p) c e = absurd (cc)
@@ -50,20 +50,20 @@ own_ports (defined.TestCase t) c e = absurd (cc)
 
 -- the port types have names of their own
 ports_apart : (m : Module) → HasUniqueNames m → AreDistinct (port_type_names m)
-ports_apart m unique = (numbered_among port_of (λ (p : PortType). string_bytes p.name) own_port m.definitions.items unique.definitions).distinct
+ports_apart m unique = (numbered_among port_type_of (λ (p : PortType). string_bytes p.name) own_port m.definitions.items unique.definitions).distinct
 
 -- and so have the ports of each component type
-ports_numbered : (m : Module) → HasUniqueNames m → AreNumbered (component_types m)
+ports_numbered : (m : Module) → HasUniqueNames m → HaveDistinctPorts (component_types m)
 ports_numbered m unique =
-    all_among component_of (λ (c : ComponentType). IsNumbered (declared_ports c.ports.items)) (λ (x : Definition). IsNumbered (inner_names x.defined))
+    all_among component_type_of (λ (c : ComponentType). IsNumbered (declared_ports c.ports.items)) (λ (x : Definition). IsNumbered (inner_names x.defined))
     (λ x c e h. subst IsNumbered (own_ports x.defined c e) h) m.definitions.items unique.inner
 
 module _ (types : List (List ℕ)) (ports : List PortType) where
   lists : List Ty → List Ty → List ℕ → PortDecl
   lists ins outs name = record { name = name; ins = ins; outs = outs }
 
-  types_same : (names : List TypeName) (xs ys : List Ty) → AllZip (Names types) names xs → AllZip (Names types) names ys → xs ≡ ys
-  types_same = zip_same (Names types) (λ n x y e f. same_Some x y (sym e ∙ f))
+  types_same : (names : List TypeName) (xs ys : List Ty) → AllZip (IsTypeNamed types) names xs → AllZip (IsTypeNamed types) names ys → xs ≡ ys
+  types_same = zip_same (IsTypeNamed types) (λ n x y e f. same_Some x y (sym e ∙ f))
 
   port_same : AreDistinct (map (λ (p : PortType). string_bytes p.name) ports) → (x : List ℕ × List ℕ) (p q : PortDecl) → IsPortDecl types ports x p
       → IsPortDecl types ports x q → p ≡ q
@@ -73,11 +73,11 @@ module _ (types : List (List ℕ)) (ports : List PortType) where
       same_named (λ (p : PortType). string_bytes p.name) ports x.1 first.lists.port_type second.lists.port_type apart first.lists.there second.lists.there
       first.lists.named second.lists.named in
       let ins : p.ins ≡ q.ins =
-      types_same (flat_map received second.lists.port_type.directions.items) p.ins q.ins
-      (subst (λ (t : PortType). AllZip (Names types) (flat_map received t.directions.items) p.ins) one first.lists.lists.0) second.lists.lists.0 in
+      types_same (flat_map received_types second.lists.port_type.directions.items) p.ins q.ins
+      (subst (λ (t : PortType). AllZip (IsTypeNamed types) (flat_map received_types t.directions.items) p.ins) one first.lists.lists.0) second.lists.lists.0 in
       let outs : p.outs ≡ q.outs =
-      types_same (flat_map sent second.lists.port_type.directions.items) p.outs q.outs
-      (subst (λ (t : PortType). AllZip (Names types) (flat_map sent t.directions.items) p.outs) one first.lists.lists.1) second.lists.lists.1 in
+      types_same (flat_map sent_types second.lists.port_type.directions.items) p.outs q.outs
+      (subst (λ (t : PortType). AllZip (IsTypeNamed types) (flat_map sent_types t.directions.items) p.outs) one first.lists.lists.1) second.lists.lists.1 in
       ap (λ l. lists l p.outs p.name) ins ∙ ap (λ l. lists q.ins l p.name) outs ∙ ap (lists q.ins q.outs) (first.name ∙ sym second.name)
 
   component_same : AreDistinct (map (λ (p : PortType). string_bytes p.name) ports) → (c : ComponentType) (t u : CompType) → IsComponentType types ports c t

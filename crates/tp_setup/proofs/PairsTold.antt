@@ -22,15 +22,15 @@ use Rattle.tp_name.specs.Refused.{Tells, TellsAt}
 use Rattle.tp_name.specs.Tables.{IsNumbered}
 use Rattle.tp_name.specs.Told.{IsAtLine, fault_refusal}
 use Rattle.tp_setup.specs.BrokenSetup.{ConnectBreaks, MapBreaks, PairBreaks, PairsBreak, connect_refused, map_refused}
-use Rattle.tp_setup.specs.Components.{creation_in, creation_of, creations, variable, variables}
-use Rattle.tp_setup.specs.Configuring.{IsEnd, Makes}
+use Rattle.tp_setup.specs.Components.{creation_in, creation_of, creations, variable_name, variables}
+use Rattle.tp_setup.specs.Configuring.{IsPortOfEnd, Makes}
 use Rattle.tp_setup.proofs.Connecting.{variables_more}
 use Rattle.tp_setup.proofs.Naming.{numbered_first}
 use Rattle.tp_setup.proofs.NamesTold.{split_here}
 use Rattle.tp_setup.proofs.Telling.{tells_from}
 
-module _ (s : Setup) (names : List (List ℕ)) (system : Option ℕ) (x y : PairEnd) (p q : PortRef) (first : IsEnd s names system x p)
-    (second : IsEnd s names system y q) (line : ℕ) where
+module _ (s : Setup) (names : List (List ℕ)) (system : Option ℕ) (x y : PairEnd) (p q : PortRef) (first : IsPortOfEnd s names system x p)
+    (second : IsPortOfEnd s names system y q) (line : ℕ) where
   pub connect_told : (f : ConnectFault) (fault : ModuleFault) → ConnectRefused s p q f → fault_refusal fault ≡ connect_refusal f → IsAtLine line fault
       → TellsAt line (ConnectBreaks s names system x y) fault
   connect_told f (module_fault.Refused rule at) refused told here = (here, connect_refused p q f rule first second refused told)
@@ -43,22 +43,22 @@ module _ (s : Setup) (names : List (List ℕ)) (system : Option ℕ) (x y : Pair
 
 -- a `var` whose variable is new is refused for memory alone
 pub var_memory : (known : List (List ℕ)) (x : SetupStatement) (c : Creation) (fault : NameFault) (made : ModuleFault) → x.action ≡ setup_action.Create c
-    → (fault ≡ name_fault.Memory → made ≡ module_fault.Memory (record {})) → (fault ≡ name_fault.Memory) ⊎ (IsNumbered (known ++ variable c ∷ []) → ⊥)
-    → IsNumbered (known ++ option_to_list (option_map variable (creation_of x))) → made ≡ module_fault.Memory (record {})
+    → (fault ≡ name_fault.Memory → made ≡ module_fault.Memory (record {})) → (fault ≡ name_fault.Memory) ⊎ (IsNumbered (known ++ variable_name c ∷ []) → ⊥)
+    → IsNumbered (known ++ option_to_list (option_map variable_name (creation_of x))) → made ≡ module_fault.Memory (record {})
 var_memory known x c fault made e memory (inl want) own = memory want
 var_memory known x c fault made e memory (inr broken) own =
-    absurd (broken (subst (λ (a : SetupAction). IsNumbered (known ++ option_to_list (option_map variable (creation_in a)))) e own))
+    absurd (broken (subst (λ (a : SetupAction). IsNumbered (known ++ option_to_list (option_map variable_name (creation_in a)))) e own))
 
 module _ (xs : List SetupStatement) (i : ℕ) (x : SetupStatement) (lt : i < length xs) (is : x ≡ get_or xs i x) (names : List (List ℕ))
     (named : names ≡ variables (take i xs)) where
   -- the variable of the next statement is new, where all are
-  pub numbered_next : IsNumbered (variables xs) → IsNumbered (names ++ option_to_list (option_map variable (creation_of x)))
+  pub numbered_next : IsNumbered (variables xs) → IsNumbered (names ++ option_to_list (option_map variable_name (creation_of x)))
   numbered_next own =
-      let more : names ++ option_to_list (option_map variable (creation_of x)) ≡ variables (take (i + 1) xs) =
-      variables_more xs i x lt is names (names ++ option_to_list (option_map variable (creation_of x))) named refl in
+      let more : names ++ option_to_list (option_map variable_name (creation_of x)) ≡ variables (take (i + 1) xs) =
+      variables_more xs i x lt is names (names ++ option_to_list (option_map variable_name (creation_of x))) named refl in
       let rest : variables xs ≡ variables (take (i + 1) xs) ++ variables (drop (i + 1) xs) =
-      ap variables (sym (take-append-drop (i + 1) xs)) ∙ ap (map variable) (filter_map-append creation_of (take (i + 1) xs) (drop (i + 1) xs))
-      ∙ map-append variable (creations (take (i + 1) xs)) (creations (drop (i + 1) xs)) in
+      ap variables (sym (take-append-drop (i + 1) xs)) ∙ ap (map variable_name) (filter_map-append creation_of (take (i + 1) xs) (drop (i + 1) xs))
+      ∙ map-append variable_name (creations (take (i + 1) xs)) (creations (drop (i + 1) xs)) in
       subst IsNumbered (sym more) (numbered_first (variables (take (i + 1) xs)) (variables (drop (i + 1) xs)) (subst IsNumbered rest own))
 
   -- the next statement breaks a rule behind those before it

@@ -12,12 +12,12 @@ use Rattle.tp_tree.specs.declared.tree.SetupStatement.{SetupStatement}
 use Rattle.tp_tree.specs.declared.tree.TestCase.{TestCase}
 use Rattle.tp_config.specs.declared.port_type.PortRef.{PortRef}
 use Rattle.tp_config.specs.declared.port_type.Role.TheVariants as role
-use Rattle.tp_config.specs.Setup.{Setup, PortDecl, Member, empty_setup, is_system_role, names as names_in}
+use Rattle.tp_config.specs.Setup.{Setup, PortDecl, Member, empty_setup, is_system_role, names_of_components}
 use Rattle.tp_config.specs.Shape.{member}
 use Rattle.tp_config.specs.Causes.{HasSystem}
 use Rattle.tp_name.specs.Tables.{AreDistinct, IsNumbered}
 use Rattle.tp_name.proofs.Numbering.{place_known}
-use Rattle.tp_setup.specs.Components.{Adds, AddsAll, CanAdd, CanAddAll, Declared, HasSoundVariables, IsMember, component_list, HasStopped, created, creation_of, creations, interface, main_component, variable, variables}
+use Rattle.tp_setup.specs.Components.{Adds, AddsAll, CanAdd, CanAddAll, Declared, HasSoundVariables, IsMember, component_list, HasStopped, created, creation_of, creations, interface, main_component, variable_name, variables}
 use Rattle.tp_setup.specs.Configuring.{CanSetUp, CanSetUpBeside, HasFirst, HavePorts, IsSetUp, Makes, interface_number, most_variables}
 use Rattle.tp_setup.proofs.Adding.{names_created}
 use Rattle.tp_setup.proofs.Lookups.{all_got}
@@ -37,7 +37,7 @@ most_small case = by (is_some case.system) where
 pub numbered_variables : (names ports : List (List ℕ)) (case : TestCase)
     → HasSoundVariables names ports (most_variables case) (creations case.setups.items) → IsNumbered (variables case.setups.items)
 numbered_variables names ports case sound = record {
-  few = omega (arith, sound.few, most_small case, length-map (creations case.setups.items) variable);
+  few = omega (arith, sound.few, most_small case, length-map (creations case.setups.items) variable_name);
   distinct = sound.distinct;
 }
 
@@ -97,18 +97,18 @@ module _ (names : List (List ℕ)) (made : List (List PortDecl)) (case : TestCas
       → AddsAll names (main_component case ∷ []) (empty_setup made) s → CanAddAll names (variables case.setups.items) s
   all_can have s few added =
       let all : map (λ (x : Declared). x.name) (component_list case)
-      ≡ (names_in s ++ variables case.setups.items) ++ map (λ (x : Declared). x.name) (interface case) =
+      ≡ (names_of_components s ++ variables case.setups.items) ++ map (λ (x : Declared). x.name) (interface case) =
       map-append (λ (x : Declared). x.name) (main_component case ∷ map created (creations case.setups.items)) (interface case)
       ∙ ap (λ l. (codes "mtc" ∷ l) ++ map (λ (x : Declared). x.name) (interface case)) (names_created (creations case.setups.items))
       ∙ ap (λ l. (l ++ variables case.setups.items) ++ map (λ (x : Declared). x.name) (interface case)) (sym added.names_more) in
       record {
         typed = have.typed ∙ ap length (sym added.types_stay);
-        distinct = distinct_first (names_in s ++ variables case.setups.items) (map (λ (x : Declared). x.name) (interface case)) (subst AreDistinct all r.apart);
+        distinct = distinct_first (names_of_components s ++ variables case.setups.items) (map (λ (x : Declared). x.name) (interface case)) (subst AreDistinct all r.apart);
         room = omega (
           arith,
           ap length added.names_more,
           length-map s.components (λ (m : Member). m.name),
-          length-map (creations case.setups.items) variable,
+          length-map (creations case.setups.items) variable_name,
           few,
           most_small case,
         );
@@ -185,7 +185,7 @@ number_is names case old s system none added number =
       arith,
       ap length added.names_more,
       length-map s.components (λ (m : Member). m.name),
-      length-append (names_in old) (map (λ (x : Declared). x.name) (main_component case ∷ map created (creations case.setups.items))),
+      length-append (names_of_components old) (map (λ (x : Declared). x.name) (main_component case ∷ map created (creations case.setups.items))),
       length-map old.components (λ (m : Member). m.name),
       ap length none,
       length-map (map created (creations case.setups.items)) (λ (x : Declared). x.name),

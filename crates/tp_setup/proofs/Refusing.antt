@@ -9,22 +9,22 @@ use Rattle.tp_name.specs.declared.fault.ModuleFault.{ModuleFault}
 use Rattle.tp_name.specs.declared.fault.ModuleFault.TheVariants as module_fault
 use Rattle.tp_name.specs.declared.name_set.NameFault.{NameFault}
 use Rattle.tp_name.specs.declared.name_set.NameFault.TheVariants as name_fault
-use Rattle.tp_name.specs.Refused.{Breaks}
+use Rattle.tp_name.specs.Refused.{IsRefusedBy}
 use Rattle.tp_setup.proofs.Steps.{flat_more, pushed}
 
 -- what breaks a part of a rule breaks the rule
-pub breaks_part : (R P : Type 0) (f : ModuleFault) → (R → P) → Breaks P f → Breaks R f
+pub breaks_part : (R P : Type 0) (f : ModuleFault) → (R → P) → IsRefusedBy P f → IsRefusedBy R f
 breaks_part R P f part (inl e) = inl e
 breaks_part R P f part (inr h) = inr (λ r. h (part r))
 
 -- a `?` hands on a fault that breaks a part of the rule, and one for want of memory
-pub handed_on : {T R P : Type 0} (r : Result T ModuleFault) (f : ModuleFault) → IsErrAnd r (λ y. y ≡ f) → Breaks P f → (R → P) → IfErr r (Breaks R)
+pub handed_on : {T R P : Type 0} (r : Result T ModuleFault) (f : ModuleFault) → IsErrAnd r (λ y. y ≡ f) → IsRefusedBy P f → (R → P) → IfErr r (IsRefusedBy R)
 handed_on {R} {P} r f is broken part =
     let p = err_from_is_err_and r is in
     rw (p.1, p.2) (breaks_part R P f part broken)
 
 -- a `?` hands on a fault that shows the rule to be broken
-pub handed_break : {T : Type 0} (R : Type 0) (r : Result T ModuleFault) (f : ModuleFault) → IsErrAnd r (λ y. y ≡ f) → (R → ⊥) → IfErr r (Breaks R)
+pub handed_break : {T : Type 0} (R : Type 0) (r : Result T ModuleFault) (f : ModuleFault) → IsErrAnd r (λ y. y ≡ f) → (R → ⊥) → IfErr r (IsRefusedBy R)
 handed_break R r f is broken =
     let p = err_from_is_err_and r is in
     rw (p.1, p.2) (inr broken)
@@ -35,14 +35,14 @@ handed_fact N r f is fact =
     let p = err_from_is_err_and r is in
     rw p.1 fact
 
-pub no_memory : {T : Type 0} (R : Type 0) (r : Result T ModuleFault) → IsErrAnd r (λ y. y ≡ module_fault.Memory (record {})) → IfErr r (Breaks R)
+pub no_memory : {T : Type 0} (R : Type 0) (r : Result T ModuleFault) → IsErrAnd r (λ y. y ≡ module_fault.Memory (record {})) → IfErr r (IsRefusedBy R)
 no_memory R r is =
     let p = err_from_is_err_and r is in
     rw (p.1, p.2) (inl refl)
 
 -- a name that isn't added is refused at its line
 pub name_refused : (R P : Type 0) (fault : NameFault) (made : ModuleFault) → (fault ≡ name_fault.Memory → made ≡ module_fault.Memory (record {}))
-    → (fault ≡ name_fault.Memory) ⊎ (P → ⊥) → (R → P) → Breaks R made
+    → (fault ≡ name_fault.Memory) ⊎ (P → ⊥) → (R → P) → IsRefusedBy R made
 name_refused R P fault made memory (inl e) part = inl (memory e)
 name_refused R P fault made memory (inr h) part = inr (λ r. h (part r))
 

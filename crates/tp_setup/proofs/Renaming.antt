@@ -18,8 +18,8 @@ use Rattle.tp_config.specs.Setup.{Setup, PortDecl, Member, connecting, decl_at, 
 use Rattle.tp_config.specs.Allowed.{Allowed, CanConnect, CanMap, MapDirected, MayConnect, MayMap}
 use Rattle.tp_config.specs.Pairs.{partner, partners, same_port}
 use Rattle.tp_config.proofs.Decide.{port_decides}
-use Rattle.tp_setup.specs.Components.{creation_of, creations, variable, variables}
-use Rattle.tp_setup.specs.Configuring.{IsEnd, IsStep, Makes, component_at, nothing, one_more}
+use Rattle.tp_setup.specs.Components.{creation_of, creations, variable_name, variables}
+use Rattle.tp_setup.specs.Configuring.{IsPortOfEnd, IsStep, Makes, end_component_number, nothing, one_more}
 
 abbrev port_at : ℕ → ℕ → PortRef
 port_at i j = record { comp = record { 0 = i }; port = j }
@@ -177,15 +177,15 @@ module _ (more : List Member) (number : ℕ → ℕ) (apart : (i j : ℕ) → nu
 
   -- how the two configurations number what a setup statement names, where there are at most this many variables before it
   module _ (most : ℕ) (system face : Option ℕ)
-      (found : (names : List (List ℕ)) (c : EndComponent) (n : ℕ) → length names ≤ most → component_at names face c ≡ Some n
-      → (i : ℕ) × (component_at names system c ≡ Some i) × (n ≡ number i)) where
+      (found : (names : List (List ℕ)) (c : EndComponent) (n : ℕ) → length names ≤ most → end_component_number names face c ≡ Some n
+      → (i : ℕ) × (end_component_number names system c ≡ Some i) × (n ≡ number i)) where
     end_there : (s : Setup) → Looks s.components → (names : List (List ℕ)) → length names ≤ most → (x : PairEnd) (p : PortRef)
-        → IsEnd (seen s) names face x p → (q : PortRef) × (p ≡ at q) × IsEnd s names system x q
+        → IsPortOfEnd (seen s) names face x p → (q : PortRef) × (p ≡ at q) × IsPortOfEnd s names system x q
     end_there s look names few x p h =
         let r = found names x.component p.comp.0 few h.component_known in
         let q : PortRef = port_at r.0 p.port in
         let same : p ≡ at q = ap (λ i. port_at i p.port) r.2 in
-        let there : IsEnd (seen s) names face x (at q) = subst (IsEnd (seen s) names face x) same h in (
+        let there : IsPortOfEnd (seen s) names face x (at q) = subst (IsPortOfEnd (seen s) names face x) same h in (
           q,
           same,
           record {
@@ -225,8 +225,8 @@ module _ (more : List Member) (number : ℕ → ℕ) (apart : (i j : ℕ) → nu
         omega (
           arith,
           few,
-          length-map (creations (xs ++ x ∷ [])) variable,
-          length-map (creations xs) variable,
+          length-map (creations (xs ++ x ∷ [])) variable_name,
+          length-map (creations xs) variable_name,
           ap length (filter_map-append creation_of xs (x ∷ [])),
           length-append (creations xs) (creations (x ∷ [])),
         )

@@ -6,7 +6,7 @@ use Rattle.std.proofs.lemmas.List.{length-map, map-append}
 use Rattle.std.proofs.lemmas.Slice.Zip.{AllZip-long}
 use Rattle.tp_tree.specs.declared.tree.SetupStatement.{SetupStatement}
 use Rattle.tp_tree.specs.declared.tree.TestCase.{TestCase}
-use Rattle.tp_config.specs.Setup.{Setup, PortDecl, empty_setup, names as names_in}
+use Rattle.tp_config.specs.Setup.{Setup, PortDecl, empty_setup, names_of_components}
 use Rattle.tp_name.specs.Tables.{AreDistinct}
 use Rattle.tp_setup.specs.Components.{Adds, AddsAll, Declared, IsMember, created, creations, interface, main_component}
 use Rattle.tp_setup.specs.Configuring.{IsSetUp, Makes}
@@ -18,8 +18,8 @@ adds_append types xs ys old mid new first second = record {
   components = λ before h. subst (λ l. AllZip (IsMember types) l new.components) (append_assoc before xs ys)
       (second.components (before ++ xs) (first.components before h));
   names_more = second.names_more ∙ ap (λ l. l ++ map (λ (x : Declared). x.name) ys) first.names_more
-      ∙ append_assoc (names_in old) (map (λ (x : Declared). x.name) xs) (map (λ (x : Declared). x.name) ys)
-      ∙ ap (λ l. names_in old ++ l) (sym (map-append (λ (x : Declared). x.name) xs ys));
+      ∙ append_assoc (names_of_components old) (map (λ (x : Declared). x.name) xs) (map (λ (x : Declared). x.name) ys)
+      ∙ ap (λ l. names_of_components old ++ l) (sym (map-append (λ (x : Declared). x.name) xs ys));
   apart = λ h. second.apart (first.apart h);
   types_stay = second.types_stay ∙ first.types_stay;
   connected_stay = second.connected_stay ∙ first.connected_stay;
@@ -53,8 +53,8 @@ set_up_is names types case empty made start config system setups is_empty first 
       types_are = all.types_stay ∙ ap (λ (s : Setup). s.types) is_empty;
       components_are = all.components [] none;
       not_connected = all.connected_stay ∙ ap (λ (s : Setup). s.connected) is_empty;
-      apart = subst AreDistinct (all.names_more ∙ ap (λ (s : Setup). names_in s ++ map (λ (x : Declared). x.name) (inner ++ interface case)) is_empty)
-          (all.apart (subst (λ (s : Setup). AreDistinct (names_in s)) (sym is_empty) (λ i j d below within. absurd (omega (arith, within)))));
+      apart = subst AreDistinct (all.names_more ∙ ap (λ (s : Setup). names_of_components s ++ map (λ (x : Declared). x.name) (inner ++ interface case)) is_empty)
+          (all.apart (subst (λ (s : Setup). AreDistinct (names_of_components s)) (sym is_empty) (λ i j d below within. absurd (omega (arith, within)))));
       not_mapped = all.mapped_stay ∙ ap (λ (s : Setup). s.mapped) is_empty;
       makes = subst (λ o. Makes o start case.setups.items config) numbered (subst (λ l. Makes system start l config) statements makes);
     }

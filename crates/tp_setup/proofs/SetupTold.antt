@@ -7,14 +7,14 @@ use Rattle.tp_tree.specs.declared.tree.ComponentType.{ComponentType}
 use Rattle.tp_tree.specs.declared.tree.Defined.TheVariants as defined
 use Rattle.tp_tree.specs.declared.tree.SetupStatement.{SetupStatement}
 use Rattle.tp_tree.specs.declared.tree.TestCase.{TestCase}
-use Rattle.tp_config.specs.Setup.{Setup, PortDecl, Member, empty_setup, names as names_in}
+use Rattle.tp_config.specs.Setup.{Setup, PortDecl, Member, empty_setup, names_of_components}
 use Rattle.tp_name.specs.declared.fault.ModuleRule.{ModuleRule}
 use Rattle.tp_name.specs.declared.fault.ModuleFault.{ModuleFault}
 use Rattle.tp_name.specs.Refused.{Tells}
 use Rattle.tp_name.specs.Tables.{IsNumbered}
 use Rattle.tp_setup.specs.Additions.{AwaitsInterface, HasRoomForVariables, InterfaceBreaks, StopsCreating, interface_named}
 use Rattle.tp_setup.specs.BrokenSetup.{CarriesOut, CaseSetupBreaks, CreationBreaks, PairBreaks, PairsBreak, SetupBreaks, StartsWith, a_pair, a_var, interface_behind, interface_taken}
-use Rattle.tp_setup.specs.Components.{AddsAll, CanAdd, HasPorts, HasSoundVariables, created, creation_of, creations, interface, main_component, variable, variables}
+use Rattle.tp_setup.specs.Components.{AddsAll, CanAdd, HasPorts, HasSoundVariables, created, creation_of, creations, interface, main_component, variable_name, variables}
 use Rattle.tp_setup.specs.Configuring.{HavePorts, Makes, most_variables}
 use Rattle.tp_setup.specs.Rules.{AreComponentTypesKnown}
 use Rattle.tp_setup.specs.Definitions.{declared_ports}
@@ -65,7 +65,7 @@ ports_there types names name named known =
 pub small_variables : (names ports : List (List ℕ)) (case : TestCase) (xs : List SetupStatement)
     → HasSoundVariables names ports (most_variables case) (creations xs) → IsNumbered (variables xs)
 small_variables names ports case xs sound = record {
-  few = omega (arith, sound.few, most_small case, length-map (creations xs) variable);
+  few = omega (arith, sound.few, most_small case, length-map (creations xs) variable_name);
   distinct = sound.distinct;
 }
 
@@ -82,12 +82,12 @@ room_first names case types s most have main limit = record {
 module _ (names ports : List (List ℕ)) (types : List (List PortDecl)) (case : TestCase) (line : ℕ) (made : List SetupStatement)
     (sound : HasSoundVariables names ports (most_variables case) (creations made)) (first : Setup)
     (added : AddsAll names (main_component case ∷ map created (creations made)) (empty_setup types) first) where
-  names_first : names_in first ≡ codes "mtc" ∷ variables made
+  names_first : names_of_components first ≡ codes "mtc" ∷ variables made
   names_first = added.names_more ∙ ap (λ l. codes "mtc" ∷ l) (names_created (creations made))
 
   count_first : length first.components ≡ length (creations made) + 1
   count_first =
-      omega (arith, ap length names_first, length-map first.components (λ (m : Member). m.name), length-map (creations made) variable)
+      omega (arith, ap length names_first, length-map first.components (λ (m : Member). m.name), length-map (creations made) variable_name)
 
   -- the test system interface can be added behind them, but for its name
   pub awaits : HavePorts names types → AreComponentTypesKnown names (defined.TestCase case) → AwaitsInterface names case first
@@ -103,7 +103,7 @@ module _ (names ports : List (List ℕ)) (types : List (List PortDecl)) (case : 
       → SetupBreaks names ports types case line rule line
   interface_breaks after split rule (interface_named some there) = interface_taken some (subst (λ l. Contains l (codes "system")) (sym all) within) where
     all : variables case.setups.items ≡ variables made ++ variables after
-    all = ap variables split ∙ ap (map variable) (filter_map-append creation_of made after) ∙ map-append variable (creations made) (creations after)
+    all = ap variables split ∙ ap (map variable_name) (filter_map-append creation_of made after) ∙ map-append variable_name (creations made) (creations after)
 
     other : Contains [] (codes "system") ⊎ (codes "mtc" ≡ codes "system") → Contains (variables made) (codes "system")
     other (inl none) = absurd (omega (arith, none.1))

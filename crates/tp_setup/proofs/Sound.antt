@@ -11,7 +11,7 @@ use Rattle.tp_tree.specs.declared.tree.ComponentType.{ComponentType}
 use Rattle.tp_tree.specs.declared.tree.Function.{Function}
 use Rattle.tp_tree.specs.declared.tree.TestCase.{TestCase}
 use Rattle.tp_name.specs.declared.fault.ModuleFault.{ModuleFault}
-use Rattle.tp_name.specs.Tables.{place_of}
+use Rattle.tp_name.specs.Tables.{place_of_name}
 use Rattle.tp_setup.specs.Definitions.{declared_ports}
 use Rattle.tp_setup.specs.Resolved.{ty_of}
 use Rattle.tp_setup.specs.Rules.{ArePortTypesKnown, AreTypesKnown, HasFewPorts, IsComponentFault, IsSound, NamesType, has_known_messages, sut}
@@ -28,7 +28,7 @@ module _ (types ports components : List (List ℕ)) (system : Option (List ℕ))
   sound_port p e known =
       rw e (record { types_known = messages_known types p.directions.items known; port_types_known = tt; component_types_known = tt; few_ports = tt; plays_system = tt })
 
-  pub sound_component : (c : ComponentType) → x ≡ d.Component c → list_all (λ p. is_some (place_of ports (string_bytes p.type_name))) c.ports.items ≡ true
+  pub sound_component : (c : ComponentType) → x ≡ d.Component c → list_all (λ p. is_some (place_of_name ports (string_bytes p.type_name))) c.ports.items ≡ true
       → length (declared_ports c.ports.items) ≤ 64 → IsSound types ports components system x
   sound_component c e known few =
       rw e (record {
@@ -40,7 +40,7 @@ module _ (types ports components : List (List ℕ)) (system : Option (List ℕ))
       })
 
   pub sound_function : (f : Function) → x ≡ d.Function f → Contains components (string_bytes f.runs_on)
-      → list_all (λ p. is_some (place_of components (string_bytes p.type_name))) f.parameters.items ≡ true
+      → list_all (λ p. is_some (place_of_name components (string_bytes p.type_name))) f.parameters.items ≡ true
       → (string_bytes f.name ≡ sut → (f.parameters.items ≡ []) × (system ≡ Some (string_bytes f.runs_on))) → IsSound types ports components system x
   sound_function f e runs known plays =
       rw e (record {

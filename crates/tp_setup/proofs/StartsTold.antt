@@ -14,11 +14,11 @@ use Rattle.tp_tree.specs.declared.tree.SetupStatement.{SetupStatement}
 use Rattle.tp_config.specs.declared.port_type.CompId.{CompId}
 use Rattle.tp_name.specs.declared.fault.ModuleFault.{ModuleFault}
 use Rattle.tp_name.specs.Refused.{Tells, TellsAt}
-use Rattle.tp_name.specs.Tables.{IsNumbered, place_of}
+use Rattle.tp_name.specs.Tables.{IsNumbered, place_of_name}
 use Rattle.tp_name.proofs.Numbering.{named_at, place_known}
 use Rattle.tp_setup.specs.declared.starts.Started.{Started}
 use Rattle.tp_setup.specs.BrokenStarts.{ArgumentBreaks, ArgumentsBreak, IsNeverStarted, IsStartFunction, StartBreaks, StartBreaksAmong, one_argument}
-use Rattle.tp_setup.specs.Components.{creation_of, creations, variable, variables}
+use Rattle.tp_setup.specs.Components.{creation_of, creations, variable_name, variables}
 use Rattle.tp_setup.specs.Starting.{HasParameterType, IsArgument, IsStartOf, IsStartPlace, started_names}
 use Rattle.tp_setup.proofs.NamesTold.{split_here}
 use Rattle.tp_setup.proofs.Steps.{contains_at}
@@ -39,7 +39,7 @@ argument_among names types ps xs i p x made at f same lt isp isx known fits told
 
 -- the function that was found is that of the start
 pub start_function : (functions : List Function) (names : List (List ℕ)) (x : ComponentStart) (place : ℕ) (f : Function)
-    → names ≡ map (λ (f : Function). string_bytes f.name) functions → Some place ≡ place_of names (string_bytes x.function)
+    → names ≡ map (λ (f : Function). string_bytes f.name) functions → Some place ≡ place_of_name names (string_bytes x.function)
     → slice_get functions place ≡ Some f → IsStartFunction functions x f
 start_function functions names x place f named placed there = record {
   there = contains_at functions place f there;
@@ -71,7 +71,7 @@ all_started started (n ∷ names) (k ∷ places) each =
 
 -- a component that is never started
 pub never_among : (started : List (List ℕ)) (xs : List SetupStatement) (i : ℕ) (x : SetupStatement) (c : Creation) (places : List ℕ) → i < length xs
-    → x ≡ get_or xs i x → Some c ≡ creation_of x → AllZip (IsStartPlace started) (variables (take i xs)) places → (Contains started (variable c) → ⊥)
+    → x ≡ get_or xs i x → Some c ≡ creation_of x → AllZip (IsStartPlace started) (variables (take i xs)) places → (Contains started (variable_name c) → ⊥)
     → IsNeverStarted started xs x.line
 never_among started xs i x c places lt is makes each never = record {
   before = take i xs;
@@ -93,6 +93,6 @@ some_creations started xs places each some none =
       arith,
       some,
       AllZip-long (IsStartPlace started) (variables xs) places each,
-      length-map (creations xs) variable,
+      length-map (creations xs) variable_name,
       ap length none,
     ))

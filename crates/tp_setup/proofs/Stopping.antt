@@ -11,10 +11,10 @@ use Rattle.tp_tree.specs.declared.tree.EndComponent.TheVariants as end_component
 use Rattle.tp_tree.specs.declared.tree.SetupStatement.{SetupStatement}
 use Rattle.tp_tree.specs.declared.tree.TestCase.{TestCase}
 use Rattle.tp_config.specs.Setup.{Setup, PortDecl, Member, empty_setup}
-use Rattle.tp_name.specs.Tables.{IsNumbered, place_of}
+use Rattle.tp_name.specs.Tables.{IsNumbered, place_of_name}
 use Rattle.tp_name.proofs.Numbering.{place_there}
-use Rattle.tp_setup.specs.Components.{AddsAll, Declared, IsMember, component_list, created, creation_of, creations, interface, main_component, variable, variables}
-use Rattle.tp_setup.specs.Configuring.{CanSetUpBeside, HasFirst, IsSetUp, Makes, component_at, interface_number}
+use Rattle.tp_setup.specs.Components.{AddsAll, Declared, IsMember, component_list, created, creation_of, creations, interface, main_component, variable_name, variables}
+use Rattle.tp_setup.specs.Configuring.{CanSetUpBeside, HasFirst, IsSetUp, Makes, end_component_number, interface_number}
 use Rattle.tp_setup.proofs.Making.{makes_first}
 use Rattle.tp_setup.proofs.Naming.{numbered_first}
 use Rattle.tp_setup.proofs.Ready.{member_one, names_split, numbered_variables}
@@ -69,13 +69,13 @@ behind_front all front rest middle last e f = e ∙ ap (λ l. front ++ l) f
 module _ (front middle : List Member) (case : TestCase) (system : Option ℕ) (most count : ℕ) (few : most + 1 ≤ length front)
     (all : count ≡ length front + length middle) (number : system ≡ option_map (λ _. length front) case.system) where
   abbrev Named : List (List ℕ) → EndComponent → ℕ → Type 0
-  Named names c n = (i : ℕ) × (component_at names system c ≡ Some i) × (n ≡ shift front middle i)
+  Named names c n = (i : ℕ) × (end_component_number names system c ≡ Some i) × (n ≡ shift front middle i)
 
-  by_name : (names : List (List ℕ)) (name : List ℕ) (n : ℕ) → length names ≤ most → option_map (λ k. k + 1) (place_of names name) ≡ Some n
-      → (i : ℕ) × (option_map (λ k. k + 1) (place_of names name) ≡ Some i) × (n ≡ shift front middle i)
-  by_name names name n small e = by (place_of names name) refl e where
-    by : (o : Option ℕ) → place_of names name ≡ o → option_map (λ k. k + 1) o ≡ Some n
-        → (i : ℕ) × (option_map (λ k. k + 1) (place_of names name) ≡ Some i) × (n ≡ shift front middle i)
+  by_name : (names : List (List ℕ)) (name : List ℕ) (n : ℕ) → length names ≤ most → option_map (λ k. k + 1) (place_of_name names name) ≡ Some n
+      → (i : ℕ) × (option_map (λ k. k + 1) (place_of_name names name) ≡ Some i) × (n ≡ shift front middle i)
+  by_name names name n small e = by (place_of_name names name) refl e where
+    by : (o : Option ℕ) → place_of_name names name ≡ o → option_map (λ k. k + 1) o ≡ Some n
+        → (i : ℕ) × (option_map (λ k. k + 1) (place_of_name names name) ≡ Some i) × (n ≡ shift front middle i)
     by None f g = absurd (cc)
     by (Some k) f g =
         let there : k < length names = slice_get_within names k name (place_there names name k (sym f)) in
@@ -88,7 +88,7 @@ module _ (front middle : List Member) (case : TestCase) (system : Option ℕ) (m
   by_system (Some s) n e =
       (length front, refl, sym (same_Some count n e) ∙ all ∙ omega (arith, shift_high front middle (length front) (omega arith)))
 
-  found : (names : List (List ℕ)) (c : EndComponent) (n : ℕ) → length names ≤ most → component_at names (option_map (λ _. count) case.system) c ≡ Some n
+  found : (names : List (List ℕ)) (c : EndComponent) (n : ℕ) → length names ≤ most → end_component_number names (option_map (λ _. count) case.system) c ≡ Some n
       → Named names c n
   found names (end_component.Named x) n small e = by_name names (string_bytes x) n small e
   found names end_component.Mtc n small e = (0, refl, sym (same_Some 0 n e) ∙ sym (shift_low front middle 0 (omega (arith, few))))
@@ -145,7 +145,7 @@ module _ (names : List (List ℕ)) (made : List (List PortDecl)) (case : TestCas
       let result = makes_there r.start.components (shift front middle) (shift_apart front middle) (length (creations before)) system (interface_number case)
       (found front middle case system (length (creations before)) (length (creations case.setups.items) + 1) (omega (arith, size)) many
       (number ∙ ap (λ n. option_map (λ _. n) case.system) firsts))
-      s r.start same looks before done.0 (omega (arith, length-map (creations before) variable)) part in
+      s r.start same looks before done.0 (omega (arith, length-map (creations before) variable_name)) part in
       (result.0, result.3)
 
 -- the same of a test case that can be set up
@@ -154,8 +154,8 @@ pub before_can : (names ports : List (List ℕ)) (case : TestCase) (before : Lis
     → CanSetUpBeside names ports first.types case → ((t : Setup) × Makes system s before t) × IsNumbered (variables before)
 before_can names ports case before first s system has last number r =
     let all : variables case.setups.items ≡ variables before ++ variables has.rest =
-    ap variables has.all ∙ ap (map variable) (filter_map-append creation_of before has.rest)
-    ∙ map-append variable (creations before) (creations has.rest) in (
+    ap variables has.all ∙ ap (map variable_name) (filter_map-append creation_of before has.rest)
+    ∙ map-append variable_name (creations before) (creations has.rest) in (
       makes_before names first.types case r.config r.is_set_up before has.rest has.all first s system has.added last number,
       numbered_first (variables before) (variables has.rest) (subst IsNumbered all (numbered_variables names ports case r.sound)),
     )

@@ -8,7 +8,7 @@ use Rattle.tp_name.specs.declared.fault.ModuleFault.{ModuleFault}
 use Rattle.tp_name.specs.declared.fault.ModuleFault.TheVariants as module_fault
 use Rattle.tp_name.specs.declared.name_set.NameFault.{NameFault}
 use Rattle.tp_name.specs.declared.name_set.NameFault.TheVariants as name_fault
-use Rattle.tp_name.specs.Refused.{Breaks, Tells, TellsAt}
+use Rattle.tp_name.specs.Refused.{IsRefusedBy, Tells, TellsAt}
 use Rattle.tp_setup.specs.BrokenNames.{NameBreaks, already_given, crowded}
 
 -- a `?` hands on what is known of a fault
@@ -39,12 +39,12 @@ pub at_memory : (at : ℕ) (P : ModuleRule → Type 0) (f : ModuleFault) → f �
 at_memory at P f e = rw e tt
 
 -- where the rule is obeyed, only memory can have been wanted
-pub memory_left : (R : Type 0) (f : ModuleFault) → Breaks R f → R → f ≡ module_fault.Memory (record {})
+pub memory_left : (R : Type 0) (f : ModuleFault) → IsRefusedBy R f → R → f ≡ module_fault.Memory (record {})
 memory_left R f (inl e) r = e
 memory_left R f (inr h) r = absurd (h r)
 
 -- a fault that is a rule's shows that the rule is broken
-pub really_broken : (R : Type 0) (f : ModuleFault) (rule : ModuleRule) (line : ℕ) → f ≡ module_fault.Refused rule line → Breaks R f → R → ⊥
+pub really_broken : (R : Type 0) (f : ModuleFault) (rule : ModuleRule) (line : ℕ) → f ≡ module_fault.Refused rule line → IsRefusedBy R f → R → ⊥
 really_broken R f rule line e (inl want) r = cc
 really_broken R f rule line e (inr h) r = h r
 

@@ -4,7 +4,7 @@ use Rattle.std.specs.Prelude.{Contains, codes, length, string_bytes}
 use Rattle.tp_tree.specs.declared.tree.Creation.{Creation}
 use Rattle.tp_tree.specs.declared.tree.SetupStatement.{SetupStatement}
 use Rattle.tp_tree.specs.declared.tree.TestCase.{TestCase}
-use Rattle.tp_config.specs.Setup.{Setup, is_system_role, names}
+use Rattle.tp_config.specs.Setup.{Setup, is_system_role, names_of_components}
 use Rattle.tp_config.specs.Causes.{HasSystem}
 use Rattle.tp_name.specs.declared.fault.ModuleRule.{ModuleRule}
 use Rattle.tp_name.specs.declared.fault.ModuleRule.TheVariants.{Unknown, Duplicate, Limit}
@@ -18,7 +18,7 @@ pub data AdditionBreaks (types : List (List ℕ)) (x : Declared) (s : Setup) : M
   -- its type is unknown (11)
   addition_unknown : (Contains types x.type_name → ⊥) → AdditionBreaks types x s Unknown
   -- a component has its name, or it is a second test system interface (12)
-  addition_taken : Contains (names s) x.name ⊎ ((is_system_role x.role ≡ true) × HasSystem s.components)
+  addition_taken : Contains (names_of_components s) x.name ⊎ ((is_system_role x.role ≡ true) × HasSystem s.components)
       → AdditionBreaks types x s Duplicate
   -- 64 components are there (15)
   addition_many : 64 ≤ length s.components → AdditionBreaks types x s Limit
@@ -27,13 +27,13 @@ pub data AdditionBreaks (types : List (List ℕ)) (x : Declared) (s : Setup) : M
 -- may be
 pub record HasRoomForVariables (types others variables : List (List ℕ)) (most : ℕ) (s : Setup) : Type 0 where
   pub typed : length types ≡ length s.types
-  pub named : names s ≡ others ++ variables
+  pub named : names_of_components s ≡ others ++ variables
   pub few : length variables ≤ most
   pub room : length others + most ≤ 64
 
 -- the test system interface can't be added, since a component has its name (12)
 pub data InterfaceBreaks (case : TestCase) (s : Setup) : ModuleRule → Type 0 where
-  interface_named : IsSome case.system → Contains (names s) (codes "system") → InterfaceBreaks case s Duplicate
+  interface_named : IsSome case.system → Contains (names_of_components s) (codes "system") → InterfaceBreaks case s Duplicate
 
 -- but for its name, the test system interface can be added
 pub record AwaitsInterface (types : List (List ℕ)) (case : TestCase) (s : Setup) : Type 0 where

@@ -10,7 +10,7 @@ use Rattle.tp_tree.specs.declared.tree.PortDeclaration.{PortDeclaration}
 use Rattle.tp_name.specs.declared.fault.ModuleRule.{ModuleRule}
 use Rattle.tp_name.specs.declared.fault.ModuleRule.TheVariants.{Unknown, Duplicate, Limit}
 use Rattle.tp_name.specs.Tables.{IsNumbered}
-use Rattle.tp_setup.specs.Definitions.{among, case_of, declared, inner_names, name_of, test_cases}
+use Rattle.tp_setup.specs.Definitions.{of_kind, case_of, declared, inner_names, name_of, test_cases}
 use Rattle.tp_setup.specs.Rules.{AreNamed}
 
 -- one more name can't go behind these
@@ -63,7 +63,7 @@ pub data DefinedNameBreaks (before : List Definition) (x : Definition) : ModuleR
       → DefinedNameBreaks before x rule line
   -- else it is the second test case (12)
   second_case : IsNumbered (names_before before ++ name_of x.defined ∷ []) → IsNumbered (inner_names x.defined)
-      → 1 < length (among case_of (before ++ x ∷ [])) → DefinedNameBreaks before x Duplicate x.line
+      → 1 < length (of_kind case_of (before ++ x ∷ [])) → DefinedNameBreaks before x Duplicate x.line
 
 -- one of the definitions does behind those before it, which obey the rules
 pub record DefinitionNamesBreak (list : List Definition) (rule : ModuleRule) (line : ℕ) : Type 0 where

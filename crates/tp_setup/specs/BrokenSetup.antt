@@ -20,34 +20,34 @@ use Rattle.tp_name.specs.declared.fault.ModuleRule.{ModuleRule}
 use Rattle.tp_name.specs.declared.fault.ModuleRule.TheVariants.{Unknown, Duplicate, WrongType, Limit}
 use Rattle.tp_name.specs.Told.{rule_refusal}
 use Rattle.tp_setup.specs.Components.{HasPorts, HasSoundVariables, IsMember, IsSoundVariable, created, creation_of}
-use Rattle.tp_setup.specs.Components.{creations, interface, main_component, variable, variables}
-use Rattle.tp_setup.specs.Configuring.{IsEnd, Makes, most_variables}
+use Rattle.tp_setup.specs.Components.{creations, interface, main_component, variable_name, variables}
+use Rattle.tp_setup.specs.Configuring.{IsPortOfEnd, Makes, most_variables}
 
 -- a `var` of a component breaks this rule, where the component types and the ports of the main component have these
 -- names, other components and the variables before it have these, and at most this many variables may be
 pub data CreationBreaks (types ports others names : List (List ℕ)) (most : ℕ) (c : Creation) : ModuleRule → Type 0 where
   -- a variable before it has the name (12)
-  taken : Contains names (variable c) → CreationBreaks types ports others names most c Duplicate
+  taken : Contains names (variable_name c) → CreationBreaks types ports others names most c Duplicate
   -- a port has it (12)
-  port : Contains ports (variable c) → CreationBreaks types ports others names most c Duplicate
+  port : Contains ports (variable_name c) → CreationBreaks types ports others names most c Duplicate
   -- its name is new, and its type is unknown (11)
-  unknown_type : (Contains names (variable c) → ⊥) → (Contains ports (variable c) → ⊥)
+  unknown_type : (Contains names (variable_name c) → ⊥) → (Contains ports (variable_name c) → ⊥)
       → (Contains types (string_bytes c.type_name) → ⊥) → CreationBreaks types ports others names most c Unknown
   -- the type is known, and the other one is another (13)
-  other_type : (Contains names (variable c) → ⊥) → (Contains ports (variable c) → ⊥)
+  other_type : (Contains names (variable_name c) → ⊥) → (Contains ports (variable_name c) → ⊥)
       → Contains types (string_bytes c.type_name) → string_bytes c.type_name ≢ string_bytes c.created
       → CreationBreaks types ports others names most c WrongType
   -- the types are the same, and there are too many components (15)
-  many : (Contains names (variable c) → ⊥) → (Contains ports (variable c) → ⊥)
+  many : (Contains names (variable_name c) → ⊥) → (Contains ports (variable_name c) → ⊥)
       → Contains types (string_bytes c.type_name) → string_bytes c.type_name ≡ string_bytes c.created
       → most ≤ length names → CreationBreaks types ports others names most c Limit
   -- the variable obeys the rules, and another component has its name (12)
-  component : IsSoundVariable types ports names most c → Contains others (variable c)
+  component : IsSoundVariable types ports names most c → Contains others (variable_name c)
       → CreationBreaks types ports others names most c Duplicate
 
 -- an end of a `connect` or a `map` names a component and a port that there are
 abbrev pub IsEndKnown : Setup → List (List ℕ) → Option ℕ → PairEnd → Type 0
-IsEndKnown s names system x = (p : PortRef) × IsEnd s names system x p
+IsEndKnown s names system x = (p : PortRef) × IsPortOfEnd s names system x p
 
 -- an end of a `connect` or a `map` is unknown (11), where the component variables before it have these names and the
 -- test system interface has this number
@@ -60,16 +60,16 @@ pub data ConnectBreaks (s : Setup) (names : List (List ℕ)) (system : Option �
     : ModuleRule → Type 0 where
   connect_ends : (rule : ModuleRule) → EndsBreak s names system x y rule → ConnectBreaks s names system x y rule
   -- both ends are known, and this is the first cause to refuse it (20, 21, 22, 25, 26, 27)
-  connect_refused : (p q : PortRef) (fault : ConnectFault) (rule : ModuleRule) → IsEnd s names system x p
-      → IsEnd s names system y q → ConnectRefused s p q fault → rule_refusal rule ≡ connect_refusal fault
+  connect_refused : (p q : PortRef) (fault : ConnectFault) (rule : ModuleRule) → IsPortOfEnd s names system x p
+      → IsPortOfEnd s names system y q → ConnectRefused s p q fault → rule_refusal rule ≡ connect_refusal fault
       → ConnectBreaks s names system x y rule
 
 -- a `map` does
 pub data MapBreaks (s : Setup) (names : List (List ℕ)) (system : Option ℕ) (x y : PairEnd) : ModuleRule → Type 0 where
   map_ends : (rule : ModuleRule) → EndsBreak s names system x y rule → MapBreaks s names system x y rule
   -- both ends are known, and this is the first cause to refuse it (22, 23, 24, 28)
-  map_refused : (p q : PortRef) (fault : MapFault) (rule : ModuleRule) → IsEnd s names system x p
-      → IsEnd s names system y q → MapRefused s p q fault → rule_refusal rule ≡ map_refusal fault
+  map_refused : (p q : PortRef) (fault : MapFault) (rule : ModuleRule) → IsPortOfEnd s names system x p
+      → IsPortOfEnd s names system y q → MapRefused s p q fault → rule_refusal rule ≡ map_refusal fault
       → MapBreaks s names system x y rule
 
 -- a setup statement that makes no component does

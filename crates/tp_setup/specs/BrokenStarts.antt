@@ -12,9 +12,9 @@ use Rattle.tp_tree.specs.declared.tree.TestCase.{TestCase}
 use Rattle.tp_config.specs.declared.port_type.CompId.{CompId}
 use Rattle.tp_name.specs.declared.fault.ModuleRule.{ModuleRule}
 use Rattle.tp_name.specs.declared.fault.ModuleRule.TheVariants.{Unknown, WrongType, Limit, NotInSut, NoDone, NotStarted}
-use Rattle.tp_name.specs.Tables.{IsNumbered, place_of}
+use Rattle.tp_name.specs.Tables.{IsNumbered, place_of_name}
 use Rattle.tp_setup.specs.declared.starts.Started.{Started}
-use Rattle.tp_setup.specs.Components.{creation_of, creations, variable, variables}
+use Rattle.tp_setup.specs.Components.{creation_of, creations, variable_name, variables}
 use Rattle.tp_setup.specs.Rules.{sut}
 use Rattle.tp_setup.specs.Starting.{HasParameterType, IsArgument, IsStartOf, component_named, started_names}
 use Rattle.tp_setup.specs.Starting.{type_names_of}
@@ -67,12 +67,12 @@ pub data StartBreaks (functions : List Function) (names types started : List (Li
       → string_bytes x.function ≡ sut
       → StartBreaks functions names types started x NotInSut
   -- it doesn't, and runs on another type than the component's (13)
-  other_type : (f : Function) (k : ℕ) → place_of names (string_bytes x.component) ≡ Some k
+  other_type : (f : Function) (k : ℕ) → place_of_name names (string_bytes x.component) ≡ Some k
       → (Contains started (string_bytes x.component) → ⊥) → IsStartFunction functions x f
       → string_bytes x.function ≢ sut
       → slice_get types (k + 1) ≢ Some (string_bytes f.runs_on) → StartBreaks functions names types started x WrongType
   -- it runs on the component's type, and is given other arguments than it takes (11, 13)
-  other_arguments : (f : Function) (k : ℕ) (rule : ModuleRule) → place_of names (string_bytes x.component) ≡ Some k
+  other_arguments : (f : Function) (k : ℕ) (rule : ModuleRule) → place_of_name names (string_bytes x.component) ≡ Some k
       → (Contains started (string_bytes x.component) → ⊥) → IsStartFunction functions x f
       → string_bytes x.function ≢ sut
       → slice_get types (k + 1) ≡ Some (string_bytes f.runs_on)
@@ -107,7 +107,7 @@ pub record IsNeverStarted (started : List (List ℕ)) (setups : List SetupStatem
   pub split : setups ≡ before ++ statement ∷ after
   pub makes : creation_of statement ≡ Some creation
   pub others : All (Contains started) (variables before)
-  pub never : Contains started (variable creation) → ⊥
+  pub never : Contains started (variable_name creation) → ⊥
   pub line_is : line ≡ statement.line
 
 -- after the last start the test case breaks a rule, where components of these names are started and it begins at this

@@ -12,9 +12,9 @@ use Rattle.tp_tree.specs.declared.tree.TestCase.{TestCase}
 use Rattle.tp_config.specs.declared.port_type.CompId.{CompId}
 use Rattle.tp_config.specs.declared.port_type.Role.{Role}
 use Rattle.tp_config.specs.declared.port_type.Role.TheVariants as role
-use Rattle.tp_config.specs.Setup.{Setup, Member, creating, is_system_role, names}
+use Rattle.tp_config.specs.Setup.{Setup, Member, creating, is_system_role, names_of_components}
 use Rattle.tp_config.specs.Causes.{HasSystem}
-use Rattle.tp_name.specs.Tables.{AreDistinct, IsNumbered, place_of}
+use Rattle.tp_name.specs.Tables.{AreDistinct, IsNumbered, place_of_name}
 use Rattle.tp_setup.specs.Definitions.{declared_ports}
 
 abbrev pub creation_in : SetupAction → Option Creation
@@ -30,12 +30,12 @@ creation_of x = creation_in x.action
 abbrev pub creations : List SetupStatement → List Creation
 creations xs = filter_map creation_of xs
 
-abbrev pub variable : Creation → List ℕ
-variable c = string_bytes c.name
+abbrev pub variable_name : Creation → List ℕ
+variable_name c = string_bytes c.name
 
 -- the component variables
 abbrev pub variables : List SetupStatement → List (List ℕ)
-variables xs = map variable (creations xs)
+variables xs = map variable_name (creations xs)
 
 -- a component as the text declares it: its name, the name of its type, and what it is
 pub record Declared : Type 0 where
@@ -44,7 +44,7 @@ pub record Declared : Type 0 where
   pub role : Role
 
 abbrev pub created : Creation → Declared
-created c = record { name = variable c; type_name = string_bytes c.type_name; role = role.Test }
+created c = record { name = variable_name c; type_name = string_bytes c.type_name; role = role.Test }
 
 -- `mtc`, of the type behind `runs on`
 abbrev pub main_component : TestCase → Declared
@@ -67,7 +67,7 @@ component_list case = (main_component case ∷ map created (creations case.setup
 -- a component of the configuration is the one that is declared, where the component types have these names
 pub record IsMember (types : List (List ℕ)) (x : Declared) (m : Member) : Type 0 where
   pub name : m.name ≡ x.name
-  pub kind : place_of types x.type_name ≡ Some m.kind
+  pub kind : place_of_name types x.type_name ≡ Some m.kind
   pub role : m.role ≡ x.role
 
 -- one component was added to the configuration
@@ -76,13 +76,13 @@ pub record Adds (types : List (List ℕ)) (x : Declared) (old new : Setup) : Typ
   pub is_member : IsMember types x member
   pub added : new ≡ creating old member
   -- no other component has the name
-  pub new_name : Contains (names old) member.name → ⊥
+  pub new_name : Contains (names_of_components old) member.name → ⊥
 
 -- a component can be added to the configuration, where its component types have these names
 pub record CanAdd (types : List (List ℕ)) (x : Declared) (s : Setup) : Type 0 where
   pub typed : length types ≡ length s.types
   pub known : Contains types x.type_name
-  pub new_name : Contains (names s) x.name → ⊥
+  pub new_name : Contains (names_of_components s) x.name → ⊥
   pub one_interface : is_system_role x.role ≡ true → HasSystem s.components → ⊥
   pub room : length s.components < 64
 
@@ -97,9 +97,9 @@ pub record HasPorts (types : List ComponentType) (name : List ℕ) (ports : List
 -- may be
 pub record HasSoundVariables (types ports : List (List ℕ)) (most : ℕ) (xs : List Creation) : Type 0 where
   -- no two variables have one name
-  pub distinct : AreDistinct (map variable xs)
+  pub distinct : AreDistinct (map variable_name xs)
   -- none has the name of a port of the main component
-  pub no_port : All (λ (c : Creation). Contains ports (variable c) → ⊥) xs
+  pub no_port : All (λ (c : Creation). Contains ports (variable_name c) → ⊥) xs
   -- the types are known
   pub known : All (λ (c : Creation). Contains types (string_bytes c.type_name)) xs
   -- the two types of a `var` are the same
@@ -109,25 +109,25 @@ pub record HasSoundVariables (types ports : List (List ℕ)) (most : ℕ) (xs : 
 
 -- the rules on one more component variable, where those before it have these names
 pub record IsSoundVariable (types ports names : List (List ℕ)) (most : ℕ) (c : Creation) : Type 0 where
-  pub numbered : IsNumbered (names ++ variable c ∷ [])
-  pub no_port : Contains ports (variable c) → ⊥
+  pub numbered : IsNumbered (names ++ variable_name c ∷ [])
+  pub no_port : Contains ports (variable_name c) → ⊥
   pub known : Contains types (string_bytes c.type_name)
   pub same : string_bytes c.type_name ≡ string_bytes c.created
-  pub few : length (names ++ variable c ∷ []) ≤ most
+  pub few : length (names ++ variable_name c ∷ []) ≤ most
 
 -- test components of these names can be added to the configuration, where its component types have these names
 pub record CanAddAll (types added : List (List ℕ)) (s : Setup) : Type 0 where
   pub typed : length types ≡ length s.types
-  pub distinct : AreDistinct (names s ++ added)
+  pub distinct : AreDistinct (names_of_components s ++ added)
   pub room : length s.components + length added ≤ 64
 
 -- components were added to the configuration as they are declared, one after the other, and nothing else was changed
 pub record AddsAll (types : List (List ℕ)) (xs : List Declared) (old new : Setup) : Type 0 where
   pub components : (before : List Declared) → AllZip (IsMember types) before old.components
       → AllZip (IsMember types) (before ++ xs) new.components
-  pub names_more : names new ≡ names old ++ map (λ (x : Declared). x.name) xs
+  pub names_more : names_of_components new ≡ names_of_components old ++ map (λ (x : Declared). x.name) xs
   -- no two of them have one name, if no two had before
-  pub apart : AreDistinct (names old) → AreDistinct (names new)
+  pub apart : AreDistinct (names_of_components old) → AreDistinct (names_of_components new)
   pub types_stay : new.types ≡ old.types
   pub connected_stay : new.connected ≡ old.connected
   pub mapped_stay : new.mapped ≡ old.mapped
@@ -139,5 +139,5 @@ pub record HasStopped (types : List (List ℕ)) (setups before : List SetupState
   pub added : AddsAll types (map created (creations before)) old new
 
 -- the ports of each component type have names of their own
-abbrev pub AreNumbered : List ComponentType → Type 0
-AreNumbered types = All (λ (c : ComponentType). IsNumbered (declared_ports c.ports.items)) types
+abbrev pub HaveDistinctPorts : List ComponentType → Type 0
+HaveDistinctPorts types = All (λ (c : ComponentType). IsNumbered (declared_ports c.ports.items)) types

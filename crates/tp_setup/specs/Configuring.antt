@@ -14,38 +14,38 @@ use Rattle.tp_tree.specs.declared.tree.ComponentType.{ComponentType}
 use Rattle.tp_config.specs.declared.port_type.PortRef.{PortRef}
 use Rattle.tp_config.specs.Setup.{Setup, PortDecl, IsPort, empty_setup, connecting, mapping, port_names}
 use Rattle.tp_config.specs.Allowed.{CanConnect, CanMap}
-use Rattle.tp_name.specs.Tables.{AreDistinct, place_of}
+use Rattle.tp_name.specs.Tables.{AreDistinct, place_of_name}
 use Rattle.tp_setup.specs.Definitions.{declared_ports}
-use Rattle.tp_setup.specs.Components.{AddsAll, AreNumbered, Declared, HasPorts, HasSoundVariables, IsMember}
+use Rattle.tp_setup.specs.Components.{AddsAll, HaveDistinctPorts, Declared, HasPorts, HasSoundVariables, IsMember}
 use Rattle.tp_setup.specs.Components.{component_list, created, creations, main_component, variables}
 
 -- the number of the component that a setup statement names, where the component variables before it have these names
 -- and the test system interface has this number, if there is a `system` clause
-abbrev pub component_at : List (List ℕ) → Option ℕ → EndComponent → Option ℕ
-component_at names system (end_component.Named n) = option_map (λ k. k + 1) (place_of names (string_bytes n))
-component_at names system end_component.Mtc = Some 0
-component_at names system end_component.SelfComponent = Some 0
-component_at names system end_component.System = system
+abbrev pub end_component_number : List (List ℕ) → Option ℕ → EndComponent → Option ℕ
+end_component_number names system (end_component.Named n) = option_map (λ k. k + 1) (place_of_name names (string_bytes n))
+end_component_number names system end_component.Mtc = Some 0
+end_component_number names system end_component.SelfComponent = Some 0
+end_component_number names system end_component.System = system
 
 -- the port that a setup statement names
-pub record IsEnd (s : Setup) (names : List (List ℕ)) (system : Option ℕ) (x : PairEnd) (p : PortRef) : Type 0 where
-  pub component_known : component_at names system x.component ≡ Some p.comp.0
+pub record IsPortOfEnd (s : Setup) (names : List (List ℕ)) (system : Option ℕ) (x : PairEnd) (p : PortRef) : Type 0 where
+  pub component_known : end_component_number names system x.component ≡ Some p.comp.0
   pub port_known : slice_get (port_names s p.comp) p.port ≡ Some (string_bytes x.port)
   pub is_port : IsPort s p
 
 pub record Connects (s : Setup) (names : List (List ℕ)) (system : Option ℕ) (x y : PairEnd) (t : Setup) : Type 0 where
   pub p : PortRef
   pub q : PortRef
-  pub first : IsEnd s names system x p
-  pub second : IsEnd s names system y q
+  pub first : IsPortOfEnd s names system x p
+  pub second : IsPortOfEnd s names system y q
   pub can : CanConnect s p q
   pub connected : t ≡ connecting s p q
 
 pub record Maps (s : Setup) (names : List (List ℕ)) (system : Option ℕ) (x y : PairEnd) (t : Setup) : Type 0 where
   pub p : PortRef
   pub q : PortRef
-  pub first : IsEnd s names system x p
-  pub second : IsEnd s names system y q
+  pub first : IsPortOfEnd s names system x p
+  pub second : IsPortOfEnd s names system y q
   pub can : CanMap s p q
   pub mapped : t ≡ mapping s p q
 
@@ -124,4 +124,4 @@ pub record HasFirst (names : List (List ℕ)) (case : TestCase) (before : List S
 -- these are the ports of the component types, as far as their names go, and no two ports of one have one name
 pub record AreOwnPorts (types : List ComponentType) (made : List (List PortDecl)) : Type 0 where
   pub same : map names_of_ports made ≡ map (λ (c : ComponentType). declared_ports c.ports.items) types
-  pub numbered : AreNumbered types
+  pub numbered : HaveDistinctPorts types

@@ -22,8 +22,8 @@ name_of (defined.Function f) = string_bytes f.name
 name_of (defined.TestCase c) = string_bytes c.name
 
 -- the definitions of one kind, in the order of the text
-abbrev pub among : {T : Type 0} → (Defined → Option T) → List Definition → List T
-among kind definitions = filter_map (λ (x : Definition). kind x.defined) definitions
+abbrev pub of_kind : {T : Type 0} → (Defined → Option T) → List Definition → List T
+of_kind kind definitions = filter_map (λ (x : Definition). kind x.defined) definitions
 
 -- a record or a record of
 abbrev pub type_of : Defined → Option Defined
@@ -34,21 +34,21 @@ type_of (defined.Component c) = None
 type_of (defined.Function f) = None
 type_of (defined.TestCase c) = None
 
-abbrev pub port_of : Defined → Option PortType
-port_of (defined.Record r) = None
-port_of (defined.List l) = None
-port_of (defined.Port p) = Some p
-port_of (defined.Component c) = None
-port_of (defined.Function f) = None
-port_of (defined.TestCase c) = None
+abbrev pub port_type_of : Defined → Option PortType
+port_type_of (defined.Record r) = None
+port_type_of (defined.List l) = None
+port_type_of (defined.Port p) = Some p
+port_type_of (defined.Component c) = None
+port_type_of (defined.Function f) = None
+port_type_of (defined.TestCase c) = None
 
-abbrev pub component_of : Defined → Option ComponentType
-component_of (defined.Record r) = None
-component_of (defined.List l) = None
-component_of (defined.Port p) = None
-component_of (defined.Component c) = Some c
-component_of (defined.Function f) = None
-component_of (defined.TestCase c) = None
+abbrev pub component_type_of : Defined → Option ComponentType
+component_type_of (defined.Record r) = None
+component_type_of (defined.List l) = None
+component_type_of (defined.Port p) = None
+component_type_of (defined.Component c) = Some c
+component_type_of (defined.Function f) = None
+component_type_of (defined.TestCase c) = None
 
 abbrev pub function_of : Defined → Option Function
 function_of (defined.Record r) = None
@@ -74,19 +74,19 @@ pub record BeginsAmong (definitions : List Definition) (case : TestCase) (line :
   pub line_is : line ≡ definition.line
 
 abbrev pub type_definitions : Module → List Defined
-type_definitions m = among type_of m.definitions.items
+type_definitions m = of_kind type_of m.definitions.items
 
 abbrev pub port_types : Module → List PortType
-port_types m = among port_of m.definitions.items
+port_types m = of_kind port_type_of m.definitions.items
 
 abbrev pub component_types : Module → List ComponentType
-component_types m = among component_of m.definitions.items
+component_types m = of_kind component_type_of m.definitions.items
 
 abbrev pub functions : Module → List Function
-functions m = among function_of m.definitions.items
+functions m = of_kind function_of m.definitions.items
 
 abbrev pub test_cases : Module → List TestCase
-test_cases m = among case_of m.definitions.items
+test_cases m = of_kind case_of m.definitions.items
 
 -- the names of the definitions, and of those of each kind
 abbrev pub definition_names : Module → List (List ℕ)

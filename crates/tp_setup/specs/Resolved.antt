@@ -25,7 +25,7 @@ use Rattle.tp_config.specs.declared.port_type.PortType.{PortType as PortLists}
 use Rattle.tp_tree.specs.declared.tree.DeclaredName.{DeclaredName}
 use Rattle.tp_config.specs.Setup.{PortDecl}
 use Rattle.tp_config.specs.Shape.{ports_of}
-use Rattle.tp_name.specs.Tables.{place_of}
+use Rattle.tp_name.specs.Tables.{place_of_name}
 use Rattle.tp_setup.specs.Definitions.{name_of, type_definitions, type_names, port_types, component_types, declared}
 
 -- the type that a type name names, where the record and record-of types have these names
@@ -33,27 +33,27 @@ abbrev pub ty_of : List (List ℕ) → TypeName → Option Ty
 ty_of types type_name.Integer = Some ty.Integer
 ty_of types type_name.Boolean = Some ty.Boolean
 ty_of types type_name.Charstring = Some ty.Charstring
-ty_of types (type_name.Named name) = option_map ty.Named (place_of types (string_bytes name))
+ty_of types (type_name.Named name) = option_map ty.Named (place_of_name types (string_bytes name))
 
 -- a type name names this type
-abbrev pub Names : List (List ℕ) → TypeName → Ty → Type 0
-Names types name ty = ty_of types name ≡ Some ty
+abbrev pub IsTypeNamed : List (List ℕ) → TypeName → Ty → Type 0
+IsTypeNamed types name ty = ty_of types name ≡ Some ty
 
 -- the types that the names name were added behind those of other names
 abbrev pub Appends : List (List ℕ) → List TypeName → List Ty → List Ty → Type 0
 Appends types names old new =
-    (before : List TypeName) → AllZip (Names types) before old → AllZip (Names types) (before ++ names) new
+    (before : List TypeName) → AllZip (IsTypeNamed types) before old → AllZip (IsTypeNamed types) (before ++ names) new
 
 -- a field of a record type, with its own name
 abbrev pub IsField : List (List ℕ) → FieldType → Field → Type 0
-IsField types f field = (field.name ≡ declared f.name) × Names types f.type_name field.ty
+IsField types f field = (field.name ≡ declared f.name) × IsTypeNamed types f.type_name field.ty
 
 -- a record type has its fields in declared order, a record-of type its elements' type
 abbrev pub IsTypeDef : List (List ℕ) → Defined → TypeDef → Type 0
 IsTypeDef types (defined.Record r) (type_def.Record fields) = AllZip (IsField types) r.fields.items fields
 IsTypeDef types (defined.Record r) (type_def.ListOf element) = ⊥
 IsTypeDef types (defined.List l) (type_def.Record fields) = ⊥
-IsTypeDef types (defined.List l) (type_def.ListOf element) = Names types l.element element
+IsTypeDef types (defined.List l) (type_def.ListOf element) = IsTypeNamed types l.element element
 IsTypeDef types (defined.Port p) made = ⊥
 IsTypeDef types (defined.Component c) made = ⊥
 IsTypeDef types (defined.Function f) made = ⊥
@@ -75,17 +75,17 @@ goes_out way.Out = true
 goes_out way.InOut = true
 
 -- the message types of a direction that a port of the type receives, and those that it sends
-abbrev pub received : Direction → List TypeName
-received x = if goes_in x.way then x.types.items else []
+abbrev pub received_types : Direction → List TypeName
+received_types x = if goes_in x.way then x.types.items else []
 
-abbrev pub sent : Direction → List TypeName
-sent x = if goes_out x.way then x.types.items else []
+abbrev pub sent_types : Direction → List TypeName
+sent_types x = if goes_out x.way then x.types.items else []
 
 -- what a port of the type receives, and what it sends
 abbrev pub IsPortType : List (List ℕ) → PortType → List Ty → List Ty → Type 0
 IsPortType types p ins outs =
-    AllZip (Names types) (flat_map received p.directions.items) ins
-    × AllZip (Names types) (flat_map sent p.directions.items) outs
+    AllZip (IsTypeNamed types) (flat_map received_types p.directions.items) ins
+    × AllZip (IsTypeNamed types) (flat_map sent_types p.directions.items) outs
 
 abbrev pub IsMade : List (List ℕ) → PortType → PortLists → Type 0
 IsMade types p made = IsPortType types p made.ins made.outs

@@ -15,8 +15,8 @@ use Rattle.tp_name.specs.declared.fault.ModuleRule.TheVariants.{Unknown, Limit}
 use Rattle.tp_name.specs.declared.fault.ModuleFault.{ModuleFault}
 use Rattle.tp_name.specs.declared.fault.ModuleFault.TheVariants.{Refused}
 use Rattle.std.specs.List.{list_all}
-use Rattle.tp_name.specs.Tables.{AreDistinct, IsNumbered, place_of}
-use Rattle.tp_setup.specs.Definitions.{among, case_of, declared_ports, definition_names, inner_names, name_of}
+use Rattle.tp_name.specs.Tables.{AreDistinct, IsNumbered, place_of_name}
+use Rattle.tp_setup.specs.Definitions.{of_kind, case_of, declared_ports, definition_names, inner_names, name_of}
 use Rattle.tp_setup.specs.Definitions.{test_cases, type_of}
 use Rattle.tp_setup.specs.Resolved.{ty_of}
 
@@ -36,7 +36,7 @@ HasOneTestCase m = (case : TestCase) × (test_cases m ≡ case ∷ [])
 pub record AreNamed (definitions : List Definition) : Type 0 where
   pub names : IsNumbered (map (λ (x : Definition). name_of x.defined) definitions)
   pub inner : All (λ (x : Definition). IsNumbered (inner_names x.defined)) definitions
-  pub one_case : length (among case_of definitions) ≤ 1
+  pub one_case : length (of_kind case_of definitions) ≤ 1
 
 -- a type name names a type
 abbrev pub NamesType : List (List ℕ) → TypeName → Type 0
@@ -88,12 +88,12 @@ has_known_messages types directions =
 
 -- whether the type of each port of a component type is among these names
 abbrev pub has_known_ports : List (List ℕ) → ComponentType → Bool
-has_known_ports ports c = list_all (λ p. is_some (place_of ports (string_bytes p.type_name))) c.ports.items
+has_known_ports ports c = list_all (λ p. is_some (place_of_name ports (string_bytes p.type_name))) c.ports.items
 
 -- whether the type of each parameter of a function is among these names
 abbrev pub has_known_parameters : List (List ℕ) → Function → Bool
 has_known_parameters components f =
-    list_all (λ p. is_some (place_of components (string_bytes p.type_name))) f.parameters.items
+    list_all (λ p. is_some (place_of_name components (string_bytes p.type_name))) f.parameters.items
 
 -- a component type is refused so, at its line: the type of a port is unknown; or each is known, and there are more
 -- than 64 ports

@@ -13,23 +13,23 @@ use Rattle.tp_setup.specs.Rules.{AreMessagesKnown, AreSoundTypes, IsSound, IsSou
 use Rattle.tp_setup.specs.Resolved.{IsComponentType, IsMade}
 use Rattle.std.specs.List.{AllZip}
 use Rattle.tp_tree.specs.declared.tree.TestCase.{TestCase}
-use Rattle.tp_setup.specs.Definitions.{among, component_of, component_type_names, function_of, name_of, port_of}
+use Rattle.tp_setup.specs.Definitions.{of_kind, component_type_of, component_type_names, function_of, name_of, port_type_of}
 use Rattle.tp_setup.specs.Definitions.{port_type_names, type_names, type_of}
 
 -- these are the definitions of one kind, and their names
 pub record AreOfKind {T : Type 0} (kind : Defined → Option T) (name : T → List ℕ) (definitions : List Definition)
     (names : List (List ℕ)) (items : List T) : Type 0 where
-  pub items_are : items ≡ among kind definitions
-  pub names_are : names ≡ map name (among kind definitions)
+  pub items_are : items ≡ of_kind kind definitions
+  pub names_are : names ≡ map name (of_kind kind definitions)
 
 abbrev pub TypeDefinitions : List Definition → List (List ℕ) → List Defined → Type 0
 TypeDefinitions = AreOfKind type_of name_of
 
 abbrev pub PortTypes : List Definition → List (List ℕ) → List PortType → Type 0
-PortTypes = AreOfKind port_of (λ p. string_bytes p.name)
+PortTypes = AreOfKind port_type_of (λ p. string_bytes p.name)
 
 abbrev pub ComponentTypes : List Definition → List (List ℕ) → List ComponentType → Type 0
-ComponentTypes = AreOfKind component_of (λ c. string_bytes c.name)
+ComponentTypes = AreOfKind component_type_of (λ c. string_bytes c.name)
 
 abbrev pub Functions : List Definition → List (List ℕ) → List Function → Type 0
 Functions = AreOfKind function_of (λ f. string_bytes f.name)

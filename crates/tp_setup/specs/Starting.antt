@@ -13,13 +13,13 @@ use Rattle.tp_tree.specs.declared.tree.TestCase.{TestCase}
 use Rattle.tp_config.specs.declared.port_type.CompId.{CompId}
 use Rattle.tp_setup.specs.declared.starts.Started.{Started}
 use Rattle.tp_setup.specs.declared.starts.Starts.{Starts}
-use Rattle.tp_name.specs.Tables.{IsNumbered, place_of}
+use Rattle.tp_name.specs.Tables.{IsNumbered, place_of_name}
 use Rattle.tp_setup.specs.Rules.{sut}
 use Rattle.tp_setup.specs.Components.{creations, variables}
 
 -- the number of the component that an argument names, where the component variables have these names; `self` is `mtc`
 abbrev pub component_named : List (List ℕ) → ComponentName → Option ℕ
-component_named names (component_name.Named x) = option_map (λ k. k + 1) (place_of names (string_bytes x))
+component_named names (component_name.Named x) = option_map (λ k. k + 1) (place_of_name names (string_bytes x))
 component_named names component_name.Mtc = Some 0
 component_named names component_name.SelfComponent = Some 0
 
@@ -41,7 +41,7 @@ type_names_of case =
 pub record IsStartOf (functions : List Function) (names types : List (List ℕ)) (x : ComponentStart) (made : Started)
     : Type 0 where
   pub variable : ℕ
-  pub variable_known : place_of names (string_bytes x.component) ≡ Some variable
+  pub variable_known : place_of_name names (string_bytes x.component) ≡ Some variable
   pub function : Function
   pub function_known : slice_get functions made.function ≡ Some function
   pub named : string_bytes function.name ≡ string_bytes x.function
@@ -58,7 +58,7 @@ started_names xs = map (λ (x : ComponentStart). string_bytes x.component) xs
 
 -- the place of a component variable's start
 abbrev pub IsStartPlace : List (List ℕ) → List ℕ → ℕ → Type 0
-IsStartPlace started name k = place_of started name ≡ Some k
+IsStartPlace started name k = place_of_name started name ≡ Some k
 
 -- the starts of a test case obey their rules and start this
 pub record AreStarts (functions : List Function) (case : TestCase) (made : Starts) : Type 0 where

@@ -1,9 +1,9 @@
 //! The third pass of the checks: the components of the test case.
 ghost use Rattle.std.specs.Prelude.{◌≡◌, All, ◌<◌, ◌≤◌, ◌+◌, ◌++◌, ◌∷◌, [], List, ℕ, Contains, IfErr, IfNone, IfOk, IfSome, None, OnErr, OnOk, Some, length, map, option_map, slice_get, string_bytes};
 ghost use Rattle.std.specs.Option.{option_copied};
-ghost use Rattle.tp_name.specs.Tables.{AreDistinct, IsNumbered, place_of};
-ghost use Rattle.tp_name.specs.Refused.{Breaks, TellsAt};
-ghost use Rattle.tp_setup.specs.Components.{Adds, AddsAll, AreNumbered, CanAdd, CanAddAll, HasPorts, HasSoundVariables, HasStopped, IsSoundVariable, component_number, created, creation_of, creations, interface, variable, variables};
+ghost use Rattle.tp_name.specs.Tables.{AreDistinct, IsNumbered, place_of_name};
+ghost use Rattle.tp_name.specs.Refused.{IsRefusedBy, TellsAt};
+ghost use Rattle.tp_setup.specs.Components.{Adds, AddsAll, HaveDistinctPorts, CanAdd, CanAddAll, HasPorts, HasSoundVariables, HasStopped, IsSoundVariable, component_number, created, creation_of, creations, interface, variable_name, variables};
 ghost use Rattle.tp_setup.specs.Additions.{AdditionBreaks, AwaitsInterface, HasRoomForVariables, InterfaceBreaks, StopsCreating};
 ghost use Rattle.tp_setup.specs.BrokenSetup.{CreationBreaks};
 ghost use Rattle.tp_setup.specs.Sorted.{AreComponentsNamed, component_types_in};
@@ -49,7 +49,7 @@ pub(crate) fn add_component(
         }) config.old config.new) }
     ensures number { IfOk result (λ comp. comp.0 ≡ length config.old.components) }
     ensures err { OnErr result (config.new ≡ config.old) }
-    ensures refused { IfErr result (Breaks (CanAdd types.now
+    ensures refused { IfErr result (IsRefusedBy (CanAdd types.now
         (record {
           name = component.now.name.now;
           type_name = component.now.type_name.now;
@@ -96,16 +96,16 @@ fn check_variable<'m>(
     creation: &'m Creation,
     line: u32,
 ) -> Result<(), ModuleFault>
-    ensures added { OnOk result (variables.new ≡ variables.old ++ variable creation.now ∷ []) }
+    ensures added { OnOk result (variables.new ≡ variables.old ++ variable_name creation.now ∷ []) }
     ensures numbered { IsNumbered variables.new }
-    ensures no_port { OnOk result (Contains rules.now.ports.now (variable creation.now) → ⊥) }
+    ensures no_port { OnOk result (Contains rules.now.ports.now (variable_name creation.now) → ⊥) }
     ensures known { OnOk result (
         Contains rules.now.types.now (string_bytes creation.now.type_name)) }
     ensures same { OnOk result (
         string_bytes creation.now.type_name ≡ string_bytes creation.now.created) }
     ensures few { OnOk result (length variables.new ≤ rules.now.most) }
-    ensures refused { IfErr result (Breaks (IsSoundVariable rules.now.types.now rules.now.ports.now
-        variables.old rules.now.most creation.now)) }
+    ensures refused { IfErr result (IsRefusedBy (IsSoundVariable
+        rules.now.types.now rules.now.ports.now variables.old rules.now.most creation.now)) }
     ensures told { (others : List (List ℕ)) → length variables.old < 4294967295
         → IfErr result (TellsAt line (CreationBreaks rules.now.types.now rules.now.ports.now
         others variables.old rules.now.most creation.now)) }
@@ -152,9 +152,9 @@ pub(crate) fn as_creation(setup: &SetupStatement) -> Option<&Creation>
 /// names, or `None` where there is none. Takes no memory.
 pub(crate) fn variable_component(variables: &NameSet, name: &str) -> Option<CompId>
     ensures known { IfSome result (λ comp.
-        option_map (λ k. k + 1) (place_of variables.now name.now) ≡ Some comp.0) }
+        option_map (λ k. k + 1) (place_of_name variables.now name.now) ≡ Some comp.0) }
     ensures absent { IsNumbered variables.now
-        → IfNone result (place_of variables.now name.now ≡ None) }
+        → IfNone result (place_of_name variables.now name.now ≡ None) }
 {
     let Some(place) = variables.find(name) else {
         return None;
@@ -183,10 +183,10 @@ fn create<'m>(
     at: CreationAt<'m>,
 ) -> Result<(), ModuleFault>
     ensures added { OnOk result (
-        variables.new ≡ variables.old ++ variable at.entry.creation.now ∷ []) }
+        variables.new ≡ variables.old ++ variable_name at.entry.creation.now ∷ []) }
     ensures numbered { IsNumbered variables.new }
     ensures no_port { OnOk result (
-        Contains rules.now.ports.now (variable at.entry.creation.now) → ⊥) }
+        Contains rules.now.ports.now (variable_name at.entry.creation.now) → ⊥) }
     ensures known { OnOk result (
         Contains rules.now.types.now (string_bytes at.entry.creation.now.type_name)) }
     ensures same { OnOk result (string_bytes at.entry.creation.now.type_name
@@ -195,7 +195,7 @@ fn create<'m>(
     ensures component { OnOk result (
         Adds rules.now.types.now (created at.entry.creation.now) config.old config.new) }
     ensures err { OnErr result (config.new ≡ config.old) }
-    ensures refused { IfErr result (Breaks (
+    ensures refused { IfErr result (IsRefusedBy (
         IsSoundVariable rules.now.types.now rules.now.ports.now variables.old rules.now.most
         at.entry.creation.now
         × CanAdd rules.now.types.now (created at.entry.creation.now) config.old)) }
@@ -233,7 +233,7 @@ pub(crate) fn create_components<'m>(
         (map created (creations setups.now)) config.old config.new) }
     ensures stopped { IfErr result (λ stopped. HasStopped rules.now.types.now setups.now
         stopped.before.now config.old config.new) }
-    ensures refused { IfErr result (λ stopped. Breaks (
+    ensures refused { IfErr result (λ stopped. IsRefusedBy (
         HasSoundVariables rules.now.types.now rules.now.ports.now rules.now.most
         (creations setups.now)
         × CanAddAll rules.now.types.now (variables setups.now) config.old) stopped.fault) }
@@ -269,8 +269,8 @@ pub(crate) fn ports_of_type<'m>(
     requires { AreComponentsNamed sorted.now }
     ensures ports { IfOk result (HasPorts (component_types_in sorted.now) name.now) }
     ensures distinct { AreDistinct sorted.now.component_names }
-    ensures refused { AreNumbered (component_types_in sorted.now)
-        → IfErr result (Breaks ((ports : List (List ℕ))
+    ensures refused { HaveDistinctPorts (component_types_in sorted.now)
+        → IfErr result (IsRefusedBy ((ports : List (List ℕ))
         × HasPorts (component_types_in sorted.now) name.now ports)) }
 {
     let Some(place) = sorted.component_names.find(name) else {
@@ -297,7 +297,7 @@ pub(crate) fn add_interface(
     ensures added { OnOk result (AddsAll types.now (interface case.now) config.old config.new) }
     ensures number { IfOk result (λ found. component_number found
         ≡ option_map (λ _. length config.old.components) case.now.system) }
-    ensures refused { IfErr result (Breaks (
+    ensures refused { IfErr result (IsRefusedBy (
         All (λ x. CanAdd types.now x config.old) (interface case.now))) }
     ensures told { AwaitsInterface types.now case.now config.old
         → IfErr result (TellsAt line (InterfaceBreaks case.now config.old)) }

@@ -3,16 +3,16 @@ ghost use Rattle.std.specs.Prelude.{◌≡◌, ◌≤◌, ◌↔◌, ℕ, All, C
 ghost use Rattle.std.specs.List.{AllZip, list_all};
 ghost use Rattle.tp_tree.specs.declared.tree.Defined.{Defined};
 ghost use Rattle.tp_setup.specs.Definitions.{declared_ports};
-ghost use Rattle.tp_name.specs.Refused.{Breaks, Tells, TellsAt};
+ghost use Rattle.tp_name.specs.Refused.{IsRefusedBy, Tells, TellsAt};
 ghost use Rattle.tp_setup.specs.Rules.{AreComponentTypesKnown, CanPlaySystem, HasUniqueNames, IsComponentFault, IsSoundFunction, NamesType, has_known_messages, has_known_parameters, has_known_ports, sut};
-ghost use Rattle.tp_name.specs.Tables.{place_of};
+ghost use Rattle.tp_name.specs.Tables.{place_of_name};
 ghost use Rattle.tp_setup.specs.Sorted.{AreComponentTypesIn, AreSorted, AreSound, ArePortsNamed, HasSoundDefinitions, IsSortedSound, IsSoundIn, types_in};
 ghost use Rattle.tp_setup.specs.Resolved.{IsNamedType};
 ghost use Rattle.tp_setup.specs.Defining.{IsDefined};
 ghost use Rattle.tp_setup.specs.BrokenDefinitions.{DefinitionBreaks, DefinitionsBreak, DefinitionsOfBreak};
 
 use crate::ports::{has_room, make_components, make_port_types};
-use crate::resolving::{are_types, is_type, make_types};
+use crate::resolving::{are_types, is_known_type, make_types};
 use crate::sorted::{Sorted, sort};
 use crate::unique_names::CaseAt;
 use std::alloc::Global;
@@ -42,7 +42,9 @@ pub struct Definitions<'m> {
 fn are_fields_known(types: &NameSet, fields: &[FieldType]) -> bool
     ensures { IsTrue result ↔ All (λ f. NamesType types.now f.type_name) fields.now }
 {
-    fields.iter().all(|field| is_type(types, &field.type_name))
+    fields
+        .iter()
+        .all(|field| is_known_type(types, &field.type_name))
 }
 
 /// Whether each message type of the directions is known.
@@ -56,8 +58,8 @@ fn are_messages_known(types: &NameSet, directions: &[Direction]) -> bool
 
 /// Whether the type of each port is known.
 fn are_ports_known(port_types: &NameSet, ports: &[PortDeclaration]) -> bool
-    ensures { result ≡ list_all (λ p. is_some (place_of port_types.now (string_bytes p.type_name)))
-        ports.now }
+    ensures { result ≡ list_all
+        (λ p. is_some (place_of_name port_types.now (string_bytes p.type_name))) ports.now }
 {
     ports
         .iter()
@@ -66,8 +68,8 @@ fn are_ports_known(port_types: &NameSet, ports: &[PortDeclaration]) -> bool
 
 /// Whether the type of each parameter is known.
 fn are_parameters_known(components: &NameSet, parameters: &[Parameter]) -> bool
-    ensures { result ≡ list_all (λ p. is_some (place_of components.now (string_bytes p.type_name)))
-        parameters.now }
+    ensures { result ≡ list_all
+        (λ p. is_some (place_of_name components.now (string_bytes p.type_name))) parameters.now }
 {
     parameters
         .iter()
@@ -200,7 +202,7 @@ fn check_definition(
     let components = &sorted.component_names;
     match &definition.defined {
         Defined::Record(record) => known(are_fields_known(types, &record.fields), line),
-        Defined::List(list) => known(is_type(types, &list.element), line),
+        Defined::List(list) => known(is_known_type(types, &list.element), line),
         Defined::Port(port) => known(are_messages_known(types, &port.directions), line),
         Defined::Component(component) => {
             check_component(&sorted.port_names, component, line)?;
@@ -244,7 +246,7 @@ fn sort_sound<'m>(
     ensures sorted { IfOk result (AreSorted parsed.now) }
     ensures sound { OnOk result (HasSoundDefinitions parsed.now case.now) }
     ensures refused { IfErr result (
-        Breaks (HasUniqueNames parsed.now × HasSoundDefinitions parsed.now case.now)) }
+        IsRefusedBy (HasUniqueNames parsed.now × HasSoundDefinitions parsed.now case.now)) }
     ensures told { HasUniqueNames parsed.now
         → IfErr result (Tells (DefinitionsOfBreak parsed.now case.now)) }
 {
@@ -267,7 +269,7 @@ fn make_component_types(alloc: Global, sorted: &Sorted) -> Result<Vec<CompType>,
     requires { ArePortsNamed sorted.now }
     ensures components { IfOk result (λ r. AreComponentTypesIn sorted.now r.items) }
     ensures few { IfOk result (λ r. All (λ t. length t.ports.entries ≤ 64) r.items) }
-    ensures refused { IfErr result (Breaks (IsSortedSound sorted.now)) }
+    ensures refused { IfErr result (IsRefusedBy (IsSortedSound sorted.now)) }
 {
     let made = make_port_types(alloc, &sorted.type_names, &sorted.ports)?;
     make_components(alloc, sorted, &made)
@@ -282,7 +284,7 @@ fn make(alloc: Global, sorted: &Sorted) -> Result<MadeTypes, ModuleFault>
         AreComponentTypesIn sorted.now made.components.items) }
     ensures few { IfOk result (λ made.
         All (λ t. length t.ports.entries ≤ 64) made.components.items) }
-    ensures refused { IfErr result (Breaks (IsSortedSound sorted.now)) }
+    ensures refused { IfErr result (IsRefusedBy (IsSortedSound sorted.now)) }
 {
     let types = make_types(alloc, &sorted.type_names, &sorted.types)?;
     let components = make_component_types(alloc, sorted)?;
@@ -307,7 +309,7 @@ pub fn define<'m>(
     ensures sound { OnOk result (HasSoundDefinitions parsed.now case.entry.case.now) }
     ensures case { IfOk result (λ d. d.case.case.now ≡ case.entry.case.now) }
     ensures begins { IfOk result (λ d. d.case.line ≡ case.entry.line) }
-    ensures refused { IfErr result (Breaks (HasUniqueNames parsed.now
+    ensures refused { IfErr result (IsRefusedBy (HasUniqueNames parsed.now
         × HasSoundDefinitions parsed.now case.entry.case.now)) }
     ensures told { HasUniqueNames parsed.now
         → IfErr result (Tells (DefinitionsOfBreak parsed.now case.entry.case.now)) }

@@ -4,11 +4,11 @@ ghost use Rattle.std.specs.Option.{option_copied};
 ghost use Rattle.tp_value.specs.declared.types.Ty.{Ty};
 ghost use Rattle.std.specs.List.{AllZip, flat_map};
 ghost use Rattle.tp_config.specs.Shape.{ports_of};
-ghost use Rattle.tp_name.specs.Refused.{Breaks};
+ghost use Rattle.tp_name.specs.Refused.{IsRefusedBy};
 ghost use Rattle.tp_name.specs.Tables.{AreDistinct};
 ghost use Rattle.tp_setup.specs.Definitions.{declared};
 ghost use Rattle.tp_setup.specs.Rules.{AreMessagesKnown, IsSoundComponent, NamesType};
-ghost use Rattle.tp_setup.specs.Resolved.{Appends, IsComponentType, IsMade, IsMadeOf, port_decl, IsPortType, Names, goes_in, goes_out, received, sent};
+ghost use Rattle.tp_setup.specs.Resolved.{Appends, IsComponentType, IsMade, IsMadeOf, port_decl, IsPortType, IsTypeNamed, goes_in, goes_out, received_types, sent_types};
 ghost use Rattle.tp_setup.specs.Sorted.{AreComponentTypesIn, HasMade, component_types_in, port_types_in};
 
 use crate::resolving::resolve;
@@ -47,7 +47,7 @@ fn goes_out(way: Way) -> bool
 /// Adds the types that these names name. 11 `Unknown` at line 0 where one names none.
 fn add_types(types: &NameSet, names: &[TypeName], made: &mut Items<Ty>) -> Result<(), ModuleFault>
     ensures added { OnOk result (Appends types.now names.now made.old made.new) }
-    ensures refused { IfErr result (Breaks (All (NamesType types.now) names.now)) }
+    ensures refused { IfErr result (IsRefusedBy (All (NamesType types.now) names.now)) }
 {
     for name in names {
         let Some(ty) = resolve(types, name) else {
@@ -59,14 +59,15 @@ fn add_types(types: &NameSet, names: &[TypeName], made: &mut Items<Ty>) -> Resul
 }
 
 /// The types that a port with these directions receives.
-fn received(
+fn received_types(
     alloc: Global,
     types: &NameSet,
     directions: &[Direction],
 ) -> Result<Items<Ty>, ModuleFault>
-    ensures made { IfOk result (AllZip (Names types.now) (flat_map received directions.now)) }
+    ensures made { IfOk result (
+        AllZip (IsTypeNamed types.now) (flat_map received_types directions.now)) }
     ensures refused { IfErr result (
-        Breaks (All (λ w. All (NamesType types.now) w.types.items) directions.now)) }
+        IsRefusedBy (All (λ w. All (NamesType types.now) w.types.items) directions.now)) }
 {
     let mut made = Items::new(alloc);
     for direction in directions {
@@ -79,10 +80,15 @@ fn received(
 }
 
 /// The types that a port with these directions sends.
-fn sent(alloc: Global, types: &NameSet, directions: &[Direction]) -> Result<Items<Ty>, ModuleFault>
-    ensures made { IfOk result (AllZip (Names types.now) (flat_map sent directions.now)) }
+fn sent_types(
+    alloc: Global,
+    types: &NameSet,
+    directions: &[Direction],
+) -> Result<Items<Ty>, ModuleFault>
+    ensures made { IfOk result (
+        AllZip (IsTypeNamed types.now) (flat_map sent_types directions.now)) }
     ensures refused { IfErr result (
-        Breaks (All (λ w. All (NamesType types.now) w.types.items) directions.now)) }
+        IsRefusedBy (All (λ w. All (NamesType types.now) w.types.items) directions.now)) }
 {
     let mut made = Items::new(alloc);
     for direction in directions {
@@ -102,10 +108,10 @@ fn make_port_type(
 ) -> Result<PortType, ModuleFault>
     ensures made { IfOk result (λ made.
         IsPortType types.now port_type.now made.ins made.outs) }
-    ensures refused { IfErr result (Breaks (AreMessagesKnown types.now port_type.now)) }
+    ensures refused { IfErr result (IsRefusedBy (AreMessagesKnown types.now port_type.now)) }
 {
-    let ins = received(alloc, types, &port_type.directions)?;
-    let outs = sent(alloc, types, &port_type.directions)?;
+    let ins = received_types(alloc, types, &port_type.directions)?;
+    let outs = sent_types(alloc, types, &port_type.directions)?;
     Ok(PortType {
         ins: TypeList::from_items(alloc, ins)?,
         outs: TypeList::from_items(alloc, outs)?,
@@ -124,7 +130,7 @@ pub fn make_port_types(
     ensures made { IfOk result (λ made.
         AllZip (IsMade types.now) (map (λ p. p.now) port_types.now) made.items) }
     ensures refused { IfErr result (
-        Breaks (All (AreMessagesKnown types.now) (map (λ p. p.now) port_types.now))) }
+        IsRefusedBy (All (AreMessagesKnown types.now) (map (λ p. p.now) port_types.now))) }
 {
     let mut made = Vec::new(alloc);
     for port_type in port_types {
@@ -154,7 +160,7 @@ fn add_port(
 ) -> Result<(), ModuleFault>
     ensures added { OnOk result (ports_of component.new
         ≡ ports_of component.old ++ port_decl port_type.now name.now ∷ []) }
-    ensures refused { IfErr result (Breaks (
+    ensures refused { IfErr result (IsRefusedBy (
         AreDistinct (map (λ p. p.name) (ports_of component.old) ++ declared name.now ∷ []))) }
 {
     let None = component.ports.get_index_of(name.name.as_str()) else {
@@ -175,7 +181,7 @@ fn add_ports(
 ) -> Result<(), ModuleFault>
     ensures added { OnOk result (ports_of component.new
         ≡ ports_of component.old ++ map (port_decl port_type.now) names.now) }
-    ensures refused { IfErr result (Breaks (
+    ensures refused { IfErr result (IsRefusedBy (
         AreDistinct (map (λ p. p.name) (ports_of component.old) ++ map declared names.now))) }
 {
     for name in names {
@@ -228,7 +234,7 @@ fn make_component(
         IsComponentType sorted.now.type_names (port_types_in sorted.now) component.now) }
     ensures few { IfOk result (λ t. length t.ports.entries ≤ 64) }
     ensures refused { IfErr result (
-        Breaks (IsSoundComponent sorted.now.port_names component.now)) }
+        IsRefusedBy (IsSoundComponent sorted.now.port_names component.now)) }
 {
     let mut ports = CompType {
         ports: IndexMap::new(alloc),
@@ -259,8 +265,8 @@ pub fn make_components(
     requires { HasMade sorted.now made.now }
     ensures components { IfOk result (λ r. AreComponentTypesIn sorted.now r.items) }
     ensures few { IfOk result (λ r. All (λ t. length t.ports.entries ≤ 64) r.items) }
-    ensures refused { IfErr result (
-        Breaks (All (IsSoundComponent sorted.now.port_names) (component_types_in sorted.now))) }
+    ensures refused { IfErr result (IsRefusedBy (
+        All (IsSoundComponent sorted.now.port_names) (component_types_in sorted.now))) }
 {
     let mut components = Vec::new(alloc);
     for component in &sorted.components {

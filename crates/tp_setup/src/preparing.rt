@@ -1,7 +1,7 @@
 //! The first three passes of the checks.
 ghost use Rattle.std.specs.Prelude.{◌≡◌, ◌≤◌, ◌∷◌, [], All, IfErr, IfOk, OnOk, length, map};
 ghost use Rattle.tp_config.specs.Shape.{ports_of};
-ghost use Rattle.tp_name.specs.Refused.{Breaks, Tells};
+ghost use Rattle.tp_name.specs.Refused.{IsRefusedBy, Tells};
 ghost use Rattle.tp_setup.specs.Broken.{DeclarationsBreak, ThirdPassBreaks};
 ghost use Rattle.tp_setup.specs.Rules.{AreComponentTypesKnown};
 ghost use Rattle.tp_tree.specs.declared.tree.Defined.{Defined};
@@ -35,7 +35,7 @@ fn find_definitions(alloc: Global, parsed: &Module) -> Result<Definitions<'_>, M
     ensures defined { IfOk result (IsDefined parsed.now) }
     ensures begins { IfOk result (λ d.
         BeginsAmong parsed.now.definitions.items d.case.case.now d.case.line) }
-    ensures refused { IfErr result (Breaks (IsWellDeclared parsed.now)) }
+    ensures refused { IfErr result (IsRefusedBy (IsWellDeclared parsed.now)) }
     ensures told { IfErr result (Tells (DeclarationsBreak parsed.now)) }
 {
     let case = check_names(alloc, parsed)?;
@@ -71,8 +71,8 @@ fn set_up_and_start<'m>(
     ensures starts { IfOk result (λ c.
         AreStarts (functions_in sorted.now) case.entry.case.now c.starts) }
     ensures refused { AreOwnPorts (component_types_in sorted.now) (map ports_of components.items)
-        → IfErr result (Breaks (CanSetUp sorted.now.component_names (component_types_in sorted.now)
-        (map ports_of components.items) case.entry.case.now
+        → IfErr result (IsRefusedBy (CanSetUp sorted.now.component_names
+        (component_types_in sorted.now) (map ports_of components.items) case.entry.case.now
         × ((starts : Starts)
         × AreStarts (functions_in sorted.now) case.entry.case.now starts))) }
     ensures told { AreOwnPorts (component_types_in sorted.now) (map ports_of components.items)
@@ -94,7 +94,7 @@ fn set_up_and_start<'m>(
 pub fn prepare(alloc: Global, parsed: &Module) -> Result<Prepared<'_>, ModuleFault>
     ensures rules { OnOk result (IsWellDeclared parsed.now) }
     ensures made { IfOk result (IsPreparedOf parsed.now) }
-    ensures refused { IfErr result (Breaks (IsWellDeclared parsed.now)) }
+    ensures refused { IfErr result (IsRefusedBy (IsWellDeclared parsed.now)) }
     ensures told { IfErr result (Tells (DeclarationsBreak parsed.now)) }
 {
     let Definitions {

@@ -1,7 +1,7 @@
 //! The types that type names name, and the types of messages that a module defines.
 ghost use Rattle.std.specs.Prelude.{◌≡◌, ◌∷◌, ◌++◌, [], ℕ, All, List, IfErr, IfOk, IsSome, OnOk, map, is_some};
 ghost use Rattle.std.specs.List.{AllZip, list_all};
-ghost use Rattle.tp_name.specs.Refused.{Breaks};
+ghost use Rattle.tp_name.specs.Refused.{IsRefusedBy};
 ghost use Rattle.tp_name.specs.Tables.{IsNumbered};
 ghost use Rattle.tp_setup.specs.Definitions.{name_of, type_of};
 ghost use Rattle.tp_setup.specs.Rules.{AreSoundTypes, AreTypesKnown, NamesType};
@@ -35,7 +35,7 @@ pub fn resolve(types: &NameSet, name: &TypeName) -> Option<Ty>
 }
 
 /// Whether the name names a type. Takes no memory.
-pub fn is_type(types: &NameSet, name: &TypeName) -> bool
+pub fn is_known_type(types: &NameSet, name: &TypeName) -> bool
     ensures { result ≡ is_some (ty_of types.now name.now) }
 {
     resolve(types, name).is_some()
@@ -45,7 +45,7 @@ pub fn is_type(types: &NameSet, name: &TypeName) -> bool
 pub fn are_types(types: &NameSet, names: &[TypeName]) -> bool
     ensures { result ≡ list_all (λ n. is_some (ty_of types.now n)) names.now }
 {
-    names.iter().all(|name| is_type(types, name))
+    names.iter().all(|name| is_known_type(types, name))
 }
 
 /// A field of a record type. 11 `Unknown` at the line where its type is unknown.
@@ -56,7 +56,7 @@ fn make_field(
     line: u32,
 ) -> Result<Field, ModuleFault>
     ensures made { IfOk result (IsField types.now field.now) }
-    ensures refused { IfErr result (Breaks (NamesType types.now field.now.type_name)) }
+    ensures refused { IfErr result (IsRefusedBy (NamesType types.now field.now.type_name)) }
 {
     let Some(ty) = resolve(types, &field.type_name) else {
         return Err(refused(ModuleRule::Unknown, line));
@@ -74,7 +74,7 @@ fn make_fields(
 ) -> Result<Items<Field>, ModuleFault>
     ensures made { IfOk result (AllZip (IsField types.now) fields.now) }
     ensures refused { IfErr result (
-        Breaks (All (λ f. NamesType types.now f.type_name) fields.now)) }
+        IsRefusedBy (All (λ f. NamesType types.now f.type_name) fields.now)) }
 {
     let mut made = Items::new(alloc);
     for field in fields {
@@ -93,7 +93,7 @@ fn make_type(
 ) -> Result<TypeDef, ModuleFault>
     ensures made { IfOk result (IsTypeDef types.now defined.now) }
     ensures refused { IfErr result (
-        Breaks (IsSome (type_of defined.now) × AreTypesKnown types.now defined.now)) }
+        IsRefusedBy (IsSome (type_of defined.now) × AreTypesKnown types.now defined.now)) }
 {
     match defined {
         Defined::Record(record) => {
@@ -125,7 +125,7 @@ pub fn make_types(
     ensures made { IfOk result (
         AllZip (IsNamedType names.now) (map (λ x. x.now) definitions.now)) }
     ensures refused { IfErr result (
-        Breaks (AreSoundTypes names.now (map (λ x. x.now) definitions.now))) }
+        IsRefusedBy (AreSoundTypes names.now (map (λ x. x.now) definitions.now))) }
 {
     let mut types = Types::new(alloc);
     for defined in definitions {
@@ -144,7 +144,7 @@ fn add_type(
     ensures added { OnOk result ((t : List ℕ × TypeDef) × IsNamedType names.now defined.now t
         × (types.new ≡ types.old ++ t ∷ [])) }
     ensures refused { IfErr result (
-        Breaks (IsSome (type_of defined.now) × AreTypesKnown names.now defined.now
+        IsRefusedBy (IsSome (type_of defined.now) × AreTypesKnown names.now defined.now
         × IsNumbered (map (λ t. t.0) types.old ++ name_of defined.now ∷ []))) }
 {
     let definition = make_type(alloc, names, defined, 0)?;

@@ -1,6 +1,6 @@
 //! The third pass of the checks: the connections and mappings of the test case.
 ghost use Rattle.std.specs.Prelude.{◌≡◌, ◌≤◌, ◌++◌, ◌∷◌, [], codes, All, IfErr, IfNone, IfOk, IfSome, None, OnOk, length, map};
-ghost use Rattle.tp_name.specs.Refused.{Breaks, Tells, TellsAt};
+ghost use Rattle.tp_name.specs.Refused.{IsRefusedBy, Tells, TellsAt};
 ghost use Rattle.tp_name.specs.Tables.{IsNumbered};
 ghost use Rattle.tp_config.specs.declared.port_type.PortRef.{PortRef};
 ghost use Rattle.tp_config.specs.Setup.{Setup, empty_setup};
@@ -11,8 +11,8 @@ ghost use Rattle.tp_setup.specs.Rules.{AreComponentTypesKnown};
 ghost use Rattle.tp_tree.specs.declared.tree.Defined.{Defined};
 ghost use Rattle.tp_setup.specs.Sorted.{AreComponentsNamed, component_types_in};
 ghost use Rattle.std.specs.Option.{option_map, option_to_list};
-ghost use Rattle.tp_setup.specs.Components.{AddsAll, HasSoundVariables, created, creation_of, creations, main_component, component_number, variable, variables};
-ghost use Rattle.tp_setup.specs.Configuring.{AreOwnPorts, AreSoundVariables, CanSetUp, CanSetUpBeside, Connects, HasFirst, HaveOwnPorts, HavePorts, IsEnd, IsSetUp, IsStep, Makes, Maps, component_at, most_variables};
+ghost use Rattle.tp_setup.specs.Components.{AddsAll, HasSoundVariables, created, creation_of, creations, main_component, component_number, variable_name, variables};
+ghost use Rattle.tp_setup.specs.Configuring.{AreOwnPorts, AreSoundVariables, CanSetUp, CanSetUpBeside, Connects, HasFirst, HaveOwnPorts, HavePorts, IsPortOfEnd, IsSetUp, IsStep, Makes, Maps, end_component_number, most_variables};
 
 use crate::components::{
     DeclaredComponent, Stopped, VariableRules, add_component, add_interface, create_components,
@@ -36,9 +36,9 @@ fn find_end_component(
     component: &EndComponent,
 ) -> Option<CompId>
     ensures known { IfSome result (λ comp.
-        component_at known.now (component_number system) component.now ≡ Some comp.0) }
+        end_component_number known.now (component_number system) component.now ≡ Some comp.0) }
     ensures absent { IsNumbered known.now → IfNone result (
-        component_at known.now (component_number system) component.now ≡ None) }
+        end_component_number known.now (component_number system) component.now ≡ None) }
 {
     match component {
         EndComponent::Mtc | EndComponent::SelfComponent => Some(CompId(0)),
@@ -55,9 +55,9 @@ fn find_end(
     end: &PairEnd,
     line: u32,
 ) -> Result<PortRef, ModuleFault>
-    ensures end { IfOk result (IsEnd config.now known.now (component_number system) end.now) }
-    ensures refused { IsNumbered known.now → IfErr result (Breaks ((p : PortRef)
-        × IsEnd config.now known.now (component_number system) end.now p)) }
+    ensures end { IfOk result (IsPortOfEnd config.now known.now (component_number system) end.now) }
+    ensures refused { IsNumbered known.now → IfErr result (IsRefusedBy ((p : PortRef)
+        × IsPortOfEnd config.now known.now (component_number system) end.now p)) }
     ensures told { IfErr result (λ fault. fault ≡ ModuleFault.Refused ModuleRule.Unknown line) }
 {
     let Some(comp) = find_end_component(known, system, &end.component) else {
@@ -78,12 +78,13 @@ fn find_ends(
     line: u32,
 ) -> Result<(PortRef, PortRef), ModuleFault>
     ensures first { IfOk result (λ ports.
-        IsEnd config.now known.now (component_number system) ends.entry.0.now ports.0) }
+        IsPortOfEnd config.now known.now (component_number system) ends.entry.0.now ports.0) }
     ensures second { IfOk result (λ ports.
-        IsEnd config.now known.now (component_number system) ends.entry.1.now ports.1) }
-    ensures refused { IsNumbered known.now → IfErr result (Breaks ((p : PortRef) × (q : PortRef)
-        × IsEnd config.now known.now (component_number system) ends.entry.0.now p
-        × IsEnd config.now known.now (component_number system) ends.entry.1.now q)) }
+        IsPortOfEnd config.now known.now (component_number system) ends.entry.1.now ports.1) }
+    ensures refused { IsNumbered known.now
+        → IfErr result (IsRefusedBy ((p : PortRef) × (q : PortRef)
+        × IsPortOfEnd config.now known.now (component_number system) ends.entry.0.now p
+        × IsPortOfEnd config.now known.now (component_number system) ends.entry.1.now q)) }
     ensures told { IsNumbered known.now → IfErr result (TellsAt line (EndsBreak config.now
         known.now (component_number system) ends.entry.0.now ends.entry.1.now)) }
 {
@@ -104,7 +105,7 @@ fn connect_ends(
     ensures connected { OnOk result (Connects config.old known.now (component_number system)
         ends.entry.0.now ends.entry.1.now config.new) }
     ensures refused { IsNumbered known.now → HaveOwnPorts config.old.types
-        → IfErr result (Breaks ((t : Setup) × Connects config.old known.now
+        → IfErr result (IsRefusedBy ((t : Setup) × Connects config.old known.now
         (component_number system) ends.entry.0.now ends.entry.1.now t)) }
     ensures told { IsNumbered known.now → IfErr result (TellsAt line (ConnectBreaks config.old
         known.now (component_number system) ends.entry.0.now ends.entry.1.now)) }
@@ -128,7 +129,7 @@ fn map_ends(
     ensures mapped { OnOk result (Maps config.old known.now (component_number system)
         ends.entry.0.now ends.entry.1.now config.new) }
     ensures refused { IsNumbered known.now → HaveOwnPorts config.old.types
-        → IfErr result (Breaks ((t : Setup) × Maps config.old known.now
+        → IfErr result (IsRefusedBy ((t : Setup) × Maps config.old known.now
         (component_number system) ends.entry.0.now ends.entry.1.now t)) }
     ensures told { IsNumbered known.now → IfErr result (TellsAt line (MapBreaks config.old
         known.now (component_number system) ends.entry.0.now ends.entry.1.now)) }
@@ -152,15 +153,15 @@ fn add_setup<'m>(
     ensures step { OnOk result (
         IsStep config.old known.old (component_number system) setup.now.action config.new) }
     ensures known { OnOk result (known.new
-        ≡ known.old ++ option_to_list (option_map variable (creation_of setup.now))) }
+        ≡ known.old ++ option_to_list (option_map variable_name (creation_of setup.now))) }
     ensures numbered { IsNumbered known.old → IsNumbered known.new }
     ensures refused { IsNumbered known.old → HaveOwnPorts config.old.types
-        → IfErr result (Breaks (((t : Setup)
+        → IfErr result (IsRefusedBy (((t : Setup)
         × IsStep config.old known.old (component_number system) setup.now.action t)
         × IsNumbered (known.old
-        ++ option_to_list (option_map variable (creation_of setup.now))))) }
+        ++ option_to_list (option_map variable_name (creation_of setup.now))))) }
     ensures told { IsNumbered known.old → IsNumbered (known.old
-        ++ option_to_list (option_map variable (creation_of setup.now)))
+        ++ option_to_list (option_map variable_name (creation_of setup.now)))
         → IfErr result (TellsAt setup.now.line (PairBreaks config.old known.old
         (component_number system) setup.now.action)) }
 {
@@ -196,7 +197,7 @@ pub fn connect_all<'m>(
     ensures known { IfOk result (λ known. known ≡ variables setups.now) }
     ensures makes { OnOk result (Makes (component_number system) config.old setups.now config.new) }
     ensures numbered { IfOk result (λ known. IsNumbered known) }
-    ensures refused { HaveOwnPorts config.old.types → IfErr result (Breaks (((t : Setup)
+    ensures refused { HaveOwnPorts config.old.types → IfErr result (IsRefusedBy (((t : Setup)
         × Makes (component_number system) config.old setups.now t)
         × IsNumbered (variables setups.now))) }
     ensures told { IsNumbered (variables setups.now) → IfErr result (
@@ -242,10 +243,10 @@ fn first_fault(
 ) -> ModuleFault
     requires first { HasFirst rules.now.types.now case.case.now stopped.before.now config.old }
     requires broken { HavePorts rules.now.types.now config.old.types
-        → Breaks (CanSetUpBeside rules.now.types.now rules.now.ports.now config.old.types
+        → IsRefusedBy (CanSetUpBeside rules.now.types.now rules.now.ports.now config.old.types
         case.case.now) stopped.fault }
     ensures broken { HavePorts rules.now.types.now config.old.types
-        → Breaks (CanSetUpBeside rules.now.types.now rules.now.ports.now config.old.types
+        → IsRefusedBy (CanSetUpBeside rules.now.types.now rules.now.ports.now config.old.types
         case.entry.case.now) result }
     ensures told { HavePorts rules.now.types.now config.old.types
         → AreComponentTypesKnown rules.now.types.now (Defined.TestCase case.entry.case.now)
@@ -280,8 +281,8 @@ fn create_beside(
         (most_variables case.entry.case.now) (creations case.entry.case.now.setups.items)) }
     ensures added { OnOk result (AddsAll types.now
         (map created (creations case.entry.case.now.setups.items)) config.old config.new) }
-    ensures refused { HavePorts types.now config.old.types → IfErr result (Breaks (CanSetUpBeside
-        types.now ports.now config.old.types case.entry.case.now)) }
+    ensures refused { HavePorts types.now config.old.types → IfErr result (IsRefusedBy (
+        CanSetUpBeside types.now ports.now config.old.types case.entry.case.now)) }
     ensures told { HavePorts types.now config.old.types
         → AreComponentTypesKnown types.now (Defined.TestCase case.entry.case.now)
         → IfErr result (Tells (SetupBreaks types.now ports.now config.old.types
@@ -313,7 +314,7 @@ fn create_all(
     ensures added { OnOk result (AddsAll sorted.now.component_names
         (map created (creations case.entry.case.now.setups.items)) config.old config.new) }
     ensures refused { AreOwnPorts (component_types_in sorted.now) config.old.types
-        → IfErr result (Breaks (CanSetUp sorted.now.component_names
+        → IfErr result (IsRefusedBy (CanSetUp sorted.now.component_names
         (component_types_in sorted.now) config.old.types case.entry.case.now)) }
     ensures told { AreOwnPorts (component_types_in sorted.now) config.old.types
         → AreComponentTypesKnown sorted.now.component_names (Defined.TestCase case.entry.case.now)
@@ -341,7 +342,7 @@ fn add_components(
     ensures sound { OnOk result (AreSoundVariables sorted.now.component_names
         (component_types_in sorted.now) case.entry.case.now) }
     ensures refused { AreOwnPorts (component_types_in sorted.now) config.old.types
-        → IfErr result (Breaks (CanSetUp sorted.now.component_names
+        → IfErr result (IsRefusedBy (CanSetUp sorted.now.component_names
         (component_types_in sorted.now) config.old.types case.entry.case.now)) }
     ensures told { AreOwnPorts (component_types_in sorted.now) config.old.types
         → AreComponentTypesKnown sorted.now.component_names (Defined.TestCase case.entry.case.now)
@@ -375,7 +376,7 @@ fn configure<'m>(
     ensures sound { OnOk result (AreSoundVariables sorted.now.component_names
         (component_types_in sorted.now) case.entry.case.now) }
     ensures refused { AreOwnPorts (component_types_in sorted.now) config.old.types
-        → IfErr result (Breaks (CanSetUp sorted.now.component_names
+        → IfErr result (IsRefusedBy (CanSetUp sorted.now.component_names
         (component_types_in sorted.now) config.old.types case.entry.case.now)) }
     ensures told { AreOwnPorts (component_types_in sorted.now) config.old.types
         → AreComponentTypesKnown sorted.now.component_names (Defined.TestCase case.entry.case.now)
@@ -415,7 +416,7 @@ pub fn set_up<'m>(
     ensures sound { OnOk result (AreSoundVariables sorted.now.component_names
         (component_types_in sorted.now) case.entry.case.now) }
     ensures refused { AreOwnPorts (component_types_in sorted.now) (map ports_of components.items)
-        → IfErr result (Breaks (CanSetUp sorted.now.component_names
+        → IfErr result (IsRefusedBy (CanSetUp sorted.now.component_names
         (component_types_in sorted.now) (map ports_of components.items) case.entry.case.now)) }
     ensures told { AreOwnPorts (component_types_in sorted.now) (map ports_of components.items)
         → AreComponentTypesKnown sorted.now.component_names (Defined.TestCase case.entry.case.now)

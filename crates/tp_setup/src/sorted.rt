@@ -2,9 +2,9 @@
 ghost use Rattle.std.specs.Prelude.{◌≡◌, ℕ, List, Option, IfErr, IfOk, map, slice_get, string_bytes};
 ghost use Rattle.std.specs.Option.{option_copied};
 ghost use Rattle.tp_tree.specs.declared.tree.Defined.{Defined};
-ghost use Rattle.tp_name.specs.Refused.{Breaks};
+ghost use Rattle.tp_name.specs.Refused.{IsRefusedBy};
 ghost use Rattle.tp_name.specs.Tables.{IsNumbered};
-ghost use Rattle.tp_setup.specs.Definitions.{among, component_of, function_of, name_of, port_of, type_of};
+ghost use Rattle.tp_setup.specs.Definitions.{of_kind, component_type_of, function_of, name_of, port_type_of, type_of};
 ghost use Rattle.tp_setup.specs.Rules.{HasUniqueNames};
 ghost use Rattle.tp_setup.specs.Sorted.{AreOfKind, AreSorted};
 
@@ -81,7 +81,7 @@ impl DefinitionKind for Defined {
 }
 
 impl DefinitionKind for PortType {
-    ghost as_kind = { port_of };
+    ghost as_kind = { port_type_of };
 
     ghost name = { λ p. string_bytes p.name };
 
@@ -98,7 +98,7 @@ impl DefinitionKind for PortType {
 }
 
 impl DefinitionKind for ComponentType {
-    ghost as_kind = { component_of };
+    ghost as_kind = { component_type_of };
 
     ghost name = { λ c. string_bytes c.name };
 
@@ -145,8 +145,8 @@ fn sort_kind<'m, K: DefinitionKind>(
 ) -> Result<(NameSet<'m>, Vec<&'m K>), ModuleFault>
     ensures sorted { IfOk result (λ r.
         AreOfKind K.as_kind K.name definitions.now r.0 (map (λ x. x.now) r.1.items)) }
-    ensures refused { IfErr result (Breaks (
-        IsNumbered (map K.name (among K.as_kind definitions.now)))) }
+    ensures refused { IfErr result (IsRefusedBy (
+        IsNumbered (map K.name (of_kind K.as_kind definitions.now)))) }
 {
     let mut names = NameSet::new(alloc);
     let mut sorted = Vec::new(alloc);
@@ -169,7 +169,7 @@ fn sort_kind<'m, K: DefinitionKind>(
 /// refused.
 pub fn sort(alloc: Global, parsed: &Module) -> Result<Sorted<'_>, ModuleFault>
     ensures sorted { IfOk result (AreSorted parsed.now) }
-    ensures refused { IfErr result (Breaks (HasUniqueNames parsed.now)) }
+    ensures refused { IfErr result (IsRefusedBy (HasUniqueNames parsed.now)) }
 {
     let definitions = parsed.definitions.as_slice();
     let (type_names, types) = sort_kind(alloc, definitions)?;

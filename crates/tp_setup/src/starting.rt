@@ -4,7 +4,7 @@ ghost use Rattle.std.specs.Option.{option_copied};
 ghost use Rattle.std.specs.List.{AllZip};
 ghost use Rattle.tp_setup.specs.Sorted.{AreFunctionsNamed, functions_in};
 ghost use Rattle.tp_name.specs.Tables.{IsNumbered};
-ghost use Rattle.tp_name.specs.Refused.{Breaks, Tells, TellsAt};
+ghost use Rattle.tp_name.specs.Refused.{IsRefusedBy, Tells, TellsAt};
 ghost use Rattle.tp_setup.specs.BrokenStarts.{AfterStartsBreaks, ArgumentBreaks, ArgumentsBreak, IsNeverStarted, StartBreaks, StartBreaksAmong, StartsBreak};
 ghost use Rattle.tp_tree.specs.declared.tree.Function.{Function};
 ghost use Rattle.tp_config.specs.declared.port_type.CompId.{CompId};
@@ -69,7 +69,7 @@ fn check_argument(
 ) -> Result<CompId, ModuleFault>
     ensures known { IfOk result (IsArgument variables.now argument.now) }
     ensures fits { IfOk result (HasParameterType (map (λ t. t.now) types.now) parameter.now) }
-    ensures refused { IsNumbered variables.now → IfErr result (Breaks ((comp : CompId)
+    ensures refused { IsNumbered variables.now → IfErr result (IsRefusedBy ((comp : CompId)
         × IsArgument variables.now argument.now comp
         × HasParameterType (map (λ t. t.now) types.now) parameter.now comp)) }
     ensures told { IsNumbered variables.now → IfErr result (TellsAt line (
@@ -96,7 +96,7 @@ fn check_arguments(
         AllZip (IsArgument variables.now) start.now.arguments.items made.items) }
     ensures fits { IfOk result (λ made.
         AllZip (HasParameterType (map (λ t. t.now) types.now)) parameters.now made.items) }
-    ensures refused { IsNumbered variables.now → IfErr result (Breaks ((made : List CompId)
+    ensures refused { IsNumbered variables.now → IfErr result (IsRefusedBy ((made : List CompId)
         × AllZip (IsArgument variables.now) start.now.arguments.items made
         × AllZip (HasParameterType (map (λ t. t.now) types.now)) parameters.now made)) }
     ensures told { IsNumbered variables.now → IfErr result (TellsAt start.now.line (
@@ -126,7 +126,7 @@ fn check_start(
     requires { AreFunctionsNamed sorted.now }
     ensures start { IfOk result (IsStartOf (functions_in sorted.now) variables.now
         (map (λ t. t.now) types.now) start.now) }
-    ensures refused { IsNumbered variables.now → IfErr result (Breaks ((made : Started)
+    ensures refused { IsNumbered variables.now → IfErr result (IsRefusedBy ((made : Started)
         × IsStartOf (functions_in sorted.now) variables.now (map (λ t. t.now) types.now)
         start.now made)) }
     ensures told { (started : List (List ℕ)) → IsNumbered variables.now
@@ -186,7 +186,7 @@ fn add_started<'m>(
     ensures told { (functions : List Function) → (types : List (List ℕ)) → IfErr result (
         TellsAt start.now.line (
         StartBreaks functions variables.now types started.old start.now)) }
-    ensures refused { IfErr result (Breaks (
+    ensures refused { IfErr result (IsRefusedBy (
         Contains variables.now (string_bytes start.now.component)
         × IsNumbered (started.old ++ string_bytes start.now.component ∷ []))) }
 {
@@ -210,7 +210,7 @@ fn find_starts(
 ) -> Result<Vec<u32>, ModuleFault>
     ensures places { IfOk result (λ places.
         AllZip (IsStartPlace started.now) (variables setups.now) places.items) }
-    ensures refused { IfErr result (Breaks ((places : List ℕ)
+    ensures refused { IfErr result (IsRefusedBy ((places : List ℕ)
         × AllZip (IsStartPlace started.now) (variables setups.now) places)) }
     ensures told { IfErr result (Tells (λ rule line. (rule ≡ ModuleRule.NotStarted)
         × IsNeverStarted started.now setups.now line)) }
@@ -232,7 +232,8 @@ fn find_starts(
 /// `all component.done`.
 fn check_done(case: &TestCase, places: &[u32], line: u32) -> Result<(), ModuleFault>
     ensures done { OnOk result (0 < length places.now → IsSome case.now.all_done) }
-    ensures refused { IfErr result (Breaks (0 < length places.now → IsSome case.now.all_done)) }
+    ensures refused { IfErr result (
+        IsRefusedBy (0 < length places.now → IsSome case.now.all_done)) }
     ensures told { IfErr result (λ fault. (fault ≡ ModuleFault.Refused ModuleRule.NoDone line)
         × (0 < length places.now) × (case.now.all_done ≡ None)) }
 {
@@ -256,7 +257,7 @@ fn check_each<'m>(
         starts.now r.1.items) }
     ensures names { IfOk result (λ r. r.0 ≡ started_names starts.now) }
     ensures numbered { IfOk result (λ r. IsNumbered r.0) }
-    ensures refused { IsNumbered variables.now → IfErr result (Breaks ((made : List Started)
+    ensures refused { IsNumbered variables.now → IfErr result (IsRefusedBy ((made : List Started)
         × AllZip (IsStartOf (functions_in sorted.now) variables.now (map (λ t. t.now) types.now))
         starts.now made × IsNumbered (started_names starts.now))) }
     ensures told { IsNumbered variables.now → IfErr result (Tells (
@@ -286,7 +287,7 @@ fn start_all<'m>(
         case.now.starts.items r.1.items) }
     ensures names { IfOk result (λ r. r.0 ≡ started_names case.now.starts.items) }
     ensures numbered { IfOk result (λ r. IsNumbered r.0) }
-    ensures refused { IsNumbered names.now → IfErr result (Breaks ((made : List Started)
+    ensures refused { IsNumbered names.now → IfErr result (IsRefusedBy ((made : List Started)
         × AllZip (IsStartOf (functions_in sorted.now) names.now (type_names_of case.now))
         case.now.starts.items made × IsNumbered (started_names case.now.starts.items))) }
     ensures told { IsNumbered names.now → IfErr result (Tells (StartBreaksAmong
@@ -302,8 +303,8 @@ fn place_starts(alloc: Global, started: &NameSet, case: CaseAt<'_>) -> Result<Ve
         (variables case.entry.case.now.setups.items) places.items) }
     ensures done { OnOk result (0 < length (creations case.entry.case.now.setups.items)
         → IsSome case.entry.case.now.all_done) }
-    ensures refused { IfErr result (Breaks (((places : List ℕ) × AllZip (IsStartPlace started.now)
-        (variables case.entry.case.now.setups.items) places)
+    ensures refused { IfErr result (IsRefusedBy (((places : List ℕ) × AllZip
+        (IsStartPlace started.now) (variables case.entry.case.now.setups.items) places)
         × (0 < length (creations case.entry.case.now.setups.items)
         → IsSome case.entry.case.now.all_done))) }
     ensures told { IfErr result (Tells (
@@ -334,7 +335,7 @@ pub fn check_starts(
     requires named { AreFunctionsNamed sorted.now }
     requires variables { names.now ≡ variables case.case.now.setups.items }
     ensures starts { IfOk result (AreStarts (functions_in sorted.now) case.entry.case.now) }
-    ensures refused { IsNumbered names.now → IfErr result (Breaks ((starts : Starts)
+    ensures refused { IsNumbered names.now → IfErr result (IsRefusedBy ((starts : Starts)
         × AreStarts (functions_in sorted.now) case.entry.case.now starts)) }
     ensures told { IsNumbered names.now → IfErr result (Tells (
         StartsBreak (functions_in sorted.now) case.entry.case.now case.entry.line)) }

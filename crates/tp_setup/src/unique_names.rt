@@ -2,10 +2,10 @@
 ghost use Rattle.std.specs.Prelude.{◌≡◌, ◌<◌, ◌∷◌, ◌++◌, ◌⊎◌, [], All, IfErr, IfOk, IfSome, OnOk, Some, is_some, length, map};
 ghost use Rattle.std.specs.List.{list_any};
 ghost use Rattle.std.specs.Option.{option_to_list};
-ghost use Rattle.tp_name.specs.Refused.{Breaks, Tells, TellsAt};
+ghost use Rattle.tp_name.specs.Refused.{IsRefusedBy, Tells, TellsAt};
 ghost use Rattle.tp_name.specs.Tables.{AreDistinct, IsNumbered};
 ghost use Rattle.tp_setup.specs.BrokenNames.{DeclaringBreaks, DefinitionNamesBreak, GivenNamesBreak, NameBreaks, NamesBreak, inner_declared, port_name_list};
-ghost use Rattle.tp_setup.specs.Definitions.{BeginsAmong, among, case_of, name_of, declared, declared_ports, inner_names, test_cases};
+ghost use Rattle.tp_setup.specs.Definitions.{BeginsAmong, of_kind, case_of, name_of, declared, declared_ports, inner_names, test_cases};
 ghost use Rattle.tp_setup.specs.Rules.{AreNamed, HasOneTestCase, HasUniqueNames};
 ghost use Rattle.tp_setup.specs.Cases.{cases_of};
 ghost use Rattle.tp_tree.specs.declared.tree.Definition.{Definition};
@@ -30,7 +30,8 @@ pub struct CaseAt<'m> {
 fn add_name<'m>(names: &mut NameSet<'m>, name: &'m DeclaredName) -> Result<(), ModuleFault>
     ensures names { OnOk result (names.new ≡ names.old ++ declared name.now ∷ []) }
     ensures numbered { IsNumbered names.new }
-    ensures refused { IfErr result (Breaks (IsNumbered (names.old ++ declared name.now ∷ []))) }
+    ensures refused { IfErr result (
+        IsRefusedBy (IsNumbered (names.old ++ declared name.now ∷ []))) }
     ensures told { IfErr result (TellsAt name.now.line (NameBreaks names.old (declared name.now))) }
 {
     match names.add(name.name.as_str()) {
@@ -44,7 +45,7 @@ fn declare_all<'m>(names: &mut NameSet<'m>, list: &'m [DeclaredName]) -> Result<
     requires { IsNumbered names.old }
     ensures names { OnOk result (names.new ≡ names.old ++ map declared list.now) }
     ensures numbered { IsNumbered names.new }
-    ensures refused { IfErr result (Breaks (IsNumbered (names.old ++ map declared list.now))) }
+    ensures refused { IfErr result (IsRefusedBy (IsNumbered (names.old ++ map declared list.now))) }
     ensures told { IfErr result (Tells (DeclaringBreaks names.old list.now)) }
 {
     for name in list {
@@ -66,7 +67,8 @@ pub(crate) fn declare_ports<'m>(
     ensures names { OnOk result (names.new ≡ names.old ++ declared_ports ports.now) }
     ensures numbered { IsNumbered names.new }
     ensures distinct { AreDistinct names.new }
-    ensures refused { IfErr result (Breaks (IsNumbered (names.old ++ declared_ports ports.now))) }
+    ensures refused { IfErr result (
+        IsRefusedBy (IsNumbered (names.old ++ declared_ports ports.now))) }
     ensures told { IfErr result (Tells (DeclaringBreaks names.old (port_name_list ports.now))) }
 {
     for port in ports {
@@ -80,7 +82,7 @@ fn declare_fields<'m>(names: &mut NameSet<'m>, fields: &'m [FieldType]) -> Resul
     requires { IsNumbered names.old }
     ensures names { OnOk result (names.new ≡ names.old ++ map (λ f. declared f.name) fields.now) }
     ensures numbered { IsNumbered names.new }
-    ensures refused { IfErr result (Breaks (IsNumbered (
+    ensures refused { IfErr result (IsRefusedBy (IsNumbered (
         names.old ++ map (λ f. declared f.name) fields.now))) }
     ensures told { IfErr result (
         Tells (DeclaringBreaks names.old (map (λ f. f.name) fields.now))) }
@@ -105,7 +107,7 @@ pub fn declare_parameters<'m>(
         ≡ names.old ++ map (λ p. declared p.name) parameters.now) }
     ensures distinct { AreDistinct names.new }
     ensures numbered { IsNumbered names.old → IsNumbered names.new }
-    ensures refused { IfErr result (Breaks (IsNumbered (
+    ensures refused { IfErr result (IsRefusedBy (IsNumbered (
         names.old ++ map (λ p. declared p.name) parameters.now))) }
     ensures told { IsNumbered names.old → IfErr result (
         Tells (DeclaringBreaks names.old (map (λ p. p.name) parameters.now))) }
@@ -122,7 +124,7 @@ fn declare_inner<'m>(names: &mut NameSet<'m>, defined: &'m Defined) -> Result<()
     requires empty { names.old ≡ [] }
     requires numbered { IsNumbered names.old }
     ensures numbered { OnOk result (IsNumbered (inner_names defined.now)) }
-    ensures refused { IfErr result (Breaks (IsNumbered (inner_names defined.now))) }
+    ensures refused { IfErr result (IsRefusedBy (IsNumbered (inner_names defined.now))) }
     ensures told { IfErr result (Tells (DeclaringBreaks [] (inner_declared defined.now))) }
 {
     match defined {
@@ -137,7 +139,7 @@ fn declare_inner<'m>(names: &mut NameSet<'m>, defined: &'m Defined) -> Result<()
 /// line of the second of two that are equal.
 fn check_inner(alloc: Global, definition: &Definition) -> Result<(), ModuleFault>
     ensures numbered { OnOk result (IsNumbered (inner_names definition.now.defined)) }
-    ensures refused { IfErr result (Breaks (IsNumbered (inner_names definition.now.defined))) }
+    ensures refused { IfErr result (IsRefusedBy (IsNumbered (inner_names definition.now.defined))) }
     ensures told { IfErr result (
         Tells (DeclaringBreaks [] (inner_declared definition.now.defined))) }
 {
@@ -212,7 +214,7 @@ fn check_name<'m>(
     ensures names { OnOk result (names.new ≡ names.old ++ name_of definition.now.defined ∷ []) }
     ensures numbered { OnOk result (IsNumbered names.new) }
     ensures inner { OnOk result (IsNumbered (inner_names definition.now.defined)) }
-    ensures refused { IfErr result (Breaks (
+    ensures refused { IfErr result (IsRefusedBy (
         IsNumbered (names.old ++ name_of definition.now.defined ∷ [])
         × IsNumbered (inner_names definition.now.defined))) }
     ensures told { IfErr result (Tells (GivenNamesBreak names.old definition.now)) }
@@ -229,14 +231,14 @@ fn find_case<'m>(
     alloc: Global,
     definitions: &'m [Definition],
 ) -> Result<Option<CaseAt<'m>>, ModuleFault>
-    ensures case { IfOk result (λ case. cases_of case ≡ among case_of definitions.now) }
+    ensures case { IfOk result (λ case. cases_of case ≡ of_kind case_of definitions.now) }
     ensures names { OnOk result (
         IsNumbered (map (λ (x : Definition). name_of x.defined) definitions.now)) }
     ensures inner { OnOk result (
         All (λ (x : Definition). IsNumbered (inner_names x.defined)) definitions.now) }
     ensures begins { IfOk result (λ case. IfSome case (λ found.
         BeginsAmong definitions.now found.case.now found.line)) }
-    ensures refused { IfErr result (Breaks (AreNamed definitions.now)) }
+    ensures refused { IfErr result (IsRefusedBy (AreNamed definitions.now)) }
     ensures told { IfErr result (Tells (DefinitionNamesBreak definitions.now)) }
 {
     let mut names = NameSet::new(alloc);
@@ -261,7 +263,7 @@ pub fn check_names(alloc: Global, parsed: &Module) -> Result<CaseAt<'_>, ModuleF
     ensures begins { IfOk result (λ found.
         BeginsAmong parsed.now.definitions.items found.case.now found.line) }
     ensures refused { IfErr result (
-        Breaks (HasUniqueNames parsed.now × HasOneTestCase parsed.now)) }
+        IsRefusedBy (HasUniqueNames parsed.now × HasOneTestCase parsed.now)) }
     ensures told { IfErr result (Tells (NamesBreak parsed.now)) }
 {
     if !has_case(&parsed.definitions) {

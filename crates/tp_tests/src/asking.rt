@@ -69,28 +69,28 @@ pub fn answers<R: AllocGlobal + Abort>(rt: &R, config: &Config, table: &[(Questi
 }
 
 /// A component and a port of it, by their names.
-pub type Name = (&'static str, &'static str);
+pub type NamedPort = (&'static str, &'static str);
 
 /// A call of a configuration.
-pub enum Call {
-    Connect(Name, Name),
-    Map(Name, Name),
+pub enum ConfigCall {
+    Connect(NamedPort, NamedPort),
+    Map(NamedPort, NamedPort),
     /// A component of this name, this type and this role.
     Create(&'static str, u32, Role),
 }
 
 /// Carries out a call: the number of the refusal, or 0 for none.
-fn carry_out<R: AllocGlobal + Abort>(rt: &R, config: &mut Config, call: &Call) -> u8 {
+fn carry_out<R: AllocGlobal + Abort>(rt: &R, config: &mut Config, call: &ConfigCall) -> u8 {
     match *call {
-        Call::Connect(p, q) => match connect(config, p, q).expect(rt, "two ports") {
+        ConfigCall::Connect(p, q) => match connect(config, p, q).expect(rt, "two ports") {
             Ok(()) => 0,
             Err(fault) => fault.refusal().label().0,
         },
-        Call::Map(p, q) => match map(config, p, q).expect(rt, "two ports") {
+        ConfigCall::Map(p, q) => match map(config, p, q).expect(rt, "two ports") {
             Ok(()) => 0,
             Err(fault) => fault.refusal().label().0,
         },
-        Call::Create(name, kind, role) => match add(rt.alloc(), config, name, kind, role) {
+        ConfigCall::Create(name, kind, role) => match add(rt.alloc(), config, name, kind, role) {
             Ok(_) => 0,
             Err(fault) => fault.refusal().label().0,
         },
@@ -102,7 +102,7 @@ fn carry_out<R: AllocGlobal + Abort>(rt: &R, config: &mut Config, call: &Call) -
 pub fn carries_out<R: AllocGlobal + Abort>(
     rt: &R,
     config: &mut Config,
-    calls: &[(Call, u8)],
+    calls: &[(ConfigCall, u8)],
     behind: &[(Question, &str)],
 ) {
     for (place, (call, number)) in calls.iter().enumerate() {

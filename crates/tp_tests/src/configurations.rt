@@ -1,5 +1,5 @@
 //! Configurations of the worked kind, each refusal on the calls themselves, and refused memory.
-use crate::asking::{Call, Question, answers, carries_out};
+use crate::asking::{ConfigCall, Question, answers, carries_out};
 use crate::making::{add, at, connect, empty, four, four_again, map, port, port_type, route};
 use crate::showing::{display, says};
 use indexmap::IndexMap;
@@ -52,12 +52,12 @@ fn finds_the_routes_of_a_star(rt: HostRuntime) {
 
 #[test]
 fn refusals_leave_a_star_as_it_was(rt: HostRuntime) {
-    const CALLS: &[(Call, u8)] = &[
-        (Call::Connect(("b", "p"), ("mtc", "p")), 27),
-        (Call::Connect(("mtc", "p"), ("c", "q")), 21),
-        (Call::Connect(("c", "q"), ("mtc", "p")), 21),
-        (Call::Create("mtc", 0, Role::Test), 12),
-        (Call::Create("c", 0, Role::Test), 12),
+    const CALLS: &[(ConfigCall, u8)] = &[
+        (ConfigCall::Connect(("b", "p"), ("mtc", "p")), 27),
+        (ConfigCall::Connect(("mtc", "p"), ("c", "q")), 21),
+        (ConfigCall::Connect(("c", "q"), ("mtc", "p")), 21),
+        (ConfigCall::Create("mtc", 0, Role::Test), 12),
+        (ConfigCall::Create("c", 0, Role::Test), 12),
     ];
     let mut config = star(&rt);
     carries_out(&rt, &mut config, CALLS, STAR);
@@ -85,12 +85,12 @@ const MAPPED: &[(Question, &str)] = &[
 /// The components mtc and a, the test system interface, and b, of which the last two are of type 1,
 /// whose port receives and sends these types; mtc:p is connected to a:p.
 fn mapped<R: AllocGlobal + Abort>(rt: &R, ins: &[Ty], outs: &[Ty]) -> Config {
-    const CALLS: &[(Call, u8)] = &[
-        (Call::Create("mtc", 0, Role::Test), 0),
-        (Call::Create("a", 0, Role::Test), 0),
-        (Call::Create("system", 1, Role::System), 0),
-        (Call::Create("b", 1, Role::Test), 0),
-        (Call::Connect(("mtc", "p"), ("a", "p")), 0),
+    const CALLS: &[(ConfigCall, u8)] = &[
+        (ConfigCall::Create("mtc", 0, Role::Test), 0),
+        (ConfigCall::Create("a", 0, Role::Test), 0),
+        (ConfigCall::Create("system", 1, Role::System), 0),
+        (ConfigCall::Create("b", 1, Role::Test), 0),
+        (ConfigCall::Connect(("mtc", "p"), ("a", "p")), 0),
     ];
     let mut config = empty(rt.alloc(), ins, outs).expect(rt, "memory");
     carries_out(rt, &mut config, CALLS, &[]);
@@ -99,15 +99,15 @@ fn mapped<R: AllocGlobal + Abort>(rt: &R, ins: &[Ty], outs: &[Ty]) -> Config {
 
 #[test]
 fn connects_what_is_allowed(rt: HostRuntime) {
-    const REFUSED: &[(Call, u8)] = &[
-        (Call::Connect(("mtc", "p"), ("a", "q")), 21),
-        (Call::Connect(("mtc", "q"), ("system", "s")), 25),
-        (Call::Connect(("mtc", "q"), ("mtc", "q")), 26),
-        (Call::Connect(("a", "p"), ("mtc", "p")), 27),
+    const REFUSED: &[(ConfigCall, u8)] = &[
+        (ConfigCall::Connect(("mtc", "p"), ("a", "q")), 21),
+        (ConfigCall::Connect(("mtc", "q"), ("system", "s")), 25),
+        (ConfigCall::Connect(("mtc", "q"), ("mtc", "q")), 26),
+        (ConfigCall::Connect(("a", "p"), ("mtc", "p")), 27),
     ];
-    const CONNECTS: &[(Call, u8)] = &[
-        (Call::Connect(("mtc", "q"), ("a", "q")), 0),
-        (Call::Connect(("b", "s"), ("b", "s")), 26),
+    const CONNECTS: &[(ConfigCall, u8)] = &[
+        (ConfigCall::Connect(("mtc", "q"), ("a", "q")), 0),
+        (ConfigCall::Connect(("b", "s"), ("b", "s")), 26),
     ];
     const BEHIND: &[(Question, &str)] = &[
         (Question::Route(0, 1), "0>1.1 "),
@@ -122,17 +122,17 @@ fn connects_what_is_allowed(rt: HostRuntime) {
 
 #[test]
 fn maps_what_is_allowed(rt: HostRuntime) {
-    const REFUSED: &[(Call, u8)] = &[
-        (Call::Map(("mtc", "p"), ("system", "s")), 22),
-        (Call::Map(("mtc", "q"), ("a", "q")), 28),
-        (Call::Map(("system", "s"), ("system", "s")), 28),
+    const REFUSED: &[(ConfigCall, u8)] = &[
+        (ConfigCall::Map(("mtc", "p"), ("system", "s")), 22),
+        (ConfigCall::Map(("mtc", "q"), ("a", "q")), 28),
+        (ConfigCall::Map(("system", "s"), ("system", "s")), 28),
     ];
-    const MAPS: &[(Call, u8)] = &[
-        (Call::Map(("mtc", "q"), ("system", "s")), 0),
-        (Call::Connect(("mtc", "q"), ("a", "q")), 22),
-        (Call::Map(("system", "s"), ("a", "q")), 23),
-        (Call::Map(("a", "q"), ("system", "s")), 23),
-        (Call::Create("other", 1, Role::System), 12),
+    const MAPS: &[(ConfigCall, u8)] = &[
+        (ConfigCall::Map(("mtc", "q"), ("system", "s")), 0),
+        (ConfigCall::Connect(("mtc", "q"), ("a", "q")), 22),
+        (ConfigCall::Map(("system", "s"), ("a", "q")), 23),
+        (ConfigCall::Map(("a", "q"), ("system", "s")), 23),
+        (ConfigCall::Create("other", 1, Role::System), 12),
     ];
     let both = [Ty::Integer];
     let mut config = mapped(&rt, both.as_slice(), both.as_slice());
@@ -143,11 +143,11 @@ fn maps_what_is_allowed(rt: HostRuntime) {
 
 #[test]
 fn connects_and_maps_what_the_other_receives(rt: HostRuntime) {
-    const REFUSED: &[(Call, u8)] = &[
-        (Call::Connect(("mtc", "q"), ("b", "s")), 20),
-        (Call::Connect(("b", "s"), ("mtc", "q")), 20),
+    const REFUSED: &[(ConfigCall, u8)] = &[
+        (ConfigCall::Connect(("mtc", "q"), ("b", "s")), 20),
+        (ConfigCall::Connect(("b", "s"), ("mtc", "q")), 20),
     ];
-    const MAPS: &[(Call, u8)] = &[(Call::Map(("system", "s"), ("mtc", "q")), 0)];
+    const MAPS: &[(ConfigCall, u8)] = &[(ConfigCall::Map(("system", "s"), ("mtc", "q")), 0)];
     let mut config = mapped(&rt, &[], &[Ty::Integer]);
     carries_out(&rt, &mut config, REFUSED, CONNECTED);
     carries_out(&rt, &mut config, MAPS, MAPPED);
@@ -156,9 +156,9 @@ fn connects_and_maps_what_the_other_receives(rt: HostRuntime) {
 
 #[test]
 fn maps_nothing_against_the_directions(rt: HostRuntime) {
-    const REFUSED: &[(Call, u8)] = &[
-        (Call::Map(("mtc", "q"), ("system", "s")), 24),
-        (Call::Map(("system", "s"), ("mtc", "q")), 24),
+    const REFUSED: &[(ConfigCall, u8)] = &[
+        (ConfigCall::Map(("mtc", "q"), ("system", "s")), 24),
+        (ConfigCall::Map(("system", "s"), ("mtc", "q")), 24),
     ];
     let mut config = mapped(&rt, &[Ty::Integer], &[]);
     carries_out(&rt, &mut config, REFUSED, CONNECTED);
@@ -275,7 +275,7 @@ fn many_ports<R: AllocGlobal + Abort>(rt: &R) -> Config {
 
 #[test]
 fn has_64_ports_of_a_type(rt: HostRuntime) {
-    const CALLS: &[(Call, u8)] = &[(Call::Connect(("mtc", "p0"), ("mtc", "p63")), 0)];
+    const CALLS: &[(ConfigCall, u8)] = &[(ConfigCall::Connect(("mtc", "p0"), ("mtc", "p63")), 0)];
     const BEHIND: &[(Question, &str)] = &[(Question::Into(0), "0>0.0 0>0.63 ")];
     let mut config = many_ports(&rt);
     assert_eq!(rt; port(&config, "mtc", "p63"), Some(at(0, 63)));

@@ -1,16 +1,16 @@
 //! The calls of a desk on worked values: what they answer, the history, stamps, and refused memory.
-use crate::ends::{Ends, Mailbox, integer, two};
+use crate::ends::{InboxEnds, Mailbox, integer, two};
 use crate::making::{four_again, route};
 use crate::showing::{debug, says};
 use std::process::Abort;
 use std::sync::Wait;
 use tp_config::port_type::CompId;
-use tp_inbox::desk::Desk;
-use tp_inbox::entry::Entry;
-use tp_inbox::send_fault::SendFault;
+use tp_event::event::Env;
+use tp_history::desk::Desk;
+use tp_history::entry::Entry;
+use tp_history::send_fault::SendFault;
+use tp_history::stamped::Stamped;
 use tp_inbox::sender::Sender;
-use tp_inbox::stamped::Stamped;
-use tp_queue::event::Env;
 use tp_refusal::memory::Memory;
 use tp_value::message::{Message, MsgTemplate};
 use tp_value::template::Template;
@@ -32,7 +32,7 @@ fn desk<R: AllocGlobal + Abort>(rt: &R) -> Desk {
 /// One call of a desk, at its port 0. What is received is given by its type, if it has to have one,
 /// by its sender and by the branch.
 #[derive(Clone, Copy)]
-enum Call {
+enum DeskCall {
     /// A message comes from component 0: its number, which it is itself, and its stamp.
     Arrive(u32, u64),
     Receive(Option<Ty>, Option<u32>, usize),
@@ -81,28 +81,34 @@ fn sent<R: AllocGlobal + Abort>(rt: &R, desk: &mut Desk) -> String {
 }
 
 /// What a call answers, as it is printed.
-fn answer<R: AllocGlobal + Abort>(rt: &R, desk: &mut Desk, call: Call) -> String {
+fn answer<R: AllocGlobal + Abort>(rt: &R, desk: &mut Desk, call: DeskCall) -> String {
     assert!(rt; desk.port_count() > 0);
     match call {
-        Call::Arrive(number, stamp) => debug(rt, desk.arrive(0, env(number), stamp)),
-        Call::Receive(ty, from, branch) => debug(rt, desk.receive(0, &wanted(ty), from, branch)),
-        Call::Check(ty, from, branch) => debug(rt, desk.check(0, &wanted(ty), from, branch)),
-        Call::Trigger(ty, from, branch) => debug(rt, desk.trigger(0, &wanted(ty), from, branch)),
-        Call::Clear => debug(rt, desk.clear(0)),
-        Call::Start => debug(rt, desk.start(0)),
-        Call::Stop => debug(rt, desk.stop(0)),
-        Call::Halt => debug(rt, desk.halt(0)),
-        Call::MaySend => debug(rt, desk.queue(0).may_send()),
-        Call::Stamp => debug(rt, desk.stamp()),
-        Call::Sent => sent(rt, desk),
-        Call::Else => debug(rt, desk.note(Entry::Else)),
-        Call::Verdict => debug(rt, desk.note(Entry::Verdict(Verdict::Pass))),
-        Call::Failed => debug(rt, desk.note(Entry::Failed(SendFault::NotSending))),
+        DeskCall::Arrive(number, stamp) => debug(rt, desk.arrive(0, env(number), stamp)),
+        DeskCall::Receive(ty, from, branch) => debug(
+            rt,
+            desk.receive(0, &wanted(ty), from, branch),
+        ),
+        DeskCall::Check(ty, from, branch) => debug(rt, desk.check(0, &wanted(ty), from, branch)),
+        DeskCall::Trigger(ty, from, branch) => debug(
+            rt,
+            desk.trigger(0, &wanted(ty), from, branch),
+        ),
+        DeskCall::Clear => debug(rt, desk.clear(0)),
+        DeskCall::Start => debug(rt, desk.start(0)),
+        DeskCall::Stop => debug(rt, desk.stop(0)),
+        DeskCall::Halt => debug(rt, desk.halt(0)),
+        DeskCall::MaySend => debug(rt, desk.queue(0).may_send()),
+        DeskCall::Stamp => debug(rt, desk.stamp()),
+        DeskCall::Sent => sent(rt, desk),
+        DeskCall::Else => debug(rt, desk.note(Entry::Else)),
+        DeskCall::Verdict => debug(rt, desk.note(Entry::Verdict(Verdict::Pass))),
+        DeskCall::Failed => debug(rt, desk.note(Entry::Failed(SendFault::NotSending))),
     }
 }
 
 /// The same, a second time where memory is refused: the history is as long as before then.
-fn answer_again<R: AllocGlobal + Abort>(rt: &R, desk: &mut Desk, call: Call) -> String {
+fn answer_again<R: AllocGlobal + Abort>(rt: &R, desk: &mut Desk, call: DeskCall) -> String {
     let had = desk.log().len();
     let first = answer(rt, desk, call);
     if first.as_str().starts_with("Err") {
@@ -114,7 +120,7 @@ fn answer_again<R: AllocGlobal + Abort>(rt: &R, desk: &mut Desk, call: Call) -> 
 }
 
 /// Carries out the calls of a table: beside each stands its answer.
-fn carries_out<R: AllocGlobal + Abort>(rt: &R, desk: &mut Desk, calls: &[(Call, &str)]) {
+fn carries_out<R: AllocGlobal + Abort>(rt: &R, desk: &mut Desk, calls: &[(DeskCall, &str)]) {
     for (place, (call, wanted)) in calls.iter().enumerate() {
         says(rt, place, answer_again(rt, desk, *call), *wanted);
     }
@@ -129,42 +135,42 @@ fn is_noted<R: AllocGlobal + Abort>(rt: &R, log: &[Entry], wanted: &[&str]) {
 }
 
 /// Each call of a desk, with what it answers.
-const CALLS_OF_A_DESK: &[(Call, &str)] = &[
-    (Call::Arrive(0, 0), "Ok(())"),
-    (Call::Arrive(1, 1), "Ok(())"),
-    (Call::Arrive(2, 2), "Ok(())"),
-    (Call::Arrive(3, 3), "Ok(())"),
-    (Call::Receive(Some(Ty::Integer), Some(1), 0), "Ok(None)"),
+const CALLS_OF_A_DESK: &[(DeskCall, &str)] = &[
+    (DeskCall::Arrive(0, 0), "Ok(())"),
+    (DeskCall::Arrive(1, 1), "Ok(())"),
+    (DeskCall::Arrive(2, 2), "Ok(())"),
+    (DeskCall::Arrive(3, 3), "Ok(())"),
+    (DeskCall::Receive(Some(Ty::Integer), Some(1), 0), "Ok(None)"),
     (
-        Call::Check(Some(Ty::Integer), Some(0), 2),
+        DeskCall::Check(Some(Ty::Integer), Some(0), 2),
         "Ok(Some(Env { sender: 0, number: 0, \
         msg: Message { ty: Integer, value: Int(0) } }))",
     ),
     (
-        Call::Receive(None, None, 1),
+        DeskCall::Receive(None, None, 1),
         "Ok(Some(Env { sender: 0, number: 0, \
         msg: Message { ty: Integer, value: Int(0) } }))",
     ),
     (
-        Call::Trigger(Some(Ty::Integer), Some(1), 3),
+        DeskCall::Trigger(Some(Ty::Integer), Some(1), 3),
         "Ok(Dropped(Env { sender: 0, number: 1, \
         msg: Message { ty: Integer, value: Int(1) } }))",
     ),
     (
-        Call::Trigger(Some(Ty::Integer), Some(0), 0),
+        DeskCall::Trigger(Some(Ty::Integer), Some(0), 0),
         "Ok(Took(Env { sender: 0, number: 2, \
         msg: Message { ty: Integer, value: Int(2) } }))",
     ),
-    (Call::Halt, "Ok(Some(1))"),
-    (Call::Clear, "Ok(1)"),
-    (Call::Stop, "Ok(())"),
-    (Call::MaySend, "false"),
-    (Call::Start, "Ok(0)"),
-    (Call::Stamp, "Some(4)"),
-    (Call::Sent, "Ok(())"),
-    (Call::Else, "Ok(())"),
-    (Call::Verdict, "Ok(())"),
-    (Call::Failed, "Ok(())"),
+    (DeskCall::Halt, "Ok(Some(1))"),
+    (DeskCall::Clear, "Ok(1)"),
+    (DeskCall::Stop, "Ok(())"),
+    (DeskCall::MaySend, "false"),
+    (DeskCall::Start, "Ok(0)"),
+    (DeskCall::Stamp, "Some(4)"),
+    (DeskCall::Sent, "Ok(())"),
+    (DeskCall::Else, "Ok(())"),
+    (DeskCall::Verdict, "Ok(())"),
+    (DeskCall::Failed, "Ok(())"),
 ];
 
 /// What these calls are noted as.
@@ -201,15 +207,15 @@ fn refused_memory_leaves_a_desk_as_it_was(rt: HostRuntime) {
 /// The next stamp is one above the greatest that came, and there is none above the last number.
 #[test]
 fn stamps_are_used_up(rt: HostRuntime) {
-    const CALLS: &[(Call, &str)] = &[
-        (Call::Stamp, "Some(1)"),
-        (Call::Arrive(0, 20), "Ok(())"),
-        (Call::Arrive(0, 7), "Ok(())"),
-        (Call::Stamp, "Some(21)"),
-        (Call::Sent, "Ok(())"),
-        (Call::Stamp, "Some(22)"),
-        (Call::Arrive(0, u64::MAX), "Ok(())"),
-        (Call::Stamp, "None"),
+    const CALLS: &[(DeskCall, &str)] = &[
+        (DeskCall::Stamp, "Some(1)"),
+        (DeskCall::Arrive(0, 20), "Ok(())"),
+        (DeskCall::Arrive(0, 7), "Ok(())"),
+        (DeskCall::Stamp, "Some(21)"),
+        (DeskCall::Sent, "Ok(())"),
+        (DeskCall::Stamp, "Some(22)"),
+        (DeskCall::Arrive(0, u64::MAX), "Ok(())"),
+        (DeskCall::Stamp, "None"),
     ];
     let mut desk = desk(&rt);
     carries_out(&rt, &mut desk, CALLS);
@@ -220,9 +226,9 @@ fn stamps_are_used_up(rt: HostRuntime) {
 fn send_again<R: Wait + Abort>(rt: &R, desk: &mut Desk, sender: &mut Sender, n: i64) {
     assert!(rt; sender.ways() == 1);
     let (put, noted) = (sender.count(0), desk.log().len());
-    if let Err((_, message)) = desk.send(rt, &mut *sender, 0, integer(n)) {
+    if let Err((_, message)) = sender.send(rt, &mut *desk, 0, integer(n)) {
         assert!(rt; sender.count(0) == put && desk.log().len() == noted);
-        assert!(rt; desk.send(rt, &mut *sender, 0, message).is_ok());
+        assert!(rt; sender.send(rt, &mut *desk, 0, message).is_ok());
     }
     assert!(rt; sender.ways() == 1);
     assert!(rt; sender.count(0) == put.wrapping_add(1));
@@ -246,7 +252,7 @@ fn refused_memory_puts_and_notes_nothing(rt: HostRuntime) {
         Stamped { stamp: 2, message: Message { ty: Integer, value: Int(2) } })",
     ];
     let (ends, floor) = two(&rt, ["p"].as_slice());
-    let Ends {
+    let InboxEnds {
         mailbox,
         mut senders,
         closer,

@@ -10,12 +10,12 @@ use tp_config::config::Config;
 use tp_config::port_type::{CompId, RouteId};
 use tp_floor::floor::Floor;
 use tp_floor::notifier::Woken;
-use tp_inbox::desk::Desk;
+use tp_history::desk::Desk;
+use tp_history::stamped::Stamped;
 use tp_inbox::gathered::{Rest, gather};
 use tp_inbox::making::inbox;
 use tp_inbox::owner::{Closer, Owner};
 use tp_inbox::sender::{PutFault, Sender};
-use tp_inbox::stamped::Stamped;
 use tp_refusal::memory::Memory;
 use tp_value::message::Message;
 use tp_value::types::Ty;
@@ -58,8 +58,8 @@ impl Model for Mailbox {
     ghost use Rattle.std.specs.Prelude.{◌≡◌};
     ghost use Rattle.tp_value.specs.contracts.value.Value as value_contract;
     ghost use Rattle.std.specs.Coded.{codes};
-    ghost use Rattle.tp_inbox.specs.History.{arrivals};
-    ghost use Rattle.tp_inbox.specs.Desks.{Journal};
+    ghost use Rattle.tp_history.specs.History.{arrivals};
+    ghost use Rattle.tp_history.specs.Desks.{Journal};
     ghost use Rattle.tp_inbox.specs.Ledgers.{Draining, IsDeskOf};
 
     ghost Value = { Draining × Journal };
@@ -83,19 +83,19 @@ impl Mailbox {
 
 /// All ends of one inbox.
 #[derive(Drop)]
-pub struct Ends {
+pub struct InboxEnds {
     pub mailbox: Mailbox,
     pub senders: Vec<Sender>,
     pub closer: Closer,
 }
 
-impl Model for Ends {
+impl Model for InboxEnds {
     ghost use Rattle.std.specs.Prelude.{List};
     ghost use Rattle.tp_value.specs.contracts.value.Value as value_contract;
     ghost use Rattle.std.specs.Coded.{codes};
-    ghost use Rattle.tp_inbox.specs.Ledgers.{AreSenders, Inbox, Sending};
+    ghost use Rattle.tp_inbox.specs.Ledgers.{AreSenders, Inbox, SenderLedger};
 
-    ghost Value = { Inbox × List Sending };
+    ghost Value = { Inbox × List SenderLedger };
 
     ghost coded = { Prim.hlevel (codes, value_contract.the_row.coded) };
 
@@ -110,7 +110,7 @@ fn ends_once(
     config: &Config,
     comp: CompId,
     floor: &Arc<Floor, Global>,
-) -> Result<Ends, Memory> {
+) -> Result<InboxEnds, Memory> {
     if comp.0 as usize >= config.len() {
         return Err(Memory);
     }
@@ -118,7 +118,7 @@ fn ends_once(
     match inbox(alloc, config, comp, floor) {
         Ok((owner, senders, closer)) => {
             let mailbox = Mailbox { owner, desk };
-            Ok(Ends {
+            Ok(InboxEnds {
                 mailbox,
                 senders,
                 closer,
@@ -137,7 +137,7 @@ pub fn ends_of<R: AllocGlobal + Abort>(
     config: &Config,
     comp: CompId,
     floor: &Arc<Floor, Global>,
-) -> Ends {
+) -> InboxEnds {
     match ends_once(rt.alloc(), config, comp, floor) {
         Ok(ends) => ends,
         Err(Memory) => ends_once(rt.alloc(), config, comp, floor).expect(rt, "memory"),
@@ -164,7 +164,7 @@ fn connect_each<R: Abort>(rt: &R, config: &mut Config, ports: &[&str]) {
 
 /// The ends of a's inbox, on a floor of two, where mtc and a are connected by their ports of these
 /// names. What is refused memory is made a second time.
-pub fn two<R: AllocGlobal + Abort>(rt: &R, ports: &[&str]) -> (Ends, Arc<Floor, Global>) {
+pub fn two<R: AllocGlobal + Abort>(rt: &R, ports: &[&str]) -> (InboxEnds, Arc<Floor, Global>) {
     let mut config = four_again(rt);
     connect_each(rt, &mut config, ports);
     let floor = floor_of(rt, 2);
@@ -173,7 +173,7 @@ pub fn two<R: AllocGlobal + Abort>(rt: &R, ports: &[&str]) -> (Ends, Arc<Floor, 
     (ends, floor)
 }
 
-impl Ends {
+impl InboxEnds {
     /// Puts `integer:n` with the sender at this place, on this one of its routes. Nothing where
     /// there is no such sender or route; what is refused comes back as it was.
     pub fn put<R: Wait + Abort>(
@@ -219,7 +219,7 @@ impl Ends {
 
     /// What is left, asked a second time where memory is refused; and the desk.
     pub fn settle<R: Wait + Abort>(self, rt: &R) -> (Rest, Desk) {
-        let Ends {
+        let InboxEnds {
             mailbox,
             senders,
             closer,

@@ -1,6 +1,6 @@
 //! The calls of one inbox's ends, what a wait answers where nobody else is there, and refused
 //! memory.
-use crate::ends::{Ends, floor_of, two};
+use crate::ends::{InboxEnds, floor_of, two};
 use crate::making::route;
 use crate::showing::{debug, says};
 use std::process::Abort;
@@ -11,7 +11,7 @@ use tp_inbox::sender::{PutFault, ROUTE_LIMIT};
 use tp_refusal::memory::Memory;
 
 /// A call of an inbox's ends, or of the floor.
-enum Call {
+enum InboxCall {
     /// Puts `integer:n` on this one of the sender's routes.
     Put(usize, i64),
     /// How many the sender has put on its first route.
@@ -29,30 +29,30 @@ enum Call {
 /// What a call answers, as it is printed.
 fn answer<R: AllocGlobal + Abort + Wait>(
     rt: &R,
-    ends: &mut Ends,
+    ends: &mut InboxEnds,
     floor: &Floor,
-    call: &Call,
+    call: &InboxCall,
 ) -> String {
     match *call {
-        Call::Put(way, n) => debug(rt, ends.put(rt, 0, way, n)),
-        Call::Count => debug(rt, ends.count()),
-        Call::Route => debug(rt, ends.route()),
-        Call::Drain => debug(rt, ends.drain(rt)),
-        Call::Drained(source, comp, port) => {
+        InboxCall::Put(way, n) => debug(rt, ends.put(rt, 0, way, n)),
+        InboxCall::Count => debug(rt, ends.count()),
+        InboxCall::Route => debug(rt, ends.route()),
+        InboxCall::Drain => debug(rt, ends.drain(rt)),
+        InboxCall::Drained(source, comp, port) => {
             debug(rt, ends.mailbox.owner.drained(route(source, comp, port)))
         }
-        Call::Wait => debug(rt, ends.mailbox.owner.wait(rt)),
-        Call::Close => debug(rt, ends.closer.close(rt)),
-        Call::Leave => debug(rt, floor.leave(rt)),
+        InboxCall::Wait => debug(rt, ends.mailbox.owner.wait(rt)),
+        InboxCall::Close => debug(rt, ends.closer.close(rt)),
+        InboxCall::Leave => debug(rt, floor.leave(rt)),
     }
 }
 
 /// Carries out the calls of a table: beside each stands its answer.
 fn carries_out<R: AllocGlobal + Abort + Wait>(
     rt: &R,
-    ends: &mut Ends,
+    ends: &mut InboxEnds,
     floor: &Floor,
-    calls: &[(Call, &str)],
+    calls: &[(InboxCall, &str)],
 ) {
     for (place, (call, wanted)) in calls.iter().enumerate() {
         says(rt, place, answer(rt, ends, floor, call), *wanted);
@@ -60,7 +60,7 @@ fn carries_out<R: AllocGlobal + Abort + Wait>(
 }
 
 /// Asserts what the desk notes in the end, and what is left in the inbox: both are what was put.
-fn settles<R: AllocGlobal + Abort + Wait>(rt: &R, ends: Ends, log: &str, rest: &str) {
+fn settles<R: AllocGlobal + Abort + Wait>(rt: &R, ends: InboxEnds, log: &str, rest: &str) {
     let (left, desk) = ends.settle(rt);
     says(rt, 0, debug(rt, desk.log()), log);
     drop(desk);
@@ -70,13 +70,13 @@ fn settles<R: AllocGlobal + Abort + Wait>(rt: &R, ends: Ends, log: &str, rest: &
 /// What a sender puts on two routes comes in its order over both, each numbered by itself.
 #[test]
 fn two_routes(rt: HostRuntime) {
-    const CALLS: &[(Call, &str)] = &[
-        (Call::Put(0, 4), "Some(Ok(0))"),
-        (Call::Put(1, 5), "Some(Ok(0))"),
-        (Call::Put(0, 6), "Some(Ok(1))"),
-        (Call::Put(2, 9), "None"),
-        (Call::Drain, "Ok(3)"),
-        (Call::Put(0, 7), "Some(Ok(2))"),
+    const CALLS: &[(InboxCall, &str)] = &[
+        (InboxCall::Put(0, 4), "Some(Ok(0))"),
+        (InboxCall::Put(1, 5), "Some(Ok(0))"),
+        (InboxCall::Put(0, 6), "Some(Ok(1))"),
+        (InboxCall::Put(2, 9), "None"),
+        (InboxCall::Drain, "Ok(3)"),
+        (InboxCall::Put(0, 7), "Some(Ok(2))"),
     ];
     const LOG: &str = "[\
         Arrive(0, Env { sender: 0, number: 0, msg: Message { ty: Integer, value: Int(4) } }, 4), \
@@ -94,16 +94,16 @@ fn two_routes(rt: HostRuntime) {
 /// another component's port of that number, and none of another sender's.
 #[test]
 fn routes_are_told(rt: HostRuntime) {
-    const CALLS: &[(Call, &str)] = &[
-        (Call::Put(0, 4), "Some(Ok(0))"),
-        (Call::Drain, "Ok(1)"),
+    const CALLS: &[(InboxCall, &str)] = &[
+        (InboxCall::Put(0, 4), "Some(Ok(0))"),
+        (InboxCall::Drain, "Ok(1)"),
         (
-            Call::Route,
+            InboxCall::Route,
             "Some(RouteId { source: CompId(0), to: PortRef { comp: CompId(1), port: 0 } })",
         ),
-        (Call::Drained(0, 1, 0), "1"),
-        (Call::Drained(0, 2, 0), "0"),
-        (Call::Drained(1, 1, 0), "0"),
+        (InboxCall::Drained(0, 1, 0), "1"),
+        (InboxCall::Drained(0, 2, 0), "0"),
+        (InboxCall::Drained(1, 1, 0), "0"),
     ];
     let (mut ends, floor) = two(&rt, ["p"].as_slice());
     carries_out(&rt, &mut ends, &floor, CALLS);
@@ -113,15 +113,15 @@ fn routes_are_told(rt: HostRuntime) {
 /// What `leave` and `wait` answer where nobody else is there, and after a closing.
 #[test]
 fn alone_on_the_floor(rt: HostRuntime) {
-    const CALLS: &[(Call, &str)] = &[
-        (Call::Leave, "false"),
-        (Call::Wait, "Last"),
-        (Call::Close, "()"),
-        (Call::Wait, "Closed"),
-        (Call::Put(0, 1), "Some(Ok(0))"),
-        (Call::Wait, "Arrived"),
-        (Call::Drain, "Ok(1)"),
-        (Call::Wait, "Closed"),
+    const CALLS: &[(InboxCall, &str)] = &[
+        (InboxCall::Leave, "false"),
+        (InboxCall::Wait, "Last"),
+        (InboxCall::Close, "()"),
+        (InboxCall::Wait, "Closed"),
+        (InboxCall::Put(0, 1), "Some(Ok(0))"),
+        (InboxCall::Wait, "Arrived"),
+        (InboxCall::Drain, "Ok(1)"),
+        (InboxCall::Wait, "Closed"),
     ];
     let (mut ends, floor) = two(&rt, ["p"].as_slice());
     carries_out(&rt, &mut ends, &floor, CALLS);
@@ -131,7 +131,7 @@ fn alone_on_the_floor(rt: HostRuntime) {
 }
 
 /// Puts the integers from 0 on, as many as a route takes: each has its number.
-fn fills<R: Wait + Abort>(rt: &R, ends: &mut Ends) {
+fn fills<R: Wait + Abort>(rt: &R, ends: &mut InboxEnds) {
     for n in 0..ROUTE_LIMIT {
         let put = ends.put(rt, 0, 0, n as i64);
         assert!(rt; matches!(put, Some(Ok(number)) if number == n));
@@ -141,10 +141,10 @@ fn fills<R: Wait + Abort>(rt: &R, ends: &mut Ends) {
 /// A route takes 100,000 messages, numbered from 0, and hands the next one back.
 #[test]
 fn a_route_has_a_limit(rt: HostRuntime) {
-    const CALLS: &[(Call, &str)] = &[
-        (Call::Put(0, 7), "Some(Err(Limit))"),
-        (Call::Count, "100000"),
-        (Call::Drain, "Ok(100000)"),
+    const CALLS: &[(InboxCall, &str)] = &[
+        (InboxCall::Put(0, 7), "Some(Err(Limit))"),
+        (InboxCall::Count, "100000"),
+        (InboxCall::Drain, "Ok(100000)"),
     ];
     let (mut ends, floor) = two(&rt, ["p"].as_slice());
     fills(&rt, &mut ends);
@@ -153,7 +153,7 @@ fn a_route_has_a_limit(rt: HostRuntime) {
 }
 
 /// Puts `integer:n`, which gets this number; a second time where memory is refused.
-fn put_again<R: Wait + Abort>(rt: &R, ends: &mut Ends, n: i64, number: u64) {
+fn put_again<R: Wait + Abort>(rt: &R, ends: &mut InboxEnds, n: i64, number: u64) {
     match ends.put(rt, 0, 0, n) {
         Some(Err(PutFault::Memory)) => {
             assert!(rt; ends.count() == number);
@@ -165,7 +165,7 @@ fn put_again<R: Wait + Abort>(rt: &R, ends: &mut Ends, n: i64, number: u64) {
 }
 
 /// Drains so many messages, in two turns where memory is refused.
-fn drain_again<R: Wait + Abort>(rt: &R, ends: &mut Ends, count: u64) {
+fn drain_again<R: Wait + Abort>(rt: &R, ends: &mut InboxEnds, count: u64) {
     match ends.drain(rt) {
         Ok(moved) => assert!(rt; moved == count),
         Err(Memory) => {

@@ -1,5 +1,5 @@
 //! A port that is connected with as many others as there can be, and its routes.
-use crate::asking::{Call, Question, answers, carries_out};
+use crate::asking::{ConfigCall, Question, answers, carries_out};
 use crate::making::{add, at, connect, empty, route};
 use std::process::Abort;
 use tp_config::config::Config;
@@ -69,15 +69,15 @@ fn has_routes<R: Abort>(rt: &R, config: &Config, count: usize) {
 
 #[test]
 fn refuses_beside_63_partners(rt: HostRuntime) {
-    const REFUSED: &[(Call, u8)] = &[
-        (Call::Connect(("c1", "p"), ("mtc", "p")), 27),
-        (Call::Connect(("mtc", "p"), ("c1", "q")), 21),
-        (Call::Connect(("c32", "p"), ("mtc", "p")), 27),
-        (Call::Connect(("mtc", "p"), ("c32", "q")), 21),
-        (Call::Connect(("c63", "p"), ("mtc", "p")), 27),
-        (Call::Connect(("mtc", "p"), ("c63", "q")), 21),
+    const REFUSED: &[(ConfigCall, u8)] = &[
+        (ConfigCall::Connect(("c1", "p"), ("mtc", "p")), 27),
+        (ConfigCall::Connect(("mtc", "p"), ("c1", "q")), 21),
+        (ConfigCall::Connect(("c32", "p"), ("mtc", "p")), 27),
+        (ConfigCall::Connect(("mtc", "p"), ("c32", "q")), 21),
+        (ConfigCall::Connect(("c63", "p"), ("mtc", "p")), 27),
+        (ConfigCall::Connect(("mtc", "p"), ("c63", "q")), 21),
     ];
-    const ALLOWED: &[(Call, u8)] = &[(Call::Connect(("mtc", "q"), ("mtc", "p")), 0)];
+    const ALLOWED: &[(ConfigCall, u8)] = &[(ConfigCall::Connect(("mtc", "q"), ("mtc", "p")), 0)];
     const BEHIND: &[(Question, &str)] = &[(Question::RouteTo(0, 0, 0), "0>0.1 ")];
     let mut config = large_star(&rt);
     carries_out(&rt, &mut config, REFUSED, &[]);

@@ -5,10 +5,10 @@ use crate::writers::Short;
 use std::io;
 use std::io::{ErrorKind, Read};
 use std::process::Abort;
+use tp_event::event::{Env, Event};
 use tp_port::pattern::Pattern;
 use tp_port::port_queue::PortQueue;
 use tp_port::replay::{QueueFault, replay, replay_text};
-use tp_queue::event::{Env, Event};
 use tp_refusal::limit::TEXT_LIMIT;
 use tp_text::text::{ReadFault, read_text};
 use tp_text::watched::Watched;
@@ -30,7 +30,7 @@ fn two<R: AllocGlobal + Abort>(rt: &R) -> PortQueue<i64> {
 }
 
 /// One call of a queue.
-enum Call {
+enum QueueCall {
     /// A message of sender 0, by its number and itself.
     Arrive(u64, i64),
     Receive(Pattern, Option<u32>),
@@ -43,16 +43,16 @@ enum Call {
 }
 
 /// What a call answers, as it is printed.
-fn answer<R: AllocGlobal + Abort>(rt: &R, queue: &mut PortQueue<i64>, call: &Call) -> String {
+fn answer<R: AllocGlobal + Abort>(rt: &R, queue: &mut PortQueue<i64>, call: &QueueCall) -> String {
     match *call {
-        Call::Arrive(number, msg) => debug(rt, queue.arrive(env(0, number, msg))),
-        Call::Receive(wanted, from) => debug(rt, queue.receive(&wanted, from)),
-        Call::Check(wanted, from) => debug(rt, queue.check(&wanted, from)),
-        Call::Trigger(wanted, from) => debug(rt, queue.trigger(&wanted, from)),
-        Call::Clear => debug(rt, queue.clear()),
-        Call::Start => debug(rt, queue.start()),
-        Call::Stop => debug(rt, queue.stop()),
-        Call::Halt => debug(rt, queue.halt()),
+        QueueCall::Arrive(number, msg) => debug(rt, queue.arrive(env(0, number, msg))),
+        QueueCall::Receive(wanted, from) => debug(rt, queue.receive(&wanted, from)),
+        QueueCall::Check(wanted, from) => debug(rt, queue.check(&wanted, from)),
+        QueueCall::Trigger(wanted, from) => debug(rt, queue.trigger(&wanted, from)),
+        QueueCall::Clear => debug(rt, queue.clear()),
+        QueueCall::Start => debug(rt, queue.start()),
+        QueueCall::Stop => debug(rt, queue.stop()),
+        QueueCall::Halt => debug(rt, queue.halt()),
     }
 }
 
@@ -67,7 +67,7 @@ fn state<R: AllocGlobal + Abort>(rt: &R, queue: &PortQueue<i64>) -> String {
 fn carries_out<R: AllocGlobal + Abort>(
     rt: &R,
     queue: &mut PortQueue<i64>,
-    calls: &[(Call, &str, &str)],
+    calls: &[(QueueCall, &str, &str)],
 ) {
     for (place, (call, wanted, behind)) in calls.iter().enumerate() {
         says(rt, place, answer(rt, queue, call), *wanted);
@@ -76,7 +76,7 @@ fn carries_out<R: AllocGlobal + Abort>(
 }
 
 /// A queue of `two`, at which the calls of a table were carried out.
-fn answered<R: AllocGlobal + Abort>(rt: &R, calls: &[(Call, &str, &str)]) -> PortQueue<i64> {
+fn answered<R: AllocGlobal + Abort>(rt: &R, calls: &[(QueueCall, &str, &str)]) -> PortQueue<i64> {
     let mut queue = two(rt);
     carries_out(rt, &mut queue, calls);
     queue
@@ -84,29 +84,29 @@ fn answered<R: AllocGlobal + Abort>(rt: &R, calls: &[(Call, &str, &str)]) -> Por
 
 #[test]
 fn receives_in_order_and_only_what_matches(rt: HostRuntime) {
-    const CALLS: &[(Call, &str, &str)] = &[
+    const CALLS: &[(QueueCall, &str, &str)] = &[
         (
-            Call::Receive(Pattern::Number(2), None),
+            QueueCall::Receive(Pattern::Number(2), None),
             "Ok(None)",
             "(Started, (2, 2), true)",
         ),
         (
-            Call::Receive(Pattern::Any, Some(1)),
+            QueueCall::Receive(Pattern::Any, Some(1)),
             "Ok(None)",
             "(Started, (2, 2), true)",
         ),
         (
-            Call::Receive(Pattern::Any, Some(0)),
+            QueueCall::Receive(Pattern::Any, Some(0)),
             "Ok(Some(Env { sender: 0, number: 0, msg: 1 }))",
             "(Started, (1, 1), true)",
         ),
         (
-            Call::Receive(Pattern::Number(2), None),
+            QueueCall::Receive(Pattern::Number(2), None),
             "Ok(Some(Env { sender: 1, number: 1, msg: 2 }))",
             "(Started, (0, 0), true)",
         ),
         (
-            Call::Receive(Pattern::Any, None),
+            QueueCall::Receive(Pattern::Any, None),
             "Ok(None)",
             "(Started, (0, 0), true)",
         ),
@@ -129,14 +129,14 @@ const QUEUED: &str = "(Some(Env { sender: 0, number: 0, msg: 1 }), \
 
 #[test]
 fn checks_without_taking(rt: HostRuntime) {
-    const CALLS: &[(Call, &str, &str)] = &[
+    const CALLS: &[(QueueCall, &str, &str)] = &[
         (
-            Call::Check(Pattern::Number(2), None),
+            QueueCall::Check(Pattern::Number(2), None),
             "Ok(None)",
             "(Started, (2, 2), true)",
         ),
         (
-            Call::Check(Pattern::Number(1), Some(0)),
+            QueueCall::Check(Pattern::Number(1), Some(0)),
             "Ok(Some(Env { sender: 0, number: 0, msg: 1 }))",
             "(Started, (2, 2), true)",
         ),
@@ -168,19 +168,19 @@ fn satisfies_by_message_and_sender(rt: HostRuntime) {
 
 #[test]
 fn triggers_take_or_discard(rt: HostRuntime) {
-    const CALLS: &[(Call, &str, &str)] = &[
+    const CALLS: &[(QueueCall, &str, &str)] = &[
         (
-            Call::Trigger(Pattern::Any, Some(1)),
+            QueueCall::Trigger(Pattern::Any, Some(1)),
             "Ok(Dropped(Env { sender: 0, number: 0, msg: 1 }))",
             "(Started, (1, 1), true)",
         ),
         (
-            Call::Trigger(Pattern::Number(2), Some(1)),
+            QueueCall::Trigger(Pattern::Number(2), Some(1)),
             "Ok(Took(Env { sender: 1, number: 1, msg: 2 }))",
             "(Started, (0, 0), true)",
         ),
         (
-            Call::Trigger(Pattern::Any, None),
+            QueueCall::Trigger(Pattern::Any, None),
             "Ok(Nothing)",
             "(Started, (0, 0), true)",
         ),
@@ -192,31 +192,31 @@ fn triggers_take_or_discard(rt: HostRuntime) {
 
 #[test]
 fn halts_behind_what_is_queued(rt: HostRuntime) {
-    const CALLS: &[(Call, &str, &str)] = &[
-        (Call::Halt, "Ok(Some(2))", "(Halted, (2, 2), false)"),
-        (Call::Arrive(2, 3), "Ok(())", "(Halted, (2, 3), false)"),
+    const CALLS: &[(QueueCall, &str, &str)] = &[
+        (QueueCall::Halt, "Ok(Some(2))", "(Halted, (2, 2), false)"),
+        (QueueCall::Arrive(2, 3), "Ok(())", "(Halted, (2, 3), false)"),
         (
-            Call::Receive(Pattern::Any, None),
+            QueueCall::Receive(Pattern::Any, None),
             "Ok(Some(Env { sender: 0, number: 0, msg: 1 }))",
             "(Halted, (1, 2), false)",
         ),
         (
-            Call::Receive(Pattern::Any, None),
+            QueueCall::Receive(Pattern::Any, None),
             "Ok(Some(Env { sender: 1, number: 1, msg: 2 }))",
             "(Halted, (0, 1), false)",
         ),
         (
-            Call::Receive(Pattern::Any, None),
+            QueueCall::Receive(Pattern::Any, None),
             "Ok(None)",
             "(Halted, (0, 1), false)",
         ),
         (
-            Call::Trigger(Pattern::Any, None),
+            QueueCall::Trigger(Pattern::Any, None),
             "Ok(Nothing)",
             "(Halted, (0, 1), false)",
         ),
-        (Call::Halt, "Ok(None)", "(Halted, (0, 1), false)"),
-        (Call::Start, "Ok(1)", "(Started, (0, 0), true)"),
+        (QueueCall::Halt, "Ok(None)", "(Halted, (0, 1), false)"),
+        (QueueCall::Start, "Ok(1)", "(Started, (0, 0), true)"),
     ];
     let queue = answered(&rt, CALLS);
     assert!(rt; queue.events().len() == 8);
@@ -225,18 +225,18 @@ fn halts_behind_what_is_queued(rt: HostRuntime) {
 
 #[test]
 fn clears_both_sides_and_stays_halted(rt: HostRuntime) {
-    const CALLS: &[(Call, &str, &str)] = &[
-        (Call::Halt, "Ok(Some(2))", "(Halted, (2, 2), false)"),
-        (Call::Arrive(2, 3), "Ok(())", "(Halted, (2, 3), false)"),
-        (Call::Clear, "Ok(3)", "(Halted, (0, 0), false)"),
-        (Call::Arrive(3, 4), "Ok(())", "(Halted, (0, 1), false)"),
+    const CALLS: &[(QueueCall, &str, &str)] = &[
+        (QueueCall::Halt, "Ok(Some(2))", "(Halted, (2, 2), false)"),
+        (QueueCall::Arrive(2, 3), "Ok(())", "(Halted, (2, 3), false)"),
+        (QueueCall::Clear, "Ok(3)", "(Halted, (0, 0), false)"),
+        (QueueCall::Arrive(3, 4), "Ok(())", "(Halted, (0, 1), false)"),
         (
-            Call::Receive(Pattern::Any, None),
+            QueueCall::Receive(Pattern::Any, None),
             "Ok(None)",
             "(Halted, (0, 1), false)",
         ),
-        (Call::Stop, "Ok(())", "(Stopped, (0, 1), false)"),
-        (Call::Halt, "Ok(None)", "(Stopped, (0, 1), false)"),
+        (QueueCall::Stop, "Ok(())", "(Stopped, (0, 1), false)"),
+        (QueueCall::Halt, "Ok(None)", "(Stopped, (0, 1), false)"),
     ];
     let queue = answered(&rt, CALLS);
     assert!(rt; queue.events().len() == 8);

@@ -3,8 +3,8 @@
 use crate::writers::Short;
 use std::alloc::Global;
 use std::process::Abort;
+use tp_event::event::{Env, TriggerAnswer};
 use tp_port::port_queue::PortQueue;
-use tp_queue::event::{Env, TriggerAnswer};
 use tp_refusal::memory::Memory;
 use tp_text::watched::Watched;
 use tp_value::equal::are_equal;

@@ -3,7 +3,7 @@
 //! Whoever waits does so in a thread of its own. A test looks so many times, and no more, whether
 //! it rests; where nobody is woken the test doesn't end, and fails by its limit of time.
 use crate::configurations::star;
-use crate::ends::{Ends, Mailbox, ends_of, floor_of, stamped, two};
+use crate::ends::{InboxEnds, Mailbox, ends_of, floor_of, stamped, two};
 use std::alloc::Global;
 use std::process::Abort;
 use std::sync::{Arc, Wait};
@@ -121,7 +121,7 @@ fn woken<R: Threads + Wait + Sync>(
 /// Asserts what a behaviour finds that is woken so.
 fn is_woken<R: AllocGlobal + Abort + Threads + Wait + Sync>(rt: &R, waking: Waking, found: Woken) {
     let (ends, floor) = two(rt, ["p"].as_slice());
-    let Ends {
+    let InboxEnds {
         mut mailbox,
         mut senders,
         closer,
@@ -188,7 +188,7 @@ fn answerer_of<R: AllocGlobal + Abort>(
     floor: &Arc<Floor, Global>,
     answer: Option<Sender>,
 ) -> Answerer {
-    let Ends {
+    let InboxEnds {
         mailbox,
         mut senders,
         closer,
@@ -291,7 +291,7 @@ fn three<R: Threads + Wait + Sync>(
 fn last_where_all_others_rest(rt: HostRuntime) {
     let config = star(&rt);
     let floor = floor_of(&rt, 3);
-    let Ends {
+    let InboxEnds {
         mut mailbox,
         mut senders,
         closer,

@@ -6,7 +6,7 @@ use Rattle.std.proofs.Math.Seq.{take-add}
 use Rattle.std.proofs.Math.Nat.{eq-or-lt_of_le, mul_assoc, pow-suc}
 use Rattle.tp_text.specs.declared.text.ReadFault.{ReadFault}
 use Rattle.tp_text.specs.declared.text.ReadFault.TheVariants as read
-use Rattle.tp_text.specs.Reading.{EndsAt, IsFull, IsRoom}
+use Rattle.tp_text.specs.Reading.{EndsAt, IsCapacity, IsRoom}
 
 -- a read behind the bytes that were taken took more
 pub taken_more : (a b c : Option (List ℕ)) (old new : List ℕ) (size count : ℕ) → Consumes a b (take size old) → take size new ≡ take size old
@@ -20,9 +20,9 @@ within_or_most n most =
     let within : min n most ≤ most = omega arith in
     elim (eq-or-lt_of_le within) [ inl long ↦ inr long | inr short ↦ inl (omega (arith, short)) ]
 
-least_room : (limit n more : ℕ) → IsFull n → more ≡ min n (limit + 1) → IsRoom limit more
+least_room : (limit n more : ℕ) → IsCapacity n → more ≡ min n (limit + 1) → IsRoom limit more
 least_room limit n more full is =
-    elim (within_or_most n (limit + 1)) [ inl short ↦ inl (subst IsFull (sym (is ∙ short)) full) | inr long ↦ inr (is ∙ long) ]
+    elim (within_or_most n (limit + 1)) [ inl short ↦ inl (subst IsCapacity (sym (is ∙ short)) full) | inr long ↦ inr (is ∙ long) ]
 
 -- the first room
 pub first_room : (limit more : ℕ) → more ≡ min 8192 (limit + 1) → IsRoom limit more
@@ -42,7 +42,7 @@ either_room limit true more size grown kept = grown
 either_room limit false more size grown kept = kept
 
 -- an end that isn't the limit
-pub ends_before : (limit : ℕ) (fault : ReadFault) (size : ℕ) → size ≤ limit → fault ≢ read.Limit → (fault ≡ read.Memory → IsFull size)
+pub ends_before : (limit : ℕ) (fault : ReadFault) (size : ℕ) → size ≤ limit → fault ≢ read.Limit → (fault ≡ read.Memory → IsCapacity size)
     → EndsAt limit (Some fault) size
 ends_before limit read.Read size few other full = few
 ends_before limit read.Limit size few other full = absurd (other refl)

@@ -34,6 +34,6 @@ abbrev pub lacks : ℕ → List ℕ → Bool
 lacks c bytes = list_all (λ b. not (b == c)) bytes
 
 -- a space, and what stands behind it, if anything does
-abbrev pub behind : Option (List ℕ) → List ℕ
-behind None = []
-behind (Some rest) = 32 ∷ rest
+abbrev pub after_space : Option (List ℕ) → List ℕ
+after_space None = []
+after_space (Some rest) = 32 ∷ rest

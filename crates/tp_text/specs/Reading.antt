@@ -5,12 +5,12 @@ use Rattle.tp_text.specs.declared.text.ReadFault.{ReadFault}
 use Rattle.tp_text.specs.declared.text.ReadFault.TheVariants as read_fault
 
 -- so many bytes fill the room that there is for them: none, and 8,192 doubled some times
-abbrev pub IsFull : ℕ → Type 0
-IsFull n = (n ≡ 0) ⊎ ((k : ℕ) × (n ≡ 8192 * 2 ^ k))
+abbrev pub IsCapacity : ℕ → Type 0
+IsCapacity n = (n ≡ 0) ⊎ ((k : ℕ) × (n ≡ 8192 * 2 ^ k))
 
 -- there is room for so many bytes: doubled each time, up to one more than the limit
 abbrev pub IsRoom : ℕ → ℕ → Type 0
-IsRoom limit n = IsFull n ⊎ (n ≡ limit + 1)
+IsRoom limit n = IsCapacity n ⊎ (n ≡ limit + 1)
 
 -- so many bytes are taken where reading ends with this fault, or with none: one more than the limit exactly where there
 -- are too many, and want of memory comes only where the room is full
@@ -18,7 +18,7 @@ abbrev pub EndsAt : ℕ → Option ReadFault → ℕ → Type 0
 EndsAt limit None n = n ≤ limit
 EndsAt limit (Some read_fault.Read) n = n ≤ limit
 EndsAt limit (Some read_fault.Limit) n = n ≡ limit + 1
-EndsAt limit (Some read_fault.Memory) n = (n ≤ limit) × IsFull n
+EndsAt limit (Some read_fault.Memory) n = (n ≤ limit) × IsCapacity n
 
 -- reading within this limit takes bytes off the front of what the reader has, where that is known, and ends with this
 -- fault, or with none

@@ -8,8 +8,8 @@ abbrev pub HasFailed : {T : Type 0} → Watched T → Type 0
 HasFailed w = IsTrue w.failed
 
 -- what the reader has left, where that is known
-abbrev pub left_in : {R : Type 0} → (R → Option (List ℕ)) → Watched R → Option (List ℕ)
-left_in remaining r = remaining r.inner
+abbrev pub reader_left : {R : Type 0} → (R → Option (List ℕ)) → Watched R → Option (List ℕ)
+reader_left remaining r = remaining r.inner
 
 -- what the writer holds, where that is known
 abbrev pub held_by : {W : Type 0} → (W → Option (List ℕ)) → Watched W → Option (List ℕ)

@@ -2,7 +2,7 @@
 ghost use Rattle.std.specs.Prelude.{◌≡◌, ◌∷◌, ◌++◌, ◌<◌, ◌==◌, MatchOption, length, position, true};
 ghost use Rattle.std.specs.Option.{option_copied};
 ghost use Rattle.std.specs.Str.{IsUtf8};
-ghost use Rattle.tp_text.specs.Cutting.{IsFrontOf, IsLeftOf, behind, lacks, lines_of, words_after, words_of};
+ghost use Rattle.tp_text.specs.Cutting.{IsFrontOf, IsLeftOf, after_space, lacks, lines_of, words_after, words_of};
 
 use std::str;
 
@@ -34,7 +34,7 @@ pub fn first_line(text: &[u8]) -> (&[u8], &[u8])
 /// A word has no space; it is empty where the line is, or begins with one. Takes no memory.
 pub fn first_word(line: &[u8]) -> (&[u8], Option<&[u8]>)
     ensures words { words_of line.now ≡ result.0.now ∷ words_after (option_copied result.1) }
-    ensures parts { line.now ≡ result.0.now ++ behind (option_copied result.1) }
+    ensures parts { line.now ≡ result.0.now ++ after_space (option_copied result.1) }
     ensures word { lacks 32 result.0.now ≡ true }
 {
     match find_byte(b' ', line) {
@@ -44,7 +44,7 @@ pub fn first_word(line: &[u8]) -> (&[u8], Option<&[u8]>)
 }
 
 /// The text that bytes are, and `None` exactly where they aren't UTF-8. Takes no memory.
-pub fn text_of(bytes: &[u8]) -> Option<&str>
+pub fn utf8_text(bytes: &[u8]) -> Option<&str>
     ensures { MatchOption result (¬ IsUtf8 bytes.now) (λ text. text.now ≡ bytes.now) }
 {
     match str::from_utf8(bytes) {

@@ -3,8 +3,8 @@ ghost use Rattle.std.specs.Prelude.{◌≡◌, ◌≢◌, ◌+◌, ◌<◌, ◌�
 ghost use Rattle.std.specs.Result.{result_err};
 ghost use Rattle.std.specs.Io.KnownBytes.{Consumes, IsAtEnd, Keeps};
 ghost use Rattle.tp_text.specs.declared.text.ReadFault.TheVariants as read_fault;
-ghost use Rattle.tp_text.specs.Reading.{IsFull, IsRoom, TakesBytes, TakesWithin};
-ghost use Rattle.tp_text.specs.Watching.{HasFailed, left_in};
+ghost use Rattle.tp_text.specs.Reading.{IsCapacity, IsRoom, TakesBytes, TakesWithin};
+ghost use Rattle.tp_text.specs.Watching.{HasFailed, reader_left};
 
 use crate::watched::Watched;
 use std::alloc::{AllocError, Global};
@@ -36,13 +36,13 @@ pub enum ReadFault {
 /// put back.
 pub fn read_text<R: Read>(alloc: Global, reader: &mut Watched<R>) -> Result<Vec<u8>, ReadFault>
     ensures whole { IfOk result (λ text.
-        IfSome (left_in R.remaining reader.old) (λ all. text.items ≡ all)) }
-    ensures end { OnOk result (IsAtEnd (left_in R.remaining reader.new)) }
+        IfSome (reader_left R.remaining reader.old) (λ all. text.items ≡ all)) }
+    ensures end { OnOk result (IsAtEnd (reader_left R.remaining reader.new)) }
     ensures short { IfOk result (λ text. length text.items ≤ 1048576) }
     ensures long { result ≡ Err read_fault.Limit
-        → IfSome (left_in R.remaining reader.old) (λ all. 1048576 < length all) }
-    ensures taken { TakesBytes
-        (left_in R.remaining reader.old) (left_in R.remaining reader.new) (result_err result) }
+        → IfSome (reader_left R.remaining reader.old) (λ all. 1048576 < length all) }
+    ensures taken { TakesBytes (reader_left R.remaining reader.old)
+        (reader_left R.remaining reader.new) (result_err result) }
     ensures failed { result ≡ Err read_fault.Read → HasFailed reader.new }
 {
     read_up_to(alloc, reader, TEXT_LIMIT)
@@ -57,13 +57,13 @@ pub fn read_within<R: Read>(
     limit: u32,
 ) -> Result<Vec<u8>, ReadFault>
     ensures whole { IfOk result (λ text.
-        IfSome (left_in R.remaining reader.old) (λ all. text.items ≡ all)) }
-    ensures end { OnOk result (IsAtEnd (left_in R.remaining reader.new)) }
+        IfSome (reader_left R.remaining reader.old) (λ all. text.items ≡ all)) }
+    ensures end { OnOk result (IsAtEnd (reader_left R.remaining reader.new)) }
     ensures short { IfOk result (λ text. length text.items ≤ limit) }
     ensures long { result ≡ Err read_fault.Limit
-        → IfSome (left_in R.remaining reader.old) (λ all. limit < length all) }
-    ensures taken { TakesWithin limit
-        (left_in R.remaining reader.old) (left_in R.remaining reader.new) (result_err result) }
+        → IfSome (reader_left R.remaining reader.old) (λ all. limit < length all) }
+    ensures taken { TakesWithin limit (reader_left R.remaining reader.old)
+        (reader_left R.remaining reader.new) (result_err result) }
     ensures failed { result ≡ Err read_fault.Read → HasFailed reader.new }
 {
     read_up_to(alloc, reader, limit as usize)
@@ -77,13 +77,13 @@ fn read_up_to<R: Read>(
 ) -> Result<Vec<u8>, ReadFault>
     requires { limit < 2 ^ 62 }
     ensures whole { IfOk result (λ text.
-        IfSome (left_in R.remaining reader.old) (λ all. text.items ≡ all)) }
-    ensures end { OnOk result (IsAtEnd (left_in R.remaining reader.new)) }
+        IfSome (reader_left R.remaining reader.old) (λ all. text.items ≡ all)) }
+    ensures end { OnOk result (IsAtEnd (reader_left R.remaining reader.new)) }
     ensures short { IfOk result (λ text. length text.items ≤ limit) }
     ensures long { result ≡ Err read_fault.Limit
-        → IfSome (left_in R.remaining reader.old) (λ all. limit < length all) }
-    ensures taken { TakesWithin limit
-        (left_in R.remaining reader.old) (left_in R.remaining reader.new) (result_err result) }
+        → IfSome (reader_left R.remaining reader.old) (λ all. limit < length all) }
+    ensures taken { TakesWithin limit (reader_left R.remaining reader.old)
+        (reader_left R.remaining reader.new) (result_err result) }
     ensures failed { result ≡ Err read_fault.Read → HasFailed reader.new }
 {
     let mut text = Vec::new(alloc);
@@ -119,14 +119,14 @@ fn read_more<R: Read>(
     ensures most { vec_len text.new ≤ limit + 1 }
     ensures doubled { IsRoom limit (vec_len text.new) }
     ensures more { IfOk result (λ count. Consumes
-        (left_in R.remaining reader.old)
-        (left_in R.remaining reader.new)
+        (reader_left R.remaining reader.old)
+        (reader_left R.remaining reader.new)
         (take count (drop size text.new.items))) }
-    ensures end { IfOk result (λ count. count ≡ 0 → IsAtEnd (left_in R.remaining reader.new)) }
-    ensures kept { OnErr result (Keeps (left_in R.remaining reader.old)
-        (left_in R.remaining reader.new)) }
+    ensures end { IfOk result (λ count. count ≡ 0 → IsAtEnd (reader_left R.remaining reader.new)) }
+    ensures kept { OnErr result (Keeps (reader_left R.remaining reader.old)
+        (reader_left R.remaining reader.new)) }
     ensures fault { IfErr result (λ fault. fault ≢ ReadFault.Limit) }
-    ensures full { IfErr result (λ fault. fault ≡ ReadFault.Memory → IsFull size) }
+    ensures full { IfErr result (λ fault. fault ≡ ReadFault.Memory → IsCapacity size) }
     ensures failed { IfErr result (λ fault. fault ≡ ReadFault.Read → HasFailed reader.new) }
 {
     if make_room(text, size, limit).is_err() {
@@ -145,12 +145,12 @@ fn read_behind<R: Read>(
     ensures front { take size text.new ≡ take size text.old }
     ensures within { IfOk result (λ count. size + count ≤ length text.new) }
     ensures more { IfOk result (λ count. Consumes
-        (left_in R.remaining reader.old)
-        (left_in R.remaining reader.new)
+        (reader_left R.remaining reader.old)
+        (reader_left R.remaining reader.new)
         (take count (drop size text.new))) }
-    ensures end { IfOk result (λ count. count ≡ 0 → IsAtEnd (left_in R.remaining reader.new)) }
-    ensures kept { OnErr result (Keeps (left_in R.remaining reader.old)
-        (left_in R.remaining reader.new)) }
+    ensures end { IfOk result (λ count. count ≡ 0 → IsAtEnd (reader_left R.remaining reader.new)) }
+    ensures kept { OnErr result (Keeps (reader_left R.remaining reader.old)
+        (reader_left R.remaining reader.new)) }
     ensures fault { IfErr result (λ fault. fault ≡ ReadFault.Read) }
     ensures failed { OnErr result (HasFailed reader.new) }
 {
@@ -162,10 +162,11 @@ fn read_again<R: Read>(reader: &mut Watched<R>, part: &mut [u8]) -> Result<usize
     requires { 0 < length part.old }
     ensures within { IfOk result (λ count. count ≤ length part.new) }
     ensures more { IfOk result (λ count.
-        Consumes (left_in R.remaining reader.old) (left_in R.remaining reader.new) (take count part.new)) }
-    ensures end { IfOk result (λ count. count ≡ 0 → IsAtEnd (left_in R.remaining reader.new)) }
-    ensures kept { OnErr result (Keeps (left_in R.remaining reader.old)
-        (left_in R.remaining reader.new)) }
+        Consumes (reader_left R.remaining reader.old)
+        (reader_left R.remaining reader.new) (take count part.new)) }
+    ensures end { IfOk result (λ count. count ≡ 0 → IsAtEnd (reader_left R.remaining reader.new)) }
+    ensures kept { OnErr result (Keeps (reader_left R.remaining reader.old)
+        (reader_left R.remaining reader.new)) }
     ensures fault { IfErr result (λ fault. fault ≡ ReadFault.Read) }
     ensures failed { OnErr result (HasFailed reader.new) }
 {
@@ -192,7 +193,7 @@ fn make_room(text: &mut Vec<u8>, size: usize, limit: usize) -> Result<(), AllocE
     ensures front { take size text.new.items ≡ take size text.old.items }
     ensures within { size ≤ vec_len text.new }
     ensures room { OnOk result (size < vec_len text.new) }
-    ensures full { OnErr result (IsFull size) }
+    ensures full { OnErr result (IsCapacity size) }
     ensures most { vec_len text.new ≤ limit + 1 }
     ensures doubled { IsRoom limit (vec_len text.new) }
 {

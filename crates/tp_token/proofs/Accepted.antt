@@ -9,21 +9,21 @@ use Rattle.tp_token.specs.Byte.{is_printable}
 use Rattle.tp_token.specs.Lexeme.{Lexeme, name, word, number, text, symbol, PlacedLexeme}
 use Rattle.tp_token.specs.Spelling.{Run, doubled}
 use Rattle.tp_token.specs.Cut.{Piece, blank, line_comment, block_comment, token, piece_bytes, IsPiece, Cuts, tokens_in, newlines}
-use Rattle.tp_token.specs.Fault.{AreWithinLimits, GoodTextsAreAccepted, HasOpenText, IsBroken, IsFaulty, IsWithinLimits}
+use Rattle.tp_token.specs.Fault.{AreWithinLimits, GoodTextsAreAccepted, HasOpenText, HasNoTextByte, IsFaulty, IsWithinLimits}
 use Rattle.tp_token.proofs.Longest.{closed, form, quote_is}
 use Rattle.tp_token.proofs.Unique.{heads, tails, piece_same, piece_some}
 use Rattle.tp_token.proofs.Faults.{front_kind, piece_front}
 
 -- ---- a text that isn't closed
 
-broken_byte : (b : ℕ) (more x : List ℕ) → IsBroken more → more ≡ b ∷ x → is_printable b ≡ true → ⊥
+broken_byte : (b : ℕ) (more x : List ℕ) → HasNoTextByte more → more ≡ b ∷ x → is_printable b ≡ true → ⊥
 broken_byte b [] x h e p = cc
 broken_byte b (c ∷ more) x h e p =
     let clash : true ≡ false = sym p ∙ ap is_printable (sym (heads c b more x e)) ∙ h in
     cc
 
 -- where a text that isn't closed seems to end, another one begins that isn't
-open_on : (t w more m : List ℕ) → Run is_printable t → Run is_printable w → IsBroken more → doubled t ++ more ≡ closed w ++ m → HasOpenText m
+open_on : (t w more m : List ℕ) → Run is_printable t → Run is_printable w → HasNoTextByte more → doubled t ++ more ≡ closed w ++ m → HasOpenText m
 open_on [] [] more m r q h e = absurd (broken_byte 34 more m h e refl)
 open_on [] (b ∷ w) more m r q h e = elim (form b w) [
   | inl (eq, f) ↦ absurd (broken_byte 34 more (34 ∷ (closed w ++ m)) h (e ∙ ap (λ (x : List ℕ). x ++ m) f) refl)

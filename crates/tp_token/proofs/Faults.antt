@@ -11,11 +11,11 @@ use Rattle.tp_token.specs.declared.fault.ScriptFault.{ScriptFault}
 use Rattle.tp_token.specs.declared.fault.ScriptFault.TheVariants.{Refused, Memory}
 use Rattle.tp_token.specs.declared.byte.Kind.{Kind}
 use Rattle.tp_token.specs.declared.byte.Kind.TheVariants.{Letter, Digit, Underscore, Quote, Blank, Other}
-use Rattle.tp_token.specs.Byte.{kind_of, is_word_byte, is_printable, between, in_word}
+use Rattle.tp_token.specs.Byte.{byte_kind, is_word_byte, is_printable, between, in_word}
 use Rattle.tp_token.specs.Lexeme.{Lexeme, name, word, number, text, symbol}
 use Rattle.tp_token.specs.Spelling.{Run, doubled, IsSpelled, value_on}
-use Rattle.tp_token.specs.Cut.{Piece, blank, line_comment, block_comment, token, piece_bytes, HasNoEnd, IsPiece, BeginsWith, TokenAt, Cuts, tokens_in, line_after}
-use Rattle.tp_token.specs.Fault.{AreWithinLimits, IsRefused, HasNoSymbol, IsBroken, IsFaultAt, IsFaulty, IsOpenText, IsUnclosed, IsWithinLimits}
+use Rattle.tp_token.specs.Cut.{Piece, blank, line_comment, block_comment, token, piece_bytes, HasNoEnd, IsPiece, BeginsAs, TokenAt, Cuts, tokens_in, line_after}
+use Rattle.tp_token.specs.Fault.{AreWithinLimits, IsRefused, HasNoSymbol, HasNoTextByte, IsFaultAt, IsFaulty, IsOpenText, IsUnclosed, IsWithinLimits}
 use Rattle.tp_token.proofs.Longest.{first_kind, spelled_kind}
 use Rattle.tp_token.proofs.Pieces.{ends, quote_byte}
 use Rattle.tp_token.proofs.Unique.{heads, tails, spelled_some, slash_kind, slash_token}
@@ -27,15 +27,15 @@ front_kind (line_comment bs) = Other
 front_kind (block_comment bs) = Other
 front_kind (token l bs) = first_kind l
 
-token_front : (l : Lexeme) (cs r : List ℕ) (b : ℕ) (bs : List ℕ) → IsSpelled l cs → b ∷ bs ≡ cs ++ r → kind_of b ≡ first_kind l
+token_front : (l : Lexeme) (cs r : List ℕ) (b : ℕ) (bs : List ℕ) → IsSpelled l cs → b ∷ bs ≡ cs ++ r → byte_kind b ≡ first_kind l
 token_front l [] r b bs h e = absurd (spelled_some l h)
-token_front l (c ∷ cs) r b bs h e = ap kind_of (heads b c bs (cs ++ r) e) ∙ spelled_kind l c cs h
+token_front l (c ∷ cs) r b bs h e = ap byte_kind (heads b c bs (cs ++ r) e) ∙ spelled_kind l c cs h
 
-pub piece_front : (p : Piece) (r : List ℕ) (b : ℕ) (bs : List ℕ) → IsPiece p r → b ∷ bs ≡ piece_bytes p ++ r → kind_of b ≡ front_kind p
+pub piece_front : (p : Piece) (r : List ℕ) (b : ℕ) (bs : List ℕ) → IsPiece p r → b ∷ bs ≡ piece_bytes p ++ r → byte_kind b ≡ front_kind p
 unfolding front_kind
-piece_front (blank a) r b bs h e = ap kind_of (heads b a bs r e) ∙ h
-piece_front (line_comment cs) r b bs h e = ap kind_of (heads b 47 bs (47 ∷ (cs ++ r)) e) ∙ slash_kind
-piece_front (block_comment cs) r b bs h e = ap kind_of (heads b 47 bs (42 ∷ ((cs ++ 42 ∷ 47 ∷ []) ++ r)) e) ∙ slash_kind
+piece_front (blank a) r b bs h e = ap byte_kind (heads b a bs r e) ∙ h
+piece_front (line_comment cs) r b bs h e = ap byte_kind (heads b 47 bs (47 ∷ (cs ++ r)) e) ∙ slash_kind
+piece_front (block_comment cs) r b bs h e = ap byte_kind (heads b 47 bs (42 ∷ ((cs ++ 42 ∷ 47 ∷ []) ++ r)) e) ∙ slash_kind
 piece_front (token l cs) r b bs h e = token_front l cs r b bs h.0 e
 
 some_bytes : (b : ℕ) (bs : List ℕ) → b ∷ bs ≢ []
@@ -54,13 +54,13 @@ never (token (number n) bs) e = cc
 never (token (text t) bs) e = cc
 never (token (symbol x) bs) e = cc
 
-pub no_underscore : (bytes : List ℕ) → BeginsWith Underscore bytes → IsFaulty Syntax bytes
+pub no_underscore : (bytes : List ℕ) → BeginsAs Underscore bytes → IsFaulty Syntax bytes
 no_underscore [] h = absurd h
 no_underscore (b ∷ bs) h = (some_bytes b bs, inl (refl, λ p r i e. never p (sym h ∙ piece_front p r b bs i e)))
 
 -- ---- a byte of no symbol
 
-other_piece : (p : Piece) (r : List ℕ) (b : ℕ) (bs : List ℕ) → kind_of b ≡ Other → b ≢ 47 → HasNoSymbol (b ∷ bs) → IsPiece p r → b ∷ bs ≡ piece_bytes p ++ r → ⊥
+other_piece : (p : Piece) (r : List ℕ) (b : ℕ) (bs : List ℕ) → byte_kind b ≡ Other → b ≢ 47 → HasNoSymbol (b ∷ bs) → IsPiece p r → b ∷ bs ≡ piece_bytes p ++ r → ⊥
 unfolding front_kind
 other_piece (blank a) r b bs k ne sy i e = let clash : Other ≡ Blank = sym k ∙ piece_front (blank a) r b bs i e in cc
 other_piece (line_comment cs) r b bs k ne sy i e = ne (heads b 47 bs (47 ∷ (cs ++ r)) e)
@@ -71,7 +71,7 @@ other_piece (token (number n) cs) r b bs k ne sy i e = let clash : Other ≡ Dig
 other_piece (token (text t) cs) r b bs k ne sy i e = let clash : Other ≡ Quote = sym k ∙ piece_front (token (text t) cs) r b bs i e in cc
 other_piece (token (symbol x) cs) r b bs k ne sy i e = sy x r (e ∙ ap (λ (z : List ℕ). z ++ r) i.0)
 
-pub no_symbol : (bytes : List ℕ) → BeginsWith Other bytes → get_or bytes 0 0 ≢ 47 → HasNoSymbol bytes → IsFaulty Syntax bytes
+pub no_symbol : (bytes : List ℕ) → BeginsAs Other bytes → get_or bytes 0 0 ≢ 47 → HasNoSymbol bytes → IsFaulty Syntax bytes
 no_symbol [] h ne sy = absurd h
 no_symbol (b ∷ bs) h ne sy = (some_bytes b bs, inl (refl, λ p r i e. other_piece p r b bs h ne sy i e))
 
@@ -125,12 +125,12 @@ no_end_all (b ∷ c ∷ bs) none =
 
 -- ---- texts
 
-broken_at : (bytes : List ℕ) (at : ℕ) → at < length bytes → is_printable (get_or bytes at 0) ≡ false → IsBroken (drop at bytes)
+broken_at : (bytes : List ℕ) (at : ℕ) → at < length bytes → is_printable (get_or bytes at 0) ≡ false → HasNoTextByte (drop at bytes)
 broken_at [] at lt h = absurd (omega arith)
 broken_at (b ∷ bs) zero lt h = h
 broken_at (b ∷ bs) (suc at) lt h = let below : at < length bs = omega arith in broken_at bs at below h
 
-broken_end : (bytes : List ℕ) (at : ℕ) → length bytes ≤ at → IsBroken (drop at bytes)
+broken_end : (bytes : List ℕ) (at : ℕ) → length bytes ≤ at → HasNoTextByte (drop at bytes)
 broken_end [] zero h = tt
 broken_end [] (suc at) h = tt
 broken_end (b ∷ bs) zero h = absurd (omega arith)
@@ -146,7 +146,7 @@ open_at bytes t at e r lt h = (t, drop at bytes, parts bytes t at e, r, broken_a
 pub open_end : (bytes t : List ℕ) (at : ℕ) → take at bytes ≡ doubled t → Run is_printable t → length bytes ≤ at → IsOpenText bytes
 open_end bytes t at e r h = (t, drop at bytes, parts bytes t at e, r, broken_end bytes at h)
 
-pub open_text : (bytes : List ℕ) → BeginsWith Quote bytes → IsOpenText (drop 1 bytes) → IsFaulty Syntax bytes
+pub open_text : (bytes : List ℕ) → BeginsAs Quote bytes → IsOpenText (drop 1 bytes) → IsFaulty Syntax bytes
 open_text [] h o = absurd h
 open_text (b ∷ bs) h o = (some_bytes b bs, inr (inl (refl, (bs, ap (λ (z : ℕ). z ∷ bs) (quote_byte b h), o))))
 
@@ -182,7 +182,7 @@ not_word false true e = cc
 not_word false false e = cc
 
 word_ascii : (b : ℕ) → is_word_byte b ≡ true → b < 128
-unfolding kind_of
+unfolding byte_kind
 word_ascii b h = elim (leb_tells 128 b) [
   | inr (test, lt) ↦ lt
   | inl (test, le) ↦
@@ -217,11 +217,11 @@ refused_limit bytes line f e h = subst (λ (z : ScriptFault). IsFaultAt bytes li
 pub refused_open : (bytes : List ℕ) (line : ℕ) (f : ScriptFault) → f ≡ Refused Syntax line → IsOpenText bytes → IsUnclosed bytes line f
 refused_open bytes line f e h = subst (λ (z : ScriptFault). IsUnclosed bytes line z) (sym e) (refl, refl, h)
 
-pub refused_text : (bytes : List ℕ) (line : ℕ) (f : ScriptFault) → BeginsWith Quote bytes → IsUnclosed (drop 1 bytes) line f → IsFaultAt bytes line f
+pub refused_text : (bytes : List ℕ) (line : ℕ) (f : ScriptFault) → BeginsAs Quote bytes → IsUnclosed (drop 1 bytes) line f → IsFaultAt bytes line f
 refused_text bytes line (Refused r n) q h = (h.0, subst (λ (z : TextRule). IsFaulty z bytes) (sym h.1) (open_text bytes q h.2))
 refused_text bytes line (Memory m) q h = tt
 
-pub starts_kind : (k : Kind) (bytes : List ℕ) → 0 < length bytes → k ≡ kind_of (get_or bytes 0 0) → BeginsWith k bytes
+pub starts_kind : (k : Kind) (bytes : List ℕ) → 0 < length bytes → k ≡ byte_kind (get_or bytes 0 0) → BeginsAs k bytes
 starts_kind k [] lt e = absurd (omega arith)
 starts_kind k (b ∷ bs) lt e = sym e
 

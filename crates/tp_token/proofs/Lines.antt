@@ -5,7 +5,7 @@ use Rattle.std.proofs.lemmas.Bool.Decides.{eqb_tells}
 use Rattle.tp_token.specs.declared.token.Symbol.{Symbol}
 use Rattle.tp_token.specs.declared.token.Symbol.TheVariants as s
 use Rattle.tp_token.specs.declared.token.Token.{Token}
-use Rattle.tp_token.specs.Byte.{kind_of, is_word_byte, is_digit, is_printable}
+use Rattle.tp_token.specs.Byte.{byte_kind, is_word_byte, is_digit, is_printable}
 use Rattle.tp_token.specs.Lexeme.{Lexeme, name, word, number, text, symbol, lexeme_of}
 use Rattle.tp_token.specs.Spelling.{Run, IsSpelled, symbol_spelling}
 use Rattle.tp_token.specs.Cut.{Piece, blank, line_comment, block_comment, token, IsPiece, piece_bytes, token_of, newlines, PieceAt}
@@ -20,11 +20,11 @@ run_lines p fails (b ∷ bs) r = elim (eqb_tells b 10) [
 ]
 
 word_lines : is_word_byte 10 ≡ false
-unfolding kind_of
+unfolding byte_kind
 word_lines = refl
 
 digit_lines : is_digit 10 ≡ false
-unfolding kind_of
+unfolding byte_kind
 digit_lines = refl
 
 -- what stands between quotes, and its closing quote, are characters of texts

@@ -7,8 +7,8 @@ use Rattle.tp_token.specs.declared.token.Symbol.TheVariants as s
 use Rattle.tp_token.specs.Lexeme.{Lexeme, name, word, number, text, symbol}
 use Rattle.tp_token.specs.declared.byte.Kind.{Kind}
 use Rattle.tp_token.specs.declared.byte.Kind.TheVariants.{Letter, Digit, Underscore, Quote, Blank, Other}
-use Rattle.tp_token.specs.Byte.{kind_of, is_word_byte, is_digit, is_digit_kind, in_word, is_quote}
-use Rattle.tp_token.specs.Cut.{StopsAt, IsLongest, BeginsWith, TokenAt}
+use Rattle.tp_token.specs.Byte.{byte_kind, is_word_byte, is_digit, is_digit_kind, in_word, is_quote}
+use Rattle.tp_token.specs.Cut.{StopsAt, IsLongest, BeginsAs, TokenAt}
 use Rattle.tp_token.specs.Spelling.{Run, IsWord, IsNumber, IsSpelled, symbol_spelling, doubled, value_on}
 use Rattle.tp_token.proofs.Runs.{run_longest, run_front, run_stops}
 use Rattle.std.proofs.lemmas.List.Sums.{prefix_len-le-length}
@@ -20,8 +20,8 @@ first_kind (number n) = Digit
 first_kind (text t) = Quote
 first_kind (symbol s) = Other
 
-symbol_kind : (x : Symbol) (b : ℕ) (bs : List ℕ) → b ∷ bs ≡ symbol_spelling x → kind_of b ≡ Other
-unfolding kind_of
+symbol_kind : (x : Symbol) (b : ℕ) (bs : List ℕ) → b ∷ bs ≡ symbol_spelling x → byte_kind b ≡ Other
+unfolding byte_kind
 symbol_kind s.LeftBrace b bs e = let at : b ≡ 123 = cc in rw at
 symbol_kind s.RightBrace b bs e = let at : b ≡ 125 = cc in rw at
 symbol_kind s.LeftParen b bs e = let at : b ≡ 40 = cc in rw at
@@ -49,14 +49,14 @@ digit_from Quote e = absurd cc
 digit_from Blank e = absurd cc
 digit_from Other e = absurd cc
 
-quote_kind : (b : ℕ) → b ≡ 34 → kind_of b ≡ Quote
-unfolding kind_of
+quote_kind : (b : ℕ) → b ≡ 34 → byte_kind b ≡ Quote
+unfolding byte_kind
 quote_kind b e = rw e
 
-pub spelled_kind : (l : Lexeme) (b : ℕ) (bs : List ℕ) → IsSpelled l (b ∷ bs) → kind_of b ≡ first_kind l
+pub spelled_kind : (l : Lexeme) (b : ℕ) (bs : List ℕ) → IsSpelled l (b ∷ bs) → byte_kind b ≡ first_kind l
 spelled_kind (name n) b bs h = h.0.0
 spelled_kind (word w) b bs h = h.0.0
-spelled_kind (number n) b bs h = digit_from (kind_of b) h.0.0
+spelled_kind (number n) b bs h = digit_from (byte_kind b) h.0.0
 spelled_kind (text t) b bs h = let e = h.0 in quote_kind b (cc)
 spelled_kind (symbol x) b bs h = symbol_kind x b bs h
 
@@ -82,29 +82,29 @@ digit_run (number n) bs k h = h.0
 digit_run (text t) bs k h = absurd cc
 digit_run (symbol x) bs k h = absurd cc
 
-pub word_longest : (b : ℕ) (bs rest : List ℕ) → kind_of b ≡ Letter → StopsAt is_word_byte rest → IsLongest (b ∷ bs) rest
+pub word_longest : (b : ℕ) (bs rest : List ℕ) → byte_kind b ≡ Letter → StopsAt is_word_byte rest → IsLongest (b ∷ bs) rest
 word_longest b bs rest k st l [] more sp e = zero-le
 word_longest b bs rest k st l (c ∷ cs) more sp e =
     let same : b ≡ c = cc in
-    let kind : first_kind l ≡ Letter = sym (spelled_kind l c cs sp) ∙ ap kind_of (sym same) ∙ k in
+    let kind : first_kind l ≡ Letter = sym (spelled_kind l c cs sp) ∙ ap byte_kind (sym same) ∙ k in
     run_longest is_word_byte (b ∷ bs) (c ∷ cs) rest more (letter_run l (c ∷ cs) kind sp) st e
 
-pub number_longest : (b : ℕ) (bs rest : List ℕ) → kind_of b ≡ Digit → StopsAt is_digit rest → IsLongest (b ∷ bs) rest
+pub number_longest : (b : ℕ) (bs rest : List ℕ) → byte_kind b ≡ Digit → StopsAt is_digit rest → IsLongest (b ∷ bs) rest
 number_longest b bs rest k st l [] more sp e = zero-le
 number_longest b bs rest k st l (c ∷ cs) more sp e =
     let same : b ≡ c = cc in
-    let kind : first_kind l ≡ Digit = sym (spelled_kind l c cs sp) ∙ ap kind_of (sym same) ∙ k in
+    let kind : first_kind l ≡ Digit = sym (spelled_kind l c cs sp) ∙ ap byte_kind (sym same) ∙ k in
     run_longest is_digit (b ∷ bs) (c ∷ cs) rest more (number_run (c ∷ cs) (digit_run l (c ∷ cs) kind sp)) st e
 
-zero_kind : kind_of 48 ≡ Digit
-unfolding kind_of
+zero_kind : byte_kind 48 ≡ Digit
+unfolding byte_kind
 zero_kind = refl
 
 pub zero_longest : (rest : List ℕ) → IsLongest (48 ∷ []) rest
 zero_longest rest l [] more sp e = zero-le
 zero_longest rest l (c ∷ cs) more sp e =
     let same : c ≡ 48 = cc in
-    let kind : first_kind l ≡ Digit = sym (spelled_kind l c cs sp) ∙ ap kind_of same ∙ zero_kind in
+    let kind : first_kind l ≡ Digit = sym (spelled_kind l c cs sp) ∙ ap byte_kind same ∙ zero_kind in
     let alone : cs ≡ [] = (digit_run l (c ∷ cs) kind sp).2 same in
     rw alone (omega arith)
 
@@ -163,8 +163,8 @@ closed_longest (a ∷ as') (b ∷ bs) rest more st e = elim (form a as') [
   ]
 ]
 
-pub quote_is : kind_of 34 ≡ Quote
-unfolding kind_of
+pub quote_is : byte_kind 34 ≡ Quote
+unfolding byte_kind
 quote_is = refl
 
 text_form : (l : Lexeme) (bs : List ℕ) → first_kind l ≡ Quote → IsSpelled l bs → (u : List ℕ) × (bs ≡ 34 ∷ closed u)
@@ -178,7 +178,7 @@ pub text_longest : (t rest : List ℕ) → StopsAt is_quote rest → IsLongest (
 text_longest t rest st l [] more sp e = zero-le
 text_longest t rest st l (c ∷ cs) more sp e =
     let same : c ≡ 34 = cc in
-    let kind : first_kind l ≡ Quote = sym (spelled_kind l c cs sp) ∙ ap kind_of same ∙ quote_is in
+    let kind : first_kind l ≡ Quote = sym (spelled_kind l c cs sp) ∙ ap byte_kind same ∙ quote_is in
     let found = text_form l (c ∷ cs) kind sp in
     let tails : cs ≡ closed found.0 = let f = found.1 in cc in
     let e' : closed t ++ rest ≡ closed found.0 ++ more = (let e2 : closed t ++ rest ≡ cs ++ more = cc in e2 ∙ ap (λ (x : List ℕ). x ++ more) tails) in
@@ -211,12 +211,12 @@ second : (b d : ℕ) (rest more : List ℕ) → NoSecond b rest → rest ≡ d �
 second b d [] more nsec e = absurd cc
 second b d (c ∷ cs) more nsec e = let same : c ≡ d = cc in subst (λ x. (b ≡ 46 → x ≢ 46) × (b ≡ 58 → x ≢ 61) × (b ≡ 45 → x ≢ 62)) same nsec
 
-pub symbol_longest : (b : ℕ) (rest : List ℕ) → kind_of b ≡ Other → NoSecond b rest → IsLongest (b ∷ []) rest
+pub symbol_longest : (b : ℕ) (rest : List ℕ) → byte_kind b ≡ Other → NoSecond b rest → IsLongest (b ∷ []) rest
 symbol_longest b rest k nsec l [] more sp e = zero-le
 symbol_longest b rest k nsec l (c ∷ cs) more sp e =
     let same : b ≡ c = cc in
     let tails : rest ≡ cs ++ more = cc in
-    let kind : first_kind l ≡ Other = sym (spelled_kind l c cs sp) ∙ ap kind_of (sym same) ∙ k in
+    let kind : first_kind l ≡ Other = sym (spelled_kind l c cs sp) ∙ ap byte_kind (sym same) ∙ k in
     let found = symbol_form l (c ∷ cs) kind sp in
     elim (two found.0 c cs found.1) [
       | inl alone ↦ rw alone (omega arith)
@@ -225,11 +225,11 @@ symbol_longest b rest k nsec l (c ∷ cs) more sp e =
       | inr (inr (inr (first, rest'))) ↦ absurd ((second b 62 rest more nsec (tails ∙ ap (λ (x : List ℕ). x ++ more) rest')).2 (same ∙ first) refl)
     ]
 
-pub pair_longest : (b c : ℕ) (rest : List ℕ) → kind_of b ≡ Other → IsLongest (b ∷ c ∷ []) rest
+pub pair_longest : (b c : ℕ) (rest : List ℕ) → byte_kind b ≡ Other → IsLongest (b ∷ c ∷ []) rest
 pair_longest b c rest k l [] more sp e = zero-le
 pair_longest b c rest k l (d ∷ ds) more sp e =
     let same : b ≡ d = cc in
-    let kind : first_kind l ≡ Other = sym (spelled_kind l d ds sp) ∙ ap kind_of (sym same) ∙ k in
+    let kind : first_kind l ≡ Other = sym (spelled_kind l d ds sp) ∙ ap byte_kind (sym same) ∙ k in
     let found = symbol_form l (d ∷ ds) kind sp in
     elim (two found.0 d ds found.1) [
       | inl alone ↦ rw alone (omega arith)
@@ -239,10 +239,10 @@ pair_longest b c rest k l (d ∷ ds) more sp e =
     ]
 
 -- a word at the front
-word_front : (b : ℕ) (bs : List ℕ) → kind_of b ≡ Letter → prefix_len is_word_byte (b ∷ bs) ≡ suc (prefix_len is_word_byte bs)
+word_front : (b : ℕ) (bs : List ℕ) → byte_kind b ≡ Letter → prefix_len is_word_byte (b ∷ bs) ≡ suc (prefix_len is_word_byte bs)
 word_front b bs k = let yes : is_word_byte b ≡ true = ap in_word k in rw (yes, one-add) refl
 
-pub word_at : (bytes : List ℕ) (n : ℕ) (l : Lexeme) → BeginsWith Letter bytes → n ≡ prefix_len is_word_byte bytes →
+pub word_at : (bytes : List ℕ) (n : ℕ) (l : Lexeme) → BeginsAs Letter bytes → n ≡ prefix_len is_word_byte bytes →
     (IsWord (take n bytes) → IsSpelled l (take n bytes)) → TokenAt bytes l n
 word_at [] n l st e h = absurd st
 word_at (b ∷ bs) n l st e h =
@@ -256,10 +256,10 @@ word_at (b ∷ bs) n l st e h =
     }
 
 -- a number at the front
-number_front : (b : ℕ) (bs : List ℕ) → kind_of b ≡ Digit → prefix_len is_digit (b ∷ bs) ≡ suc (prefix_len is_digit bs)
+number_front : (b : ℕ) (bs : List ℕ) → byte_kind b ≡ Digit → prefix_len is_digit (b ∷ bs) ≡ suc (prefix_len is_digit bs)
 number_front b bs k = let yes : is_digit b ≡ true = ap is_digit_kind k in rw (yes, one-add) refl
 
-pub number_at : (bytes : List ℕ) (n v : ℕ) → BeginsWith Digit bytes → get_or bytes 0 0 ≢ 48 → n ≡ prefix_len is_digit bytes → v ≡ value_on 0 (take n bytes)
+pub number_at : (bytes : List ℕ) (n v : ℕ) → BeginsAs Digit bytes → get_or bytes 0 0 ≢ 48 → n ≡ prefix_len is_digit bytes → v ≡ value_on 0 (take n bytes)
     → TokenAt bytes (number v) n
 number_at [] n v st nz e h = absurd st
 number_at (b ∷ bs) n v st nz e h =

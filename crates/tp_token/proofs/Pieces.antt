@@ -6,15 +6,15 @@ use Rattle.std.proofs.lemmas.Bool.Decides.{eqb_tells}
 use Rattle.tp_token.specs.Lexeme.{Lexeme}
 use Rattle.tp_token.specs.declared.byte.Kind.{Kind}
 use Rattle.tp_token.specs.declared.byte.Kind.TheVariants.{Letter, Digit, Underscore, Quote, Blank, Other}
-use Rattle.tp_token.specs.Cut.{BeginsWith, TokenAt, PieceAt, blank, line_comment, block_comment, token, HasNoEnd, ends_here}
-use Rattle.tp_token.specs.Byte.{kind_of, between, is_in_line}
+use Rattle.tp_token.specs.Cut.{BeginsAs, TokenAt, PieceAt, blank, line_comment, block_comment, token, HasNoEnd, ends_here}
+use Rattle.tp_token.specs.Byte.{byte_kind, between, is_in_line}
 use Rattle.tp_token.proofs.Runs.{run_front, run_stops}
 
 pub piece_of_token : (bytes : List ℕ) (l : Lexeme) (n : ℕ) → TokenAt bytes l n → PieceAt bytes (Some l) n
 piece_of_token bytes l n h =
     record { some = h.some; within = h.within; piece = token l (take n bytes); spelled = refl; fits = (h.spelled, h.longest); holds = refl }
 
-pub blank_at : (bytes : List ℕ) → BeginsWith Blank bytes → PieceAt bytes None 1
+pub blank_at : (bytes : List ℕ) → BeginsAs Blank bytes → PieceAt bytes None 1
 blank_at [] h = absurd h
 blank_at (b ∷ bs) h = record { some = omega arith; within = omega arith; piece = blank b; spelled = refl; fits = h; holds = refl }
 
@@ -61,7 +61,7 @@ no_end (suc n) (b ∷ bs) lt none =
     let below : n < length bs = omega arith in
     (first_ok b n bs below (none 0 (zero_below n)), no_end n bs below (λ k h. none (suc k) (suc-le-suc h)))
 
-pub starts_some : (k : Kind) (bytes : List ℕ) → BeginsWith k bytes → 0 < length bytes
+pub starts_some : (k : Kind) (bytes : List ℕ) → BeginsAs k bytes → 0 < length bytes
 starts_some k [] h = absurd h
 starts_some k (b ∷ bs) h = omega arith
 
@@ -90,14 +90,14 @@ not_quote false false true w e = cc
 not_quote false false false true e = cc
 not_quote false false false false e = cc
 
-pub quote_byte : (b : ℕ) → kind_of b ≡ Quote → b ≡ 34
-unfolding kind_of
+pub quote_byte : (b : ℕ) → byte_kind b ≡ Quote → b ≡ 34
+unfolding byte_kind
 quote_byte b e = elim (eqb_tells b 34) [
   | inl (test, eq) ↦ eq
   | inr (test, ne) ↦ absurd (not_quote (between 97 122 b || between 65 90 b) (between 48 57 b) (b == 95) (between 9 13 b || b == 32) (rw test at e))
 ]
 
 -- a quote is one byte
-pub starts_quote : (bytes : List ℕ) → BeginsWith Quote bytes → get_or bytes 0 0 ≡ 34
+pub starts_quote : (bytes : List ℕ) → BeginsAs Quote bytes → get_or bytes 0 0 ≡ 34
 starts_quote [] h = absurd h
 starts_quote (b ∷ bs) h = quote_byte b h

@@ -5,7 +5,7 @@ use Rattle.std.specs.Str.{bytes_eq}
 use Rattle.tp_token.specs.declared.token.Symbol.{Symbol}
 use Rattle.tp_token.specs.declared.token.Symbol.TheVariants as s
 use Rattle.tp_token.specs.declared.byte.Kind.TheVariants.{Blank, Other}
-use Rattle.tp_token.specs.Byte.{kind_of, is_in_line}
+use Rattle.tp_token.specs.Byte.{byte_kind, is_in_line}
 use Rattle.tp_token.specs.Lexeme.{Lexeme, name, word, number, text, symbol}
 use Rattle.tp_token.specs.Spelling.{Run, symbol_spelling, IsSpelled}
 use Rattle.tp_token.specs.Cut.{Piece, blank, line_comment, block_comment, token, piece_bytes, ends_here, HasNoEnd, StopsAt, IsLongest, IsPiece, Cuts, tokens_in, TokensAreUnique}
@@ -153,8 +153,8 @@ spelled_same l m (b ∷ bs) h i = alike l m (b ∷ bs) (sym (spelled_kind l b bs
 
 -- ---- the pieces at one place
 
-pub slash_kind : kind_of 47 ≡ Other
-unfolding kind_of
+pub slash_kind : byte_kind 47 ≡ Other
+unfolding byte_kind
 slash_kind = refl
 
 not_blank : (l : Lexeme) → first_kind l ≡ Blank → ⊥
@@ -165,13 +165,13 @@ not_blank (text t) e = cc
 not_blank (symbol x) e = cc
 
 -- a token and a byte of white space don't stand at one place
-blank_token : (a : ℕ) (l : Lexeme) (bs x y : List ℕ) → kind_of a ≡ Blank → IsSpelled l bs → a ∷ x ≡ bs ++ y → ⊥
+blank_token : (a : ℕ) (l : Lexeme) (bs x y : List ℕ) → byte_kind a ≡ Blank → IsSpelled l bs → a ∷ x ≡ bs ++ y → ⊥
 blank_token a l [] x y k h e = spelled_some l h
-blank_token a l (b ∷ bs) x y k h e = not_blank l (sym (spelled_kind l b bs h) ∙ ap kind_of (sym (heads a b x (bs ++ y) e)) ∙ k)
+blank_token a l (b ∷ bs) x y k h e = not_blank l (sym (spelled_kind l b bs h) ∙ ap byte_kind (sym (heads a b x (bs ++ y) e)) ∙ k)
 
-blank_slash : (a : ℕ) (x y : List ℕ) → kind_of a ≡ Blank → a ∷ x ≡ 47 ∷ y → ⊥
+blank_slash : (a : ℕ) (x y : List ℕ) → byte_kind a ≡ Blank → a ∷ x ≡ 47 ∷ y → ⊥
 blank_slash a x y k e =
-    let same : Blank ≡ Other = sym k ∙ ap kind_of (heads a 47 x y e) ∙ slash_kind in
+    let same : Blank ≡ Other = sym k ∙ ap byte_kind (heads a 47 x y e) ∙ slash_kind in
     cc
 
 differs : (n : ℕ) → n ≢ 47 → (x y : List ℕ) → 47 ∷ x ≡ n ∷ y → ⊥

@@ -9,8 +9,8 @@ between low high b = nat_le low b && nat_le b high
 
 -- what a byte can be part of: `a` to `z` and `A` to `Z` are letters, `0` to `9` digits, then `_` and `"`; 9 to 13 and
 -- 32 are white space
-unfoldable pub kind_of : ℕ → Kind
-kind_of b =
+unfoldable pub byte_kind : ℕ → Kind
+byte_kind b =
     if between 97 122 b || between 65 90 b then Letter
     else (if between 48 57 b then Digit
     else (if b == 95 then Underscore
@@ -27,7 +27,7 @@ in_word _ = false
 
 -- whether a name or a reserved word may hold the byte
 abbrev pub is_word_byte : ℕ → Bool
-is_word_byte b = in_word (kind_of b)
+is_word_byte b = in_word (byte_kind b)
 
 -- whether bytes of this kind are digits
 abbrev pub is_digit_kind : Kind → Bool
@@ -36,7 +36,7 @@ is_digit_kind _ = false
 
 -- whether the byte is a digit
 abbrev pub is_digit : ℕ → Bool
-is_digit b = is_digit_kind (kind_of b)
+is_digit b = is_digit_kind (byte_kind b)
 
 -- whether a text may hold the byte
 abbrev pub is_printable : ℕ → Bool

@@ -3,7 +3,7 @@ use Rattle.std.specs.Prelude.{◌≡◌, ℕ, ◌+◌, ◌<◌, ◌≤◌, Bool,
 use Rattle.tp_token.specs.declared.byte.Kind.{Kind}
 use Rattle.tp_token.specs.declared.byte.Kind.TheVariants.{Blank}
 use Rattle.tp_token.specs.Lexeme.{Lexeme, PlacedLexeme}
-use Rattle.tp_token.specs.Byte.{kind_of, is_in_line}
+use Rattle.tp_token.specs.Byte.{byte_kind, is_in_line}
 use Rattle.tp_token.specs.Spelling.{IsSpelled, Run}
 
 -- a piece of a text: a byte of white space, a comment without its marks, a token and its bytes
@@ -42,7 +42,7 @@ IsLongest bs rest = (l : Lexeme) (cs more : List ℕ) → IsSpelled l cs → bs 
 -- the piece can stand before this rest: a line comment goes to the end of its line or of the text, a block comment to
 -- the first `*/`, and a token is the longest one
 abbrev pub IsPiece : Piece → List ℕ → Type 0
-IsPiece (blank b) rest = kind_of b ≡ Blank
+IsPiece (blank b) rest = byte_kind b ≡ Blank
 IsPiece (line_comment bs) rest = Run is_in_line bs × StopsAt is_in_line rest
 IsPiece (block_comment bs) rest = HasNoEnd (bs ++ codes "*")
 IsPiece (token l bs) rest = IsSpelled l bs × IsLongest bs rest
@@ -80,9 +80,9 @@ abbrev pub TokensAreUnique : Type 0
 TokensAreUnique = (text : List ℕ) (a b : List PlacedLexeme) → AreTokens text a → AreTokens text b → a ≡ b
 
 -- the first byte is of this kind
-abbrev pub BeginsWith : Kind → List ℕ → Type 0
-BeginsWith k [] = ⊥
-BeginsWith k (b ∷ bs) = kind_of b ≡ k
+abbrev pub BeginsAs : Kind → List ℕ → Type 0
+BeginsAs k [] = ⊥
+BeginsAs k (b ∷ bs) = byte_kind b ≡ k
 
 -- the token stands at the front, in so many bytes
 pub record TokenAt (bytes : List ℕ) (l : Lexeme) (size : ℕ) : Type 0 where

@@ -33,14 +33,14 @@ abbrev pub HasNoPiece : List ℕ → Type 0
 HasNoPiece bytes = (p : Piece) (rest : List ℕ) → IsPiece p rest → bytes ≡ piece_bytes p ++ rest → ⊥
 
 -- the bytes are none, or the first of them can't stand in a text
-abbrev pub IsBroken : List ℕ → Type 0
-IsBroken [] = Unit {0}
-IsBroken (b ∷ bs) = is_printable b ≡ false
+abbrev pub HasNoTextByte : List ℕ → Type 0
+HasNoTextByte [] = Unit {0}
+HasNoTextByte (b ∷ bs) = is_printable b ≡ false
 
 -- behind an opening quote: characters of a text, but no closing quote before the end or a byte that can't stand in a
 -- text
 abbrev pub IsOpenText : List ℕ → Type 0
-IsOpenText bytes = (t : List ℕ) × (rest : List ℕ) × (bytes ≡ doubled t ++ rest) × Run is_printable t × IsBroken rest
+IsOpenText bytes = (t : List ℕ) × (rest : List ℕ) × (bytes ≡ doubled t ++ rest) × Run is_printable t × HasNoTextByte rest
 
 -- a text that isn't closed stands at the front of the bytes
 abbrev pub HasOpenText : List ℕ → Type 0

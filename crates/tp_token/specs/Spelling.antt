@@ -6,7 +6,7 @@ use Rattle.tp_token.specs.declared.token.Symbol.TheVariants as s
 use Rattle.tp_token.specs.Lexeme.{Lexeme, name, word, number, text, symbol}
 use Rattle.tp_token.specs.declared.byte.Kind.TheVariants.{Letter}
 use Rattle.tp_token.specs.Word.{word_of}
-use Rattle.tp_token.specs.Byte.{kind_of, is_word_byte, is_digit, is_printable}
+use Rattle.tp_token.specs.Byte.{byte_kind, is_word_byte, is_digit, is_printable}
 
 -- each byte passes the test
 abbrev pub Run : (ℕ → Bool) → List ℕ → Type 0
@@ -15,7 +15,7 @@ Run p bs = AllByRecursion (λ b. p b ≡ true) bs
 -- a letter, then letters, digits and `_`
 abbrev pub IsWord : List ℕ → Type 0
 IsWord [] = ⊥
-IsWord (b ∷ bs) = (kind_of b ≡ Letter) × Run is_word_byte bs
+IsWord (b ∷ bs) = (byte_kind b ≡ Letter) × Run is_word_byte bs
 
 -- `0` alone, or a digit from 1 to 9 followed by digits
 abbrev pub IsNumber : List ℕ → Type 0

@@ -1,6 +1,6 @@
 //! Bytes by what they can be part of.
 ghost use Rattle.std.specs.Prelude.{◌≡◌};
-ghost use Rattle.tp_token.specs.Byte.{kind_of, is_word_byte, is_digit, is_printable};
+ghost use Rattle.tp_token.specs.Byte.{byte_kind, is_word_byte, is_digit, is_printable};
 
 /// What a byte can be part of, outside texts and comments.
 #[derive(Clone, Copy)]
@@ -20,9 +20,9 @@ pub enum Kind {
 }
 
 /// What the byte can be part of.
-#[tactic(auto, unfolding(crate::specs::Byte::kind_of))]
-pub fn kind_of(byte: u8) -> Kind
-    ensures { result ≡ kind_of byte }
+#[tactic(auto, unfolding(crate::specs::Byte::byte_kind))]
+pub fn byte_kind(byte: u8) -> Kind
+    ensures { result ≡ byte_kind byte }
 {
     match byte {
         b'a'..=b'z' | b'A'..=b'Z' => Kind::Letter,
@@ -38,14 +38,17 @@ pub fn kind_of(byte: u8) -> Kind
 pub fn is_word_byte(byte: u8) -> bool
     ensures { result ≡ is_word_byte byte }
 {
-    matches!(kind_of(byte), Kind::Letter | Kind::Digit | Kind::Underscore)
+    matches!(
+        byte_kind(byte),
+        Kind::Letter | Kind::Digit | Kind::Underscore
+    )
 }
 
 /// Whether the byte is a digit.
 pub fn is_digit(byte: u8) -> bool
     ensures { result ≡ is_digit byte }
 {
-    matches!(kind_of(byte), Kind::Digit)
+    matches!(byte_kind(byte), Kind::Digit)
 }
 
 /// Whether a text may hold the byte.

@@ -3,12 +3,12 @@ ghost use Rattle.std.specs.Prelude.{◌≡◌, ◌<◌, ◌≤◌, ◌+◌, ◌-
 ghost use Rattle.std.specs.List.{prefix_len};
 ghost use Rattle.std.specs.Option.{option_map};
 ghost use Rattle.tp_token.specs.Byte.{is_word_byte, is_digit, is_printable, is_in_line, is_quote};
-ghost use Rattle.tp_token.specs.Cut.{BeginsWith, TokenAt, StopsAt, HasNoEnd, PieceAt};
+ghost use Rattle.tp_token.specs.Cut.{BeginsAs, TokenAt, StopsAt, HasNoEnd, PieceAt};
 ghost use Rattle.tp_token.specs.Fault.{HasNoSymbol, IsFaultAt, IsFoundWithinLimits, IsUnclosed, IsWithinLimits};
 ghost use Rattle.tp_token.specs.Lexeme.{lexeme_of, number, symbol, text};
 ghost use Rattle.tp_token.specs.Spelling.{Run, value_on, doubled};
 
-use crate::byte::{Kind, is_digit, is_printable, is_word_byte, kind_of};
+use crate::byte::{Kind, byte_kind, is_digit, is_printable, is_word_byte};
 use crate::fault::{ScriptFault, TextRule};
 use crate::token::{Symbol, Token};
 use crate::word::word_of;
@@ -38,7 +38,7 @@ pub fn piece<'t>(
     ensures limits { IfOk result (λ r. IsFoundWithinLimits (option_map lexeme_of r.0)) }
     ensures refused { IfErr result (IsFaultAt bytes.now line) }
 {
-    match kind_of(bytes[0]) {
+    match byte_kind(bytes[0]) {
         Kind::Letter => {
             let (token, size) = word(bytes, line)?;
             Ok((Some(token), size))
@@ -69,7 +69,7 @@ pub fn piece<'t>(
 /// The name or reserved word at the front, and how many bytes it has. 15 `Limit`: the name has more
 /// than 64.
 fn word<'t>(bytes: &'t [u8], line: u32) -> Result<(Token<'t>, usize), ScriptFault>
-    requires { BeginsWith Kind.Letter bytes.now }
+    requires { BeginsAs Kind.Letter bytes.now }
     ensures token { IfOk result (λ r. TokenAt bytes.now (lexeme_of r.0) r.1) }
     ensures limits { IfOk result (λ r. IsWithinLimits (lexeme_of r.0)) }
     ensures refused { IfErr result (IsFaultAt bytes.now line) }
@@ -101,7 +101,7 @@ fn word_len(bytes: &[u8]) -> usize
 
 /// The number at the front, and how many bytes it has. 15 `Limit`: it is too great.
 fn number(bytes: &[u8], line: u32) -> Result<(u64, usize), ScriptFault>
-    requires { BeginsWith Kind.Digit bytes.now }
+    requires { BeginsAs Kind.Digit bytes.now }
     ensures token { IfOk result (λ r. TokenAt bytes.now (number r.0) r.1) }
     ensures limits { IfOk result (λ r. r.0 ≤ GREATEST_IN_TOKEN) }
     ensures refused { IfErr result (IsFaultAt bytes.now line) }
@@ -157,7 +157,7 @@ fn digit_value(digit: u8) -> u8
 /// The text at the front, and how many bytes it has, quotes included. 10 `Syntax`: it isn't closed,
 /// or holds a character other than 32 to 126. 50 where memory was refused.
 fn text(alloc: Global, bytes: &[u8], line: u32) -> Result<(Vec<u8>, usize), ScriptFault>
-    requires { BeginsWith Kind.Quote bytes.now }
+    requires { BeginsAs Kind.Quote bytes.now }
     ensures token { IfOk result (λ r. TokenAt bytes.now (text r.0.items) r.1) }
     ensures refused { IfErr result (IsFaultAt bytes.now line) }
 {
@@ -198,7 +198,7 @@ fn quoted(alloc: Global, bytes: &[u8], line: u32) -> Result<(Vec<u8>, usize), Sc
 
 /// The symbol at the front, and how many bytes it has, or `None` where none stands there.
 fn symbol(bytes: &[u8]) -> Option<(Symbol, usize)>
-    requires { BeginsWith Kind.Other bytes.now }
+    requires { BeginsAs Kind.Other bytes.now }
     ensures token { IfSome result (λ r. TokenAt bytes.now (symbol r.0) r.1) }
     ensures none { IfNone result (HasNoSymbol bytes.now) }
 {

@@ -1,7 +1,7 @@
 -- A list is cut at a byte in one way: at the first one, or at the last.
-use Rattle.std.proofs.Common.{◌≡◌, ℕ, ◌<◌, ◌≤◌, Bool, true, false, not, Option, Some, None, List, [], ◌∷◌, ◌++◌, refl, ap, sym, ◌∙◌, arith}
+use Rattle.std.proofs.Common.{◌≡◌, ℕ, ◌<◌, ◌≤◌, ◌+◌, Bool, true, false, not, cond, Option, Some, None, List, [], ◌∷◌, ◌++◌, drop, suc, refl, ap, sym, ◌∙◌, arith}
 use Rattle.std.specs.Prelude.{◌==◌, ◌&&◌}
-use Rattle.std.specs.List.{list_all}
+use Rattle.std.specs.List.{after_first, list_all, prefix_len}
 use Rattle.std.proofs.lemmas.Bool.Decides.{nat_tests}
 use Rattle.std.specs.Char.{is_ascii_graphic}
 use Rattle.std.specs.Fmt.{decimal}
@@ -9,7 +9,7 @@ use Rattle.std.specs.Str.Parse.{AllDigits}
 use Rattle.std.proofs.Common.{◌^◌}
 use Rattle.std.proofs.lemmas.Fmt.{decimal_is_IsNumeral}
 use Rattle.std.proofs.lemmas.Str.Parse.{digit_from_value}
-use Rattle.tp_text.specs.Cutting.{behind, lacks}
+use Rattle.tp_text.specs.Cutting.{after_space, lacks}
 use Rattle.tp_trace.specs.Line.{is_port_byte}
 
 pub both_true : (a b : Bool) → (a && b) ≡ true → (a ≡ true) × (b ≡ true)
@@ -35,7 +35,7 @@ lacks-append c (x ∷ a) b p q =
     let h = both_true (not (x == c)) (lacks c a) p in and_true (not (x == c)) (lacks c (a ++ b)) h.0 (lacks-append c a b h.1 q)
 
 -- the first word of a line, and what stands behind it, are determined
-pub first_only : (a b : List ℕ) (r s : Option (List ℕ)) → lacks 32 a ≡ true → lacks 32 b ≡ true → a ++ behind r ≡ b ++ behind s
+pub first_only : (a b : List ℕ) (r s : Option (List ℕ)) → lacks 32 a ≡ true → lacks 32 b ≡ true → a ++ after_space r ≡ b ++ after_space s
     → (a ≡ b) × (r ≡ s)
 first_only [] [] None None p q e = (refl, refl)
 first_only [] [] None (Some s) p q e = absurd (cc)
@@ -53,7 +53,7 @@ first_only (x ∷ a) [] r (Some s) p q e =
     absurd (cc (same, (both_true (not (x == 32)) (lacks 32 a) p).0))
 first_only (x ∷ a) (y ∷ b) r s p q e =
     let h : x ≡ y = cc in
-    let t : a ++ behind r ≡ b ++ behind s = cc in
+    let t : a ++ after_space r ≡ b ++ after_space s = cc in
     let k = first_only a b r s (both_true (not (x == 32)) (lacks 32 a) p).1 (both_true (not (y == 32)) (lacks 32 b) q).1 t in
     (ap (λ z. z ∷ a) h ∙ ap (λ l. y ∷ l) k.0, k.1)
 
@@ -102,3 +102,10 @@ lacks-digits (b ∷ ds) d =
 
 pub lacks-decimal : (n : ℕ) → n < 2 ^ 63 → lacks 32 (decimal n) ≡ true
 lacks-decimal n h = lacks-digits (decimal n) (decimal_is_IsNumeral n (omega (arith, h))).0.1
+
+drop_cond : {X : Type 0} (x : X) (xs : List X) (b : Bool) (n : ℕ) → drop (cond (not b) (1 + n) 0 + 1) (x ∷ xs) ≡ cond b xs (drop (n + 1) xs)
+drop_cond x xs true n = refl
+drop_cond x xs false n = let e : 1 + n + 1 ≡ suc (n + 1) = omega arith in ap (λ k. drop k (x ∷ xs)) e
+
+pub after_first-cons : {X : Type 0} (p : X → Bool) (x : X) (xs : List X) → after_first p (x ∷ xs) ≡ cond (p x) xs (after_first p xs)
+after_first-cons {X} p x xs = let np : X → Bool = λ z. not (p z) in drop_cond x xs (p x) (prefix_len np xs)

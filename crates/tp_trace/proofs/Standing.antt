@@ -6,11 +6,11 @@ use Rattle.std.proofs.lemmas.List.{take-append-le}
 use Rattle.std.proofs.lemmas.List.Sums.{fold_push}
 use Rattle.std.proofs.lemmas.Option.{same_Some}
 use Rattle.std.proofs.Math.Seq.{take-append_seam}
-use Rattle.tp_trace.specs.declared.form.Place.{Place}
-use Rattle.tp_trace.specs.declared.form.Place.TheVariants as stand
+use Rattle.tp_trace.specs.declared.form.TracePosition.{TracePosition}
+use Rattle.tp_trace.specs.declared.form.TracePosition.TheVariants as stand
 use Rattle.tp_text.specs.Cutting.{lines_of}
 use Rattle.tp_trace.specs.Line.{Told, begins, passed, operated, otherwise, noted, ended, resulted, Spells, Says}
-use Rattle.tp_trace.specs.Tree.{HoldsTrace, IsFirstBad, IsTrace, IsTraceOf, MayStand, StandsAt, TellsSomething, names_of, place_behind, place_of, told_in}
+use Rattle.tp_trace.specs.Tree.{HoldsTrace, IsFirstBad, IsTrace, IsTraceOf, MayStand, MayStandAt, TellsSomething, names_of, place_behind, place_after, told_in}
 use Rattle.tp_trace.specs.Faults.{TakesPlace}
 use Rattle.tp_trace.proofs.Telling.{told_read}
 
@@ -52,7 +52,7 @@ zip_push (l ∷ ls) [] line told z s = absurd z
 zip_push (l ∷ ls) (t ∷ ts) line told z s = (z.0, zip_push ls ts line told z.1 s)
 
 -- the lines that were taken so far, and the rest of the text
-pub record Taken (text rest : List ℕ) (lines names : List (List ℕ)) (place : Place) : Type 0 where
+pub record Taken (text rest : List ℕ) (lines names : List (List ℕ)) (place : TracePosition) : Type 0 where
   pub cut : lines_of text ≡ lines ++ lines_of rest
   pub tolds : List Told
   pub says : AllZip Spells lines tolds
@@ -70,14 +70,14 @@ Taken-first text lines names e f = record {
   placed = refl;
 }
 
-stands_here : (before : List Told) (told : Told) (place : Place) (names : List (List ℕ)) → place ≡ place_behind before → names ≡ names_of before
-    → StandsAt place names told → MayStand before told
+stands_here : (before : List Told) (told : Told) (place : TracePosition) (names : List (List ℕ)) → place ≡ place_behind before → names ≡ names_of before
+    → MayStandAt place names told → MayStand before told
 stands_here before told place names e f s =
-    let P : Place → Type 0 = λ p. StandsAt p (names_of before) told in
-    let Q : List (List ℕ) → Type 0 = λ n. StandsAt place n told in
+    let P : TracePosition → Type 0 = λ p. MayStandAt p (names_of before) told in
+    let Q : List (List ℕ) → Type 0 = λ n. MayStandAt place n told in
     subst P e (subst Q f s)
 
-pub Taken-more : (text rest next line : List ℕ) (lines more names old : List (List ℕ)) (place after : Place)
+pub Taken-more : (text rest next line : List ℕ) (lines more names old : List (List ℕ)) (place after : TracePosition)
     → lines_of rest ≡ line ∷ lines_of next → more ≡ lines ++ line ∷ [] → TakesPlace line place old names after
     → Taken text rest lines old place → Taken text next more names after
 Taken-more text rest next line lines more names old place after cut is takes taken =
@@ -89,7 +89,7 @@ Taken-more text rest next line lines more names old place after cut is takes tak
       says = subst P (sym is) (zip_push lines taken.tolds line takes.told taken.says takes.spelled);
       trace = IsTrace-push taken.tolds takes.told taken.trace may;
       named = takes.noted ∙ ap (λ n. n ++ names_of (takes.told ∷ [])) taken.named ∙ sym (names_of-append taken.tolds (takes.told ∷ []));
-      placed = takes.behind ∙ sym (fold_push (λ _ told. place_of told) stand.Front taken.tolds takes.told);
+      placed = takes.behind ∙ sym (fold_push (λ _ told. place_after told) stand.Front taken.tolds takes.told);
     }
 
 zip_length : (lines : List (List ℕ)) (tolds : List Told) → AllZip Spells lines tolds → length tolds ≡ length lines
@@ -103,18 +103,18 @@ get_after [] ys y = refl
 get_after (x ∷ xs) ys y = get_after xs ys y
 
 -- a line that may not stand behind those that were taken is the first bad one
-pub first_bad_here : (text rest next line : List ℕ) (lines names : List (List ℕ)) (place : Place) (n : ℕ)
+pub first_bad_here : (text rest next line : List ℕ) (lines names : List (List ℕ)) (place : TracePosition) (n : ℕ)
     → Taken text rest lines names place → lines_of rest ≡ line ∷ lines_of next → n ≡ length lines + 1
-    → ((told : Told) → Spells line told → StandsAt place names told → ⊥) → IsFirstBad (lines_of text) n
+    → ((told : Told) → Spells line told → MayStandAt place names told → ⊥) → IsFirstBad (lines_of text) n
 first_bad_here text rest next line lines names place n taken cut number bad =
     let is : lines_of text ≡ lines ++ line ∷ lines_of next = taken.cut ∙ ap (λ l. lines ++ l) cut in
     let at : n - 1 ≡ length lines = omega (arith, number) in
     let front : lines ≡ take (n - 1) (lines_of text) =
     sym (ap (λ k. take k (lines_of text)) at ∙ ap (take (length lines)) is ∙ take-append_seam lines (line ∷ lines_of next)) in
     let P : List (List ℕ) → Type 0 = λ l. AllZip Spells l taken.tolds in
-    let S : (told : Told) → MayStand taken.tolds told → StandsAt place names told = λ told may.
-    let F : Place → Type 0 = λ p. StandsAt p names told in
-    let G : List (List ℕ) → Type 0 = λ m. StandsAt (place_behind taken.tolds) m told in
+    let S : (told : Told) → MayStand taken.tolds told → MayStandAt place names told = λ told may.
+    let F : TracePosition → Type 0 = λ p. MayStandAt p names told in
+    let G : List (List ℕ) → Type 0 = λ m. MayStandAt (place_behind taken.tolds) m told in
     subst F (sym taken.placed) (subst G (sym taken.named) may) in
     record {
       some = omega (arith, number);
@@ -143,7 +143,7 @@ empty_is : (l : List ℕ) → length l ≡ 0 → l ≡ []
 empty_is [] e = refl
 empty_is (x ∷ l) e = absurd (omega arith)
 
-pub holds_taken : (text rest : List ℕ) (lines names : List (List ℕ)) (place : Place) → Taken text rest lines names place → HoldsTrace lines names
+pub holds_taken : (text rest : List ℕ) (lines names : List (List ℕ)) (place : TracePosition) → Taken text rest lines names place → HoldsTrace lines names
 holds_taken text rest lines names place taken =
     let P : List Told → Type 0 = λ t. IsTrace t in
     let e = reads_all lines taken.tolds taken.says in
@@ -153,7 +153,7 @@ holds_taken text rest lines names place taken =
       named = taken.named ∙ ap names_of (sym e);
     }
 
-pub trace_taken : (text rest : List ℕ) (lines names : List (List ℕ)) (place : Place) → Taken text rest lines names place → length rest ≡ 0
+pub trace_taken : (text rest : List ℕ) (lines names : List (List ℕ)) (place : TracePosition) → Taken text rest lines names place → length rest ≡ 0
     → IsTraceOf text (map told_in lines)
 trace_taken text rest lines names place taken none =
     let e = reads_all lines taken.tolds taken.says in

@@ -6,18 +6,17 @@ use Rattle.std.specs.Fmt.{decimal}
 use Rattle.std.specs.Str.Parse.{digits_value}
 use Rattle.std.proofs.lemmas.Fmt.{decimal_is_IsNumeral}
 use Rattle.std.proofs.lemmas.Bool.Decides.{nat_tests}
-use Rattle.tp_queue.specs.declared.operation.PortOperation.TheVariants as operation
-use Rattle.tp_trace.specs.declared.line.Fate.{Fate}
-use Rattle.tp_trace.specs.declared.line.Fate.TheVariants as fate
+use Rattle.tp_event.specs.declared.operation.PortOperation.TheVariants as operation
+use Rattle.tp_trace.specs.declared.line.MessageVerb.{MessageVerb}
+use Rattle.tp_trace.specs.declared.line.MessageVerb.TheVariants as fate
 use Rattle.tp_trace.specs.declared.line.Note.TheVariants as note
 use Rattle.tp_trace.specs.declared.line.Verb.{Verb}
 use Rattle.tp_trace.specs.declared.line.Verb.TheVariants as verb
-use Rattle.tp_text.specs.Cutting.{behind, is_space, lacks}
+use Rattle.tp_text.specs.Cutting.{after_space, is_space, lacks}
 use Rattle.tp_trace.specs.Line.{Letter, Told, begins, passed, operated, otherwise, noted, ended, resulted, IsLetter, IsTold, Spells, contents, letter_text, operands, verb_of, verb_text}
 use Rattle.tp_trace.specs.Tree.{before_dot, after_dot, verbs, first_spelled, letter_in, told_by, told_in}
-use Rattle.tp_queue.proofs.Cuts.{after_first-cons}
 use Rattle.tp_text.proofs.Words.{before_first-cons}
-use Rattle.tp_trace.proofs.Cuts.{both_true, lacks_none, lacks-decimal, lacks-graphic, lacks-port, undotted}
+use Rattle.tp_trace.proofs.Cuts.{after_first-cons, both_true, lacks_none, lacks-decimal, lacks-graphic, lacks-port, undotted}
 use Rattle.tp_trace.proofs.Messages.{place_lacks}
 
 -- no verb has a space
@@ -67,22 +66,22 @@ rest_of (Some rest) = rest
 other_byte : (x : ℕ) → not (x == 32) ≡ true → (x == 32) ≡ false
 other_byte x e = grind (arith, nat_tests)
 
-before_word : (w : List ℕ) (r : Option (List ℕ)) → lacks 32 w ≡ true → before_first is_space (w ++ behind r) ≡ w
+before_word : (w : List ℕ) (r : Option (List ℕ)) → lacks 32 w ≡ true → before_first is_space (w ++ after_space r) ≡ w
 before_word [] None e = refl
 before_word [] (Some r) e = before_first-cons is_space 32 r
 before_word (x ∷ w) r e =
     let h = both_true (not (x == 32)) (lacks 32 w) e in
-    before_first-cons is_space x (w ++ behind r)
-    ∙ ap (λ b. cond b [] (x ∷ before_first is_space (w ++ behind r))) (other_byte x h.0)
+    before_first-cons is_space x (w ++ after_space r)
+    ∙ ap (λ b. cond b [] (x ∷ before_first is_space (w ++ after_space r))) (other_byte x h.0)
     ∙ ap (λ l. x ∷ l) (before_word w r h.1)
 
-after_word : (w : List ℕ) (r : Option (List ℕ)) → lacks 32 w ≡ true → after_first is_space (w ++ behind r) ≡ rest_of r
+after_word : (w : List ℕ) (r : Option (List ℕ)) → lacks 32 w ≡ true → after_first is_space (w ++ after_space r) ≡ rest_of r
 after_word [] None e = refl
 after_word [] (Some r) e = after_first-cons is_space 32 r
 after_word (x ∷ w) r e =
     let h = both_true (not (x == 32)) (lacks 32 w) e in
-    after_first-cons is_space x (w ++ behind r)
-    ∙ ap (λ b. cond b (w ++ behind r) (after_first is_space (w ++ behind r))) (other_byte x h.0)
+    after_first-cons is_space x (w ++ after_space r)
+    ∙ ap (λ b. cond b (w ++ after_space r) (after_first is_space (w ++ after_space r))) (other_byte x h.0)
     ∙ after_word w r h.1
 
 lacks_not : (a b : List ℕ) (c : Bool) → lacks 46 (a ++ (46 ∷ b)) ≡ c → c ≡ false
@@ -149,7 +148,7 @@ came_read letter is =
     (number_read letter (after_first is_space (after_first is_space rest)) is last)
     (text_read letter (after_first is_space (after_first is_space rest)) is last)
 
-letter_read : (f : Fate) (letter : Letter) → IsLetter letter → letter_in f (letter_text f letter) ≡ letter
+letter_read : (f : MessageVerb) (letter : Letter) → IsLetter letter → letter_in f (letter_text f letter) ≡ letter
 letter_read fate.Sent letter is = sent_read letter is
 letter_read fate.Came letter is = came_read letter is
 letter_read fate.Took letter is = came_read letter is
@@ -172,7 +171,7 @@ told_read line told is =
     let v = verb_of told in
     let lack = lacks-verb v in
     ap told_in is.0
-    ∙ ap (λ w. told_by (first_spelled w verbs) (after_first is_space (verb_text v ++ behind (operands told)))) (before_word (verb_text v) (operands told) lack)
+    ∙ ap (λ w. told_by (first_spelled w verbs) (after_first is_space (verb_text v ++ after_space (operands told)))) (before_word (verb_text v) (operands told) lack)
     ∙ ap (λ r. told_by (first_spelled (verb_text v) verbs) r) (after_word (verb_text v) (operands told) lack)
     ∙ ap (λ w. told_by w (rest_of (operands told))) (found v)
     ∙ by_verb told is.1

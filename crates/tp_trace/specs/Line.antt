@@ -3,13 +3,13 @@ use Rattle.std.specs.Prelude.{◌≡◌, ℕ, ◌<◌, ◌^◌, ◌==◌, ◌&&�
 use Rattle.std.specs.List.{list_all, AllZip}
 use Rattle.std.specs.Char.{is_ascii_graphic}
 use Rattle.std.specs.Fmt.{decimal}
-use Rattle.tp_text.specs.Cutting.{behind}
+use Rattle.tp_text.specs.Cutting.{after_space}
 -- for whoever cites what a text says
 use Rattle.tp_text.specs.Cutting.{lines_of}
-use Rattle.tp_queue.specs.declared.operation.PortOperation.{PortOperation}
-use Rattle.tp_queue.specs.declared.operation.PortOperation.TheVariants as operation
-use Rattle.tp_trace.specs.declared.line.Fate.{Fate}
-use Rattle.tp_trace.specs.declared.line.Fate.TheVariants as fate
+use Rattle.tp_event.specs.declared.operation.PortOperation.{PortOperation}
+use Rattle.tp_event.specs.declared.operation.PortOperation.TheVariants as operation
+use Rattle.tp_trace.specs.declared.line.MessageVerb.{MessageVerb}
+use Rattle.tp_trace.specs.declared.line.MessageVerb.TheVariants as fate
 use Rattle.tp_trace.specs.declared.line.Note.{Note}
 use Rattle.tp_trace.specs.declared.line.Note.TheVariants as note
 use Rattle.tp_trace.specs.declared.line.Verb.{Verb}
@@ -25,7 +25,7 @@ pub record Letter : Type 0 where
 -- what a line tells
 pub data Told : Type 0 where
   begins : List ℕ → Told
-  passed : Fate → Letter → Told
+  passed : MessageVerb → Letter → Told
   operated : PortOperation → List ℕ → Told
   otherwise : Told
   noted : Note → List ℕ → Told
@@ -37,48 +37,48 @@ abbrev pub is_port_byte : ℕ → Bool
 is_port_byte b = is_ascii_graphic b && not (b == 46)
 
 -- a component's name: bytes 33 to 126, one or more
-pub record IsWord (word : List ℕ) : Type 0 where
+pub record IsComponentName (word : List ℕ) : Type 0 where
   pub some : 0 < length word
   pub graphic : list_all is_ascii_graphic word ≡ true
 
 -- a port's name: the same without a `.`
-pub record IsPort (word : List ℕ) : Type 0 where
+pub record IsPortName (word : List ℕ) : Type 0 where
   pub some : 0 < length word
   pub undotted : list_all is_port_byte word ≡ true
 
 -- a verdict (24.1)
-abbrev pub IsVerdict : List ℕ → Type 0
-IsVerdict word =
+abbrev pub IsVerdictWord : List ℕ → Type 0
+IsVerdictWord word =
     (word ≡ codes "none") ⊎ ((word ≡ codes "pass") ⊎ ((word ≡ codes "inconc")
     ⊎ ((word ≡ codes "fail") ⊎ (word ≡ codes "error"))))
 
 -- a number in decimal, below 2^63
-abbrev pub IsNumber : List ℕ → Type 0
-IsNumber word = (n : ℕ) × (n < 2 ^ 63) × (word ≡ decimal n)
+abbrev pub IsTraceNumber : List ℕ → Type 0
+IsTraceNumber word = (n : ℕ) × (n < 2 ^ 63) × (word ≡ decimal n)
 
 -- its names are names, its number is below 2^63, and it has a byte at least
 pub record IsLetter (letter : Letter) : Type 0 where
-  pub component : IsWord letter.component
-  pub port : IsPort letter.port
+  pub component : IsComponentName letter.component
+  pub port : IsPortName letter.port
   pub number : letter.number < 2 ^ 63
   pub text : 0 < length letter.text
 
 abbrev pub IsNote : Note → List ℕ → Type 0
-IsNote note.Set word = IsVerdict word
-IsNote note.Failed word = IsNumber word
-IsNote note.Verdict word = IsVerdict word
+IsNote note.Set word = IsVerdictWord word
+IsNote note.Failed word = IsTraceNumber word
+IsNote note.Verdict word = IsVerdictWord word
 
 -- what is told can be told: each name, number and verdict is one
 abbrev pub IsTold : Told → Type 0
-IsTold (begins name) = IsWord name
+IsTold (begins name) = IsComponentName name
 IsTold (passed fate letter) = IsLetter letter
-IsTold (operated operation port) = IsPort port
+IsTold (operated operation port) = IsPortName port
 IsTold otherwise = Unit {0}
 IsTold (noted note word) = IsNote note word
 IsTold (ended words) = 0 < length words
-IsTold (resulted word) = IsVerdict word
+IsTold (resulted word) = IsVerdictWord word
 
-abbrev pub fate_text : Fate → List ℕ
+abbrev pub fate_text : MessageVerb → List ℕ
 fate_text fate.Sent = codes "sent"
 fate_text fate.Came = codes "came"
 fate_text fate.Took = codes "took"
@@ -122,7 +122,7 @@ contents letter = decimal letter.number ++ (32 ∷ letter.text)
 
 -- behind `sent` the receiving component and its port, with a `.` between them; behind any other word the port and the
 -- sending component, with a space between them
-abbrev pub letter_text : Fate → Letter → List ℕ
+abbrev pub letter_text : MessageVerb → Letter → List ℕ
 letter_text fate.Sent letter = (letter.component ++ (46 ∷ letter.port)) ++ (32 ∷ contents letter)
 letter_text _ letter = letter.port ++ (32 ∷ (letter.component ++ (32 ∷ contents letter)))
 
@@ -137,7 +137,7 @@ operands (ended words) = Some words
 operands (resulted word) = Some word
 
 abbrev pub spelling : Told → List ℕ
-spelling told = verb_text (verb_of told) ++ behind (operands told)
+spelling told = verb_text (verb_of told) ++ after_space (operands told)
 
 -- the line tells this
 abbrev pub Spells : List ℕ → Told → Type 0

@@ -5,11 +5,11 @@ use Rattle.tp_trace.specs.declared.tree.Span.{Span}
 use Rattle.tp_trace.specs.Tree.{HoldsTrace}
 
 -- what lies there
-abbrev pub piece : List ℕ → Span → List ℕ
-piece text span = slice_range text span.start span.end
+abbrev pub span_text : List ℕ → Span → List ℕ
+span_text text span = slice_range text span.start span.end
 
-abbrev pub pieces : List ℕ → List Span → List (List ℕ)
-pieces text spans = map (λ span. piece text span) spans
+abbrev pub span_texts : List ℕ → List Span → List (List ℕ)
+span_texts text spans = map (λ span. span_text text span) spans
 
 -- it lies in a text of this size
 pub record IsSpanOf (size : ℕ) (span : Span) : Type 0 where
@@ -18,5 +18,5 @@ pub record IsSpanOf (size : ℕ) (span : Span) : Type 0 where
 
 -- the spans of the lines and the names of the sections of a trace
 pub record HoldsSpans (text : List ℕ) (spans : List Span) (names : List (List ℕ)) : Type 0 where
-  pub trace : HoldsTrace (pieces text spans) names
+  pub trace : HoldsTrace (span_texts text spans) names
   pub within : All (IsSpanOf (length text)) spans

@@ -4,20 +4,20 @@ use Rattle.std.specs.List.{AllZip, before_first, after_first}
 use Rattle.std.specs.Str.{bytes_eq}
 use Rattle.std.specs.Str.Parse.{digits_value}
 use Rattle.tp_text.specs.Cutting.{is_space, lacks, lines_of}
-use Rattle.tp_queue.specs.declared.operation.PortOperation.TheVariants as operation
-use Rattle.tp_trace.specs.declared.line.Fate.{Fate}
-use Rattle.tp_trace.specs.declared.line.Fate.TheVariants as fate
+use Rattle.tp_event.specs.declared.operation.PortOperation.TheVariants as operation
+use Rattle.tp_trace.specs.declared.line.MessageVerb.{MessageVerb}
+use Rattle.tp_trace.specs.declared.line.MessageVerb.TheVariants as fate
 use Rattle.tp_trace.specs.declared.line.Note.TheVariants as note
 use Rattle.tp_trace.specs.declared.line.Verb.{Verb}
 use Rattle.tp_trace.specs.declared.line.Verb.TheVariants as verb
-use Rattle.tp_trace.specs.declared.form.Place.{Place}
-use Rattle.tp_trace.specs.declared.form.Place.TheVariants as place
-use Rattle.tp_trace.specs.declared.line.Message.{Message}
+use Rattle.tp_trace.specs.declared.form.TracePosition.{TracePosition}
+use Rattle.tp_trace.specs.declared.form.TracePosition.TheVariants as place
+use Rattle.tp_trace.specs.declared.line.MessageWords.{MessageWords}
 use Rattle.tp_trace.specs.declared.line.Line.{Line}
 use Rattle.tp_trace.specs.declared.line.Line.TheVariants as line
 use Rattle.tp_trace.specs.Line.{Letter, Told, begins, passed, operated, otherwise, noted, ended, resulted, Spells, Says, verb_text}
 
-abbrev pub letter_of : Message → Letter
+abbrev pub letter_of : MessageWords → Letter
 letter_of m = record { component = m.component.now; port = m.port.now; number = m.number; text = m.text.now }
 
 -- what a line tells, without where its words lie in memory
@@ -57,7 +57,7 @@ first_spelled word [] = None
 first_spelled word (v ∷ vs) = if bytes_eq word (verb_text v) then Some v else first_spelled word vs
 
 -- the letter that is told of behind a verb, where one is
-abbrev pub letter_in : Fate → List ℕ → Letter
+abbrev pub letter_in : MessageVerb → List ℕ → Letter
 letter_in fate.Sent rest =
     let place = before_first is_space rest in
     let more = after_first is_space rest in
@@ -101,19 +101,19 @@ names_of (_ ∷ tolds) = names_of tolds
 abbrev pub section_named : List (List ℕ) → List ℕ → Option ℕ
 section_named names name = position (bytes_eq name) names
 
--- the place behind a line
-abbrev pub place_of : Told → Place
-place_of (passed fate.Left letter) = place.Left
-place_of (resulted word) = place.Behind
-place_of _ = place.Section
+-- the place after a line
+abbrev pub place_after : Told → TracePosition
+place_after (passed fate.Left letter) = place.Left
+place_after (resulted word) = place.Behind
+place_after _ = place.Section
 
 -- the place behind these lines
-abbrev pub place_behind : List Told → Place
-place_behind tolds = fold (λ _ told. place_of told) place.Front tolds
+abbrev pub place_behind : List Told → TracePosition
+place_behind tolds = fold (λ _ told. place_after told) place.Front tolds
 
 -- in front of all a section begins or the result stands; in a section any line stands; behind a `left` another `left`
 -- stands, a section begins or the result stands; behind the result nothing does
-abbrev pub may_stand : Place → Told → Bool
+abbrev pub may_stand : TracePosition → Told → Bool
 may_stand place.Front (begins name) = true
 may_stand place.Front (resulted word) = true
 may_stand place.Front _ = false
@@ -130,13 +130,13 @@ IsNewName names (begins name) = ¬ Contains names name
 IsNewName names _ = Unit {0}
 
 -- the line may stand in this place, behind lines that have begun the sections of these names
-pub record StandsAt (place : Place) (names : List (List ℕ)) (told : Told) : Type 0 where
+pub record MayStandAt (place : TracePosition) (names : List (List ℕ)) (told : Told) : Type 0 where
   pub fits : may_stand place told ≡ true
   pub new : IsNewName names told
 
 -- the line may stand behind these
 abbrev pub MayStand : List Told → Told → Type 0
-MayStand before told = StandsAt (place_behind before) (names_of before) told
+MayStand before told = MayStandAt (place_behind before) (names_of before) told
 
 -- each line may stand behind those before it
 abbrev pub IsTrace : List Told → Type 0

@@ -1,10 +1,10 @@
 //! The lines of a trace, and what each of them tells.
 
-use tp_queue::operation::PortOperation;
+use tp_event::operation::PortOperation;
 
 /// What a line says of a message.
 #[derive(Clone, Copy)]
-pub enum Fate {
+pub enum MessageVerb {
     /// `sent`: the component sent it.
     Sent,
     /// `came`: it came into the queue of its port.
@@ -32,7 +32,7 @@ pub enum Note {
 
 /// A message, as a line tells of it. Its parts lie in the text.
 #[derive(Clone, Copy)]
-pub struct Message<'t> {
+pub struct MessageWords<'t> {
     /// The component at the other end: that it was sent to in a line `sent`, and that sent it in
     /// any other.
     pub component: &'t [u8],
@@ -50,7 +50,7 @@ pub enum Line<'t> {
     /// `component NAME`: the section of this component begins.
     Component(&'t [u8]),
     /// A message was sent, came, was taken, found or discarded, or was left.
-    Message(Fate, Message<'t>),
+    Message(MessageVerb, MessageWords<'t>),
     /// `cleared PORT`, `started PORT`, `stopped PORT`, `halted PORT`: the port operation.
     Operation(PortOperation, &'t [u8]),
     /// `else`: a look at the ports that found nothing.
@@ -69,7 +69,7 @@ pub enum Verb {
     /// `component`
     Component,
     /// `sent`, `came`, `took`, `found`, `dropped`, `left`
-    Message(Fate),
+    Message(MessageVerb),
     /// `cleared`, `started`, `stopped`, `halted`
     Operation(PortOperation),
     /// `else`

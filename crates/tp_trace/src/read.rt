@@ -5,32 +5,32 @@ ghost use Rattle.std.specs.List.{list_all};
 ghost use Rattle.std.specs.Fmt.{decimal};
 ghost use Rattle.std.specs.Option.{option_copied};
 ghost use Rattle.tp_text.specs.Cutting.{lacks};
-ghost use Rattle.tp_trace.specs.declared.line.Fate.TheVariants as fate;
-ghost use Rattle.tp_trace.specs.Line.{IsLetter, IsNote, IsNumber, IsPort, IsTold, IsVerdict, IsWord, Spells, Told, fate_text, is_port_byte, letter_text, note_text, operands, operation_text, verb_of, verb_text};
+ghost use Rattle.tp_trace.specs.declared.line.MessageVerb.TheVariants as fate;
+ghost use Rattle.tp_trace.specs.Line.{IsLetter, IsNote, IsTraceNumber, IsPortName, IsTold, IsVerdictWord, IsComponentName, Spells, Told, fate_text, is_port_byte, letter_text, note_text, operands, operation_text, verb_of, verb_text};
 ghost use Rattle.tp_trace.specs.Read.{IsContents, IsRead, contents_text};
 ghost use Rattle.tp_trace.specs.Tree.{letter_of, told_of};
 
-use crate::line::{Fate, Line, Message, Note, Verb};
+use crate::line::{Line, MessageVerb, MessageWords, Note, Verb};
 use itoa::Buffer;
-use tp_queue::operation::PortOperation;
-use tp_text::cut::{first_word, text_of};
+use tp_event::operation::PortOperation;
+use tp_text::cut::{first_word, utf8_text};
 
 /// The greatest number of a message.
 const GREATEST_NUMBER: u64 = 9_223_372_036_854_775_807;
 
 /// What a word says of a message.
-fn fate_of(word: &[u8]) -> Option<Fate>
+fn fate_of(word: &[u8]) -> Option<MessageVerb>
     ensures { MatchOption result
         ((fate : _) → word.now ≡ fate_text fate → ⊥)
         (λ fate. word.now ≡ fate_text fate) }
 {
     match word {
-        b"sent" => Some(Fate::Sent),
-        b"came" => Some(Fate::Came),
-        b"took" => Some(Fate::Took),
-        b"found" => Some(Fate::Found),
-        b"dropped" => Some(Fate::Dropped),
-        b"left" => Some(Fate::Left),
+        b"sent" => Some(MessageVerb::Sent),
+        b"came" => Some(MessageVerb::Came),
+        b"took" => Some(MessageVerb::Took),
+        b"found" => Some(MessageVerb::Found),
+        b"dropped" => Some(MessageVerb::Dropped),
+        b"left" => Some(MessageVerb::Left),
         _ => None,
     }
 }
@@ -106,21 +106,21 @@ fn is_undotted(bytes: &[u8]) -> bool
 
 /// Whether the bytes are the name of a component.
 fn is_word(word: &[u8]) -> bool
-    ensures { IsTrue result ↔ IsWord word.now }
+    ensures { IsTrue result ↔ IsComponentName word.now }
 {
     !word.is_empty() && is_graphic(word)
 }
 
 /// Whether the bytes are the name of a port.
 fn is_port(word: &[u8]) -> bool
-    ensures { IsTrue result ↔ IsPort word.now }
+    ensures { IsTrue result ↔ IsPortName word.now }
 {
     !word.is_empty() && is_undotted(word)
 }
 
 /// Whether the bytes are a verdict.
 fn is_verdict(word: &[u8]) -> bool
-    ensures { MatchBool result (IsVerdict word.now) (¬ IsVerdict word.now) }
+    ensures { MatchBool result (IsVerdictWord word.now) (¬ IsVerdictWord word.now) }
 {
     match word {
         b"none" | b"pass" | b"inconc" | b"fail" | b"error" => true,
@@ -132,7 +132,7 @@ fn is_verdict(word: &[u8]) -> bool
 fn parse_number(word: &[u8]) -> Option<u64>
     ensures { (n : ℕ) → n < 2 ^ 63 → word.now ≡ decimal n → result ≡ Some n }
 {
-    let text = text_of(word)?;
+    let text = utf8_text(word)?;
     text.parse::<u64>().ok()
 }
 
@@ -198,7 +198,7 @@ fn around_last_dot(word: &[u8]) -> Option<(&[u8], &[u8])>
 }
 
 /// The message behind `sent`.
-fn sent_of(rest: &[u8]) -> Option<Message<'_>>
+fn sent_of(rest: &[u8]) -> Option<MessageWords<'_>>
     ensures { MatchOption result
         ((letter : _) → IsLetter letter → rest.now ≡ letter_text fate.Sent letter → ⊥)
         (λ m. IsLetter (letter_of m) × (rest.now ≡ letter_text fate.Sent (letter_of m))) }
@@ -209,7 +209,7 @@ fn sent_of(rest: &[u8]) -> Option<Message<'_>>
         return None;
     }
     let (number, text) = contents_of(more)?;
-    Some(Message {
+    Some(MessageWords {
         component,
         port,
         number,
@@ -218,7 +218,7 @@ fn sent_of(rest: &[u8]) -> Option<Message<'_>>
 }
 
 /// The message behind a word that tells what became of it at its port.
-fn passed_of(rest: &[u8]) -> Option<Message<'_>>
+fn passed_of(rest: &[u8]) -> Option<MessageWords<'_>>
     ensures { MatchOption result
         ((letter : _) → IsLetter letter → rest.now ≡ letter_text fate.Came letter → ⊥)
         (λ m. IsLetter (letter_of m) × (rest.now ≡ letter_text fate.Came (letter_of m))) }
@@ -229,7 +229,7 @@ fn passed_of(rest: &[u8]) -> Option<Message<'_>>
         return None;
     }
     let (number, text) = contents_of(last)?;
-    Some(Message {
+    Some(MessageWords {
         component,
         port,
         number,
@@ -238,14 +238,18 @@ fn passed_of(rest: &[u8]) -> Option<Message<'_>>
 }
 
 /// The message behind a word that says this of it.
-fn message_of(fate: Fate, rest: &[u8]) -> Option<Message<'_>>
+fn message_of(fate: MessageVerb, rest: &[u8]) -> Option<MessageWords<'_>>
     ensures { MatchOption result
         ((letter : _) → IsLetter letter → rest.now ≡ letter_text fate letter → ⊥)
         (λ m. IsLetter (letter_of m) × (rest.now ≡ letter_text fate (letter_of m))) }
 {
     match fate {
-        Fate::Sent => sent_of(rest),
-        Fate::Came | Fate::Took | Fate::Found | Fate::Dropped | Fate::Left => passed_of(rest),
+        MessageVerb::Sent => sent_of(rest),
+        MessageVerb::Came
+        | MessageVerb::Took
+        | MessageVerb::Found
+        | MessageVerb::Dropped
+        | MessageVerb::Left => passed_of(rest),
     }
 }
 

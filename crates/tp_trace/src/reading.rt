@@ -2,11 +2,11 @@
 ghost use Rattle.std.specs.Prelude.{◌≡◌, ◌+◌, ◌<◌, ◌≤◌, ◌==◌, ◌↔◌, IsErrOf, IfErr, IfOk, MatchOption, length, count_by};
 ghost use Rattle.tp_text.specs.Cutting.{IsFrontOf, IsLeftOf};
 ghost use Rattle.tp_trace.specs.Line.{Told, Spells};
-ghost use Rattle.tp_trace.specs.Tree.{BadLinesStayBad, IsTraceOf, SaysOneAtMost, StandsAt, told_of};
-ghost use Rattle.tp_trace.specs.Spans.{IsSpanOf, piece};
+ghost use Rattle.tp_trace.specs.Tree.{BadLinesStayBad, IsTraceOf, SaysOneAtMost, MayStandAt, told_of};
+ghost use Rattle.tp_trace.specs.Spans.{IsSpanOf, span_text};
 ghost use Rattle.tp_trace.specs.Faults.{IsFaultOf, Notes, TakesPlace};
 
-use crate::form::{Place, may_stand, place_behind};
+use crate::form::{TracePosition, may_stand, place_after};
 use crate::line::Line;
 use crate::names::Names;
 use crate::read::line_of;
@@ -79,7 +79,7 @@ fn span_of(text: &[u8], rest: &[u8], line: &[u8]) -> Span
     requires size { length text.now ≤ 268435456 }
     requires left { IsLeftOf text.now rest.now }
     requires front { IsFrontOf rest.now line.now }
-    ensures piece { piece text.now result ≡ line.now }
+    ensures piece { span_text text.now result ≡ line.now }
     ensures within { IsSpanOf (length text.now) result }
 {
     let start = text.len() - rest.len();
@@ -102,9 +102,13 @@ fn is_new<'t>(names: &mut Names<'t>, line: &Line<'t>) -> Result<bool, Memory>
 
 /// The place behind a line, where it tells something that may stand in this place behind lines that
 /// have begun the sections of these names. The name of a section that it begins is noted.
-fn step<'t>(names: &mut Names<'t>, place: Place, bytes: &'t [u8]) -> Result<Option<Place>, Memory>
+fn step<'t>(
+    names: &mut Names<'t>,
+    place: TracePosition,
+    bytes: &'t [u8],
+) -> Result<Option<TracePosition>, Memory>
     ensures { IfOk result (λ after. MatchOption after
-        ((told : Told) → Spells bytes.now told → StandsAt place names.old told → ⊥)
+        ((told : Told) → Spells bytes.now told → MayStandAt place names.old told → ⊥)
         (TakesPlace bytes.now place names.old names.new)) }
 {
     let Some(line) = line_of(bytes) else {
@@ -116,7 +120,7 @@ fn step<'t>(names: &mut Names<'t>, place: Place, bytes: &'t [u8]) -> Result<Opti
     if !is_new(names, &line)? {
         return Ok(None);
     }
-    Ok(Some(place_behind(&line)))
+    Ok(Some(place_after(&line)))
 }
 
 /// Reads a text as a trace.
@@ -134,7 +138,7 @@ pub fn read_trace<'t>(alloc: Global, text: &'t [u8]) -> Result<Trace<'t>, TraceF
     }
     let mut spans = Vec::with_capacity(alloc, room_for(text))?;
     let mut names = Names::new(alloc);
-    let mut place = Place::Front;
+    let mut place = TracePosition::Front;
     let mut rest = text;
     while !rest.is_empty() {
         let (bytes, next) = first_line(rest);

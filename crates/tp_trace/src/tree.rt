@@ -1,6 +1,6 @@
 //! A trace: a text that has the form of one, cut into its lines.
 ghost use Rattle.std.specs.Prelude.{◌≡◌, ◌≢◌, ◌<◌, All, AllPairs, Some, length, map, slice_get};
-ghost use Rattle.tp_trace.specs.Spans.{IsSpanOf, pieces};
+ghost use Rattle.tp_trace.specs.Spans.{IsSpanOf, span_texts};
 ghost use Rattle.tp_trace.specs.Tree.{HoldsTrace, IsTrace, names_of, section_named, told_in, told_of};
 
 use crate::line::Line;
@@ -32,12 +32,12 @@ pub struct Trace<'t> {
 impl<'t> Model for Trace<'t> {
     ghost use Rattle.std.specs.Prelude.{List, map};
     ghost use Rattle.tp_trace.specs.Line.{Told};
-    ghost use Rattle.tp_trace.specs.Spans.{HoldsSpans, pieces};
+    ghost use Rattle.tp_trace.specs.Spans.{HoldsSpans, span_texts};
     ghost use Rattle.tp_trace.specs.Tree.{told_in};
 
     ghost Value = { List Told };
 
-    ghost view = { λ t. map told_in (pieces t.text.now t.spans.items) };
+    ghost view = { λ t. map told_in (span_texts t.text.now t.spans.items) };
 
     ghost invariant = { λ t. HoldsSpans t.text.now t.spans.items t.names };
 }
@@ -45,9 +45,9 @@ impl<'t> Model for Trace<'t> {
 impl<'t> Trace<'t> {
     /// The trace of the lines that lie there in the text, whose sections have these names.
     pub(crate) fn of(text: &'t [u8], spans: Vec<Span>, names: Names<'t>) -> Trace<'t>
-        requires holds { HoldsTrace (pieces text.now spans.items) names }
+        requires holds { HoldsTrace (span_texts text.now spans.items) names }
         requires within { All (IsSpanOf (length text.now)) spans.items }
-        ensures { result ≡ map told_in (pieces text.now spans.items) }
+        ensures { result ≡ map told_in (span_texts text.now spans.items) }
     {
         Trace { text, spans, names }
     }

@@ -4,7 +4,7 @@
 //! was used, so that the tokens of the text are those of the tree. Each statement, branch and
 //! definition has the line of its first token.
 use crate::message::{Message, MessageTemplate, TypeName, Value};
-use tp_queue::operation::{PortOperation, ReceiveKind};
+use tp_event::operation::{PortOperation, ReceiveKind};
 
 /// A name where it is declared (ES 201 873-1, 5.2.2).
 #[derive(Drop)]
@@ -28,7 +28,7 @@ pub enum ComponentName {
 
 /// What is sent.
 #[derive(Drop)]
-pub enum Sent {
+pub enum SentExpression {
     /// A message that is written out.
     Message(Message),
     /// What a variable holds.
@@ -37,7 +37,7 @@ pub enum Sent {
 
 /// To whom is sent.
 #[derive(Drop)]
-pub enum Destination {
+pub enum Receivers {
     /// One component.
     Component(ComponentName),
     /// `all component`
@@ -50,9 +50,9 @@ pub struct Send {
     /// The port.
     pub port: String,
     /// What is sent.
-    pub sent: Sent,
+    pub sent: SentExpression,
     /// What stands behind `to`.
-    pub to: Option<Destination>,
+    pub to: Option<Receivers>,
 }
 
 /// Where a receiving operation puts what it got: behind `->`, which stands where one of the two

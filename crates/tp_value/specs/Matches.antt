@@ -28,20 +28,20 @@ abbrev pub IsTextPiece : PatternPart → List ℕ → Type 0
 IsTextPiece p x = PieceOf (is_many_part p) (AdmitsChar p) x
 
 -- the number of an integer
-abbrev pub number_in : v.Value-F Value → Option (ℤ)
-number_in (v.Int z) = Some z
-number_in (v.Bool b) = None
-number_in (v.Text cs) = None
-number_in (v.Record vs) = None
-number_in (v.List vs) = None
+abbrev pub integer_in : v.Value-F Value → Option (ℤ)
+integer_in (v.Int z) = Some z
+integer_in (v.Bool b) = None
+integer_in (v.Text cs) = None
+integer_in (v.Record vs) = None
+integer_in (v.List vs) = None
 
 -- the characters of a charstring
-abbrev pub text_in : v.Value-F Value → Option (List ℕ)
-text_in (v.Int z) = None
-text_in (v.Bool b) = None
-text_in (v.Text cs) = Some cs
-text_in (v.Record vs) = None
-text_in (v.List vs) = None
+abbrev pub charstring_in : v.Value-F Value → Option (List ℕ)
+charstring_in (v.Int z) = None
+charstring_in (v.Bool b) = None
+charstring_in (v.Text cs) = Some cs
+charstring_in (v.Record vs) = None
+charstring_in (v.List vs) = None
 
 -- the values of the fields of a record
 abbrev pub fields_in : v.Value-F Value → Option (List Value)
@@ -124,8 +124,8 @@ template_matches X template matches t.Any v = Unit {0}
 template_matches X template matches t.AnyOrNone v = ⊥
 template_matches X template matches (t.OneOf xs) v = SomeMatches matches xs v
 template_matches X template matches (t.NoneOf xs) v = SomeMatches matches xs v → ⊥
-template_matches X template matches (t.Range lo hi) v = IsInRange lo hi (number_in (out-Value v))
-template_matches X template matches (t.Pattern ps) v = TextMatches ps (text_in (out-Value v))
+template_matches X template matches (t.Range lo hi) v = IsInRange lo hi (integer_in (out-Value v))
+template_matches X template matches (t.Pattern ps) v = TextMatches ps (charstring_in (out-Value v))
 template_matches X template matches (t.Record xs) v = RecordMatches matches xs (fields_in (out-Value v))
 template_matches X template matches (t.List xs) v =
     ListMatches (λ x. is_many (template x)) matches xs (elements_in (out-Value v))

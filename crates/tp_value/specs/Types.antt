@@ -8,12 +8,12 @@ use Rattle.tp_value.specs.declared.types.TypeDef.{TypeDef}
 use Rattle.tp_value.specs.declared.types.Types.{Types}
 
 -- the names, in the order of their numbers
-abbrev pub names : Types → List (List ℕ)
-names types = map (λ t. t.0) types
+abbrev pub names_of_types : Types → List (List ℕ)
+names_of_types types = map (λ t. t.0) types
 
 -- the number that has the name
 abbrev pub type_number : Types → List ℕ → Option ℕ
-type_number types name = position (bytes_eq name) (names types)
+type_number types name = position (bytes_eq name) (names_of_types types)
 
 -- the definition that a type names
 abbrev pub named : Types → Ty → Option TypeDef

@@ -12,8 +12,8 @@ rank verdict.Fail = 3
 rank verdict.Error = 4
 
 -- the verdict of a rank
-abbrev pub verdict_at : ℕ → Verdict
-verdict_at n =
+abbrev pub verdict_of_rank : ℕ → Verdict
+verdict_of_rank n =
     if nat_eq n 0 then verdict.None else
     (if nat_eq n 1 then verdict.Pass else
     (if nat_eq n 2 then verdict.Inconc else

@@ -2,13 +2,13 @@
 ghost use Rattle.std.specs.Prelude.{◌≡◌, ◌↔◌, ◌<◌, ◌≤◌, IsTrue, length, drop, []};
 ghost use Rattle.tp_value.specs.Cuts.{HasCut, PieceOf};
 ghost use Rattle.tp_value.specs.Steps.{StepIs};
-ghost use Rattle.tp_value.specs.Matches.{Matches, SomeMatches, FieldsMatch, AtLeast, AtMost, number_in, text_in, fields_in, elements_in, is_many as is_many_template};
+ghost use Rattle.tp_value.specs.Matches.{Matches, SomeMatches, FieldsMatch, AtLeast, AtMost, integer_in, charstring_in, fields_in, elements_in, is_many as is_many_template};
 ghost use Rattle.std.specs.Option.{option_copied};
 ghost use Rattle.tp_value.specs.declared.value.Value.TheViews.{out-Value};
 
 use crate::equal::are_equal;
 use crate::pattern::text_matches;
-use crate::scan::Step;
+use crate::scan::ScanMove;
 use crate::template::Template;
 use crate::value::Value;
 
@@ -29,7 +29,7 @@ fn is_in_range(lower: Option<i64>, upper: Option<i64>, number: i64) -> bool
 
 /// The number, where the value is an integer.
 fn number(value: &Value) -> Option<i64>
-    ensures { result ≡ number_in (out-Value value.now) }
+    ensures { result ≡ integer_in (out-Value value.now) }
 {
     match value {
         Value::Int(inside) => Some(*inside),
@@ -42,7 +42,7 @@ fn number(value: &Value) -> Option<i64>
 
 /// The characters, where the value is a charstring.
 fn text(value: &Value) -> Option<&[u8]>
-    ensures { option_copied result ≡ text_in (out-Value value.now) }
+    ensures { option_copied result ≡ charstring_in (out-Value value.now) }
 {
     match value {
         Value::Int(_) => None,
@@ -152,19 +152,19 @@ fn fields_match(members: &[Template], fields: &[Value]) -> bool
 
 /// The next step at these places: past a `*`, past one template with one element, or back.
 #[cycle(matches)]
-fn list_step(members: &[Template], part: usize, elements: &[Value], at: usize) -> Step
+fn list_step(members: &[Template], part: usize, elements: &[Value], at: usize) -> ScanMove
     requires { at < length elements.now }
     ensures { StepIs is_many_template Matches
         (drop part members.now) (drop at elements.now) result }
 {
     if part >= members.len() {
-        Step::Stuck
+        ScanMove::Stuck
     } else if members[part].is_many() {
-        Step::AnyOrNone
+        ScanMove::AnyOrNone
     } else if matches(&members[part], &elements[at]) {
-        Step::One
+        ScanMove::One
     } else {
-        Step::Stuck
+        ScanMove::Stuck
     }
 }
 
@@ -194,15 +194,15 @@ fn list_matches(members: &[Template], elements: &[Value]) -> bool
     let mut back: Option<(usize, usize)> = None;
     while at < elements.len() {
         match list_step(members, part, elements, at) {
-            Step::AnyOrNone => {
+            ScanMove::AnyOrNone => {
                 part += 1;
                 back = Some((part, at));
             }
-            Step::One => {
+            ScanMove::One => {
                 part += 1;
                 at += 1;
             }
-            Step::Stuck => {
+            ScanMove::Stuck => {
                 let Some((after, from)) = back else {
                     return false;
                 };

@@ -4,7 +4,7 @@ use crate::template::Template;
 use crate::types::Ty;
 use crate::value::Value;
 use std::alloc::Global;
-use tp_queue::payload::{Payload, Wanted};
+use tp_event::payload::{Payload, Wanted};
 use tp_refusal::memory::Memory;
 
 /// What a send sends: a value under a type (ES 201 873-1, 22.2.1). A message of a script has a

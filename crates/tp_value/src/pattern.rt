@@ -4,7 +4,7 @@ ghost use Rattle.tp_value.specs.Cuts.{HasCut};
 ghost use Rattle.tp_value.specs.Steps.{StepIs};
 ghost use Rattle.tp_value.specs.Matches.{is_many_part, AdmitsChar, IsTextPiece};
 
-use crate::scan::Step;
+use crate::scan::ScanMove;
 use crate::template::PatternPart;
 
 /// Whether the part is `*`.
@@ -29,18 +29,18 @@ fn admits(part: PatternPart, char: u8) -> bool
 }
 
 /// The next step at these places: past a `*`, past one part with one character, or back.
-fn next_step(parts: &[PatternPart], part: usize, text: &[u8], at: usize) -> Step
+fn next_step(parts: &[PatternPart], part: usize, text: &[u8], at: usize) -> ScanMove
     requires { at < length text.now }
     ensures { StepIs is_many_part AdmitsChar (drop part parts.now) (drop at text.now) result }
 {
     if part >= parts.len() {
-        Step::Stuck
+        ScanMove::Stuck
     } else if is_many(parts[part]) {
-        Step::AnyOrNone
+        ScanMove::AnyOrNone
     } else if admits(parts[part], text[at]) {
-        Step::One
+        ScanMove::One
     } else {
-        Step::Stuck
+        ScanMove::Stuck
     }
 }
 
@@ -67,15 +67,15 @@ pub fn text_matches(parts: &[PatternPart], text: &[u8]) -> bool
     let mut back: Option<(usize, usize)> = None;
     while at < text.len() {
         match next_step(parts, part, text, at) {
-            Step::AnyOrNone => {
+            ScanMove::AnyOrNone => {
                 part += 1;
                 back = Some((part, at));
             }
-            Step::One => {
+            ScanMove::One => {
                 part += 1;
                 at += 1;
             }
-            Step::Stuck => {
+            ScanMove::Stuck => {
                 let Some((after, from)) = back else {
                     return false;
                 };

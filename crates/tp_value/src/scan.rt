@@ -2,7 +2,7 @@
 
 /// What a scan does next: pass a `*`, pass one part with one element, or go back.
 #[derive(Clone, Copy, Drop)]
-pub enum Step {
+pub enum ScanMove {
     AnyOrNone,
     One,
     Stuck,

@@ -90,7 +90,7 @@ impl Model for Types {
 impl Types {
     ghost use Rattle.std.specs.Prelude.{◌≡◌, ◌<◌, ◌∷◌, ◌++◌, ◌↔◌, [], length, slice_get, string_bytes, Contains, IfOk, IfSome, IsErrOf, IsSome, OnErr};
     ghost use Rattle.std.specs.Option.{option_copied};
-    ghost use Rattle.tp_value.specs.Types.{named, names, type_number};
+    ghost use Rattle.tp_value.specs.Types.{named, names_of_types, type_number};
 
     /// No types. Takes no memory; a later [`Types::add`] takes it from `alloc`.
     pub fn new(alloc: Global) -> Types
@@ -119,7 +119,7 @@ impl Types {
         ensures ok { IfOk result (λ _.
             self.new ≡ self.old ++ (string_bytes name, definition) ∷ []) }
         ensures duplicate { IsErrOf result AddFault.Duplicate
-            ↔ Contains (names self.old) (string_bytes name) }
+            ↔ Contains (names_of_types self.old) (string_bytes name) }
         ensures err { OnErr result (self.new ≡ self.old) }
     {
         if self.find(name.as_str()).is_some() {
@@ -134,8 +134,8 @@ impl Types {
     pub fn find(&self, name: &str) -> Option<u32>
         ensures number { result ≡ type_number self.now name.now }
         ensures there { IfSome result (λ number.
-            slice_get (names self.now) number ≡ Some name.now) }
-        ensures known { IsSome result ↔ Contains (names self.now) name.now }
+            slice_get (names_of_types self.now) number ≡ Some name.now) }
+        ensures known { IsSome result ↔ Contains (names_of_types self.now) name.now }
     {
         match self.definitions.get_index_of(name) {
             Some(number) => Some(number as u32),
@@ -146,7 +146,7 @@ impl Types {
     /// The name of the type of this number, or `None` where there is no such number. Takes no
     /// memory.
     pub fn name(&self, number: u32) -> Option<&str>
-        ensures { option_copied result ≡ slice_get (names self.now) number }
+        ensures { option_copied result ≡ slice_get (names_of_types self.now) number }
     {
         match self.definitions.get_index(number as usize) {
             Some((name, _)) => Some(name.as_str()),

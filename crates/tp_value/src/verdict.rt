@@ -1,6 +1,6 @@
 //! Verdicts.
 ghost use Rattle.std.specs.Prelude.{◌≡◌, ◌≢◌, ◌<◌};
-ghost use Rattle.tp_value.specs.Verdicts.{verdict_at, worse};
+ghost use Rattle.tp_value.specs.Verdicts.{verdict_of_rank, worse};
 
 /// What a test has come to (ES 201 873-1, 24.1), each worse than the one before.
 #[derive(Clone, Copy, Debug)]
@@ -33,7 +33,7 @@ impl Verdict {
 
     /// The verdict of this rank; `error` for a number above 4. Takes no memory.
     pub const fn of_rank(number: u32) -> Verdict
-        ensures verdict { result ≡ verdict_at number }
+        ensures verdict { result ≡ verdict_of_rank number }
         ensures rank { number < 5 → Rattle.tp_value.specs.Verdicts.rank result ≡ number }
     {
         match number {

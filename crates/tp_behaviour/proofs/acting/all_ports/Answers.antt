@@ -1,8 +1,8 @@
 -- One entry for each port, in their order, and there are as many as the component has.
 use Rattle.std.proofs.Common.{◌≡◌, ◌∙◌, add-one, ap, arith, length, refl, subst, sym}
 use Rattle.tp_config.specs.Setup.{ports_at}
-use Rattle.tp_inbox.specs.Desks.{Journal}
-use Rattle.tp_behaviour.specs.Seen.{Grew}
+use Rattle.tp_history.specs.Desks.{Journal}
+use Rattle.tp_behaviour.specs.Seen.{TraceGrew}
 use Rattle.tp_behaviour.specs.Workers.{role_of}
 use Rattle.tp_behaviour.proofs.Acted.{AreSoFar, few_ports, grew_further, grew_start, stepped_all}
 use Rattle.tp_behaviour.proofs.Consistent.{same_itself, same_then}
@@ -42,7 +42,7 @@ loop-port-preserved g c =
       same = same_then c.look_in.new.worker c.loop-port.worker c.operate_at.new.worker i.same e.same;
       ports = ap (λ (j : Journal). j.ports) e.added ∙ i.ports;
       own = e.own;
-      done = subst (λ k. Grew (AreSoFar o k m) c.look_in.new.worker.desk.log m) (sym (add-one n))
+      done = subst (λ k. TraceGrew (AreSoFar o k m) c.look_in.new.worker.desk.log m) (sym (add-one n))
           (grew_further o n c.look_in.new.worker.desk.log c.loop-port.worker.desk.log m i.done (ap (λ (j : Journal). j.log) e.added) e.trace);
     }
 

@@ -2,8 +2,8 @@
 use Rattle.std.proofs.Common.{◌≡◌}
 use Rattle.std.specs.Prelude.{All}
 use Rattle.tp_behaviour.specs.Choices.{IsDrop}
-use Rattle.tp_behaviour.specs.Seen.{Grew}
-use Rattle.tp_behaviour.specs.Workers.{IsConsistent, IsSame, role_of}
+use Rattle.tp_behaviour.specs.Seen.{TraceGrew}
+use Rattle.tp_behaviour.specs.Workers.{IsConsistent, KeepsInboxes, role_of}
 use Rattle.tp_behaviour.specs.Views.{all_viewed}
 use Rattle.tp_behaviour.proofs.choosing.choose.Given as goal
 
@@ -11,7 +11,7 @@ use Rattle.tp_behaviour.proofs.choosing.choose.Given as goal
 abbrev pub invariant-loop : goal.invariant-loop
 invariant-loop g l = record {
   consistent : IsConsistent (role_of l.execution.task.now) l.worker;
-  same : IsSame l.initial.worker l.worker;
+  same : KeepsInboxes l.initial.worker l.worker;
   ports : l.worker.desk.ports ≡ l.initial.worker.desk.ports;
-  drops : Grew (All (IsDrop (all_viewed l.guards))) l.initial.worker.desk.log l.worker.desk.log;
+  drops : TraceGrew (All (IsDrop (all_viewed l.guards))) l.initial.worker.desk.log l.worker.desk.log;
 }

@@ -7,7 +7,7 @@ use Rattle.tp_behaviour.specs.declared.choosing.Choice.TheVariants as choice
 use Rattle.tp_behaviour.specs.declared.held.Held.{Held}
 use Rattle.tp_behaviour.specs.Held.{guard_of}
 use Rattle.tp_behaviour.specs.Paths.{IsStep}
-use Rattle.tp_behaviour.specs.Seen.{Chose, Grew}
+use Rattle.tp_behaviour.specs.Seen.{Chose, TraceGrew}
 use Rattle.tp_behaviour.specs.Workers.{role_of, values_of}
 use Rattle.tp_behaviour.specs.Views.{viewed}
 use Rattle.tp_behaviour.proofs.Received.{received, waits_for}
@@ -22,7 +22,7 @@ returns-in-Branch-clause-ended g c =
     let k = c.args.worker.now.desk.log in
     let n = c.choose.new.worker.desk.log in
     let chose = rw c.in-Branch.is at c.in_ok-env.ensures.chose in
-    subst (λ (ws : List (Option Held)). Grew (λ ts. IsStep r turns vs (b.Receive x) ts ws) k n) (sym c.redirect.ensures.set)
+    subst (λ (ws : List (Option Held)). TraceGrew (λ ts. IsStep r turns vs (b.Receive x) ts ws) k n) (sym c.redirect.ensures.set)
     (received r turns vs x (viewed c.in_ok-view.view ∷ []) c.in-Branch.field-0 c.in-Branch.env k n (ap (λ (y : Guard). y ∷ []) c.in_ok-view.ensures) chose)
 
 pub returns-in-Waits-clause-ended : goal.returns-in-Waits-clause-ended
@@ -38,4 +38,4 @@ returns-in-Waits-clause-ended g c =
     c.push_reserved.ensures.items ∙ ap (λ (l : List Guard). l ++ c.in_ok-guard-in-Waits.guard ∷ []) c.in_ok-guards-in-Waits.ensures.items
     ∙ ap (λ (y : Guard). y ∷ []) c.in_ok-guard-in-Waits.ensures in
     waits_for r turns vs x c.push_reserved.new.self.items k n one
-    (subst (λ l. Grew (Chose l false choice.Waits) k n) (ap (λ (y : Guard). y ∷ []) c.in_ok-view.ensures ∙ sym one) chose)
+    (subst (λ l. TraceGrew (Chose l false choice.Waits) k n) (ap (λ (y : Guard). y ∷ []) c.in_ok-view.ensures ∙ sym one) chose)

@@ -4,7 +4,7 @@ use Rattle.std.specs.Prelude.{vec_len}
 use Rattle.std.proofs.lemmas.List.Elements.{Contains-get_or}
 use Rattle.std.specs.List.{AllZip}
 use Rattle.tp_behaviour.specs.Paths.{IsSentOn}
-use Rattle.tp_behaviour.specs.Seen.{Grew}
+use Rattle.tp_behaviour.specs.Seen.{TraceGrew}
 use Rattle.tp_behaviour.specs.Workers.{role_of, values_of}
 use Rattle.tp_behaviour.proofs.Routed.{cause_none, no_items, sends_all, some_items}
 use Rattle.tp_behaviour.proofs.sending.send_to_all.Goals as goal
@@ -33,7 +33,7 @@ returns-clause-sends g c =
     let before = c.args.worker.now.desk.log in
     let after = c.send_on_each.new.worker.desk.log in
     let long : length routes.items ≡ vec_len routes = omega (arith, routes.ok.0) in
-    let each = subst (λ l. Grew (AllZip (IsSentOn x.port m) l) before after) c.as_slice.ensures.value
+    let each = subst (λ l. TraceGrew (AllZip (IsSentOn x.port m) l) before after) c.as_slice.ensures.value
     (c.in_ok-send_on_each.ensures.each x.port c.requires.started) in
     sends_all (role_of c.args.execution.now.task.now) (values_of c.args.frame.now) x m routes.items before after c.requires.sent c.requires.all
     c.in_ok-routes.ensures.routes

@@ -4,7 +4,7 @@ use denote.Param.Weighed.{most}
 use Rattle.tp_play.proofs.body.Branch.TheLaws.{the_size as branch_size}
 use Rattle.tp_play.proofs.body.Statement.TheLaws.{the_size}
 use Rattle.tp_behaviour.specs.Outcomes.{HoldsAsDeclared}
-use Rattle.tp_behaviour.specs.Workers.{IsConsistent, IsSame, role_of}
+use Rattle.tp_behaviour.specs.Workers.{IsConsistent, KeepsInboxes, role_of}
 use Rattle.tp_behaviour.proofs.Executed.{Passed}
 use Rattle.tp_behaviour.proofs.Turned.{TurnsMade}
 use Rattle.tp_behaviour.proofs.statements.+statements.Given as goal
@@ -29,7 +29,7 @@ decreases-branch g l = 4 * most branch_size l.alt.branches.now
 abbrev pub invariant-execute-loop-place : goal.invariant-execute-loop-place
 invariant-execute-loop-place g l = record {
   consistent : IsConsistent (role_of l.execution.task.now) l.worker;
-  same : IsSame l.initial.worker l.worker;
+  same : KeepsInboxes l.initial.worker l.worker;
   held : HoldsAsDeclared l.execution.task.now l.frame;
   turns : l.frame.turns.items ≡ l.initial.frame.turns.items;
   passed : Passed l.execution.task.now l.block.statements.now l.place l.initial.worker l.initial.frame l.worker l.frame;
@@ -39,7 +39,7 @@ invariant-execute-loop-place g l = record {
 abbrev pub invariant-turns-loop-value : goal.invariant-turns-loop-value
 invariant-turns-loop-value g l = record {
   consistent : IsConsistent (role_of l.execution.task.now) l.worker;
-  same : IsSame l.initial.worker l.worker;
+  same : KeepsInboxes l.initial.worker l.worker;
   held : HoldsAsDeclared l.execution.task.now l.frame;
   turns : l.frame.turns.items ≡ l.initial.frame.turns.items;
   made : TurnsMade l.execution.task.now (to_z w64 (of_z w64 l.fn.values.start)) l.value (to_z w64 (of_z w64 l.fn.values.end)) l.block.statements.now

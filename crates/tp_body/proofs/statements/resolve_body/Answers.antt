@@ -7,7 +7,7 @@ use Rattle.tp_tree.specs.declared.tree.Variable.{Variable}
 use Rattle.tp_play.specs.declared.body.Body.{Body}
 use Rattle.tp_name.specs.declared.fault.ModuleRule.TheVariants as rule
 use Rattle.tp_name.specs.declared.fault.ModuleFault.{ModuleFault}
-use Rattle.tp_name.specs.Refused.{Breaks, Tells}
+use Rattle.tp_name.specs.Refused.{IsRefusedBy, Tells}
 use Rattle.tp_body.specs.declared.scope.Scope.{Scope}
 use Rattle.tp_body.specs.Scoping.{IsSoundScope}
 use Rattle.tp_body.specs.Bodies.{IsBody}
@@ -29,9 +29,9 @@ returns-clause-playable c = record { statements = block_played c.args.scope.now 
 
 -- what is told shows that there is no such body
 refuses : {T : Type 0} (scope : Scope) (sound : IsSoundScope scope) (line : ℕ) (xs : List Variable) (statements : List Statement) (r : Result T ModuleFault)
-    → IfErr r (Tells (BodyBreaks scope line xs statements)) → IfErr r (Breaks ((body : Body) × IsBody scope xs statements body))
+    → IfErr r (Tells (BodyBreaks scope line xs statements)) → IfErr r (IsRefusedBy ((body : Body) × IsBody scope xs statements body))
 refuses scope sound line xs statements r told =
-    IfErr-weaker r (Tells (BodyBreaks scope line xs statements)) (Breaks ((body : Body) × IsBody scope xs statements body))
+    IfErr-weaker r (Tells (BodyBreaks scope line xs statements)) (IsRefusedBy ((body : Body) × IsBody scope xs statements body))
     (λ f. broken_from _ _ f (body_excludes scope sound)) told
 
 pub returns-then-not-are_no_ports-clause-told : goal.returns-then-not-are_no_ports-clause-told

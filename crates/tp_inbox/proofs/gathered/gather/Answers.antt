@@ -7,10 +7,10 @@ use Rattle.std.specs.Arc.{arc_value}
 use Rattle.tp_inbox.specs.declared.channel.Channel.{Channel}
 use Rattle.tp_inbox.specs.declared.rule.View.{View}
 use Rattle.tp_config.specs.declared.port_type.RouteId.{RouteId}
-use Rattle.tp_inbox.specs.Envelopes.{AreRouted, Ledger, one_of, before}
+use Rattle.tp_inbox.specs.Envelopes.{AreRouted, Ledger, one_of, envelopes_before}
 use Rattle.tp_inbox.specs.Rule.{owner_pass}
 use Rattle.tp_inbox.specs.Routed.{AreRoutes, arrivals_of, posted_of, rest_arrivals, route_at}
-use Rattle.tp_inbox.specs.Ledgers.{Draining, Inbox, Sending, IsSenderInto, put_by}
+use Rattle.tp_inbox.specs.Ledgers.{Draining, Inbox, SenderLedger, IsSenderInto, put_by}
 use Rattle.tp_inbox.specs.Ends.{inbox_of, sent_by}
 use Rattle.tp_inbox.specs.Gathers.{IsPutOf}
 use Rattle.tp_inbox.proofs.Steps.{joins_as}
@@ -55,13 +55,13 @@ loop-sender-preserved g c =
     let taken = c.owner.inside.pass.me.view.client.taken in
     let known = c.loop-sender.pass.me.view.client.known in
     let theirs = c.sender.inside.pass.me.view.client in
-    let source : c.sender.inside.source ≡ s.source = ap (λ (x : Sending). x.source) c.sender.view_is in
+    let source : c.sender.inside.source ≡ s.source = ap (λ (x : SenderLedger). x.source) c.sender.view_is in
     let inboxes = subst (All (IsSenderInto (inbox_of channel))) steps was.inbox in
     let first : IsSenderInto (inbox_of channel) s = all_head (IsSenderInto (inbox_of channel)) s left inboxes in
-    let own : inbox_of (arc_value c.sender.inside.channel) ≡ inbox_of channel = ap (λ (x : Sending). x.inbox) c.sender.view_is ∙ first.0 in
+    let own : inbox_of (arc_value c.sender.inside.channel) ≡ inbox_of channel = ap (λ (x : SenderLedger). x.inbox) c.sender.view_is ∙ first.0 in
     let lists : (arc_value c.sender.inside.channel).routes.items ≡ channel.routes.items = ap (λ (i : Inbox). i.routes) own in
     let put : s.ledger ≡ map (posted_of channel.routes.items) theirs.put =
-    sym (ap (λ (x : Sending). x.ledger) c.sender.view_is) ∙ ap (λ r. map (posted_of r) theirs.put) lists in
+    sym (ap (λ (x : SenderLedger). x.ledger) c.sender.view_is) ∙ ap (λ r. map (posted_of r) theirs.put) lists in
     let view = c.absorb.ensures.rule ∙ ap (λ (v : View). owner_pass v.made v.taken (v.known ++ (theirs.places, theirs.put) ∷ [])) was.view in
     let more = ap (λ (v : View). v.known) view in
     let grown = sent-push channel.routes.items c.loop-sender.sources.items c.push_reserved.new.self.items known _ c.sender.inside.source
@@ -72,7 +72,7 @@ loop-sender-preserved g c =
       known = known-push channel.routes.items known _ ss _ theirs c.sender.inside.places.items theirs.put (put_by s) was.known more grown c.sender.invariant.view
           (from_routes channel.comp channel.ports channel.routes.items channel.routed s.source c.sender.inside.places.items
           (subst (λ (r : List RouteId). All (λ p. p < length r) c.sender.inside.places.items) lists c.sender.invariant.low)
-          (ap (λ r. map (route_at r) c.sender.inside.places.items) (sym lists) ∙ ap (λ (x : Sending). x.routes) c.sender.view_is ∙ first.1))
+          (ap (λ r. map (route_at r) c.sender.inside.places.items) (sym lists) ∙ ap (λ (x : SenderLedger). x.routes) c.sender.view_is ∙ first.1))
           put;
       as_many =
           omega (
@@ -85,7 +85,7 @@ loop-sender-preserved g c =
           );
       inbox = all_tail (IsSenderInto (inbox_of channel)) s left inboxes;
       lists = move_one _ ss (put_by s) (map put_by left) grown
-          ∙ subst (λ (l : List Sending). ss ++ map put_by l ≡ map put_by c.args.senders.items) steps was.lists;
+          ∙ subst (λ (l : List SenderLedger). ss ++ map put_by l ≡ map put_by c.args.senders.items) steps was.lists;
       room = omega (arith, was.room, ap length c.push_reserved.ensures.items, length-append c.loop-sender.sources.items, ap length steps, c.push_reserved.ensures.capacity);
     }
 
@@ -99,7 +99,7 @@ with_hand-rest-requires-clause-routed g c =
 known_all : (g : _) (c : goal.After-drop-owner-inside-5 g) → Knowing (arc_value c.owner.inside.channel) c.len_as.new.pass.me.view.client
     (sent_by (arc_value c.owner.inside.channel).routes.items c.loop-sender.sources.items c.len_as.new.pass.me.view.client.known)
     × (arrivals_of (arc_value c.owner.inside.channel).routes.items c.len_as.new.pass.me.view.client.taken
-    ≡ arrivals_of (arc_value c.owner.inside.channel).routes.items (before c.owner.inside.pass.me.view.client.taken (one_of c.owner.inside.hand))
+    ≡ arrivals_of (arc_value c.owner.inside.channel).routes.items (envelopes_before c.owner.inside.pass.me.view.client.taken (one_of c.owner.inside.hand))
     ++ rest_arrivals c.with_hand-rest.result.items)
     × (c.len_as.new.pass.me.view.client.known ≡ c.loop-sender.pass.me.view.client.known)
 known_all g c =

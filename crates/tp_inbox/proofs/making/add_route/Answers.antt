@@ -7,7 +7,7 @@ use Rattle.crossbeam_queue.specs.SegTies.{IsSegPassOf}
 use Rattle.tp_config.specs.declared.port_type.RouteId.{RouteId}
 use Rattle.tp_inbox.specs.declared.channel.Channel.{Channel}
 use Rattle.tp_inbox.specs.Routed.{absent_route, route_at}
-use Rattle.tp_inbox.specs.Ledgers.{Sending, AreMade, extended, sender_by}
+use Rattle.tp_inbox.specs.Ledgers.{SenderLedger, AreMade, extended, sender_by}
 use Rattle.tp_inbox.specs.Ends.{inbox_of}
 use Rattle.tp_inbox.proofs.Sources.{found_is, made_found, made_new, apart_routes}
 use Rattle.tp_inbox.proofs.making.add_route.Goals as goal
@@ -22,19 +22,19 @@ read_route channel shown place r same low at =
     get_or_read channel.routes.items place r low (at ∙ ap (λ (h : Channel). get_or h.routes.items place r) same) absent_route
 
 -- where the sender stands, and what it is
-stands : (channel shown : Channel) (place k : ℕ) (senders looked : List Sending) (x : Sending) (r : RouteId) → shown ≡ channel → place < length channel.routes.items
-    → r ≡ get_or shown.routes.items place r → looked ≡ senders → (k < length looked) × ((d : Sending) → (get_or looked k d).source ≡ r.source)
+stands : (channel shown : Channel) (place k : ℕ) (senders looked : List SenderLedger) (x : SenderLedger) (r : RouteId) → shown ≡ channel → place < length channel.routes.items
+    → r ≡ get_or shown.routes.items place r → looked ≡ senders → (k < length looked) × ((d : SenderLedger) → (get_or looked k d).source ≡ r.source)
     → AreMade (inbox_of channel) place senders → x ≡ get_or senders k x
-    → (k < length senders) × ((d : Sending) → (get_or senders k d).source ≡ (route_at channel.routes.items place).source)
+    → (k < length senders) × ((d : SenderLedger) → (get_or senders k d).source ≡ (route_at channel.routes.items place).source)
     × (x ≡ sender_by (inbox_of channel) place (route_at channel.routes.items place).source)
 stands channel shown place k senders looked x r same low read are found made at =
     let route = read_route channel shown place r same low read in
-    let some = subst (λ (l : List Sending). (k < length l) × ((d : Sending) → (get_or l k d).source ≡ r.source)) are found in
-    let there : (d : Sending) → (get_or senders k d).source ≡ (route_at channel.routes.items place).source = λ d. some.1 d ∙ ap (λ (q : RouteId). q.source) route in
+    let some = subst (λ (l : List SenderLedger). (k < length l) × ((d : SenderLedger) → (get_or l k d).source ≡ r.source)) are found in
+    let there : (d : SenderLedger) → (get_or senders k d).source ≡ (route_at channel.routes.items place).source = λ d. some.1 d ∙ ap (λ (q : RouteId). q.source) route in
     (some.0, there, (found_is (inbox_of channel) place k senders x made some.0 there at).2)
 
 found : (c : goal.After-index_mut) → (c.in-Some.index < length c.args.senders.now.items)
-    × ((d : Sending) → (get_or c.args.senders.now.items c.in-Some.index d).source
+    × ((d : SenderLedger) → (get_or c.args.senders.now.items c.in-Some.index d).source
     ≡ (route_at (arc_value c.args.channel.now).routes.items c.args.place).source)
     × (c.index_mut.result.now ≡ sender_by (inbox_of (arc_value c.args.channel.now)) c.args.place
     (route_at (arc_value c.args.channel.now).routes.items c.args.place).source)
@@ -44,19 +44,19 @@ found c =
     c.index_mut.ensures.value
 
 pub extend-requires-clause-queue : goal.extend-requires-clause-queue
-extend-requires-clause-queue c = subst (λ (x : Sending). IsSegPassOf x.inbox.queue c.args.pass) (sym (found c).2) c.requires.queue
+extend-requires-clause-queue c = subst (λ (x : SenderLedger). IsSegPassOf x.inbox.queue c.args.pass) (sym (found c).2) c.requires.queue
 
 pub extend-requires-clause-place : goal.extend-requires-clause-place
-extend-requires-clause-place c = subst (λ (x : Sending). c.args.place < length x.inbox.routes) (sym (found c).2) c.requires.place
+extend-requires-clause-place c = subst (λ (x : SenderLedger). c.args.place < length x.inbox.routes) (sym (found c).2) c.requires.place
 
 pub extend-requires-clause-apart : goal.extend-requires-clause-apart
 extend-requires-clause-apart c =
     let channel = arc_value c.args.channel.now in
     let apart = apart_routes channel.comp channel.ports channel.routes.items channel.routed c.args.place c.requires.place (route_at channel.routes.items c.args.place).source in
-    subst (λ (x : Sending). All (λ (r : RouteId). r ≢ route_at x.inbox.routes c.args.place) x.routes) (sym (found c).2) apart
+    subst (λ (x : SenderLedger). All (λ (r : RouteId). r ≢ route_at x.inbox.routes c.args.place) x.routes) (sym (found c).2) apart
 
 pub extend-requires-clause-fresh : goal.extend-requires-clause-fresh
-extend-requires-clause-fresh c = ap (λ (x : Sending). x.ledger) (found c).2
+extend-requires-clause-fresh c = ap (λ (x : SenderLedger). x.ledger) (found c).2
 
 pub returns-in-Some : goal.returns-in-Some
 returns-in-Some c =
@@ -68,14 +68,14 @@ returns-in-Some c =
     (AreMade (inbox_of channel) (c.args.place + 1) (slice_set c.args.senders.now.items c.in-Some.index c.extend.new.self)) c.extend.result
     (λ grown.
     made_found (inbox_of channel) c.args.place c.in-Some.index c.args.senders.now.items x c.extend.new.self c.requires.place c.requires.senders f.0 f.1
-    c.index_mut.ensures.value (grown ∙ ap (λ (y : Sending). extended x (route_at y.inbox.routes c.args.place)) f.2))
+    c.index_mut.ensures.value (grown ∙ ap (λ (y : SenderLedger). extended x (route_at y.inbox.routes c.args.place)) f.2))
     c.extend.ensures
 
 pub returns-in_ok-push-in-None : goal.returns-in_ok-push-in-None
 returns-in_ok-push-in-None c =
     let channel = arc_value c.args.channel.now in
     let route = read_route channel c.deref.result.now c.args.place c.index-route.result.now c.deref.ensures c.requires.place c.index-route.ensures in
-    let none : All (λ (s : Sending). s.source ≢ (route_at channel.routes.items c.args.place).source) c.args.senders.now.items =
-    subst (λ (y : List Sending × RouteId). All (λ (s : Sending). s.source ≢ y.1.source) y.0) (λ i. (c.as_slice.ensures.value i, route i)) c.in-None.ensures.none in
+    let none : All (λ (s : SenderLedger). s.source ≢ (route_at channel.routes.items c.args.place).source) c.args.senders.now.items =
+    subst (λ (y : List SenderLedger × RouteId). All (λ (s : SenderLedger). s.source ≢ y.1.source) y.0) (λ i. (c.as_slice.ensures.value i, route i)) c.in-None.ensures.none in
     made_new (inbox_of channel) c.args.place c.args.senders.now.items c.push.new.self.items c.in_ok-sender-in-None.sender c.requires.place c.requires.senders none
     (search rules) c.in_ok-push-in-None.ensures.items

@@ -1,7 +1,7 @@
 -- One route more is lawful, or has its place.
 use Rattle.std.proofs.Common.{◌≡◌, ◌+◌, length, sym, subst, List, [], ◌∷◌, ◌++◌, ap, arith}
 use Rattle.std.proofs.lemmas.Grind.{common_steps}
-use Rattle.tp_judge.specs.declared.place.Place.{Place}
+use Rattle.tp_judge.specs.declared.place.UnlawfulPlace.{UnlawfulPlace}
 use Rattle.tp_judge.specs.Delivered.{IsDeliveredAt, IsUnlawfulOn}
 use Rattle.tp_judge.specs.ToldOf.{OneForEach, of_none, next_lawful, next_unlawful}
 use Rattle.tp_judge.proofs.Collecting.{each_found, none_exactly}
@@ -19,7 +19,7 @@ pub loop-route-preserved : goal.loop-route-preserved
 loop-route-preserved c =
     let trace = c.args.trace.now in
     let places = c.loop-route.places.items in
-    let P : List Place → Type 0 = OneForEach (IsDeliveredAt trace) (IsUnlawfulOn trace) (c.loop-route.route + 1) in
+    let P : List UnlawfulPlace → Type 0 = OneForEach (IsDeliveredAt trace) (IsUnlawfulOn trace) (c.loop-route.route + 1) in
     elim c.match-found.branch [
       | in-None w ↦
           subst P (ap (λ v. v.items) (sym w.places-is))

@@ -5,7 +5,7 @@ use Rattle.std.proofs.lemmas.Option.{slice_get-get_or}
 use Rattle.tp_order.specs.declared.demand.Demand.{Demand}
 use Rattle.tp_judge.specs.Before.{came_on, sent_on}
 use Rattle.tp_judge.specs.Demands.{pairs, route_demands, where_joined}
-use Rattle.tp_judge.specs.Gathered.{seen}
+use Rattle.tp_judge.specs.Gathered.{lines_at}
 use Rattle.tp_judge.proofs.demands.add_route.Goals as goal
 
 pub returns-then-not-index : goal.returns-then-not-index
@@ -27,12 +27,12 @@ returns c =
     slice_get-get_or trace.joined.items route c.index.result.now c.requires.route
     ∙ ap Some (sym c.index.ensures ∙ c.if-not-index.false) in
     let sent =
-    ap seen c.deref.ensures.value ∙ ap (λ v. seen v.items) c.index-2.ensures
+    ap lines_at c.deref.ensures.value ∙ ap (λ v. lines_at v.items) c.index-2.ensures
     ∙ c.requires.rows.sent_are.each route c.index-2.result.now c.requires.route in
     let came =
-    ap seen c.deref-2.ensures.value ∙ ap (λ v. seen v.items) c.index-3.ensures
+    ap lines_at c.deref-2.ensures.value ∙ ap (λ v. lines_at v.items) c.index-3.ensures
     ∙ c.requires.rows.came_are.each route c.index-3.result.now c.requires.route in
-    let is : pairs (seen c.deref.result.now) (seen c.deref-2.result.now) ≡ route_demands trace route =
-    ap (λ l. pairs l (seen c.deref-2.result.now)) sent ∙ ap (λ l. pairs (sent_on trace route) l) came
+    let is : pairs (lines_at c.deref.result.now) (lines_at c.deref-2.result.now) ≡ route_demands trace route =
+    ap (λ l. pairs l (lines_at c.deref-2.result.now)) sent ∙ ap (λ l. pairs (sent_on trace route) l) came
     ∙ sym (ap (λ o. where_joined o (pairs (sent_on trace route) (came_on trace route))) joined) in
     subst (λ (l : List Demand). OnOk c.add_pairs.result (c.add_pairs.new.demands.items ≡ old ++ l)) is c.add_pairs.ensures

@@ -4,13 +4,13 @@ use Rattle.std.specs.List.Sorted.{IsPermutation}
 use Rattle.std.proofs.lemmas.List.{length-append, nil_from_length}
 use Rattle.std.proofs.lemmas.List.Elements.{All-append, All-weaker}
 use Rattle.std.proofs.lemmas.List.Sorted.{All-permutation, IsPermutation-sym, length_permutation}
-use Rattle.tp_judge.specs.declared.place.Place.{Place}
-use Rattle.tp_judge.specs.Judged.{IsOrderPlace, IsPlace}
+use Rattle.tp_judge.specs.declared.place.UnlawfulPlace.{UnlawfulPlace}
+use Rattle.tp_judge.specs.Judged.{IsOrderPlace, IsUnlawfulPlace}
 use Rattle.tp_judge.specs.Lawful.{IsPortPlace}
 use Rattle.tp_judge.proofs.judging.judge.Goals as goal
 
 -- what is empty in another order is empty
-nil_moved : (xs ys : List Place) → IsPermutation xs ys → xs ≡ [] → ys ≡ []
+nil_moved : (xs ys : List UnlawfulPlace) → IsPermutation xs ys → xs ≡ [] → ys ≡ []
 nil_moved xs ys moved none =
     let same = length_permutation xs ys moved in
     let size = ap length none in
@@ -23,7 +23,7 @@ returns c =
     let order = c.in_ok-order.order.items in
     let places = c.put_in_order.new.places.items in
     let is : c.append.new.self.items ≡ ports ++ order = c.in_ok-append.ensures.items in
-    let moved = subst (λ (l : List Place). IsPermutation l places) is c.in_ok-put_in_order.ensures.same in
+    let moved = subst (λ (l : List UnlawfulPlace). IsPermutation l places) is c.in_ok-put_in_order.ensures.same in
     let count = length-append ports order in
     record {
       lawful = (
@@ -39,10 +39,10 @@ returns c =
             nil_moved (ports ++ order) places moved (nil_from_length (ports ++ order) (omega arith)),
       );
       told =
-          All-permutation (IsPlace trace) (ports ++ order) places moved
-          (All-append (IsPlace trace) ports order
-          (All-weaker (IsPortPlace trace) (IsPlace trace) (λ place here. inl here) ports c.in_ok-places.ensures.told)
-          (All-weaker (IsOrderPlace trace) (IsPlace trace) (λ place here. inr here) order c.in_ok-order.ensures.told));
+          All-permutation (IsUnlawfulPlace trace) (ports ++ order) places moved
+          (All-append (IsUnlawfulPlace trace) ports order
+          (All-weaker (IsPortPlace trace) (IsUnlawfulPlace trace) (λ place here. inl here) ports c.in_ok-places.ensures.told)
+          (All-weaker (IsOrderPlace trace) (IsUnlawfulPlace trace) (λ place here. inr here) order c.in_ok-order.ensures.told));
       all =
           record { ports = ports; order = order; of_ports = c.in_ok-places.ensures.all; of_order = c.in_ok-order.ensures.all; are = moved };
       sorted = c.in_ok-put_in_order.ensures.sorted;

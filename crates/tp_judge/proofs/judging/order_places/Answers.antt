@@ -1,15 +1,15 @@
 -- The places of routes, and where there are none that of a circle.
 use Rattle.std.proofs.Common.{◌≡◌, [], List, None, Some, sym, arith}
 use Rattle.std.proofs.lemmas.List.{append-nil, nil_from_length}
-use Rattle.tp_judge.specs.declared.place.Place.{Place}
-use Rattle.tp_judge.specs.declared.trace.Trace.{Trace}
+use Rattle.tp_judge.specs.declared.place.UnlawfulPlace.{UnlawfulPlace}
+use Rattle.tp_judge.specs.declared.trace.IndexedTrace.{IndexedTrace}
 use Rattle.tp_judge.specs.Before.{NoCircle}
 use Rattle.tp_judge.specs.Delivered.{Delivered}
 use Rattle.tp_judge.specs.ToldOf.{AreToldOfOrder, AreToldOfRoutes}
 use Rattle.tp_judge.proofs.judging.order_places.Goals as goal
 
 -- of circles nothing is told
-routes_alone : (trace : Trace) (places : List Place) → AreToldOfRoutes trace places → (Delivered trace → NoCircle trace)
+routes_alone : (trace : IndexedTrace) (places : List UnlawfulPlace) → AreToldOfRoutes trace places → (Delivered trace → NoCircle trace)
     → AreToldOfOrder trace places
 routes_alone trace places each none =
     record { routes = places; circle = None; of_routes = each; of_circles = none; are = sym (append-nil places) }

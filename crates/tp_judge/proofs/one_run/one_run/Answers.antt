@@ -5,14 +5,14 @@ use Rattle.std.proofs.lemmas.List.Elements.{All-contains}
 use Rattle.tp_order.specs.declared.demand.Demand.{Demand}
 use Rattle.tp_order.specs.Circle.{IsCircle, LiesOnCircle}
 use Rattle.tp_order.specs.Order.{IsBelow, IsOrder}
-use Rattle.tp_judge.specs.declared.trace.Trace.{Trace}
+use Rattle.tp_judge.specs.declared.trace.IndexedTrace.{IndexedTrace}
 use Rattle.tp_judge.specs.OneRun.{IsLeastOf}
 use Rattle.tp_judge.proofs.Deciding.{delayed_of, one_run_of, run_demands_below}
 use Rattle.tp_judge.proofs.Noting.{line_read}
 use Rattle.tp_judge.proofs.one_run.one_run.Goals as goal
 
 -- as many lines as were counted
-count_is : (trace : Trace) (n : ℕ) → n ≡ trace.lines.len → length trace.lines.items ≡ n
+count_is : (trace : IndexedTrace) (n : ℕ) → n ≡ trace.lines.len → length trace.lines.items ≡ n
 count_is trace n is = let same = trace.lines.ok in omega arith
 
 pub order_or_circle-requires : goal.order_or_circle-requires

@@ -1,7 +1,7 @@
 -- One port more is lawful, or has its place.
 use Rattle.std.proofs.Common.{◌≡◌, ◌+◌, length, sym, subst, List, [], ◌∷◌, ◌++◌, ap, arith}
 use Rattle.std.proofs.lemmas.Grind.{common_steps}
-use Rattle.tp_judge.specs.declared.place.Place.{Place}
+use Rattle.tp_judge.specs.declared.place.UnlawfulPlace.{UnlawfulPlace}
 use Rattle.tp_judge.specs.Lawful.{IsLawfulAt, IsUnlawfulAt}
 use Rattle.tp_judge.specs.ToldOf.{OneForEach, of_none, next_lawful, next_unlawful}
 use Rattle.tp_judge.proofs.Collecting.{each_found, none_exactly}
@@ -17,7 +17,7 @@ pub loop-port-preserved : goal.loop-port-preserved
 loop-port-preserved c =
     let trace = c.args.trace.now in
     let places = c.loop-port.places.items in
-    let P : List Place → Type 0 = OneForEach (IsLawfulAt trace) (IsUnlawfulAt trace) (c.loop-port.port + 1) in
+    let P : List UnlawfulPlace → Type 0 = OneForEach (IsLawfulAt trace) (IsUnlawfulAt trace) (c.loop-port.port + 1) in
     elim c.match-found.branch [
       | in-None w ↦
           subst P (ap (λ v. v.items) (sym w.places-is))

@@ -2,7 +2,7 @@
 use Rattle.std.proofs.Common.{◌≡◌, ◌≢◌, Some, ap, sym, ◌∙◌, arith}
 use Rattle.std.proofs.lemmas.Option.{slice_get_within}
 use Rattle.std.specs.Prelude.{slice_get}
-use Rattle.tp_judge.specs.Gathered.{seen}
+use Rattle.tp_judge.specs.Gathered.{lines_at}
 use Rattle.tp_judge.specs.Delivered.{parcels, invented, changed}
 use Rattle.tp_judge.proofs.Parcels.{named_within}
 use Rattle.tp_judge.proofs.Deliveries.{doubled_here, first_arrival, same_parcel}
@@ -20,9 +20,9 @@ returns-then-parcel-sent c =
 pub returns-then-parcel-place : goal.returns-then-parcel-place
 returns-then-parcel-place c =
     let parcel = c.parcel_at-parcel.result in
-    doubled_here (seen c.args.sent.now) (seen c.args.came.now) c.args.place parcel c.told_at-then-parcel-place.result
+    doubled_here (lines_at c.args.sent.now) (lines_at c.args.came.now) c.args.place parcel c.told_at-then-parcel-place.result
     c.requires.numbered c.requires.differs.before c.told_at-then-parcel-place.ensures.rule c.told_at-then-parcel-place.ensures.told
-    c.parcel_at-parcel.ensures (slice_get_within (parcels (seen c.args.came.now)) c.args.place parcel c.parcel_at-parcel.ensures)
+    c.parcel_at-parcel.ensures (slice_get_within (parcels (lines_at c.args.came.now)) c.args.place parcel c.parcel_at-parcel.ensures)
     c.if-parcel-place.true
 
 pub returns-then-ne : goal.returns-then-ne
@@ -30,7 +30,7 @@ returns-then-ne c =
     let parcel = c.parcel_at-parcel.result in
     let sent = c.parcel_at-original.result in
     let number = c.requires.numbered parcel.number sent c.parcel_at-original.ensures in
-    let first = first_arrival (seen c.args.sent.now) (seen c.args.came.now) c.args.place c.args.place sent.number parcel
+    let first = first_arrival (lines_at c.args.sent.now) (lines_at c.args.came.now) c.args.place c.args.place sent.number parcel
     c.requires.numbered c.requires.differs.before (let high = c.if-parcel-place.false in omega arith)
     c.parcel_at-parcel.ensures (sym number) (λ j q high low at. absurd (omega arith)) in
     changed parcel.number parcel sent c.told_at-then-ne.ensures.rule c.told_at-then-ne.ensures.told
@@ -43,7 +43,7 @@ overtaken_at-requires-clause-overtaken c =
     let same : c.parcel_at-original.result ≡ parcel = grind (arith, c.ne.ensures, c.if-ne.false) in
     let there = c.parcel_at-original.ensures ∙ ap Some same in
     let other : c.args.place ≢ parcel.number =
-    λ e. c.requires.differs.here (ap (slice_get (parcels (seen c.args.sent.now))) e ∙ there ∙ sym c.parcel_at-parcel.ensures) in
+    λ e. c.requires.differs.here (ap (slice_get (parcels (lines_at c.args.sent.now))) e ∙ there ∙ sym c.parcel_at-parcel.ensures) in
     let high = c.if-parcel-place.false in
     (parcel.number, parcel, omega arith, there, c.parcel_at-parcel.ensures)
 

@@ -2,9 +2,9 @@
 use Rattle.std.proofs.Common.{◌≢◌, ◌<◌, ◌≤◌, ℕ}
 use Rattle.tp_judge.specs.declared.line.Parcel.{Parcel}
 use Rattle.tp_judge.specs.Delivered.{ParcelAt}
-use Rattle.tp_judge.specs.Gathered.{seen}
+use Rattle.tp_judge.specs.Gathered.{lines_at}
 use Rattle.tp_judge.proofs.routes.find_from.Given as goal
 
 abbrev pub invariant-loop-place : goal.invariant-loop-place
 invariant-loop-place l =
-    (k : ℕ) (p : Parcel) → l.from ≤ k → k < l.place → ParcelAt (seen l.came) k p → p.number ≢ l.number
+    (k : ℕ) (p : Parcel) → l.from ≤ k → k < l.place → ParcelAt (lines_at l.came) k p → p.number ≢ l.number

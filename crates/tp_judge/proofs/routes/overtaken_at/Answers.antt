@@ -1,6 +1,6 @@
 -- A message whose place another took: it never comes, or later, or another does with its number.
 use Rattle.std.proofs.Common.{◌≡◌, sym, subst, arith}
-use Rattle.tp_judge.specs.Gathered.{seen}
+use Rattle.tp_judge.specs.Gathered.{lines_at}
 use Rattle.tp_judge.specs.Delivered.{IsFirstArrival, changed_later, reordered}
 use Rattle.tp_judge.proofs.Parcels.{named_within}
 use Rattle.tp_judge.proofs.Deliveries.{later_arrival, lost_overtaken, same_parcel}
@@ -8,7 +8,7 @@ use Rattle.tp_judge.proofs.routes.overtaken_at.Goals as goal
 
 pub returns-in-None : goal.returns-in-None
 returns-in-None c =
-    lost_overtaken (seen c.args.sent.now) (seen c.args.came.now) c.args.place c.parcel_at-parcel.result c.told_at.result
+    lost_overtaken (lines_at c.args.sent.now) (lines_at c.args.came.now) c.args.place c.parcel_at-parcel.result c.told_at.result
     c.requires.numbered c.requires.agrees c.told_at.ensures.rule c.told_at.ensures.told c.parcel_at-parcel.ensures c.in-None.ensures c.requires.overtaken
 
 pub parcel_at-requires-clause-within : goal.parcel_at-requires-clause-within
@@ -26,7 +26,7 @@ told_at-requires-in-Some c =
 pub returns-then-ne : goal.returns-then-ne
 returns-then-ne c =
     let sent = c.parcel_at-parcel.result in
-    let found = later_arrival (seen c.args.sent.now) (seen c.args.came.now) c.args.place c.in-Some.later sent c.parcel_at.result
+    let found = later_arrival (lines_at c.args.sent.now) (lines_at c.args.came.now) c.args.place c.in-Some.later sent c.parcel_at.result
     c.requires.numbered c.requires.agrees c.parcel_at-parcel.ensures c.requires.overtaken c.in-Some.ensures c.parcel_at.ensures in
     changed_later c.in-Some.later c.parcel_at.result sent c.told_at-then-ne.ensures.rule c.told_at-then-ne.ensures.told
     c.requires.overtaken c.parcel_at-parcel.ensures found.behind found.first
@@ -35,9 +35,9 @@ returns-then-ne c =
 pub returns-else-ne : goal.returns-else-ne
 returns-else-ne c =
     let sent = c.parcel_at-parcel.result in
-    let found = later_arrival (seen c.args.sent.now) (seen c.args.came.now) c.args.place c.in-Some.later sent c.parcel_at.result
+    let found = later_arrival (lines_at c.args.sent.now) (lines_at c.args.came.now) c.args.place c.in-Some.later sent c.parcel_at.result
     c.requires.numbered c.requires.agrees c.parcel_at-parcel.ensures c.requires.overtaken c.in-Some.ensures c.parcel_at.ensures in
     let same : c.parcel_at.result ≡ sent = grind (arith, c.ne.ensures, c.if-ne.false) in
     reordered c.in-Some.later sent c.told_at-in-Some.ensures.rule c.told_at-in-Some.ensures.told c.requires.overtaken
     c.parcel_at-parcel.ensures found.behind
-    (subst (IsFirstArrival (seen c.args.came.now) sent.number c.in-Some.later) same found.first)
+    (subst (IsFirstArrival (lines_at c.args.came.now) sent.number c.in-Some.later) same found.first)

@@ -1,6 +1,6 @@
 -- Each of these lines names a parcel.
 use Rattle.std.proofs.Common.{sym, ◌∙◌}
-use Rattle.tp_judge.specs.Gathered.{seen}
+use Rattle.tp_judge.specs.Gathered.{lines_at}
 use Rattle.tp_judge.proofs.Stepping.{seen_at}
 use Rattle.tp_judge.proofs.Parcels.{named_at, names_none}
 use Rattle.tp_judge.proofs.routes.parcel_at.Goals as goal
@@ -11,5 +11,5 @@ unreachable-requires c =
 
 pub returns : goal.returns
 returns c =
-    named_at (seen c.args.lines.now) c.requires.names c.args.place _ c.in-Some.parcel
+    named_at (lines_at c.args.lines.now) c.requires.names c.args.place _ c.in-Some.parcel
     (seen_at c.args.lines.now c.args.place _ c.requires.within) (sym c.parcel.ensures ∙ c.in-Some.is)

@@ -1,6 +1,6 @@
 -- What came is what was sent, or there is a place.
 use Rattle.std.proofs.Common.{length, ◌∙◌, arith}
-use Rattle.tp_judge.specs.Gathered.{seen}
+use Rattle.tp_judge.specs.Gathered.{lines_at}
 use Rattle.tp_judge.specs.Delivered.{different, numbering, parcels}
 use Rattle.tp_judge.proofs.Parcels.{length-parcels, length-seen, named_there, named_within}
 use Rattle.tp_judge.proofs.Deliveries.{lost_behind, same_lists}
@@ -15,8 +15,8 @@ returns-in-Some-first_difference c =
 
 pub returns-then-came-sent : goal.returns-then-came-sent
 returns-then-came-sent c =
-    let sent = seen c.args.sent.now in
-    let came = seen c.args.came.now in
+    let sent = lines_at c.args.sent.now in
+    let came = lines_at c.args.came.now in
     let size = length-seen c.args.sent.now in
     let short = c.if-came-sent.true in
     let there = named_there sent c.requires.sent (length c.args.came.now) (omega arith) in
@@ -27,8 +27,8 @@ returns-then-came-sent c =
 
 pub returns : goal.returns
 returns c =
-    let sent = seen c.args.sent.now in
-    let came = seen c.args.came.now in
+    let sent = lines_at c.args.sent.now in
+    let came = lines_at c.args.came.now in
     let short = c.if-came-sent.false in
     let first = length-parcels sent c.requires.sent ∙ length-seen c.args.sent.now in
     let second = length-parcels came c.requires.came ∙ length-seen c.args.came.now in

@@ -19,8 +19,8 @@ index-requires-2 c =
     let within = slice_get_within c.args.trace.now.lines.items c.args.place came.0 came.1 in
     omega arith
 
-pub sending_of-sending-requires-clause-come : goal.sending_of-sending-requires-clause-come
-sending_of-sending-requires-clause-come c =
+pub sending_place-sending-requires-clause-come : goal.sending_place-sending-requires-clause-come
+sending_place-sending-requires-clause-come c =
     let trace = c.args.trace.now in
     let came = c.requires.came in
     let below = came_below trace c.args.place came.0 c.args.mention c.requires.within came.1 came.2 in
@@ -58,7 +58,7 @@ returns-clause-made c =
     let below = came_below trace c.args.place came.0 c.args.mention c.requires.within came.1 came.2 in
     let joined = slice_get-get_or trace.joined.items c.args.mention.route c.index.result.now below
     ∙ ap Some (sym c.index.ensures ∙ c.if-not-index.false) in
-    made_arrival trace c.args.place c.sending_of-sending.result c.args.mention c.args.making.now _ line c.index-latest.result.now
+    made_arrival trace c.args.place c.sending_place-sending.result c.args.mention c.args.making.now _ line c.index-latest.result.now
     c.requires.within c.requires.delivered c.requires.made at (same_act trace c.args.place line came.0 at came.1 ∙ came.2) joined
-    c.sending_of-sending.ensures c.index-latest.ensures refl c.in_ok-now.ensures.demands
+    c.sending_place-sending.ensures c.index-latest.ensures refl c.in_ok-now.ensures.demands
     (ap (set c.args.making.now.latest.items line.component) c.in_ok-now.ensures.latest)

@@ -1,7 +1,7 @@
 -- The pairs so far stand so.
-use Rattle.tp_judge.specs.Gathered.{seen}
+use Rattle.tp_judge.specs.Gathered.{lines_at}
 use Rattle.tp_judge.proofs.TextOrders.{StandBelow}
 use Rattle.tp_judge.proofs.text_order.stand_before.Given as goal
 
 abbrev pub invariant-loop-place : goal.invariant-loop-place
-invariant-loop-place l = StandBelow (seen l.before) (seen l.after) l.place
+invariant-loop-place l = StandBelow (lines_at l.before) (lines_at l.after) l.place

@@ -1,6 +1,6 @@
 -- The parts are those of a numbering.
 use Rattle.std.proofs.Common.{◌+◌, ◌∙◌, Bool, List, ℕ, ap, map, subst}
-use Rattle.tp_judge.specs.declared.trace.Trace.{Trace}
+use Rattle.tp_judge.specs.declared.trace.IndexedTrace.{IndexedTrace}
 use Rattle.tp_referee.specs.declared.tables.PortKey.{PortKey}
 use Rattle.tp_referee.specs.declared.tables.RouteKey.{RouteKey}
 use Rattle.tp_referee.specs.Joining.{AreJoinedBy}
@@ -13,7 +13,7 @@ returns c =
     let sections = c.in_ok-sections.sections.items in
     let owners = c.in_ok-owners.owners.items in
     let joined = c.in_ok-joined.joined.items in
-    let trace : Trace = record {
+    let trace : IndexedTrace = record {
       lines = c.in_ok-lines.lines;
       owners = c.in_ok-owners.owners;
       joined = c.in_ok-joined.joined;

@@ -1,7 +1,7 @@
 -- Each place adds its line.
 use Rattle.std.proofs.Common.{get_or}
 use Rattle.std.proofs.lemmas.List.{get_or_default}
-use Rattle.tp_judge.specs.declared.place.Place.{Place}
+use Rattle.tp_judge.specs.declared.place.UnlawfulPlace.{UnlawfulPlace}
 use Rattle.tp_judge.specs.declared.place.Rule.TheVariants as rule
 use Rattle.tp_referee.specs.Answers.{place_text}
 use Rattle.tp_text.proofs.Writing.{nothing_yet, one_more}
@@ -14,6 +14,6 @@ pub loop-place-preserved : goal.loop-place-preserved
 loop-place-preserved g c =
     let places = c.args.places.now in
     let at = c.loop-place.place-index in
-    let any : Place = record { line = 0; rule = rule.Stopped } in
+    let any : UnlawfulPlace = record { line = 0; rule = rule.Stopped } in
     one_more g.W.Write.contents place_text places at (get_or places at any) c.loop-place-test.true
     (get_or_default places at any (get_or places at any) c.loop-place-test.true) _ _ _ c.loop-place.invariant c.write_place.ensures

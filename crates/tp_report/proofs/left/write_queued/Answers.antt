@@ -1,6 +1,6 @@
 -- The next of the queued has the next line, and the queue has all that are counted.
 use Rattle.std.proofs.Common.{codes, sym, arith}
-use Rattle.tp_queue.specs.declared.event.Env.{Env}
+use Rattle.tp_event.specs.declared.event.Env.{Env}
 use Rattle.tp_value.specs.declared.message.Message.{Message}
 use Rattle.tp_config.specs.Setup.{IsComponent}
 use Rattle.tp_report.specs.Lines.{envelope_line, sender_of}

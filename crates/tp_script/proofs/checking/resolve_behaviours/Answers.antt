@@ -1,6 +1,6 @@
 -- Bodies that are refused, or a size, are those of a module that doesn't obey the rules.
 use Rattle.std.proofs.Common.{◌≤◌, List, Option, map, sum, subst}
-use Rattle.tp_name.specs.Refused.{Breaks}
+use Rattle.tp_name.specs.Refused.{IsRefusedBy}
 use Rattle.tp_play.specs.Behaviours.{size_of_behaviour}
 use Rattle.tp_play.specs.Instances.{behaviour_of}
 use Rattle.tp_play.specs.declared.instance.Instance.{Instance}
@@ -36,7 +36,7 @@ returns-in_err-check_size-clause-refused c = λ of rules.
     handed_on c.from_residual-in_err-check_size.result c.in_err-check_size.field-0.0 c.from_residual-in_err-check_size.ensures.1
     (is_small c.args.parsed.now c.args.prepared.now of rules bodies c.in_ok-bodies.ensures.main c.in_ok-bodies.ensures.functions instances
     c.in_ok-instances.ensures.instances c.in_ok-instances.ensures.count)
-    (subst (λ (l : List (Option Instance)). Breaks (sum (map size_of_behaviour (map (behaviour_of bodies) l)) ≤ 100000) c.in_err-check_size.field-0.0)
+    (subst (λ (l : List (Option Instance)). IsRefusedBy (sum (map size_of_behaviour (map (behaviour_of bodies) l)) ≤ 100000) c.in_err-check_size.field-0.0)
     c.deref.ensures.value c.in_err-check_size.ensures.refused)
 
 pub returns-in_err-bodies-clause-told : goal.returns-in_err-bodies-clause-told

@@ -1,7 +1,7 @@
 -- Why a component variable is refused.
 use Rattle.tp_setup.specs.BrokenNames.{NameBreaks}
 use Rattle.tp_setup.specs.BrokenSetup.{CreationBreaks}
-use Rattle.tp_setup.specs.Components.{variable}
+use Rattle.tp_setup.specs.Components.{variable_name}
 use Rattle.tp_setup.proofs.CreationsTold.{taken_told}
 use Rattle.tp_setup.proofs.Telling.{at_map, name_told}
 use Rattle.std.proofs.Common.{◌≡◌, ◌++◌, ◌∷◌, [], ◌∙◌, Bool, true, false, Contains, ap, arith, length, not, refl, subst, sym, true≢false}
@@ -17,9 +17,9 @@ returns-in-Err-clause-told c = λ others small.
     let names = c.args.variables.now in
     let one = c.args.creation.now in
     let rules = c.args.rules.now in
-    at_map c.args.line (NameBreaks names (variable one)) (CreationBreaks rules.types.now rules.ports.now others names rules.most one) c.at.result
+    at_map c.args.line (NameBreaks names (variable_name one)) (CreationBreaks rules.types.now rules.ports.now others names rules.most one) c.at.result
     (taken_told rules.types.now rules.ports.now others names rules.most one small)
-    (name_told names (variable one) c.args.line c.in-Err.fault c.at.result c.at.ensures.duplicate c.at.ensures.limit c.at.ensures.memory
+    (name_told names (variable_name one) c.args.line c.in-Err.fault c.at.result c.at.ensures.duplicate c.at.ensures.limit c.at.ensures.memory
     (rw c.as_str.ensures.value at c.in-Err.ensures.duplicate) c.in-Err.ensures.limit)
 
 pub returns-then-has-clause-told : goal.returns-then-has-clause-told
@@ -30,10 +30,10 @@ pub returns-then-not-has-clause-told : goal.returns-then-not-has-clause-told
 returns-then-not-has-clause-told c = λ others small.
     let names = c.args.variables.now in
     let one = c.args.creation.now in
-    let fresh : Contains names (variable one) → ⊥ =
-    λ h. repeated names (variable one) h
+    let fresh : Contains names (variable_name one) → ⊥ =
+    λ h. repeated names (variable_name one) h
     (subst AreDistinct (c.in_default.ensures.ok ∙ ap (λ n. names ++ n ∷ []) c.as_str.ensures.value) c.in_default.ensures.distinct) in
-    let free : Contains c.args.rules.now.ports.now (variable one) → ⊥ =
+    let free : Contains c.args.rules.now.ports.now (variable_name one) → ⊥ =
     λ h. true≢false (sym (c.has.ensures.known.1 (rw c.as_str-2.ensures.value h)) ∙ c.if-has.false) in
     rw c.refused-then-not-has.ensures (
       refl,
@@ -44,10 +44,10 @@ pub returns-then-ne-clause-told : goal.returns-then-ne-clause-told
 returns-then-ne-clause-told c = λ others small.
     let names = c.args.variables.now in
     let one = c.args.creation.now in
-    let fresh : Contains names (variable one) → ⊥ =
-    λ h. repeated names (variable one) h
+    let fresh : Contains names (variable_name one) → ⊥ =
+    λ h. repeated names (variable_name one) h
     (subst AreDistinct (c.in_default.ensures.ok ∙ ap (λ n. names ++ n ∷ []) c.as_str.ensures.value) c.in_default.ensures.distinct) in
-    let free : Contains c.args.rules.now.ports.now (variable one) → ⊥ =
+    let free : Contains c.args.rules.now.ports.now (variable_name one) → ⊥ =
     λ h. true≢false (sym (c.has.ensures.known.1 (rw c.as_str-2.ensures.value h)) ∙ c.if-has.false) in
     let same : c.as_str-4.result.now ≡ c.as_str-5.result.now → ⊥ =
     λ e. true≢false (sym c.if-ne.true ∙ c.ne.ensures ∙ ap not ((bytes_eq-Decides c.as_str-4.result.now c.as_str-5.result.now).1 e)) in
@@ -66,10 +66,10 @@ pub returns-then-len-rules-clause-told : goal.returns-then-len-rules-clause-told
 returns-then-len-rules-clause-told c = λ others small.
     let names = c.args.variables.now in
     let one = c.args.creation.now in
-    let fresh : Contains names (variable one) → ⊥ =
-    λ h. repeated names (variable one) h
+    let fresh : Contains names (variable_name one) → ⊥ =
+    λ h. repeated names (variable_name one) h
     (subst AreDistinct (c.in_default.ensures.ok ∙ ap (λ n. names ++ n ∷ []) c.as_str.ensures.value) c.in_default.ensures.distinct) in
-    let free : Contains c.args.rules.now.ports.now (variable one) → ⊥ =
+    let free : Contains c.args.rules.now.ports.now (variable_name one) → ⊥ =
     λ h. true≢false (sym (c.has.ensures.known.1 (rw c.as_str-2.ensures.value h)) ∙ c.if-has.false) in
     let same : c.as_str-4.result.now ≡ c.as_str-5.result.now =
     (bytes_eq-Decides c.as_str-4.result.now c.as_str-5.result.now).0 (negated _ (sym c.ne.ensures ∙ c.if-ne.false)) in

@@ -4,7 +4,7 @@ use Rattle.std.proofs.lemmas.List.{map_push, take-append-drop}
 use Rattle.tp_setup.proofs.Adding.{create_part}
 use Rattle.tp_setup.proofs.Lookups.{creation_among}
 use Rattle.tp_setup.proofs.Refusing.{breaks_part}
-use Rattle.tp_setup.specs.Components.{AddsAll, created, creations, variable}
+use Rattle.tp_setup.specs.Components.{AddsAll, created, creations, variable_name}
 use Rattle.tp_setup.proofs.Creating.{adds_more, no_creation, one_creation, sound_more}
 use Rattle.tp_setup.proofs.CreationsTold.{room_more, stops_told}
 use Rattle.tp_setup.proofs.components.create_components.Goals as goal
@@ -19,7 +19,7 @@ loop-i-preserved c =
     let one = c.in-Some.creation.now in
     rw (one_creation c.args.setups.now c.loop-i.i c.index-setups-i.result (omega arith) c.index-setups-i.is one c.in-Some.ensures)
     (record {
-      names = c.in_default-create.ensures.added ∙ ap (λ l. l ++ variable one ∷ []) c.loop-i.invariant.names ∙ sym (map_push variable before one);
+      names = c.in_default-create.ensures.added ∙ ap (λ l. l ++ variable_name one ∷ []) c.loop-i.invariant.names ∙ sym (map_push variable_name before one);
       numbered = c.in_default-create.ensures.numbered;
       sound = sound_more c.args.rules.now.types.now c.args.rules.now.ports.now c.loop-i.variables c.create.new.variables c.args.rules.now.most before one
           c.loop-i.invariant.sound c.loop-i.invariant.names c.in_default-create.ensures.added

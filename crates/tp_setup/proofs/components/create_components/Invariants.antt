@@ -1,12 +1,12 @@
 -- The components of the statements so far are made, and their variables are sound.
 use Rattle.std.proofs.Common.{◌≡◌, map, take}
 use Rattle.tp_name.specs.Tables.{IsNumbered}
-use Rattle.tp_setup.specs.Components.{AddsAll, HasSoundVariables, created, creations, variable}
+use Rattle.tp_setup.specs.Components.{AddsAll, HasSoundVariables, created, creations, variable_name}
 use Rattle.tp_setup.proofs.components.create_components.Given as goal
 
 abbrev pub invariant-loop-i : goal.invariant-loop-i
 invariant-loop-i l = record {
-  names : l.variables ≡ map variable (creations (take l.i l.setups));
+  names : l.variables ≡ map variable_name (creations (take l.i l.setups));
   numbered : IsNumbered l.variables;
   sound : HasSoundVariables l.rules.types.now l.rules.ports.now l.rules.most (creations (take l.i l.setups));
   added : AddsAll l.rules.types.now (map created (creations (take l.i l.setups))) l.fn.config l.config;

@@ -79,9 +79,9 @@ pub returns-in-List-clause-told : goal.returns-in-List-clause-told
 returns-in-List-clause-told c =
     let s = c.args.sorted.now in
     let x = c.args.definition.now in
-    unknown_told c.known-in-List.result x.line (IsTrue c.is_type.result)
+    unknown_told c.known-in-List.result x.line (IsTrue c.is_known_type.result)
     (DefinitionBreaks s.type_names s.port_names s.component_names (option_map string_bytes c.args.system.now) x.defined) c.known-in-List.ensures.told
-    c.known-in-List.ensures.refused (λ no. unknown_type (λ h. no (c.is_type.ensures ∙ subst (AreTypesKnown s.type_names) c.in-List.is h)))
+    c.known-in-List.ensures.refused (λ no. unknown_type (λ h. no (c.is_known_type.ensures ∙ subst (AreTypesKnown s.type_names) c.in-List.is h)))
 
 pub returns-in-Port-clause-told : goal.returns-in-Port-clause-told
 returns-in-Port-clause-told c =

@@ -1,7 +1,7 @@
 -- First `mtc` is added, and behind it the components of the setup statements.
 use Rattle.std.proofs.Common.{ap, subst}
 use Rattle.std.specs.Prelude.{IfErr}
-use Rattle.tp_name.specs.Refused.{Breaks}
+use Rattle.tp_name.specs.Refused.{IsRefusedBy}
 use Rattle.indexmap.proofs.MapLemmas.{OnOk-map}
 use Rattle.tp_setup.specs.Components.{main_component}
 use Rattle.tp_setup.specs.Configuring.{AreOwnPorts, CanSetUp}
@@ -43,7 +43,7 @@ pub returns-clause-refused : goal.returns-clause-refused
 returns-clause-refused c =
     let types = component_types_in c.args.sorted.now in
     let names = c.args.sorted.now.component_names in
-    subst (λ t. AreOwnPorts types t → IfErr c.create_all.result (Breaks (CanSetUp names types t c.args.case.case.now)))
+    subst (λ t. AreOwnPorts types t → IfErr c.create_all.result (IsRefusedBy (CanSetUp names types t c.args.case.case.now)))
     (ap (λ s. s.types) c.in_ok-add_component.ensures.added.added) c.create_all.ensures.refused
 
 pub returns-in_err-add_component-clause-told : goal.returns-in_err-add_component-clause-told

@@ -2,7 +2,7 @@
 use Rattle.std.proofs.Common.{◌≡◌, ◌+◌, ◌∙◌, ℕ, Option, None, Some, ap, map, refl, inr, slice_get, string_bytes, sym, true≢false}
 use Rattle.std.specs.Option.{option_map}
 use Rattle.std.proofs.lemmas.Option.{same_Some}
-use Rattle.tp_name.specs.Tables.{place_of}
+use Rattle.tp_name.specs.Tables.{place_of_name}
 use Rattle.tp_name.proofs.Numbering.{named_at}
 use Rattle.tp_setup.specs.Sorted.{functions_in}
 use Rattle.tp_tree.specs.declared.tree.Function.{Function}
@@ -29,7 +29,7 @@ returns-clause-start c =
     let there : slice_get xs place ≡ Some one =
     ap (λ l. slice_get (map (λ f. f.now) l) place) (sym c.deref.ensures.value) ∙ sym c.in-Some-definition_at.ensures in
     let known =
-    place_before (place_of c.args.variables.now (string_bytes c.args.start.now.component)) c.in-Some.comp.0
+    place_before (place_of_name c.args.variables.now (string_bytes c.args.start.now.component)) c.in-Some.comp.0
     (rw c.as_str.ensures.value at c.in-Some.ensures.known) in
     record {
       variable = known.0;
@@ -85,7 +85,7 @@ returns-in_default-find-clause-told c = λ started few new.
     let types = map (λ t. t.now) c.args.types.now in
     let x = c.args.start.now in
     let known =
-    place_before (place_of names (string_bytes x.component)) c.in-Some.comp.0 (rw c.as_str.ensures.value at c.in-Some.ensures.known) in
+    place_before (place_of_name names (string_bytes x.component)) c.in-Some.comp.0 (rw c.as_str.ensures.value at c.in-Some.ensures.known) in
     rw c.refused-in_default-find.ensures (
       refl,
       unknown_function (place_known names (string_bytes x.component) known.0 (sym known.1)) new
@@ -107,7 +107,7 @@ returns-then-is_sut-clause-told c = λ started few new.
     let types = map (λ t. t.now) c.args.types.now in
     let x = c.args.start.now in
     let known =
-    place_before (place_of names (string_bytes x.component)) c.in-Some.comp.0 (rw c.as_str.ensures.value at c.in-Some.ensures.known) in
+    place_before (place_of_name names (string_bytes x.component)) c.in-Some.comp.0 (rw c.as_str.ensures.value at c.in-Some.ensures.known) in
     let one = c.in-Some-definition_at.function.now in
     let there : slice_get xs c.in-Some-find.place ≡ Some one =
     ap (λ l. slice_get (map (λ f. f.now) l) c.in-Some-find.place) (sym c.deref.ensures.value) ∙ sym c.in-Some-definition_at.ensures in
@@ -127,7 +127,7 @@ returns-then-not-is_of_type-clause-told c = λ started few new.
     let types = map (λ t. t.now) c.args.types.now in
     let x = c.args.start.now in
     let known =
-    place_before (place_of names (string_bytes x.component)) c.in-Some.comp.0 (rw c.as_str.ensures.value at c.in-Some.ensures.known) in
+    place_before (place_of_name names (string_bytes x.component)) c.in-Some.comp.0 (rw c.as_str.ensures.value at c.in-Some.ensures.known) in
     let one = c.in-Some-definition_at.function.now in
     let there : slice_get xs c.in-Some-find.place ≡ Some one =
     ap (λ l. slice_get (map (λ f. f.now) l) c.in-Some-find.place) (sym c.deref.ensures.value) ∙ sym c.in-Some-definition_at.ensures in
@@ -148,7 +148,7 @@ returns-in_err-arguments-clause-told c = λ started few new.
     let types = map (λ t. t.now) c.args.types.now in
     let x = c.args.start.now in
     let known =
-    place_before (place_of names (string_bytes x.component)) c.in-Some.comp.0 (rw c.as_str.ensures.value at c.in-Some.ensures.known) in
+    place_before (place_of_name names (string_bytes x.component)) c.in-Some.comp.0 (rw c.as_str.ensures.value at c.in-Some.ensures.known) in
     let one = c.in-Some-definition_at.function.now in
     let there : slice_get xs c.in-Some-find.place ≡ Some one =
     ap (λ l. slice_get (map (λ f. f.now) l) c.in-Some-find.place) (sym c.deref.ensures.value) ∙ sym c.in-Some-definition_at.ensures in

@@ -2,7 +2,7 @@
 use Rattle.std.proofs.Common.{inr, ◌++◌, ◌∷◌, [], arith, map, subst, sym, take}
 use Rattle.std.specs.List.{AllZip}
 use Rattle.std.proofs.lemmas.List.{map_push}
-use Rattle.tp_setup.specs.Components.{creations, variable}
+use Rattle.tp_setup.specs.Components.{creations, variable_name}
 use Rattle.tp_setup.specs.Starting.{IsStartPlace}
 use Rattle.tp_setup.proofs.Creating.{no_creation, one_creation}
 use Rattle.tp_setup.proofs.Steps.{zip_push}
@@ -25,8 +25,8 @@ loop-setup-preserved c =
       one_creation c.args.setups.now c.loop-setup.setup-index c.setup-item.result (omega arith) c.setup-item.is one c.in-Some.ensures,
       c.in_ok-push.ensures.items,
     )
-    (subst (λ l. AllZip R l (c.loop-setup.places.items ++ c.in-Some-find.place ∷ [])) (sym (map_push variable before one))
-    (zip_push R (map variable before) c.loop-setup.places.items (variable one) c.in-Some-find.place c.loop-setup.invariant
+    (subst (λ l. AllZip R l (c.loop-setup.places.items ++ c.in-Some-find.place ∷ [])) (sym (map_push variable_name before one))
+    (zip_push R (map variable_name before) c.loop-setup.places.items (variable_name one) c.in-Some-find.place c.loop-setup.invariant
     (rw c.as_str.ensures.value at (sym c.in-Some-find.ensures.place))))
 
 pub returns-in_default-find-clause-refused : goal.returns-in_default-find-clause-refused
@@ -40,5 +40,5 @@ returns-in_default-find-clause-told c =
       refl,
       never_among c.args.started.now c.args.setups.now c.loop-setup.setup-index c.setup-item.result c.in-Some.creation.now c.loop-setup.places.items
           (omega arith) c.setup-item.is c.in-Some.ensures c.loop-setup.invariant
-          (place_unknown c.args.started.now (variable c.in-Some.creation.now) (rw c.as_str.ensures.value at c.in_default-find.ensures.place)),
+          (place_unknown c.args.started.now (variable_name c.in-Some.creation.now) (rw c.as_str.ensures.value at c.in_default-find.ensures.place)),
     )

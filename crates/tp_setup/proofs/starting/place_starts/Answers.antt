@@ -3,7 +3,7 @@ use Rattle.std.proofs.Common.{◌≡◌, ◌<◌, ◌∙◌, arith, length, subs
 use Rattle.std.specs.List.{AllZip}
 use Rattle.std.proofs.lemmas.List.{length-map}
 use Rattle.std.proofs.lemmas.Slice.Zip.{AllZip-long}
-use Rattle.tp_setup.specs.Components.{creations, variable, variables}
+use Rattle.tp_setup.specs.Components.{creations, variable_name, variables}
 use Rattle.tp_setup.specs.Starting.{IsStartPlace}
 use Rattle.std.proofs.Common.{ℕ}
 use Rattle.tp_name.specs.declared.fault.ModuleRule.{ModuleRule}
@@ -24,7 +24,7 @@ returns-clause-done c =
     rw (← c.deref.ensures.value) c.in_ok-places.ensures.places in
     let count : length c.in_ok-places.places.items ≡ length (creations case.setups.items) =
     AllZip-long (IsStartPlace c.args.started.now) (variables case.setups.items) c.in_ok-places.places.items all
-    ∙ length-map (creations case.setups.items) variable in
+    ∙ length-map (creations case.setups.items) variable_name in
     λ some. c.in_ok-check_done.ensures.done (subst (λ l. 0 < length l) (sym c.deref-2.ensures.value) (omega (arith, some, count)))
 
 pub returns-in_err-places-clause-told : goal.returns-in_err-places-clause-told

@@ -5,7 +5,7 @@ use Rattle.tp_name.specs.Tables.{IsNumbered}
 use Rattle.tp_name.specs.Refused.{Tells}
 use Rattle.tp_setup.specs.BrokenNames.{DefinitionNamesBreak, NamesBreak, in_definition, no_test_case}
 use Rattle.tp_setup.specs.Cases.{cases_of}
-use Rattle.tp_setup.specs.Definitions.{among, case_of, inner_names, name_of, test_cases}
+use Rattle.tp_setup.specs.Definitions.{of_kind, case_of, inner_names, name_of, test_cases}
 use Rattle.tp_setup.specs.Rules.{AreNamed, HasOneTestCase, HasUniqueNames}
 use Rattle.tp_setup.proofs.CasesTold.{some_case}
 use Rattle.tp_setup.proofs.Telling.{handed, tells_map}
@@ -21,7 +21,7 @@ returns-in-Some-clause-names c = record {
 
 pub returns-then-not-has_case-clause-refused : goal.returns-then-not-has_case-clause-refused
 returns-then-not-has_case-clause-refused c =
-    let none : among case_of c.args.parsed.now.definitions.items ≡ [] =
+    let none : of_kind case_of c.args.parsed.now.definitions.items ≡ [] =
     no_case c.args.parsed.now.definitions.items (rw c.deref.ensures.value at (sym c.has_case.ensures ∙ c.if-not-has_case.true)) in
     inr (λ h. let other : [] ≡ h.1.0 ∷ [] = sym none ∙ h.1.1 in absurd (cc))
 
@@ -37,7 +37,7 @@ returns-in_err-found-clause-refused c =
 
 pub returns-then-not-has_case-clause-told : goal.returns-then-not-has_case-clause-told
 returns-then-not-has_case-clause-told c =
-    let none : among case_of c.args.parsed.now.definitions.items ≡ [] =
+    let none : of_kind case_of c.args.parsed.now.definitions.items ≡ [] =
     no_case c.args.parsed.now.definitions.items (rw c.deref.ensures.value at (sym c.has_case.ensures ∙ c.if-not-has_case.true)) in
     rw c.refused.ensures (no_test_case none)
 
@@ -54,5 +54,5 @@ pub returns-in-None-clause-told : goal.returns-in-None-clause-told
 returns-in-None-clause-told c =
     let m = c.args.parsed.now in
     let none : test_cases m ≡ [] =
-    ap (among case_of) (sym c.deref-2.ensures.value) ∙ sym c.in_ok-found.ensures.case ∙ ap cases_of c.in-None.is in
+    ap (of_kind case_of) (sym c.deref-2.ensures.value) ∙ sym c.in_ok-found.ensures.case ∙ ap cases_of c.in-None.is in
     rw c.refused-in-None.ensures (no_test_case none)

@@ -7,7 +7,7 @@ use Rattle.tp_name.specs.Tables.{IsNumbered}
 use Rattle.tp_setup.specs.Cases.{cases_of}
 use Rattle.tp_name.specs.Refused.{Tells}
 use Rattle.tp_setup.specs.BrokenNames.{DefinitionNamesBreak, GivenNamesBreak}
-use Rattle.tp_setup.specs.Definitions.{BeginsAmong, among, case_of, inner_names, name_of}
+use Rattle.tp_setup.specs.Definitions.{BeginsAmong, of_kind, case_of, inner_names, name_of}
 use Rattle.tp_setup.specs.Rules.{AreNamed}
 use Rattle.tp_setup.proofs.CasesTold.{begins_more, given_told, second_told}
 use Rattle.tp_setup.proofs.Telling.{handed, tells_map}
@@ -42,7 +42,7 @@ returns-clause-begins c =
 
 pub returns-clause-case : goal.returns-clause-case
 returns-clause-case c =
-    sym c.loop-definition.invariant.case ∙ ap (among case_of) (take_all c.loop-definition.definition-index c.args.definitions.now (omega arith))
+    sym c.loop-definition.invariant.case ∙ ap (of_kind case_of) (take_all c.loop-definition.definition-index c.args.definitions.now (omega arith))
 
 pub returns-clause-names : goal.returns-clause-names
 returns-clause-names c =

@@ -2,7 +2,7 @@
 use Rattle.std.proofs.Common.{◌≡◌, map, take, All, IfSome}
 use Rattle.tp_tree.specs.declared.tree.Definition.{Definition}
 use Rattle.tp_name.specs.Tables.{IsNumbered}
-use Rattle.tp_setup.specs.Definitions.{BeginsAmong, among, case_of, name_of, inner_names}
+use Rattle.tp_setup.specs.Definitions.{BeginsAmong, of_kind, case_of, name_of, inner_names}
 use Rattle.tp_setup.specs.Cases.{cases_of}
 use Rattle.tp_setup.proofs.unique_names.find_case.Given as goal
 
@@ -10,7 +10,7 @@ abbrev pub invariant-loop-definition : goal.invariant-loop-definition
 invariant-loop-definition l = record {
   names : l.names ≡ map (λ (x : Definition). name_of x.defined) (take l.definition-index l.definitions);
   numbered : IsNumbered l.names;
-  case : among case_of (take l.definition-index l.definitions) ≡ cases_of l.case;
+  case : of_kind case_of (take l.definition-index l.definitions) ≡ cases_of l.case;
   inner : All (λ (x : Definition). IsNumbered (inner_names x.defined)) (take l.definition-index l.definitions);
   begins : IfSome l.case (λ found. BeginsAmong (take l.definition-index l.definitions) found.case.now found.line);
 }

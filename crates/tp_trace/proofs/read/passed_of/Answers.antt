@@ -3,7 +3,7 @@ use Rattle.std.proofs.Common.{◌≡◌, ◌∷◌, ◌++◌, ◌∙◌, true, a
 use Rattle.std.specs.Option.{option_copied}
 use Rattle.std.proofs.lemmas.Bool.Decides.{nat_tests}
 use Rattle.std.proofs.lemmas.Option.{same_Some}
-use Rattle.tp_trace.specs.Line.{IsPort, IsWord, contents}
+use Rattle.tp_trace.specs.Line.{IsPortName, IsComponentName, contents}
 use Rattle.tp_trace.proofs.Messages.{port_cut, sender_cut}
 use Rattle.tp_trace.proofs.read.passed_of.Goals.{then-not-is_port-via-then-not-is_port, then-not-is_port-via-else-not-is_port+then-not-is_word}
 use Rattle.tp_trace.proofs.read.passed_of.Goals as goal
@@ -18,9 +18,9 @@ returns-then-not-is_port c =
     (sym c.first_word-2.ensures.parts ∙ h) in
     elim c.then-not-is_port.branch [
       | then-not-is_port-via-then-not-is_port w ↦
-          let t : c.is_port.result ≡ true = c.is_port.ensures.1 (subst IsPort (sym k.0) is.port) in grind (arith, nat_tests)
+          let t : c.is_port.result ≡ true = c.is_port.ensures.1 (subst IsPortName (sym k.0) is.port) in grind (arith, nat_tests)
       | then-not-is_port-via-else-not-is_port+then-not-is_word w ↦
-          let t : w.is_word.result ≡ true = w.is_word.ensures.1 (subst IsWord (sym d.0) is.component) in grind (arith, nat_tests)
+          let t : w.is_word.result ≡ true = w.is_word.ensures.1 (subst IsComponentName (sym d.0) is.component) in grind (arith, nat_tests)
     ]
 
 pub returns-in_err-number : goal.returns-in_err-number

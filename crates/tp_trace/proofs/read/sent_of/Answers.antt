@@ -3,7 +3,7 @@ use Rattle.std.proofs.Common.{◌≡◌, ◌∙◌, true, ap, sym, arith, subst}
 use Rattle.std.specs.Option.{option_copied}
 use Rattle.std.proofs.lemmas.Bool.Decides.{nat_tests}
 use Rattle.tp_text.specs.Cutting.{lacks}
-use Rattle.tp_trace.specs.Line.{IsPort, IsWord}
+use Rattle.tp_trace.specs.Line.{IsPortName, IsComponentName}
 use Rattle.tp_trace.proofs.Cuts.{lacks_none, last_only, undotted}
 use Rattle.tp_trace.proofs.Messages.{sent_cut}
 use Rattle.tp_trace.proofs.read.sent_of.Goals.{then-not-is_word-via-then-not-is_word, then-not-is_word-via-else-not-is_word+then-not-is_port}
@@ -26,9 +26,9 @@ returns-then-not-is_word c =
     c.in_ok-component.ensures.1 (undotted letter.port is.port.undotted) (sym c.in_ok-component.ensures.0 ∙ k.0) in
     elim c.then-not-is_word.branch [
       | then-not-is_word-via-then-not-is_word w ↦
-          let t : c.is_word.result ≡ true = c.is_word.ensures.1 (subst IsWord (sym d.0) is.component) in grind (arith, nat_tests)
+          let t : c.is_word.result ≡ true = c.is_word.ensures.1 (subst IsComponentName (sym d.0) is.component) in grind (arith, nat_tests)
       | then-not-is_word-via-else-not-is_word+then-not-is_port w ↦
-          let t : w.is_port.result ≡ true = w.is_port.ensures.1 (subst IsPort (sym d.1) is.port) in grind (arith, nat_tests)
+          let t : w.is_port.result ≡ true = w.is_port.ensures.1 (subst IsPortName (sym d.1) is.port) in grind (arith, nat_tests)
     ]
 
 pub returns-in_err-number : goal.returns-in_err-number

@@ -2,7 +2,7 @@
 use Rattle.std.proofs.Common.{◌≡◌, ◌+◌, ◌≤◌, length, vec_len}
 use Rattle.std.specs.Prelude.{All}
 use Rattle.tp_text.specs.Cutting.{IsLeftOf}
-use Rattle.tp_trace.specs.Spans.{IsSpanOf, pieces}
+use Rattle.tp_trace.specs.Spans.{IsSpanOf, span_texts}
 use Rattle.tp_trace.proofs.Standing.{Taken}
 use Rattle.tp_trace.proofs.reading.read_trace.Given as goal
 
@@ -10,8 +10,8 @@ abbrev pub invariant-loop-rest : goal.invariant-loop-rest
 invariant-loop-rest l =
     record {
       fits : vec_len l.spans + length l.rest ≤ length l.text;
-      counted : length (pieces l.text l.spans.items) ≡ vec_len l.spans;
-      taken : Taken l.text l.rest (pieces l.text l.spans.items) l.names l.place;
+      counted : length (span_texts l.text l.spans.items) ≡ vec_len l.spans;
+      taken : Taken l.text l.rest (span_texts l.text l.spans.items) l.names l.place;
       within : All (IsSpanOf (length l.text)) l.spans.items;
       left : IsLeftOf l.text l.rest;
     }

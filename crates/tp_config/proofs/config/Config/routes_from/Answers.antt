@@ -2,7 +2,7 @@
 use Rattle.std.proofs.Common.{◌≡◌, ◌∙◌, ap, map, subst}
 use Rattle.std.specs.Prelude.{IfOk}
 use Rattle.tp_config.specs.Shape.{links_of, setup_of}
-use Rattle.tp_config.specs.Routes.{AreDistinct, SendersAreDetermined, route_to, routes_from}
+use Rattle.tp_config.specs.Routes.{AreDistinctRoutes, SendersAreDetermined, route_to, routes_from}
 use Rattle.tp_config.proofs.RouteLaws.{from_distinct, kept_from, senders}
 use Rattle.tp_config.proofs.config.Config.routes_from.Goals as goal
 
@@ -18,7 +18,7 @@ pub returns-clause-distinct : goal.returns-clause-distinct
 returns-clause-distinct c =
     let i = c.self.inside in
     let s = setup_of i.types.items i.components.items i.connected.items i.mapped.items in
-    subst (λ t. AreDistinct (routes_from t c.args.p)) c.self.view_is (from_distinct s c.self.invariant.setup c.args.p)
+    subst (λ t. AreDistinctRoutes (routes_from t c.args.p)) c.self.view_is (from_distinct s c.self.invariant.setup c.args.p)
 
 pub returns-clause-senders : goal.returns-clause-senders
 returns-clause-senders c =

@@ -3,7 +3,7 @@ use Rattle.std.proofs.Common.{◌≡◌, ◌∙◌, ap, arith, length, map, subs
 use Rattle.std.specs.Prelude.{IfOk}
 use Rattle.tp_config.specs.Setup.{Setup, ports_at}
 use Rattle.tp_config.specs.Shape.{links_of, setup_of}
-use Rattle.tp_config.specs.Routes.{AreDistinct, AreRoutesInto, routes_into}
+use Rattle.tp_config.specs.Routes.{AreDistinctRoutes, AreRoutesInto, routes_into}
 use Rattle.tp_config.proofs.RouteLaws.{both_ways, few_at, into_distinct, kept_into}
 use Rattle.tp_config.proofs.config.Config.routes_into.Goals as goal
 
@@ -29,7 +29,7 @@ pub returns-clause-distinct : goal.returns-clause-distinct
 returns-clause-distinct c =
     let i = c.self.inside in
     let s = setup_of i.types.items i.components.items i.connected.items i.mapped.items in
-    subst (λ t. AreDistinct (routes_into t c.args.comp)) c.self.view_is (into_distinct s c.self.invariant.setup c.args.comp)
+    subst (λ t. AreDistinctRoutes (routes_into t c.args.comp)) c.self.view_is (into_distinct s c.self.invariant.setup c.args.comp)
 
 pub returns-clause-both_ways : goal.returns-clause-both_ways
 returns-clause-both_ways c =

@@ -6,7 +6,7 @@ use Rattle.tp_config.specs.declared.port_type.CompId.{CompId}
 use Rattle.tp_config.specs.declared.port_type.RouteId.{RouteId}
 use Rattle.tp_inbox.specs.declared.channel.Channel.{Channel}
 use Rattle.tp_inbox.specs.Envelopes.{Ledger}
-use Rattle.tp_inbox.specs.Routed.{AreDelivered, AreNumbered, arrivals_of, rest_arrivals}
+use Rattle.tp_inbox.specs.Routed.{AreDelivered, AreArrivalsNumbered, arrivals_of, rest_arrivals}
 use Rattle.tp_inbox.specs.Ledgers.{Gathering}
 use Rattle.tp_inbox.specs.Ends.{sent_by}
 use Rattle.tp_inbox.specs.Gathers.{IsPutOf}
@@ -59,7 +59,7 @@ returns-in-None-take_out-clause-numbered g c =
     let e = emptied g c in
     let channel = arc_value c.self.inside.channel in
     let rest = rest_arrivals c.reserve.new.self.items in
-    subst (λ (r : List RouteId). AreNumbered r (c.args.desk.now.log ++ rest)) (ap (λ (x : Gathering). x.inbox.routes) c.self.view_is)
+    subst (λ (r : List RouteId). AreArrivalsNumbered r (c.args.desk.now.log ++ rest)) (ap (λ (x : Gathering). x.inbox.routes) c.self.view_is)
     (numbered_at channel c.take_out.new.pass.me.view.client _ c.args.self.drained rest c.args.desk.now.log e.0 e.1
     c.requires.arrivals)
 

@@ -1,0 +1,4 @@
+pub mod Faults
+pub mod History
+pub mod Desks
+pub mod Lending

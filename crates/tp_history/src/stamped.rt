@@ -1,0 +1,26 @@
+//! Messages with the stamps of their sendings.
+
+use std::alloc::Global;
+use tp_event::payload::Payload;
+use tp_refusal::memory::Memory;
+use tp_value::message::Message;
+
+/// A message with the stamp of its sending: a number that is above all stamps that its sender had
+/// sent or got before. So a message has a greater stamp than each that it depends on.
+#[derive(Debug, Drop)]
+pub struct Stamped {
+    /// The stamp.
+    pub stamp: u64,
+    /// The message.
+    pub message: Message,
+}
+
+/// The copy equals the original. 50 `Memory` only where an allocation was refused.
+impl Payload for Stamped {
+    fn copy(&self, alloc: Global) -> Result<Stamped, Memory> {
+        Ok(Stamped {
+            stamp: self.stamp,
+            message: self.message.copy(alloc)?,
+        })
+    }
+}
