@@ -27,7 +27,7 @@ use Rattle.tp_syntax.specs.Sequences.{end_lexemes}
 use Rattle.tp_syntax.specs.Definitions.{field_type_lexemes, parameter_lexemes, way_lexeme, direction_lexemes, port_declaration_lexemes, setup_action_lexemes, setup_lexemes, start_lexemes, record_type_lexemes, list_type_lexemes, port_type_lexemes, component_type_lexemes, function_lexemes, test_case_lexemes, defined_lexemes, definition_lexemes}
 use Rattle.tp_syntax.specs.Values.{type_lexemes}
 use Rattle.tp_syntax.specs.Statements.{component_lexemes, variable_lexemes}
-use Rattle.tp_syntax.specs.Reading.{IsSetup, IsStart, first}
+use Rattle.tp_syntax.specs.Reading.{BeginsSetup, IsStart, first}
 use Rattle.tp_syntax.proofs.Reading.{at_0, at_1, at_2, at_3}
 use Rattle.tp_syntax.proofs.Remaining.{is_begin}
 
@@ -89,7 +89,7 @@ setup_no_zero (setup_action.Map a b) r = refl
 pub definition_begins : (x : Definition) (r : List Lexeme) → is_begin (first (definition_lexemes x ++ r)) ≡ true
 definition_begins x r = defined_begins x.defined (end_lexemes x.has_semicolon) r
 
-setup_action_at : (x : SetupAction) (e r : List Lexeme) (ps : List Placed) → ahead ps ≡ (setup_action_lexemes x ++ e) ++ r → IsSetup ps
+setup_action_at : (x : SetupAction) (e r : List Lexeme) (ps : List Placed) → ahead ps ≡ (setup_action_lexemes x ++ e) ++ r → BeginsSetup ps
 unfolding setup_action_lexemes
 setup_action_at (setup_action.Create c) e r ps same =
     inr (inr (
@@ -102,7 +102,7 @@ setup_action_at (setup_action.Connect a b) e r ps same = inl (at_0 ps (word w.Co
 setup_action_at (setup_action.Map a b) e r ps same = inr (inl (at_0 ps (word w.Map) _ same refl))
 
 -- a setup statement is read as one
-pub setup_at : (x : SetupStatement) (r : List Lexeme) (ps : List Placed) → ahead ps ≡ setup_lexemes x ++ r → IsSetup ps
+pub setup_at : (x : SetupStatement) (r : List Lexeme) (ps : List Placed) → ahead ps ≡ setup_lexemes x ++ r → BeginsSetup ps
 setup_at x r ps same = setup_action_at x.action (end_lexemes x.has_semicolon) r ps same
 
 -- the start of a component is read as one

@@ -5,10 +5,10 @@ use Rattle.tp_token.specs.declared.token.Placed.{Placed}
 use Rattle.tp_token.specs.declared.word.Word.TheVariants as w
 use Rattle.tp_token.specs.declared.token.Symbol.TheVariants.{Assign, Dot, LeftParen, RightBrace, Semicolon}
 use Rattle.tp_token.specs.Lexeme.{Lexeme, name, word, symbol}
-use Rattle.tp_queue.specs.declared.operation.PortOperation.{PortOperation}
-use Rattle.tp_queue.specs.declared.operation.PortOperation.TheVariants as port_operation
-use Rattle.tp_queue.specs.declared.operation.ReceiveKind.{ReceiveKind}
-use Rattle.tp_queue.specs.declared.operation.ReceiveKind.TheVariants as receive_kind
+use Rattle.tp_event.specs.declared.operation.PortOperation.{PortOperation}
+use Rattle.tp_event.specs.declared.operation.PortOperation.TheVariants as port_operation
+use Rattle.tp_event.specs.declared.operation.ReceiveKind.{ReceiveKind}
+use Rattle.tp_event.specs.declared.operation.ReceiveKind.TheVariants as receive_kind
 use Rattle.tp_tree.specs.declared.message.TypeName.{TypeName}
 use Rattle.tp_tree.specs.declared.message.TypeName.TheVariants as type_name
 use Rattle.tp_tree.specs.declared.tree.Receive.{Receive}
@@ -28,7 +28,7 @@ use Rattle.tp_syntax.specs.Statements.{send_lexemes, receive_lexemes, received_l
 use Rattle.tp_syntax.specs.Definitions.{record_type_lexemes, list_type_lexemes, port_type_lexemes, component_type_lexemes, function_lexemes, test_case_lexemes, defined_lexemes, start_lexemes, starts_lexemes, all_done_lexemes}
 use Rattle.tp_syntax.specs.Grammar.{Part, action_part, variable_part, statement_part, statements_parts, setup_part, start_part, all_done_parts, behaviour_parts, defined_part}
 use Rattle.tp_syntax.specs.Nesting.{defined_depth}
-use Rattle.tp_syntax.specs.Reading.{AllStand, IsPlaced, first, is_end_ahead, is_setup_ahead, is_start_ahead, is_type, may_stand, may_all_stand}
+use Rattle.tp_syntax.specs.Reading.{AllStand, IsPlaced, first, is_end_ahead, is_setup_ahead, is_start_ahead, is_type, may_end_before, may_all_stand}
 use Rattle.tp_syntax.proofs.StatementTokens as tokens
 use Rattle.tp_syntax.proofs.Grammar as grammar
 use Rattle.tp_syntax.proofs.Reading.{at_0}
@@ -155,7 +155,7 @@ pub case_no_var : (x : TestCase) (ts : List Lexeme) → first (behind_variables 
 case_no_var x ts e = statements_no_var x.statements.items (behind_statements x ts) (done_no_var x.all_done ts) e
 
 -- what has no `;` and isn't ended stands before a `}`, so before no `(` and no `:=`
-var_ended : (t : TypeName) (n : List ℕ) (e : Bool) (rest : List Lexeme) → may_stand e (first rest) ≡ true →
+var_ended : (t : TypeName) (n : List ℕ) (e : Bool) (rest : List Lexeme) → may_end_before e (first rest) ≡ true →
     is_setup_ahead (word w.Var ∷ ((type_lexemes t ++ name n ∷ end_lexemes e) ++ rest)) ≡ false
 var_ended type_name.Integer n e rest h = refl
 var_ended type_name.Boolean n e rest h = refl
@@ -189,12 +189,12 @@ variables_no_setup : (vs : List Variable) (r : List Lexeme) → AllStand (map va
 variables_no_setup [] r stand h = h
 variables_no_setup (v ∷ []) r stand h =
     ap is_setup_ahead (append_assoc (variable_lexemes v) [] r)
-    ∙ var_ended v.type_name (string_bytes v.name) v.has_semicolon r (and_parts true (may_stand v.has_semicolon (first r)) stand).1
+    ∙ var_ended v.type_name (string_bytes v.name) v.has_semicolon r (and_parts true (may_end_before v.has_semicolon (first r)) stand).1
 variables_no_setup (v ∷ u ∷ vs) r stand h =
     let rest = variables_lexemes (u ∷ vs) ++ r in
     let ended = (and_parts v.has_semicolon (may_all_stand (map variable_part (u ∷ vs)) (first r)) (and_parts true (v.has_semicolon && may_all_stand (map variable_part (u ∷ vs)) (first r)) stand).1).0 in
     ap is_setup_ahead (append_assoc (variable_lexemes v) (variables_lexemes (u ∷ vs)) r)
-    ∙ var_ended v.type_name (string_bytes v.name) v.has_semicolon rest (subst (λ b. may_stand b (first rest) ≡ true) (sym ended) refl)
+    ∙ var_ended v.type_name (string_bytes v.name) v.has_semicolon rest (subst (λ b. may_end_before b (first rest) ≡ true) (sym ended) refl)
 
 starts_no_setup : (xs : List ComponentStart) (r : List Lexeme) → is_setup_ahead r ≡ false → is_setup_ahead (starts_lexemes xs ++ r) ≡ false
 unfolding start_lexemes
@@ -214,7 +214,7 @@ receive_no_start x receive_kind.Receive r is = ap (λ k. is_start_ahead ((name (
 receive_no_start x receive_kind.Trigger r is = ap (λ k. is_start_ahead ((name (string_bytes x.port) ∷ symbol Dot ∷ operation_lexemes k (received_lexemes x)) ++ r)) is
 receive_no_start x receive_kind.Check r is = ap (λ k. is_start_ahead ((name (string_bytes x.port) ∷ symbol Dot ∷ operation_lexemes k (received_lexemes x)) ++ r)) is
 
-control_ended : (n : List ℕ) (o : PortOperation) (e : Bool) (rest : List Lexeme) → may_stand e (first rest) ≡ true →
+control_ended : (n : List ℕ) (o : PortOperation) (e : Bool) (rest : List Lexeme) → may_end_before e (first rest) ≡ true →
     is_start_ahead (name n ∷ symbol Dot ∷ port_operation_lexeme o ∷ (end_lexemes e ++ rest)) ≡ false
 control_ended n port_operation.Stop e rest h = refl
 control_ended n port_operation.Halt e rest h = refl
@@ -224,17 +224,17 @@ control_ended n port_operation.Start false [] h = refl
 control_ended n port_operation.Start false (symbol LeftParen ∷ rest) h = absurd (false≢true h)
 control_ended n port_operation.Start false (t ∷ rest) h = refl
 
-action_no_start : (x : Action) (e : Bool) (rest : List Lexeme) → may_stand ((action_part x).is_ended || e) (first rest) ≡ true →
+action_no_start : (x : Action) (e : Bool) (rest : List Lexeme) → may_end_before ((action_part x).is_ended || e) (first rest) ≡ true →
     is_start_ahead (action_lexemes x ++ (end_lexemes e ++ rest)) ≡ false
 unfolding send_lexemes control_lexemes all_ports_lexemes set_verdict_lexemes
 action_no_start x e rest =
-    action_cases (λ x. may_stand ((action_part x).is_ended || e) (first rest) ≡ true → is_start_ahead (action_lexemes x ++ (end_lexemes e ++ rest)) ≡ false) (record {
+    action_cases (λ x. may_end_before ((action_part x).is_ended || e) (first rest) ≡ true → is_start_ahead (action_lexemes x ++ (end_lexemes e ++ rest)) ≡ false) (record {
       send = λ x h. ap (λ (l : List Lexeme). is_start_ahead (l ++ (end_lexemes e ++ rest))) (tokens.action_send x);
       receive = λ x h. ap (λ (l : List Lexeme). is_start_ahead (l ++ (end_lexemes e ++ rest))) (tokens.action_receive x) ∙ receive_no_start x x.kind (end_lexemes e ++ rest) refl;
       control = λ x h.
           ap (λ (l : List Lexeme). is_start_ahead (l ++ (end_lexemes e ++ rest))) (tokens.action_control x)
           ∙ control_ended (string_bytes x.port) x.operation e rest
-          (subst (λ (b : Bool). may_stand (b || e) (first rest) ≡ true) (ap (λ (p : Part). p.is_ended) (grammar.action_control x)) h);
+          (subst (λ (b : Bool). may_end_before (b || e) (first rest) ≡ true) (ap (λ (p : Part). p.is_ended) (grammar.action_control x)) h);
       all_ports = λ x h. ap (λ (l : List Lexeme). is_start_ahead (l ++ (end_lexemes e ++ rest))) (tokens.action_all_ports x);
       set_verdict = λ x h. ap (λ (l : List Lexeme). is_start_ahead (l ++ (end_lexemes e ++ rest))) (tokens.action_set_verdict x);
       alt = λ xs y h. ap (λ (l : List Lexeme). is_start_ahead (l ++ (end_lexemes e ++ rest))) (tokens.action_alt xs y);
@@ -259,16 +259,16 @@ statements_no_start : (ss : List Statement) (r : List Lexeme) → AllStand (stat
 statements_no_start [] r stand h = h
 statements_no_start (s ∷ []) r stand h =
     ap is_start_ahead (append_assoc (statement_lexemes s) [] r)
-    ∙ statement_no_start s r (and_parts (statement_part s).is_right (may_stand (statement_part s).is_ended (first r)) stand)
+    ∙ statement_no_start s r (and_parts (statement_part s).is_right (may_end_before (statement_part s).is_ended (first r)) stand)
 statements_no_start (s ∷ u ∷ ss) r stand h =
     let rest = statements_lexemes (u ∷ ss) ++ r in
     let both = and_parts (statement_part s).is_right ((statement_part s).is_ended && may_all_stand (statements_parts (u ∷ ss)) (first r)) stand in
     let ended = (and_parts (statement_part s).is_ended (may_all_stand (statements_parts (u ∷ ss)) (first r)) both.1).0 in
-    let next : may_stand true (first rest) ≡ true =
-    subst (λ (l : List Lexeme). may_stand true (first l) ≡ true) (sym (append_assoc (statement_lexemes u) (statements_lexemes ss) r))
+    let next : may_end_before true (first rest) ≡ true =
+    subst (λ (l : List Lexeme). may_end_before true (first l) ≡ true) (sym (append_assoc (statement_lexemes u) (statements_lexemes ss) r))
     (begin_stands _ (statement_begins u (statements_lexemes ss ++ r))) in
     ap is_start_ahead (append_assoc (statement_lexemes s) (statements_lexemes (u ∷ ss)) r)
-    ∙ statement_no_start s rest (both.0, subst (λ (b : Bool). may_stand b (first rest) ≡ true) (sym ended) next)
+    ∙ statement_no_start s rest (both.0, subst (λ (b : Bool). may_end_before b (first rest) ≡ true) (sym ended) next)
 
 variables_no_start : (vs : List Variable) (r : List Lexeme) → is_start_ahead r ≡ false → is_start_ahead (variables_lexemes vs ++ r) ≡ false
 variables_no_start [] r h = h
@@ -332,6 +332,6 @@ type_of (defined.Function t) r ps e function case = absurd (function (at_0 ps (w
 type_of (defined.TestCase t) r ps e function case = absurd (case (at_0 ps (word w.Testcase) _ e refl))
 
 -- what is ended may stand anywhere but before a `;`
-pub ended_stands : (t : Option Lexeme) → t ≢ Some (symbol Semicolon) → may_stand true t ≡ true
+pub ended_stands : (t : Option Lexeme) → t ≢ Some (symbol Semicolon) → may_end_before true t ≡ true
 ended_stands (Some (symbol Semicolon)) other = absurd (other refl)
 ended_stands t other = refl

@@ -17,7 +17,7 @@ use Rattle.tp_syntax.specs.Sequences.{end_lexemes}
 use Rattle.tp_syntax.specs.Templates.{low_lexemes}
 use Rattle.tp_syntax.specs.Definitions.{record_type_lexemes, list_type_lexemes, port_type_lexemes, component_type_lexemes, defined_lexemes, all_done_lexemes}
 use Rattle.tp_syntax.specs.Grammar.{are_parts, has_one, direction_part, port_declaration_part, all_done_parts, defined_part}
-use Rattle.tp_syntax.specs.Reading.{AllStand, Stands, first, is_type}
+use Rattle.tp_syntax.specs.Reading.{AllStand, MayStandBefore, first, is_type}
 use Rattle.tp_syntax.proofs.Reading.{at_0, at_1, at_2, minus_then}
 use Rattle.tp_syntax.proofs.Remaining.{parts_stand}
 
@@ -99,7 +99,7 @@ no_done (Some d) more ps e other = absurd (other (at_0 ps (word w.All) _ e refl)
 
 done_of : (x : Option AllDone) (more : List Lexeme) (ps : List Placed) → AllStand (all_done_parts x) more → first more ≡ Some (symbol RightBrace) →
     ahead ps ≡ all_done_lexemes x ++ more → token_at ps 0 ≡ Some (word w.All) → (ts : List Lexeme) → ts ≡ more →
-    (d : AllDone) × Stands d.has_semicolon more × (ahead ps ≡ word w.All ∷ word w.Component ∷ symbol Dot ∷ word w.Done ∷ (end_lexemes d.has_semicolon ++ more))
+    (d : AllDone) × MayStandBefore d.has_semicolon more × (ahead ps ≡ word w.All ∷ word w.Component ∷ symbol Dot ∷ word w.Done ∷ (end_lexemes d.has_semicolon ++ more))
 done_of None more ps stand brace e at [] same = absurd (cc (ap first same, brace))
 done_of None more ps stand brace e at (t ∷ ts) same =
     let brace_is : t ≡ symbol RightBrace = cc (ap first same, brace) in
@@ -110,7 +110,7 @@ done_of (Some d) more ps stand brace e at ts same = (d, stand, e)
 -- where `all` comes next, `all component.done` does
 pub done_next : (x : Option AllDone) (more : List Lexeme) (ps : List Placed) → AllStand (all_done_parts x) more → first more ≡ Some (symbol RightBrace) →
     ahead ps ≡ all_done_lexemes x ++ more → token_at ps 0 ≡ Some (word w.All) →
-    (d : AllDone) × Stands d.has_semicolon more × (ahead ps ≡ word w.All ∷ word w.Component ∷ symbol Dot ∷ word w.Done ∷ (end_lexemes d.has_semicolon ++ more))
+    (d : AllDone) × MayStandBefore d.has_semicolon more × (ahead ps ≡ word w.All ∷ word w.Component ∷ symbol Dot ∷ word w.Done ∷ (end_lexemes d.has_semicolon ++ more))
 done_next x more ps stand brace e at = done_of x more ps stand brace e at more refl
 
 -- behind `-infinity` stands no bound

@@ -8,7 +8,7 @@ use Rattle.tp_token.specs.declared.token.Symbol.TheVariants.{Assign, RightBrace}
 use Rattle.tp_token.specs.Lexeme.{Lexeme, name, symbol}
 use Rattle.tp_syntax.specs.Ahead.{ahead, is_name_in, token_at}
 use Rattle.tp_syntax.specs.Sequences.{by_commas, more_by_commas}
-use Rattle.tp_syntax.specs.Grammar.{each, one_and_each, has_one, is_integer}
+use Rattle.tp_syntax.specs.Grammar.{each, one_and_each, has_one, is_64_bit}
 use Rattle.tp_syntax.specs.Reading.{first}
 use Rattle.tp_syntax.proofs.Reading.{at_0, at_1, first_is, named, raw}
 
@@ -48,5 +48,5 @@ each_one g [] some h = absurd (false≢true some)
 each_one g (x ∷ xs) some h = h
 
 -- a number that is too great is no integer
-pub too_great : (n : ℕ) → 9223372036854775808 ≤ n → is_integer (pos n) ≡ true → ⊥
+pub too_great : (n : ℕ) → 9223372036854775808 ≤ n → is_64_bit (pos n) ≡ true → ⊥
 too_great n h is = grind (arith, nat_tests)

@@ -17,7 +17,7 @@ use Rattle.tp_tree.specs.declared.message.TemplateField.{TemplateField, out-Temp
 use Rattle.tp_tree.specs.declared.tree.Send.{Send}
 use Rattle.tp_tree.specs.declared.tree.Receive.{Receive}
 use Rattle.tp_tree.specs.declared.tree.Control.{Control}
-use Rattle.tp_queue.specs.declared.operation.PortOperation.{PortOperation}
+use Rattle.tp_event.specs.declared.operation.PortOperation.{PortOperation}
 use Rattle.tp_tree.specs.declared.tree.VerdictName.{VerdictName}
 use Rattle.tp_tree.specs.declared.tree.Action.TheVariants as a
 use Rattle.tp_tree.specs.declared.tree.Action.TheOpen as oa
@@ -29,9 +29,9 @@ use Rattle.tp_tree.specs.declared.tree.Branch.{Branch, out-Branch}
 use Rattle.tp_tree.specs.declared.tree.Counted.{Counted, out-Counted}
 use Rattle.tp_tree.specs.declared.tree.ElseBranch.{ElseBranch, out-ElseBranch}
 use Rattle.tp_tree.specs.declared.tree.Statement.{Statement, out-Statement}
-use Rattle.tp_syntax.specs.Grammar.{is_integer, is_bound, each, one_and_each, has_one, Part, are_parts, is_value_step, is_value_field_step, is_value, is_value_field, is_plain, is_template_step, is_template_field_step, is_template, is_template_field, is_sent, is_template_part, action_part_step, body_part_step, branch_part_step, counted_part_step, else_part_step, statement_part_step, action_part, body_part, branch_part, counted_part, else_branch_part, statement_part, statements_parts, branches_parts, otherwise_parts}
+use Rattle.tp_syntax.specs.Grammar.{is_64_bit, is_bound, each, one_and_each, has_one, Part, are_parts, is_value_step, is_value_field_step, is_value, is_value_field, is_plain, is_template_step, is_template_field_step, is_template, is_template_field, is_sent, is_template_part, action_part_step, body_part_step, branch_part_step, counted_part_step, else_part_step, statement_part_step, action_part, body_part, branch_part, counted_part, else_branch_part, statement_part, statements_parts, branches_parts, otherwise_parts}
 
-pub value_int : (z : ℤ) → is_value (v.Int z) ≡ is_integer z
+pub value_int : (z : ℤ) → is_value (v.Int z) ≡ is_64_bit z
 unfolding is_value
 value_int z = ap is_value (sym (v.rolls-Int z)) ∙ fold-roll-Value Bool Bool is_value_step is_value_field_step (ov.Int z)
 
@@ -62,7 +62,7 @@ value_field_out f = fold_out-ValueField Bool Bool is_value_step is_value_field_s
 -- whether a value is right, variant by variant
 pub ruleset value_grammar = (value_int, value_bool, value_text, value_name, value_list, value_record, value_field_out)
 
-pub template_int : (z : ℤ) → is_template (t.Int z) ≡ is_integer z
+pub template_int : (z : ℤ) → is_template (t.Int z) ≡ is_64_bit z
 unfolding is_template
 template_int z =
     ap is_template (sym (t.rolls-Int z)) ∙ fold-roll-Template Bool Bool is_template_step is_template_field_step (ot.Int z)
@@ -215,7 +215,7 @@ pub branch_out : (x : Branch)
 unfolding branch_part body_part
 branch_out x = fold_out-Branch Part Part Part Part Part Part action_part_step body_part_step branch_part_step counted_part_step else_part_step statement_part_step x
 
-pub counted_out : (x : Counted) → counted_part x ≡ record { is_right = is_integer (out-Counted x).turns.first && (is_integer (out-Counted x).turns.bound && are_parts (statements_parts (out-Counted x).block.items)); is_ended = true }
+pub counted_out : (x : Counted) → counted_part x ≡ record { is_right = is_64_bit (out-Counted x).turns.first && (is_64_bit (out-Counted x).turns.bound && are_parts (statements_parts (out-Counted x).block.items)); is_ended = true }
 unfolding counted_part statement_part
 counted_out x = fold_out-Counted Part Part Part Part Part Part action_part_step body_part_step branch_part_step counted_part_step else_part_step statement_part_step x
 
@@ -229,7 +229,7 @@ unfolding statement_part action_part
 statement_out x = fold_out-Statement Part Part Part Part Part Part action_part_step body_part_step branch_part_step counted_part_step else_part_step statement_part_step x
 
 pub counted_made : (x : Turns) (ss : Vec Statement Global)
-    → counted_part (roll-Counted (record { turns = x; block = ss })) ≡ record { is_right = is_integer x.first && (is_integer x.bound && are_parts (statements_parts ss.items)); is_ended = true }
+    → counted_part (roll-Counted (record { turns = x; block = ss })) ≡ record { is_right = is_64_bit x.first && (is_64_bit x.bound && are_parts (statements_parts ss.items)); is_ended = true }
 unfolding counted_part statement_part
 counted_made x ss =
     fold-roll-Counted Part Part Part Part Part Part action_part_step body_part_step branch_part_step counted_part_step else_part_step statement_part_step

@@ -1,3 +1,4 @@
+pub mod Allowed
 pub mod Begins
 pub mod Branches
 pub mod CaseReading

@@ -7,14 +7,14 @@ use Rattle.tp_token.specs.declared.token.Placed.{Placed}
 use Rattle.tp_token.specs.declared.word.Word.TheVariants as w
 use Rattle.tp_token.specs.declared.token.Symbol.TheVariants.{Colon, LeftParen, RightBrace, RightParen}
 use Rattle.tp_token.specs.Lexeme.{Lexeme, name, word, symbol}
-use Rattle.tp_queue.specs.declared.operation.ReceiveKind.{ReceiveKind}
-use Rattle.tp_queue.specs.declared.operation.ReceiveKind.TheVariants as receive_kind
+use Rattle.tp_event.specs.declared.operation.ReceiveKind.{ReceiveKind}
+use Rattle.tp_event.specs.declared.operation.ReceiveKind.TheVariants as receive_kind
 use Rattle.tp_tree.specs.declared.message.TypeName.{TypeName}
 use Rattle.tp_tree.specs.declared.message.TypeName.TheVariants as type_name
 use Rattle.tp_tree.specs.declared.message.Message.{Message}
 use Rattle.tp_tree.specs.declared.message.MessageTemplate.{MessageTemplate}
-use Rattle.tp_tree.specs.declared.tree.Sent.{Sent}
-use Rattle.tp_tree.specs.declared.tree.Sent.TheVariants as sent
+use Rattle.tp_tree.specs.declared.tree.SentExpression.{SentExpression}
+use Rattle.tp_tree.specs.declared.tree.SentExpression.TheVariants as sent
 use Rattle.tp_tree.specs.declared.tree.Direction.{Direction}
 use Rattle.tp_syntax.specs.Ahead.{ahead, is_name_in, token_at}
 use Rattle.tp_syntax.specs.Values.{type_lexemes, value_lexemes, message_lexemes}
@@ -36,7 +36,7 @@ message_no_variable type_name.Charstring r ps e (is, paren) = false≢true (sym 
 message_no_variable (type_name.Named n) r ps e (is, paren) = let colon = at_1 ps (name (string_bytes n)) (symbol Colon) _ e refl refl in cc (colon, paren)
 
 -- a name alone in parentheses is a variable
-pub sent_variable : (x : Sent) (more : List Lexeme) (ps : List Placed) → ahead ps ≡ sent_lexemes x ++ more →
+pub sent_variable : (x : SentExpression) (more : List Lexeme) (ps : List Placed) → ahead ps ≡ sent_lexemes x ++ more →
     (is_name_in (token_at ps 0) ≡ true) × (token_at ps 1 ≡ Some (symbol RightParen)) → (n : String Global) × (ahead ps ≡ name (string_bytes n) ∷ more)
 sent_variable (sent.Message m) more ps e both =
     absurd (message_no_variable m.type_name _ ps (e ∙ append_assoc (type_lexemes m.type_name) (symbol Colon ∷ value_lexemes m.value) more) both)
@@ -51,7 +51,7 @@ variable_at n (t ∷ ts) ps e paren =
     (ap is_name_in (at_0 ps (name n) _ all refl), at_1 ps (name n) (symbol RightParen) ts all refl refl)
 
 -- and all else is a message
-pub sent_message : (left : ℕ) (x : Sent) (more : List Lexeme) (ps : List Placed) → is_sent x ≡ true → sent_depth x ≤ left → first more ≡ Some (symbol RightParen) →
+pub sent_message : (left : ℕ) (x : SentExpression) (more : List Lexeme) (ps : List Placed) → is_sent x ≡ true → sent_depth x ≤ left → first more ≡ Some (symbol RightParen) →
     ahead ps ≡ sent_lexemes x ++ more → ((is_name_in (token_at ps 0) ≡ true) × (token_at ps 1 ≡ Some (symbol RightParen)) → ⊥) →
     (m : Message) × (is_value m.value ≡ true) × (value_depth m.value ≤ left) × (ahead ps ≡ message_lexemes m ++ more)
 sent_message left (sent.Message m) more ps right deep paren e other = (m, right, deep, e)

@@ -3,17 +3,18 @@ use Rattle.std.proofs.Common.{inl, inr, ◌⊎◌, ◌≡◌, ℕ, zero, Bool, t
 use Rattle.std.proofs.lemmas.Bool.{false≢true}
 use Rattle.std.specs.Result.{IsErrAnd}
 use Rattle.std.proofs.lemmas.Result.{err_from_is_err_and}
-use Rattle.tp_token.specs.declared.fault.ScriptFault.{ScriptFault}
+use Rattle.tp_syntax.specs.declared.stuck.Stuck.{Stuck}
 use Rattle.tp_token.specs.declared.token.Placed.{Placed}
 use Rattle.tp_token.specs.declared.word.Word.{Word}
 use Rattle.tp_token.specs.declared.word.Word.TheVariants as w
 use Rattle.tp_token.specs.declared.token.Symbol.{Symbol}
 use Rattle.tp_token.specs.declared.token.Symbol.TheVariants.{Assign, Dot, LeftBracket, LeftParen, Minus, RightBrace, RightParen}
 use Rattle.tp_token.specs.Lexeme.{Lexeme, name, word, number, symbol, lexeme_of}
-use Rattle.tp_token.specs.Fault.{IsMemory}
 use Rattle.tp_syntax.specs.declared.cursor.Parser.{Parser}
 use Rattle.tp_syntax.specs.Ahead.{lexemes, is_zero, starts_zero, token_before, ahead, is_name_in, token_at}
-use Rattle.tp_syntax.specs.Reading.{IsEndOf, IsSetup, IsStart, first, is_branch_ahead, is_end_ahead, is_setup_ahead, is_start_ahead}
+use Rattle.tp_syntax.specs.Faults.{is_minus}
+use Rattle.tp_syntax.specs.Stuck.{IsForMemory}
+use Rattle.tp_syntax.specs.Reading.{IsEndOf, BeginsSetup, IsStart, first, is_branch_ahead, is_end_ahead, is_setup_ahead, is_start_ahead}
 
 -- the token, with a `-` before it left out or not, is the first of these
 pub token_cases : (b : Bool) (t u : Lexeme) (ts us : List Lexeme) → token_before b t ts ≡ u ∷ us
@@ -72,10 +73,6 @@ at_2 ps t u v ts e n m l =
     let w = opened ps t (u ∷ v ∷ ts) e n in
     subst (λ qs. token_at qs 2 ≡ Some v) (sym w.2) (at_1 w.1 u v ts w.4 m l)
 
-abbrev pub is_minus : Lexeme → Bool
-is_minus (symbol Minus) = true
-is_minus _ = false
-
 kept : (b : Bool) (t : Lexeme) (ts : List Lexeme) → is_minus t ≡ false → token_before b t ts ≡ t ∷ ts
 kept b (symbol Minus) ts n = absurd (false≢true (sym n))
 kept b t ts n = refl
@@ -108,10 +105,10 @@ pub paren_at : (ps : List Placed) (ts : List Lexeme) → ahead ps ≡ ts → fir
 paren_at ps ts e is = first_at ps (symbol RightParen) ts e is refl
 
 -- what is handed on is want of memory
-pub handed : {A : Type 0} (r : Result A ScriptFault) (f : ScriptFault) (P : A → Type 0) → IsErrAnd r (λ made. made ≡ f) → IsMemory f → MatchResult r P IsMemory
+pub handed : {A : Type 0} (r : Result A Stuck) (f : Stuck) (P : A → Type 0) → IsErrAnd r (λ made. made ≡ f) → IsForMemory f → MatchResult r P IsForMemory
 handed r f P made memory =
     let p = err_from_is_err_and r made in
-    subst (λ s. MatchResult s P IsMemory) (sym p.1) (subst IsMemory (sym p.2) memory)
+    subst (λ s. MatchResult s P IsForMemory) (sym p.1) (subst IsForMemory (sym p.2) memory)
 
 -- the same parser, so the same comes next
 pub same_ahead : {p q : Parser} {ts : List Lexeme} → p ≡ q → ahead q.rest.now ≡ ts → ahead p.rest.now ≡ ts
@@ -159,7 +156,7 @@ named (Some (name n)) h = (n, refl)
 named o h = absurd (false≢true h)
 
 -- what a setup statement begins with comes next
-pub setup_first : (ps : List Placed) → IsSetup ps → is_setup_ahead (ahead ps) ≡ true
+pub setup_first : (ps : List Placed) → BeginsSetup ps → is_setup_ahead (ahead ps) ≡ true
 setup_first ps (inl e) = let a = raw ps (word w.Connect) e refl in subst (λ (ts : List Lexeme). is_setup_ahead ts ≡ true) (sym a.1) refl
 setup_first ps (inr (inl e)) = let a = raw ps (word w.Map) e refl in subst (λ (ts : List Lexeme). is_setup_ahead ts ≡ true) (sym a.1) refl
 setup_first ps (inr (inr (e, f, g, h))) =

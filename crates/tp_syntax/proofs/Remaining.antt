@@ -7,7 +7,7 @@ use Rattle.tp_token.specs.Lexeme.{Lexeme, symbol}
 use Rattle.tp_syntax.specs.Sequences.{more_by_commas, by_commas, all_of}
 use Rattle.tp_syntax.specs.Grammar.{Part, each, one_and_each, has_one, are_parts}
 use Rattle.tp_syntax.specs.Nesting.{deepest}
-use Rattle.tp_syntax.specs.Reading.{first, is_stop, Stops, may_stand, IsPlaced, may_all_stand, AllStand}
+use Rattle.tp_syntax.specs.Reading.{first, ends_operation, Stops, may_end_before, IsPlaced, may_all_stand, AllStand}
 
 -- these are left, each behind a comma
 abbrev pub Remain : {A : Type 0} → (A → List Lexeme) → (A → Type 0) → List Lexeme → List Lexeme → Type 0
@@ -25,7 +25,7 @@ comma_first f P (x ∷ xs) more ts all some e =
 
 next_of : {A : Type 0} (f : A → List Lexeme) (P : A → Type 0) (zs : List A) (more ts rest : List Lexeme) →
     AllByRecursion P zs → ts ≡ more_by_commas (map f zs) ++ more → ts ≡ symbol Comma ∷ rest → Stops more → ComesNext f P more rest
-next_of f P [] more ts rest all e comma stops = absurd (false≢true (ap (λ (t : List Lexeme). is_stop (first t)) (sym comma ∙ e) ∙ stops))
+next_of f P [] more ts rest all e comma stops = absurd (false≢true (ap (λ (t : List Lexeme). ends_operation (first t)) (sym comma ∙ e) ∙ stops))
 next_of f P (z ∷ zs) more ts rest all e comma stops =
     let same : rest ≡ (f z ++ more_by_commas (map f zs)) ++ more = cc in
     (z, all.0, more_by_commas (map f zs) ++ more, same ∙ append_assoc (f z) (more_by_commas (map f zs)) more, (zs, all.1, refl))
@@ -85,7 +85,7 @@ is_begin (Some (symbol RightBrace)) = false
 is_begin _ = true
 
 -- a part that is ended may stand before the next
-pub begin_stands : (t : Option Lexeme) → is_begin t ≡ true → may_stand true t ≡ true
+pub begin_stands : (t : Option Lexeme) → is_begin t ≡ true → may_end_before true t ≡ true
 begin_stands (Some (symbol Semicolon)) h = h
 begin_stands t h = refl
 
@@ -107,17 +107,17 @@ all_next_of : {A : Type 0} (f : A → List Lexeme) (part : A → Part) (P : A �
     ((y : A) (r : List Lexeme) → is_begin (first (f y ++ r)) ≡ true) → (ts ≡ more → ⊥) → StandsNext f part P more ts
 all_next_of f part P [] more ts all stand e begins on = absurd (on e)
 all_next_of f part P (z ∷ []) more ts all stand e begins on =
-    (z, all.0, more, and_parts (part z).is_right (may_stand (part z).is_ended (first more)) stand, e ∙ append_assoc (f z) [] more, ([], tt, refl, refl))
+    (z, all.0, more, and_parts (part z).is_right (may_end_before (part z).is_ended (first more)) stand, e ∙ append_assoc (f z) [] more, ([], tt, refl, refl))
 all_next_of f part P (z ∷ y ∷ ys) more ts all stand e begins on =
     let rest = all_of (map f (y ∷ ys)) ++ more in
     let both = and_parts (part z).is_right ((part z).is_ended && may_all_stand (map part (y ∷ ys)) (first more)) stand in
     let more_of = and_parts (part z).is_ended (may_all_stand (map part (y ∷ ys)) (first more)) both.1 in
-    let next : may_stand true (first rest) ≡ true =
-    subst (λ (t : List Lexeme). may_stand true (first t) ≡ true) (sym (append_assoc (f y) (all_of (map f ys)) more)) (begin_stands _ (begins y (all_of (map f ys) ++ more))) in (
+    let next : may_end_before true (first rest) ≡ true =
+    subst (λ (t : List Lexeme). may_end_before true (first t) ≡ true) (sym (append_assoc (f y) (all_of (map f ys)) more)) (begin_stands _ (begins y (all_of (map f ys) ++ more))) in (
       z,
       all.0,
       rest,
-      (both.0, subst (λ (b : Bool). may_stand b (first rest) ≡ true) (sym more_of.0) next),
+      (both.0, subst (λ (b : Bool). may_end_before b (first rest) ≡ true) (sym more_of.0) next),
       e ∙ append_assoc (f z) (all_of (map f (y ∷ ys))) more,
       (y ∷ ys, all.1, more_of.1, refl),
     )
@@ -141,7 +141,7 @@ all_last f part P more ts left none = all_last_of f left.0 more ts left.3 none
 pub parts_stand : (parts : List Part) (ts : List Lexeme) → are_parts parts ≡ true → first ts ≡ Some (symbol RightBrace) → AllStand parts ts
 parts_stand [] ts h brace = refl
 parts_stand (p ∷ []) ts h brace =
-    and_from p.is_right (may_stand p.is_ended (first ts)) h (ap (λ (t : Option Lexeme). may_stand p.is_ended t) brace)
+    and_from p.is_right (may_end_before p.is_ended (first ts)) h (ap (λ (t : Option Lexeme). may_end_before p.is_ended t) brace)
 parts_stand (p ∷ q ∷ qs) ts h brace =
     let both = and_parts p.is_right (p.is_ended && are_parts (q ∷ qs)) h in
     let more = and_parts p.is_ended (are_parts (q ∷ qs)) both.1 in
@@ -165,12 +165,12 @@ Follows (q ∷ qs) t u = is_begin u ≡ true
 -- the first of some parts may stand before the others
 pub stand_before : (ps qs : List Part) (t u : Option Lexeme) → may_all_stand (ps ++ qs) t ≡ true → Follows qs t u → may_all_stand ps u ≡ true
 stand_before [] qs t u h next = refl
-stand_before (p ∷ []) [] t u h next = subst (λ v. (p.is_right && may_stand p.is_ended v) ≡ true) (sym next) h
+stand_before (p ∷ []) [] t u h next = subst (λ v. (p.is_right && may_end_before p.is_ended v) ≡ true) (sym next) h
 stand_before (p ∷ []) (q ∷ qs) t u h next =
     let both = and_parts p.is_right (p.is_ended && may_all_stand (q ∷ qs) t) h in
     let more = and_parts p.is_ended (may_all_stand (q ∷ qs) t) both.1 in
-    and_from p.is_right (may_stand p.is_ended u) both.0
-    (subst (λ b. may_stand b u ≡ true) (sym more.0) (begin_stands u next))
+    and_from p.is_right (may_end_before p.is_ended u) both.0
+    (subst (λ b. may_end_before b u ≡ true) (sym more.0) (begin_stands u next))
 stand_before (p ∷ o ∷ ps) qs t u h next =
     let both = and_parts p.is_right (p.is_ended && may_all_stand ((o ∷ ps) ++ qs) t) h in
     let more = and_parts p.is_ended (may_all_stand ((o ∷ ps) ++ qs) t) both.1 in

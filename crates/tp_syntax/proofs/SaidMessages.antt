@@ -21,10 +21,10 @@ use Rattle.tp_tree.specs.declared.message.Message.{Message}
 use Rattle.tp_tree.specs.declared.message.MessageTemplate.{MessageTemplate}
 use Rattle.tp_tree.specs.declared.tree.ComponentName.{ComponentName}
 use Rattle.tp_tree.specs.declared.tree.ComponentName.TheVariants as component_name
-use Rattle.tp_tree.specs.declared.tree.Sent.{Sent}
-use Rattle.tp_tree.specs.declared.tree.Sent.TheVariants as sent
-use Rattle.tp_tree.specs.declared.tree.Destination.{Destination}
-use Rattle.tp_tree.specs.declared.tree.Destination.TheVariants as destination
+use Rattle.tp_tree.specs.declared.tree.SentExpression.{SentExpression}
+use Rattle.tp_tree.specs.declared.tree.SentExpression.TheVariants as sent
+use Rattle.tp_tree.specs.declared.tree.Receivers.{Receivers}
+use Rattle.tp_tree.specs.declared.tree.Receivers.TheVariants as destination
 use Rattle.tp_tree.specs.declared.tree.Send.{Send}
 use Rattle.tp_tree.specs.declared.tree.Receive.{Receive}
 use Rattle.tp_syntax.specs.Sequences.{more_by_commas, by_commas, all_of, braced, parenthesised}
@@ -217,7 +217,7 @@ message_template_told x y e =
     ap (λ k. k ++ symbol Colon ∷ template_lexemes x.template) (type_told x.type_name y.type_name (cc e))
     ∙ ap (λ k. type_lexemes y.type_name ++ symbol Colon ∷ k) (template_told x.template y.template (cc e))
 
-sent_told : (x y : Sent) → sent_content x ≡ sent_content y → sent_lexemes x ≡ sent_lexemes y
+sent_told : (x y : SentExpression) → sent_content x ≡ sent_content y → sent_lexemes x ≡ sent_lexemes y
 sent_told (sent.Message x) (sent.Message y) e = message_told x y e
 sent_told (sent.Variable x) (sent.Variable y) e = ap (λ (k : List ℕ). name k ∷ []) (cc e)
 sent_told x y e = absurd (cc e)
@@ -227,7 +227,7 @@ no_all (component_name.Named n) e = cc
 no_all component_name.Mtc e = cc
 no_all component_name.SelfComponent e = cc
 
-to_told : (x y : Option Destination) → to_content x ≡ to_content y → to_lexemes x ≡ to_lexemes y
+to_told : (x y : Option Receivers) → to_content x ≡ to_content y → to_lexemes x ≡ to_lexemes y
 to_told None None e = refl
 to_told None (Some (destination.Component y)) e = absurd (cc e)
 to_told None (Some destination.AllComponents) e = absurd (cc e)

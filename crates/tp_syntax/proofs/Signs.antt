@@ -4,7 +4,7 @@ use Rattle.std.proofs.lemmas.Bool.{false≢true}
 use Rattle.tp_token.specs.declared.token.Placed.{Placed}
 use Rattle.tp_token.specs.declared.token.Symbol.TheVariants.{Minus, RightBrace}
 use Rattle.tp_token.specs.Lexeme.{Lexeme, name, number, symbol}
-use Rattle.tp_syntax.specs.Ahead.{ahead, before, token_before, lexemes, starts_zero, is_zero}
+use Rattle.tp_syntax.specs.Ahead.{ahead, lexemes_from, token_before, lexemes, starts_zero, is_zero}
 use Rattle.tp_syntax.specs.Values.{int_lexemes, bool_lexeme}
 use Rattle.tp_syntax.specs.Reading.{first}
 use Rattle.tp_syntax.proofs.Reading.{zero_ahead}
@@ -24,10 +24,10 @@ sign_of true ps t ts z e = zero_sign t (zero_ahead ps t ts z e)
 sign_of false ps t ts z e = let same : symbol Minus ≡ t = cc in subst (λ u. is_sign u ≡ true) same refl
 
 -- with a `-` to be read, an integer begins
-pub sign_first : (ps : List Placed) (t : Lexeme) (ts : List Lexeme) → before (symbol Minus) ps ≡ t ∷ ts → is_sign t ≡ true
+pub sign_first : (ps : List Placed) (t : Lexeme) (ts : List Lexeme) → lexemes_from (symbol Minus) ps ≡ t ∷ ts → is_sign t ≡ true
 sign_first ps t ts e = sign_of (starts_zero (lexemes ps)) ps t ts refl e
 
-pub no_bool : (b : Bool) (more : List Lexeme) (ps : List Placed) → before (symbol Minus) ps ≡ bool_lexeme b ∷ more → ⊥
+pub no_bool : (b : Bool) (more : List Lexeme) (ps : List Placed) → lexemes_from (symbol Minus) ps ≡ bool_lexeme b ∷ more → ⊥
 no_bool true more ps e = false≢true (sign_first ps _ more e)
 no_bool false more ps e = false≢true (sign_first ps _ more e)
 

@@ -14,9 +14,9 @@ use Rattle.tp_syntax.specs.Ahead.{ahead}
 use Rattle.tp_syntax.specs.Sequences.{braced, end_lexemes}
 use Rattle.tp_syntax.specs.Values.{int_lexemes}
 use Rattle.tp_syntax.specs.Statements.{action_lexemes, body_lexemes, branch_lexemes, branches_lexemes, counted_lexemes, otherwise_lexemes, receive_lexemes, statement_lexemes, statements_lexemes, turns_lexemes}
-use Rattle.tp_syntax.specs.Grammar.{Part, action_part, are_parts, body_part, branch_part, counted_part, is_integer, is_template_part, statement_part, statements_parts}
+use Rattle.tp_syntax.specs.Grammar.{Part, action_part, are_parts, body_part, branch_part, counted_part, is_64_bit, is_template_part, statement_part, statements_parts}
 use Rattle.tp_syntax.specs.Nesting.{action_depth, body_depth, branch_depth, counted_depth, receive_depth, statement_depth, statements_depth}
-use Rattle.tp_syntax.specs.Reading.{IsEndedOr, IsPlaced, Stands, Stops, first}
+use Rattle.tp_syntax.specs.Reading.{IsEndedOr, IsPlaced, MayStandBefore, Stops, first}
 use Rattle.tp_syntax.proofs.StatementTokens as tokens
 use Rattle.tp_syntax.proofs.Nesting as nesting
 use Rattle.tp_syntax.proofs.Grammar as grammar
@@ -31,7 +31,7 @@ pub record StatementGiven (left : ℕ) (x : Statement) (more ts : List Lexeme) :
   pub fits : action_depth (out-Statement x).action ≤ left
   pub ends : IsEndedOr (action_part (out-Statement x).action).is_ended
       (Stops (end_lexemes (out-Statement x).has_semicolon ++ more))
-  pub stands : Stands ((action_part (out-Statement x).action).is_ended || (out-Statement x).has_semicolon) more
+  pub stands : MayStandBefore ((action_part (out-Statement x).action).is_ended || (out-Statement x).has_semicolon) more
   pub read : ts ≡ action_lexemes (out-Statement x).action ++ (end_lexemes (out-Statement x).has_semicolon ++ more)
 
 pub statement_given : (left : ℕ) (x : Statement) (more ts : List Lexeme) →
@@ -61,12 +61,12 @@ pub statement_ends : (left : ℕ) (x : Statement) (more ts us : List Lexeme) (a 
     StatementGiven left x more ts →
     ts ≡ action_lexemes a ++ us → us ≡ end_lexemes (out-Statement x).has_semicolon ++ more →
     closed ≡ (action_part a).is_ended
-    → Stands (closed || (out-Statement x).has_semicolon) more
+    → MayStandBefore (closed || (out-Statement x).has_semicolon) more
 statement_ends left x more ts us a closed g read behind is =
     let s = out-Statement x in
     let same = same_ended a s.action (end_lexemes s.has_semicolon ++ more)
     (sym (read ∙ ap (λ (l : List Lexeme). action_lexemes a ++ l) behind) ∙ g.read) in
-    subst (λ b. Stands (b || s.has_semicolon) more) (sym (is ∙ same)) g.stands
+    subst (λ b. MayStandBefore (b || s.has_semicolon) more) (sym (is ∙ same)) g.stands
 
 -- a branch comes next: its brackets, its operation, its block, and its `;`
 pub record BranchGiven (left : ℕ) (x : Branch) (more ts : List Lexeme) : Type 0 where
@@ -78,7 +78,7 @@ pub record BranchGiven (left : ℕ) (x : Branch) (more ts : List Lexeme) : Type 
   pub body_fits : body_depth (out-Branch x).body ≤ left
   pub body_ends : IsEndedOr (body_part (out-Branch x).body).is_ended
       (first (end_lexemes (out-Branch x).has_semicolon ++ more) ≢ Some (symbol LeftBrace))
-  pub stands : Stands ((body_part (out-Branch x).body).is_ended || (out-Branch x).has_semicolon) more
+  pub stands : MayStandBefore ((body_part (out-Branch x).body).is_ended || (out-Branch x).has_semicolon) more
   pub read : ts ≡ symbol LeftBracket ∷ symbol RightBracket ∷
       (receive_lexemes (out-Branch x).receive ++
       (body_lexemes (out-Branch x).body ++ (end_lexemes (out-Branch x).has_semicolon ++ more)))
@@ -121,17 +121,17 @@ pub branch_ends : (left : ℕ) (x : Branch) (more ts us vs : List Lexeme) (b : B
     us ≡ body_lexemes (out-Branch x).body ++ (end_lexemes (out-Branch x).has_semicolon ++ more) →
     us ≡ body_lexemes b ++ vs →
     vs ≡ end_lexemes (out-Branch x).has_semicolon ++ more → closed ≡ (body_part b).is_ended →
-    Stands (closed || (out-Branch x).has_semicolon) more
+    MayStandBefore (closed || (out-Branch x).has_semicolon) more
 branch_ends left x more ts us vs b closed g given read behind is =
     let s = out-Branch x in
     let same = same_braced b s.body (end_lexemes s.has_semicolon ++ more)
     (sym (read ∙ ap (λ (l : List Lexeme). body_lexemes b ++ l) behind) ∙ given) in
-    subst (λ c. Stands (c || s.has_semicolon) more) (sym (is ∙ same)) g.stands
+    subst (λ c. MayStandBefore (c || s.has_semicolon) more) (sym (is ∙ same)) g.stands
 
 -- a counted `for` comes next: its turns, and its block
 pub record CountedGiven (left : ℕ) (x : Counted) (more ts : List Lexeme) : Type 0 where
-  pub first_right : is_integer (out-Counted x).turns.first ≡ true
-  pub bound_right : is_integer (out-Counted x).turns.bound ≡ true
+  pub first_right : is_64_bit (out-Counted x).turns.first ≡ true
+  pub bound_right : is_64_bit (out-Counted x).turns.bound ≡ true
   pub room : 0 < left
   pub right : are_parts (statements_parts (out-Counted x).block.items) ≡ true
   pub fits : statements_depth (out-Counted x).block.items + 1 ≤ left
@@ -143,9 +143,9 @@ pub counted_given : (left : ℕ) (x : Counted) (more ts : List Lexeme) →
 counted_given left x more ts right deep e =
     let s = out-Counted x in
     let parts = sym (ap (λ (p : Part). p.is_right) (grammar.counted_out x)) ∙ right in
-    let first_is_integer = and_parts (is_integer s.turns.first)
-    (is_integer s.turns.bound && are_parts (statements_parts s.block.items)) parts in
-    let bound_is_integer = and_parts (is_integer s.turns.bound)
+    let first_is_integer = and_parts (is_64_bit s.turns.first)
+    (is_64_bit s.turns.bound && are_parts (statements_parts s.block.items)) parts in
+    let bound_is_integer = and_parts (is_64_bit s.turns.bound)
     (are_parts (statements_parts s.block.items)) first_is_integer.1 in
     let fits : statements_depth s.block.items + 1 ≤ left = rw nesting.counted_depth_out at deep in
     let room : 0 < left = omega arith in

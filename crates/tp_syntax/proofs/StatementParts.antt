@@ -7,10 +7,10 @@ use Rattle.tp_token.specs.declared.token.Placed.{Placed}
 use Rattle.tp_token.specs.declared.word.Word.TheVariants as w
 use Rattle.tp_token.specs.declared.token.Symbol.TheVariants.{Dot, LeftBrace, LeftBracket, RightBrace, RightBracket}
 use Rattle.tp_token.specs.Lexeme.{Lexeme, name, word, symbol}
-use Rattle.tp_queue.specs.declared.operation.PortOperation.{PortOperation}
-use Rattle.tp_queue.specs.declared.operation.PortOperation.TheVariants as port_operation
-use Rattle.tp_queue.specs.declared.operation.ReceiveKind.{ReceiveKind}
-use Rattle.tp_queue.specs.declared.operation.ReceiveKind.TheVariants as receive_kind
+use Rattle.tp_event.specs.declared.operation.PortOperation.{PortOperation}
+use Rattle.tp_event.specs.declared.operation.PortOperation.TheVariants as port_operation
+use Rattle.tp_event.specs.declared.operation.ReceiveKind.{ReceiveKind}
+use Rattle.tp_event.specs.declared.operation.ReceiveKind.TheVariants as receive_kind
 use Rattle.tp_tree.specs.declared.tree.Send.{Send}
 use Rattle.tp_tree.specs.declared.tree.Receive.{Receive}
 use Rattle.tp_tree.specs.declared.tree.Control.{Control}
@@ -27,7 +27,7 @@ use Rattle.tp_syntax.specs.Sequences.{braced, end_lexemes}
 use Rattle.tp_syntax.specs.Statements.{send_lexemes, receive_lexemes, control_lexemes, all_ports_lexemes, set_verdict_lexemes, port_operation_lexeme, body_lexemes, branch_lexemes, counted_lexemes, else_branch_lexemes, statements_lexemes, branches_lexemes, otherwise_lexemes}
 use Rattle.tp_syntax.specs.Grammar.{Part, are_parts, has_one, body_part, else_branch_part, statements_parts, branches_parts, otherwise_parts}
 use Rattle.tp_syntax.specs.Nesting.{body_depth, statements_depth, otherwise_depth}
-use Rattle.tp_syntax.specs.Reading.{AllStand, IsEndedOr, Stands, Stops, first, is_branch_ahead, is_stop, may_stand, receive_word}
+use Rattle.tp_syntax.specs.Reading.{AllStand, IsEndedOr, MayStandBefore, Stops, first, is_branch_ahead, ends_operation, may_end_before, receive_word}
 use Rattle.tp_syntax.proofs.StatementTokens as tokens
 use Rattle.tp_syntax.proofs.Grammar as grammar
 use Rattle.tp_syntax.proofs.Nesting as nesting
@@ -36,22 +36,22 @@ use Rattle.tp_syntax.proofs.Remaining.{is_begin, parts_stand, stand_behind, stan
 use Rattle.tp_syntax.proofs.StatementReading.{Kind, sends, receives, controls, all_controls, sets, chooses, counts, kind_lexemes, IsRightKind, body_cases, counted_opens}
 
 -- what isn't ended stands before a `}`
-stops_there : (t : Option Lexeme) → may_stand false t ≡ true → is_stop t ≡ true
+stops_there : (t : Option Lexeme) → may_end_before false t ≡ true → ends_operation t ≡ true
 stops_there (Some (symbol RightBrace)) h = refl
 stops_there t h = absurd (false≢true h)
 
-no_block : (t : Option Lexeme) → may_stand false t ≡ true → t ≢ Some (symbol LeftBrace)
+no_block : (t : Option Lexeme) → may_end_before false t ≡ true → t ≢ Some (symbol LeftBrace)
 no_block (Some (symbol RightBrace)) h e = cc
 no_block t h e = false≢true h
 
 -- what isn't ended stands before its `;` or a `}`
-pub ends_or : (closed e : Bool) (more : List Lexeme) → Stands (closed || e) more → IsEndedOr closed (Stops (end_lexemes e ++ more))
+pub ends_or : (closed e : Bool) (more : List Lexeme) → MayStandBefore (closed || e) more → IsEndedOr closed (Stops (end_lexemes e ++ more))
 ends_or true e more stands = inl refl
 ends_or false true more stands = inr refl
 ends_or false false more stands = inr (stops_there (first more) stands)
 
 -- a block can't follow what has none
-pub ends_blockless : (closed e : Bool) (more : List Lexeme) → Stands (closed || e) more → IsEndedOr closed (first (end_lexemes e ++ more) ≢ Some (symbol LeftBrace))
+pub ends_blockless : (closed e : Bool) (more : List Lexeme) → MayStandBefore (closed || e) more → IsEndedOr closed (first (end_lexemes e ++ more) ≢ Some (symbol LeftBrace))
 ends_blockless true e more stands = inl refl
 ends_blockless false true more stands = inr (λ h. cc h)
 ends_blockless false false more stands = inr (no_block (first more) stands)
@@ -61,9 +61,9 @@ stopped closed more shut (inl ended) = absurd (false≢true (sym shut ∙ ended)
 stopped closed more shut (inr stops) = stops
 
 -- behind its operation a branch goes on with a block, or ends
-pub body_stops : (x : BranchBody) (e : Bool) (more : List Lexeme) → Stands ((body_part x).is_ended || e) more → Stops (body_lexemes x ++ (end_lexemes e ++ more))
+pub body_stops : (x : BranchBody) (e : Bool) (more : List Lexeme) → MayStandBefore ((body_part x).is_ended || e) more → Stops (body_lexemes x ++ (end_lexemes e ++ more))
 body_stops x e more =
-    body_cases (λ x. Stands ((body_part x).is_ended || e) more → Stops (body_lexemes x ++ (end_lexemes e ++ more)))
+    body_cases (λ x. MayStandBefore ((body_part x).is_ended || e) more → Stops (body_lexemes x ++ (end_lexemes e ++ more)))
     (λ stands.
     subst (λ (l : List Lexeme). Stops (l ++ (end_lexemes e ++ more))) (sym tokens.body_nothing)
     (stopped _ (end_lexemes e ++ more) (ap (λ (p : Part). p.is_ended) grammar.body_nothing) (ends_or _ e more stands)))
@@ -126,7 +126,7 @@ pub otherwise_next : (left : ℕ) (x : Option ElseBranch) (more : List Lexeme) (
 otherwise_next left None more ps stand deep brace e at = let closes = brace_at ps more e brace in absurd (cc (at, closes))
 otherwise_next left (Some x) more ps stand deep brace e at =
     let part = grammar.else_branch_out x in
-    let right = (and_parts (else_branch_part x).is_right (may_stand (else_branch_part x).is_ended (first more)) stand).0 in (
+    let right = (and_parts (else_branch_part x).is_right (may_end_before (else_branch_part x).is_ended (first more)) stand).0 in (
       (out-ElseBranch x).block.items,
       (out-ElseBranch x).has_semicolon,
       sym (ap (λ (p : Part). p.is_right) part) ∙ right,

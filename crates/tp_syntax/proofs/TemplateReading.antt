@@ -14,11 +14,11 @@ use Rattle.tp_tree.specs.declared.message.Template.TheVariants as v
 use Rattle.tp_tree.specs.declared.message.Template.TheOpen as o
 use Rattle.tp_tree.specs.declared.message.Template.TheViews.{roll-Template, out-Template, roll-out-Template}
 use Rattle.tp_tree.specs.declared.message.TemplateField.{TemplateField, out-TemplateField}
-use Rattle.tp_syntax.specs.Ahead.{ahead, before}
+use Rattle.tp_syntax.specs.Ahead.{ahead, lexemes_from}
 use Rattle.tp_syntax.specs.Sequences.{by_commas, braced, parenthesised}
 use Rattle.tp_syntax.specs.Values.{int_lexemes, bool_lexeme}
 use Rattle.tp_syntax.specs.Templates.{low_lexemes, high_lexemes, template_lexemes, template_field_lexemes}
-use Rattle.tp_syntax.specs.Grammar.{each, one_and_each, is_bound, is_integer, is_plain, is_template, is_template_field}
+use Rattle.tp_syntax.specs.Grammar.{each, one_and_each, is_bound, is_64_bit, is_plain, is_template, is_template_field}
 use Rattle.tp_syntax.specs.Nesting.{deepest, template_depth, template_field_depth}
 use Rattle.tp_syntax.specs.Reading.{first}
 use Rattle.tp_syntax.proofs.TemplateTokens as tokens
@@ -76,7 +76,7 @@ InBraces left more ts =
 
 -- what stands behind the first token of a template, in which so many brackets may be opened
 abbrev pub Behind : ℕ → List Lexeme → Lexeme → List Lexeme → Type 0
-Behind left more (number n) ts = (is_integer (pos n) ≡ true) × (ts ≡ more)
+Behind left more (number n) ts = (is_64_bit (pos n) ≡ true) × (ts ≡ more)
 Behind left more (word w.True) ts = ts ≡ more
 Behind left more (word w.False) ts = ts ≡ more
 Behind left more (text cs) ts = ts ≡ more
@@ -98,7 +98,7 @@ moved left more u t us ts e b =
     let rest : us ≡ ts = cc in
     subst (λ x. Behind left more x ts) same (subst (λ (x : List Lexeme). Behind left more u x) rest b)
 
-int_behind : (left : ℕ) (more : List Lexeme) (z : ℤ) (t : Lexeme) (ts : List Lexeme) → is_integer z ≡ true → int_lexemes z ++ more ≡ t ∷ ts → Behind left more t ts
+int_behind : (left : ℕ) (more : List Lexeme) (z : ℤ) (t : Lexeme) (ts : List Lexeme) → is_64_bit z ≡ true → int_lexemes z ++ more ≡ t ∷ ts → Behind left more t ts
 int_behind left more (pos n) t ts right e = moved left more (number n) t more ts e (right, refl)
 int_behind left more (negsuc n) t ts right e = moved left more (symbol Minus) t (number (suc n) ∷ more) ts e (n, refl)
 
@@ -157,10 +157,10 @@ template_behind left x more t ts =
     }) x
 
 -- behind a `-` stands a number, without its sign
-pub template_minus : (x : Template) (more : List Lexeme) (ps : List Placed) → is_template x ≡ true → before (symbol Minus) ps ≡ template_lexemes x ++ more →
-    (z : ℤ) × (is_integer z ≡ true) × (int_lexemes z ++ more ≡ before (symbol Minus) ps)
+pub template_minus : (x : Template) (more : List Lexeme) (ps : List Placed) → is_template x ≡ true → lexemes_from (symbol Minus) ps ≡ template_lexemes x ++ more →
+    (z : ℤ) × (is_64_bit z ≡ true) × (int_lexemes z ++ more ≡ lexemes_from (symbol Minus) ps)
 template_minus x more ps =
-    template_cases (λ x. is_template x ≡ true → before (symbol Minus) ps ≡ template_lexemes x ++ more → (z : ℤ) × (is_integer z ≡ true) × (int_lexemes z ++ more ≡ before (symbol Minus) ps)) (record {
+    template_cases (λ x. is_template x ≡ true → lexemes_from (symbol Minus) ps ≡ template_lexemes x ++ more → (z : ℤ) × (is_64_bit z ≡ true) × (int_lexemes z ++ more ≡ lexemes_from (symbol Minus) ps)) (record {
       int = λ z right e. (z, sym (grammar.template_int z) ∙ right, sym (e ∙ ap (λ (l : List Lexeme). l ++ more) (tokens.template_int z)));
       bool = λ b right e. absurd (no_bool b more ps (e ∙ ap (λ (l : List Lexeme). l ++ more) (tokens.template_bool b)));
       characters = λ cs right e. absurd (false≢true (sign_first ps (text cs.items) more (e ∙ ap (λ (l : List Lexeme). l ++ more) (tokens.template_text cs))));
@@ -254,14 +254,14 @@ behind_token left more (symbol LeftBrace) ts b = refl
 behind_token left more t ts b = absurd b
 
 token_of : (left : ℕ) (x : Template) (more : List Lexeme) (t : Lexeme) (ps : List Placed) → is_template x ≡ true → template_depth x ≤ left →
-    template_lexemes x ++ more ≡ before t ps → is_template_token t ≡ true
+    template_lexemes x ++ more ≡ lexemes_from t ps → is_template_token t ≡ true
 token_of left x more (symbol Minus) ps right deep e = refl
 token_of left x more (symbol s) ps right deep e = behind_token left more (symbol s) (ahead ps) (template_behind left x more (symbol s) (ahead ps) right deep e)
 token_of left x more t ps right deep e = behind_token left more t (ahead ps) (template_behind left x more t (ahead ps) right deep e)
 
 -- the first token of a template is one that it may begin with
 pub template_token : (left : ℕ) (x : Template) (more : List Lexeme) (t : Lexeme) (ps : List Placed) → is_template x ≡ true → template_depth x ≤ left →
-    template_lexemes x ++ more ≡ before t ps → is_template_token t ≡ true
+    template_lexemes x ++ more ≡ lexemes_from t ps → is_template_token t ≡ true
 template_token left x more t ps right deep e = token_of left x more t ps right deep e
 
 -- a template has a token

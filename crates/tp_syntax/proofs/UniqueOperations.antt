@@ -6,20 +6,20 @@ use Rattle.std.specs.declared.alloc.Global.{Global}
 use Rattle.tp_token.specs.declared.word.Word.TheVariants as w
 use Rattle.tp_token.specs.declared.token.Symbol.TheVariants.{Arrow, Colon, Dot, LeftParen, RightParen}
 use Rattle.tp_token.specs.Lexeme.{Lexeme, name, word, symbol}
-use Rattle.tp_queue.specs.declared.operation.ReceiveKind.{ReceiveKind}
-use Rattle.tp_queue.specs.declared.operation.ReceiveKind.TheVariants as receive_kind
-use Rattle.tp_queue.specs.declared.operation.PortOperation.{PortOperation}
-use Rattle.tp_queue.specs.declared.operation.PortOperation.TheVariants as port_operation
+use Rattle.tp_event.specs.declared.operation.ReceiveKind.{ReceiveKind}
+use Rattle.tp_event.specs.declared.operation.ReceiveKind.TheVariants as receive_kind
+use Rattle.tp_event.specs.declared.operation.PortOperation.{PortOperation}
+use Rattle.tp_event.specs.declared.operation.PortOperation.TheVariants as port_operation
 use Rattle.tp_tree.specs.declared.message.TypeName.{TypeName}
 use Rattle.tp_tree.specs.declared.message.TypeName.TheVariants as type_name
 use Rattle.tp_tree.specs.declared.message.Message.{Message}
 use Rattle.tp_tree.specs.declared.message.MessageTemplate.{MessageTemplate}
 use Rattle.tp_tree.specs.declared.tree.ComponentName.{ComponentName}
 use Rattle.tp_tree.specs.declared.tree.ComponentName.TheVariants as component_name
-use Rattle.tp_tree.specs.declared.tree.Sent.{Sent}
-use Rattle.tp_tree.specs.declared.tree.Sent.TheVariants as sent
-use Rattle.tp_tree.specs.declared.tree.Destination.{Destination}
-use Rattle.tp_tree.specs.declared.tree.Destination.TheVariants as destination
+use Rattle.tp_tree.specs.declared.tree.SentExpression.{SentExpression}
+use Rattle.tp_tree.specs.declared.tree.SentExpression.TheVariants as sent
+use Rattle.tp_tree.specs.declared.tree.Receivers.{Receivers}
+use Rattle.tp_tree.specs.declared.tree.Receivers.TheVariants as destination
 use Rattle.tp_tree.specs.declared.tree.Send.{Send}
 use Rattle.tp_tree.specs.declared.tree.Receive.{Receive}
 use Rattle.tp_tree.specs.declared.tree.VerdictName.{VerdictName}
@@ -28,7 +28,7 @@ use Rattle.tp_syntax.specs.Values.{type_lexemes, value_lexemes, message_lexemes}
 use Rattle.tp_syntax.specs.Templates.{template_lexemes, message_template_lexemes}
 use Rattle.tp_syntax.specs.Statements.{component_lexemes, sent_lexemes, to_lexemes, send_lexemes, template_part, from_lexemes, named_part, redirect_parts, received_lexemes, operation_lexemes, receive_lexemes, port_operation_lexeme, verdict_lexeme}
 use Rattle.tp_syntax.specs.Grammar.{is_value, is_template, is_sent, is_template_part}
-use Rattle.tp_syntax.specs.Reading.{first, is_stop, Stops}
+use Rattle.tp_syntax.specs.Reading.{first, ends_operation, Stops}
 use Rattle.tp_syntax.specs.Contents.{optional_name, type_content, message_content, message_template_content, template_part_content, component_content, optional_component, sent_content, to_content, send_content, receive_content}
 use Rattle.tp_syntax.proofs.UniqueSequences.{Agree, tails}
 use Rattle.tp_syntax.proofs.UniqueValues.{values_same}
@@ -73,7 +73,7 @@ no_variable type_name.Boolean t r s n e = cc
 no_variable type_name.Charstring t r s n e = cc
 no_variable (type_name.Named m) t r s n e = cc
 
-sent_same : (x y : Sent) (r s : List Lexeme) → is_sent x ≡ true → is_sent y ≡ true → sent_lexemes x ++ symbol RightParen ∷ r ≡ sent_lexemes y ++ symbol RightParen ∷ s
+sent_same : (x y : SentExpression) (r s : List Lexeme) → is_sent x ≡ true → is_sent y ≡ true → sent_lexemes x ++ symbol RightParen ∷ r ≡ sent_lexemes y ++ symbol RightParen ∷ s
     → Agree (sent_content x) (sent_content y) r s
 sent_same (sent.Message m) (sent.Message n) r s a b e =
     let i = message_same m n (symbol RightParen ∷ r) (symbol RightParen ∷ s) a b e in
@@ -83,10 +83,10 @@ sent_same (sent.Variable n) (sent.Message m) r s a b e = absurd (no_variable m.t
 sent_same (sent.Variable m) (sent.Variable n) r s a b e = (cc, cc)
 
 -- what may stand behind an operation isn't this
-no_stop : (t : Lexeme) (r ts : List Lexeme) → Stops r → r ≡ t ∷ ts → is_stop (Some t) ≡ false → ⊥
-no_stop t r ts h e other = false≢true (sym other ∙ ap (λ (k : List Lexeme). is_stop (first k)) (sym e) ∙ h)
+no_stop : (t : Lexeme) (r ts : List Lexeme) → Stops r → r ≡ t ∷ ts → ends_operation (Some t) ≡ false → ⊥
+no_stop t r ts h e other = false≢true (sym other ∙ ap (λ (k : List Lexeme). ends_operation (first k)) (sym e) ∙ h)
 
-to_same : (x y : Option Destination) (r s : List Lexeme) → Stops r → Stops s → to_lexemes x ++ r ≡ to_lexemes y ++ s → Agree (to_content x) (to_content y) r s
+to_same : (x y : Option Receivers) (r s : List Lexeme) → Stops r → Stops s → to_lexemes x ++ r ≡ to_lexemes y ++ s → Agree (to_content x) (to_content y) r s
 to_same None None r s a b e = (refl, e)
 to_same None (Some (destination.Component d)) r s a b e = absurd (no_stop (word w.To) r _ a e refl)
 to_same None (Some destination.AllComponents) r s a b e = absurd (no_stop (word w.To) r _ a e refl)
@@ -153,8 +153,8 @@ template_part_same (Some m) (Some n) r s a b p q e =
     (sym (append_assoc (message_template_lexemes m) (symbol RightParen ∷ []) r) ∙ tails e ∙ append_assoc (message_template_lexemes n) (symbol RightParen ∷ []) s) in
     (cc, tails i.1)
 
-stop_other : (t : Lexeme) (r : List Lexeme) → Stops r → is_stop (Some t) ≡ false → first r ≡ Some t → ⊥
-stop_other t r h other e = false≢true (sym other ∙ ap is_stop (sym e) ∙ h)
+stop_other : (t : Lexeme) (r : List Lexeme) → Stops r → ends_operation (Some t) ≡ false → first r ≡ Some t → ⊥
+stop_other t r h other e = false≢true (sym other ∙ ap ends_operation (sym e) ∙ h)
 
 no_from : (x p : Option (String Global)) (r : List Lexeme) → Stops r → first (redirect_parts x p ++ r) ≡ Some (word w.From) → ⊥
 no_from None None r h e = stop_other (word w.From) r h refl e

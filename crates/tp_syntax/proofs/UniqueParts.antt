@@ -28,7 +28,7 @@ use Rattle.tp_syntax.specs.Values.{type_lexemes}
 use Rattle.tp_syntax.specs.Statements.{component_lexemes, variable_lexemes}
 use Rattle.tp_syntax.specs.Definitions.{field_type_lexemes, way_lexeme, types_lexemes, direction_lexemes, declared_name_lexemes, declared_names_lexemes, port_declaration_lexemes, parameter_lexemes, end_component_lexeme, end_point_lexemes, ends_lexemes, setup_action_lexemes, setup_lexemes, arguments_lexemes, start_lexemes}
 use Rattle.tp_syntax.specs.Grammar.{Part, each, are_parts, variable_part, direction_part, port_declaration_part, setup_part, start_part}
-use Rattle.tp_syntax.specs.Reading.{first, may_stand, IsPlaced, AllStand}
+use Rattle.tp_syntax.specs.Reading.{first, may_end_before, IsPlaced, AllStand}
 use Rattle.tp_syntax.specs.Contents.{Content, sequence, type_content, component_content}
 use Rattle.tp_syntax.specs.Same.{variable_content, field_type_content, declared_name_content, direction_content, port_declaration_content, parameter_content, end_component_content, end_content, setup_action_content, setup_content, start_content}
 use Rattle.tp_syntax.proofs.Remaining.{is_begin, parts_stand}
@@ -66,13 +66,13 @@ braces_same f part g begins one xs ys r s a b e =
     (sym (append_assoc (all_of (map f xs)) (symbol RightBrace ∷ []) r) ∙ tails e ∙ append_assoc (all_of (map f ys)) (symbol RightBrace ∷ []) s) in
     (all.0, tails all.1)
 
-unended_closes : (ts : List Lexeme) → may_stand false (first ts) ≡ true → Closes ts
+unended_closes : (ts : List Lexeme) → may_end_before false (first ts) ≡ true → Closes ts
 unended_closes [] h = absurd (false≢true h)
 unended_closes (symbol RightBrace ∷ ts) h = refl
 unended_closes (t ∷ ts) h = absurd (false≢true h)
 
 -- behind a part without a `}` stands its `;`, or the `}` that closes all
-ends_close : (e : Bool) (r : List Lexeme) → may_stand e (first r) ≡ true → Closes (end_lexemes e ++ r)
+ends_close : (e : Bool) (r : List Lexeme) → may_end_before e (first r) ≡ true → Closes (end_lexemes e ++ r)
 ends_close true r h = refl
 ends_close false r h = unended_closes r h
 

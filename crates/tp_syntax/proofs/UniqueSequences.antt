@@ -6,7 +6,7 @@ use Rattle.tp_token.specs.Lexeme.{Lexeme, name, symbol}
 use Rattle.tp_syntax.specs.Sequences.{more_by_commas, by_commas, all_of, end_lexemes}
 use Rattle.tp_syntax.specs.Values.{int_lexemes, bool_lexeme}
 use Rattle.tp_syntax.specs.Grammar.{Part, each}
-use Rattle.tp_syntax.specs.Reading.{first, may_stand, IsPlaced, may_all_stand, AllStand}
+use Rattle.tp_syntax.specs.Reading.{first, may_end_before, IsPlaced, may_all_stand, AllStand}
 use Rattle.tp_syntax.specs.Contents.{Content, sequence}
 use Rattle.tp_syntax.proofs.Remaining.{is_begin, begin_stands}
 
@@ -82,13 +82,13 @@ module _ {A : Type 0} (n : ℕ) (f : A → List Lexeme) (g : A → Content) (rig
 module _ {A : Type 0} (f : A → List Lexeme) (part : A → Part) (begins : (x : A) (t : List Lexeme) → is_begin (first (f x ++ t)) ≡ true) where
   -- the first may stand before the rest, and the rest where they do
   placed : (x : A) (xs : List A) (r : List Lexeme) → AllStand (map part (x ∷ xs)) r → IsPlaced (part x) (all_of (map f xs) ++ r) × AllStand (map part xs) r
-  placed x [] r h = (and_parts (part x).is_right (may_stand (part x).is_ended (first r)) h, refl)
+  placed x [] r h = (and_parts (part x).is_right (may_end_before (part x).is_ended (first r)) h, refl)
   placed x (y ∷ ys) r h =
       let both = and_parts (part x).is_right ((part x).is_ended && may_all_stand (map part (y ∷ ys)) (first r)) h in
       let more = and_parts (part x).is_ended (may_all_stand (map part (y ∷ ys)) (first r)) both.1 in
-      let next : may_stand true (first (all_of (map f (y ∷ ys)) ++ r)) ≡ true =
-      subst (λ (t : List Lexeme). may_stand true (first t) ≡ true) (sym (append_assoc (f y) (all_of (map f ys)) r)) (begin_stands _ (begins y (all_of (map f ys) ++ r))) in
-      ((both.0, subst (λ (b : Bool). may_stand b (first (all_of (map f (y ∷ ys)) ++ r)) ≡ true) (sym more.0) next), more.1)
+      let next : may_end_before true (first (all_of (map f (y ∷ ys)) ++ r)) ≡ true =
+      subst (λ (t : List Lexeme). may_end_before true (first t) ≡ true) (sym (append_assoc (f y) (all_of (map f ys)) r)) (begin_stands _ (begins y (all_of (map f ys) ++ r))) in
+      ((both.0, subst (λ (b : Bool). may_end_before b (first (all_of (map f (y ∷ ys)) ++ r)) ≡ true) (sym more.0) next), more.1)
 
   -- parts one after the other, where the test tells them from what stands behind them
   pub all_same : (n : ℕ) (g : A → Content) → UniqueParts n f part g → (is_one : List Lexeme → Bool) → ((x : A) (t : List Lexeme) → is_one (f x ++ t) ≡ true)
@@ -130,11 +130,11 @@ is_semicolon : Option Lexeme → Bool
 is_semicolon (Some (symbol Semicolon)) = true
 is_semicolon _ = false
 
-no_semicolon : (b : Bool) (r : List Lexeme) → may_stand b (first r) ≡ true → (s : List Lexeme) → r ≡ symbol Semicolon ∷ s → ⊥
-no_semicolon b r h s e = false≢true (ap (λ (t : List Lexeme). may_stand b (first t)) (sym e) ∙ h)
+no_semicolon : (b : Bool) (r : List Lexeme) → may_end_before b (first r) ≡ true → (s : List Lexeme) → r ≡ symbol Semicolon ∷ s → ⊥
+no_semicolon b r h s e = false≢true (ap (λ (t : List Lexeme). may_end_before b (first t)) (sym e) ∙ h)
 
 -- where no `;` stands behind, it is there for both or for none
-pub end_same : (b c p q : Bool) (r s : List Lexeme) → may_stand p (first r) ≡ true → may_stand q (first s) ≡ true → end_lexemes b ++ r ≡ end_lexemes c ++ s
+pub end_same : (b c p q : Bool) (r s : List Lexeme) → may_end_before p (first r) ≡ true → may_end_before q (first s) ≡ true → end_lexemes b ++ r ≡ end_lexemes c ++ s
     → Agree b c r s
 end_same true true p q r s a d e = (refl, tails e)
 end_same true false p q r s a d e = absurd (no_semicolon q s d r (sym e))

@@ -5,10 +5,10 @@ use Rattle.std.proofs.lemmas.List.{nil_from_length}
 use Rattle.tp_token.specs.declared.word.Word.TheVariants as w
 use Rattle.tp_token.specs.declared.token.Symbol.TheVariants.{Dot, LeftBrace, LeftBracket, RightBrace, RightBracket}
 use Rattle.tp_token.specs.Lexeme.{Lexeme, name, word, symbol}
-use Rattle.tp_queue.specs.declared.operation.ReceiveKind.{ReceiveKind}
-use Rattle.tp_queue.specs.declared.operation.ReceiveKind.TheVariants as receive_kind
-use Rattle.tp_queue.specs.declared.operation.PortOperation.{PortOperation}
-use Rattle.tp_queue.specs.declared.operation.PortOperation.TheVariants as port_operation
+use Rattle.tp_event.specs.declared.operation.ReceiveKind.{ReceiveKind}
+use Rattle.tp_event.specs.declared.operation.ReceiveKind.TheVariants as receive_kind
+use Rattle.tp_event.specs.declared.operation.PortOperation.{PortOperation}
+use Rattle.tp_event.specs.declared.operation.PortOperation.TheVariants as port_operation
 use Rattle.tp_tree.specs.declared.tree.Control.{Control}
 use Rattle.tp_tree.specs.declared.tree.VerdictName.{VerdictName}
 use Rattle.tp_tree.specs.declared.tree.Action.{Action}
@@ -22,8 +22,8 @@ use Rattle.tp_tree.specs.declared.tree.Statement.{Statement, out-Statement}
 use Rattle.tp_syntax.specs.Sequences.{braced, end_lexemes}
 use Rattle.tp_syntax.specs.Values.{int_lexemes}
 use Rattle.tp_syntax.specs.Statements.{send_lexemes, operation_lexemes, received_lexemes, receive_lexemes, port_operation_lexeme, control_lexemes, all_ports_lexemes, set_verdict_lexemes, for_lexemes, action_lexemes, body_lexemes, branch_lexemes, counted_lexemes, else_branch_lexemes, statement_lexemes, statements_lexemes, branches_lexemes, otherwise_lexemes}
-use Rattle.tp_syntax.specs.Grammar.{Part, is_integer, has_one, are_parts, is_template_part, action_part, body_part, branch_part, counted_part, else_branch_part, statement_part, statements_parts, branches_parts, otherwise_parts}
-use Rattle.tp_syntax.specs.Reading.{first, may_stand, Stops, IsPlaced, AllStand, IsEndedOr, is_branch_ahead}
+use Rattle.tp_syntax.specs.Grammar.{Part, is_64_bit, has_one, are_parts, is_template_part, action_part, body_part, branch_part, counted_part, else_branch_part, statement_part, statements_parts, branches_parts, otherwise_parts}
+use Rattle.tp_syntax.specs.Reading.{first, may_end_before, Stops, IsPlaced, AllStand, IsEndedOr, is_branch_ahead}
 use Rattle.tp_syntax.specs.Contents as c
 use Rattle.tp_syntax.specs.Contents.{Content, action_content, body_content, branch_content, counted_content, else_branch_content, statement_content, statements_content, receive_content}
 use Rattle.tp_syntax.proofs.Grammar as grammar
@@ -115,7 +115,7 @@ else_behind x r =
 
 else_right : (x : ElseBranch) (r : List Lexeme) → AllStand (otherwise_parts (Some x)) (symbol RightBrace ∷ r) → are_parts (statements_parts (out-ElseBranch x).block.items) ≡ true
 else_right x r h =
-    sym (ap (λ (k : Part). k.is_right) (grammar.else_branch_out x)) ∙ (and_parts (else_branch_part x).is_right (may_stand (else_branch_part x).is_ended (Some (symbol RightBrace))) h).0
+    sym (ap (λ (k : Part). k.is_right) (grammar.else_branch_out x)) ∙ (and_parts (else_branch_part x).is_right (may_end_before (else_branch_part x).is_ended (Some (symbol RightBrace))) h).0
 
 otherwise_same : (n : ℕ) → StatementsUnique n → (x y : Option ElseBranch) (r s : List Lexeme) → length (otherwise_lexemes x ++ symbol RightBrace ∷ r) ≤ suc n
     → AllStand (otherwise_parts x) (symbol RightBrace ∷ r) → AllStand (otherwise_parts y) (symbol RightBrace ∷ s)
@@ -180,9 +180,9 @@ counted_behind x r =
 counted_right : (x : Counted) → (counted_part x).is_right ≡ true → are_parts (statements_parts (out-Counted x).block.items) ≡ true
 counted_right x h =
     let u = out-Counted x in
-    let both = and_parts (is_integer u.turns.first) (is_integer u.turns.bound && are_parts (statements_parts u.block.items))
+    let both = and_parts (is_64_bit u.turns.first) (is_64_bit u.turns.bound && are_parts (statements_parts u.block.items))
     (sym (ap (λ (k : Part). k.is_right) (grammar.counted_out x)) ∙ h) in
-    (and_parts (is_integer u.turns.bound) (are_parts (statements_parts u.block.items)) both.1).1
+    (and_parts (is_64_bit u.turns.bound) (are_parts (statements_parts u.block.items)) both.1).1
 
 counted_same : (n : ℕ) → StatementsUnique n → (x y : Counted) (r s : List Lexeme) → length (counted_lexemes x ++ r) ≤ suc n → (counted_part x).is_right ≡ true
     → (counted_part y).is_right ≡ true → counted_lexemes x ++ r ≡ counted_lexemes y ++ s → Agree (counted_content x) (counted_content y) r s

@@ -13,10 +13,10 @@ use Rattle.tp_tree.specs.declared.message.Value.TheVariants as v
 use Rattle.tp_tree.specs.declared.message.Value.TheOpen as o
 use Rattle.tp_tree.specs.declared.message.Value.TheViews.{roll-Value, out-Value, roll-out-Value}
 use Rattle.tp_tree.specs.declared.message.ValueField.{ValueField, out-ValueField}
-use Rattle.tp_syntax.specs.Ahead.{ahead, before}
+use Rattle.tp_syntax.specs.Ahead.{ahead, lexemes_from}
 use Rattle.tp_syntax.specs.Sequences.{by_commas, braced}
 use Rattle.tp_syntax.specs.Values.{int_lexemes, bool_lexeme, value_lexemes, value_field_lexemes}
-use Rattle.tp_syntax.specs.Grammar.{each, one_and_each, is_integer, is_value, is_value_field}
+use Rattle.tp_syntax.specs.Grammar.{each, one_and_each, is_64_bit, is_value, is_value_field}
 use Rattle.tp_syntax.specs.Nesting.{deepest, value_depth, value_field_depth}
 use Rattle.tp_syntax.specs.Reading.{first}
 use Rattle.tp_syntax.proofs.ValueTokens as tokens
@@ -49,7 +49,7 @@ InBraces left more ts =
 
 -- what stands behind the first token of a value, in which so many brackets may be opened
 abbrev pub Behind : ℕ → List Lexeme → Lexeme → List Lexeme → Type 0
-Behind left more (number n) ts = (is_integer (pos n) ≡ true) × (ts ≡ more)
+Behind left more (number n) ts = (is_64_bit (pos n) ≡ true) × (ts ≡ more)
 Behind left more (word w.True) ts = ts ≡ more
 Behind left more (word w.False) ts = ts ≡ more
 Behind left more (text cs) ts = ts ≡ more
@@ -64,7 +64,7 @@ moved left more u t us ts e b =
     let rest : us ≡ ts = cc in
     subst (λ x. Behind left more x ts) same (subst (λ (x : List Lexeme). Behind left more u x) rest b)
 
-int_behind : (left : ℕ) (more : List Lexeme) (z : ℤ) (t : Lexeme) (ts : List Lexeme) → is_integer z ≡ true → int_lexemes z ++ more ≡ t ∷ ts → Behind left more t ts
+int_behind : (left : ℕ) (more : List Lexeme) (z : ℤ) (t : Lexeme) (ts : List Lexeme) → is_64_bit z ≡ true → int_lexemes z ++ more ≡ t ∷ ts → Behind left more t ts
 int_behind left more (pos n) t ts right e = moved left more (number n) t more ts e (right, refl)
 int_behind left more (negsuc n) t ts right e = moved left more (symbol Minus) t (number (suc n) ∷ more) ts e tt
 
@@ -99,10 +99,10 @@ value_behind left x more t ts =
     x
 
 -- behind a `-` stands a number, without its sign
-pub value_minus : (x : Value) (more : List Lexeme) (ps : List Placed) → is_value x ≡ true → before (symbol Minus) ps ≡ value_lexemes x ++ more →
-    (z : ℤ) × (is_integer z ≡ true) × (int_lexemes z ++ more ≡ before (symbol Minus) ps)
+pub value_minus : (x : Value) (more : List Lexeme) (ps : List Placed) → is_value x ≡ true → lexemes_from (symbol Minus) ps ≡ value_lexemes x ++ more →
+    (z : ℤ) × (is_64_bit z ≡ true) × (int_lexemes z ++ more ≡ lexemes_from (symbol Minus) ps)
 value_minus x more ps =
-    value_cases (λ x. is_value x ≡ true → before (symbol Minus) ps ≡ value_lexemes x ++ more → (z : ℤ) × (is_integer z ≡ true) × (int_lexemes z ++ more ≡ before (symbol Minus) ps))
+    value_cases (λ x. is_value x ≡ true → lexemes_from (symbol Minus) ps ≡ value_lexemes x ++ more → (z : ℤ) × (is_64_bit z ≡ true) × (int_lexemes z ++ more ≡ lexemes_from (symbol Minus) ps))
     (λ z right e. (z, sym (grammar.value_int z) ∙ right, sym (e ∙ ap (λ (l : List Lexeme). l ++ more) (tokens.value_int z))))
     (λ b right e. absurd (no_bool b more ps (e ∙ ap (λ (l : List Lexeme). l ++ more) (tokens.value_bool b))))
     (λ cs right e. absurd (false≢true (sign_first ps (text cs.items) more (e ∙ ap (λ (l : List Lexeme). l ++ more) (tokens.value_text cs)))))
@@ -168,14 +168,14 @@ behind_token left more (symbol LeftBrace) ts b = refl
 behind_token left more t ts b = absurd b
 
 token_of : (left : ℕ) (x : Value) (more : List Lexeme) (t : Lexeme) (ps : List Placed) → is_value x ≡ true → value_depth x ≤ left →
-    value_lexemes x ++ more ≡ before t ps → is_value_token t ≡ true
+    value_lexemes x ++ more ≡ lexemes_from t ps → is_value_token t ≡ true
 token_of left x more (symbol Minus) ps right deep e = refl
 token_of left x more (symbol s) ps right deep e = behind_token left more (symbol s) (ahead ps) (value_behind left x more (symbol s) (ahead ps) right deep e)
 token_of left x more t ps right deep e = behind_token left more t (ahead ps) (value_behind left x more t (ahead ps) right deep e)
 
 -- the first token of a value is one that it may begin with
 pub value_token : (left : ℕ) (x : Value) (more : List Lexeme) (t : Lexeme) (ps : List Placed) → is_value x ≡ true → value_depth x ≤ left →
-    value_lexemes x ++ more ≡ before t ps → is_value_token t ≡ true
+    value_lexemes x ++ more ≡ lexemes_from t ps → is_value_token t ≡ true
 value_token left x more t ps right deep e = token_of left x more t ps right deep e
 
 -- a value has a token

@@ -45,8 +45,8 @@ abbrev pub ahead : List Placed → List Lexeme
 ahead ps = plain (lexemes ps)
 
 -- what is left to read at this token with these behind it
-abbrev pub before : Lexeme → List Placed → List Lexeme
-before t ps = token_before (starts_zero (lexemes ps)) t (ahead ps)
+abbrev pub lexemes_from : Lexeme → List Placed → List Lexeme
+lexemes_from t ps = token_before (starts_zero (lexemes ps)) t (ahead ps)
 
 -- the token at this place, counted from 0 at the next one
 abbrev pub token_at : List Placed → ℕ → Option Lexeme

@@ -2,8 +2,8 @@
 use Rattle.std.specs.Prelude.{ℕ, ℤ, Bool, List, [], ◌∷◌, map, Option, Some, None, string_bytes}
 use Rattle.std.specs.declared.string.String.{String}
 use Rattle.std.specs.declared.alloc.Global.{Global}
-use Rattle.tp_queue.specs.declared.operation.ReceiveKind.{ReceiveKind}
-use Rattle.tp_queue.specs.declared.operation.PortOperation.{PortOperation}
+use Rattle.tp_event.specs.declared.operation.ReceiveKind.{ReceiveKind}
+use Rattle.tp_event.specs.declared.operation.PortOperation.{PortOperation}
 use Rattle.tp_tree.specs.declared.message.TypeName.{TypeName}
 use Rattle.tp_tree.specs.declared.message.TypeName.TheVariants as type_name
 use Rattle.tp_tree.specs.declared.message.Value.{Value}
@@ -18,10 +18,10 @@ use Rattle.tp_tree.specs.declared.message.Message.{Message}
 use Rattle.tp_tree.specs.declared.message.MessageTemplate.{MessageTemplate}
 use Rattle.tp_tree.specs.declared.tree.ComponentName.{ComponentName}
 use Rattle.tp_tree.specs.declared.tree.ComponentName.TheVariants as component_name
-use Rattle.tp_tree.specs.declared.tree.Sent.{Sent}
-use Rattle.tp_tree.specs.declared.tree.Sent.TheVariants as sent
-use Rattle.tp_tree.specs.declared.tree.Destination.{Destination}
-use Rattle.tp_tree.specs.declared.tree.Destination.TheVariants as destination
+use Rattle.tp_tree.specs.declared.tree.SentExpression.{SentExpression}
+use Rattle.tp_tree.specs.declared.tree.SentExpression.TheVariants as sent
+use Rattle.tp_tree.specs.declared.tree.Receivers.{Receivers}
+use Rattle.tp_tree.specs.declared.tree.Receivers.TheVariants as destination
 use Rattle.tp_tree.specs.declared.tree.Send.{Send}
 use Rattle.tp_tree.specs.declared.tree.Receive.{Receive}
 use Rattle.tp_tree.specs.declared.tree.VerdictName.{VerdictName}
@@ -191,12 +191,12 @@ optional_component None = nothing
 optional_component (Some c) = next (component_content c) nothing
 
 -- what is sent
-abbrev pub sent_content : Sent → Content
+abbrev pub sent_content : SentExpression → Content
 sent_content (sent.Message m) = message_content m
 sent_content (sent.Variable n) = name_content n
 
 -- to whom is sent, which may be missing
-abbrev pub to_content : Option Destination → Content
+abbrev pub to_content : Option Receivers → Content
 to_content None = nothing
 to_content (Some (destination.Component c)) = next (component_content c) nothing
 to_content (Some destination.AllComponents) = next all_components nothing

@@ -11,8 +11,8 @@ use Rattle.tp_tree.specs.declared.message.Template.TheOpen as t
 use Rattle.tp_tree.specs.declared.message.Template.TheFolds.{fold-Template, fold-TemplateField}
 use Rattle.tp_tree.specs.declared.message.TemplateField.{TemplateField}
 use Rattle.tp_tree.specs.declared.message.MessageTemplate.{MessageTemplate}
-use Rattle.tp_tree.specs.declared.tree.Sent.{Sent}
-use Rattle.tp_tree.specs.declared.tree.Sent.TheVariants as sent
+use Rattle.tp_tree.specs.declared.tree.SentExpression.{SentExpression}
+use Rattle.tp_tree.specs.declared.tree.SentExpression.TheVariants as sent
 use Rattle.tp_tree.specs.declared.tree.Variable.{Variable}
 use Rattle.tp_tree.specs.declared.tree.Statement.{Statement}
 use Rattle.tp_tree.specs.declared.tree.Action.{Action}
@@ -61,18 +61,18 @@ are_parts (p ∷ []) = p.is_right
 are_parts (p ∷ q ∷ qs) = p.is_right && (p.is_ended && are_parts (q ∷ qs))
 
 -- an integer is from -9223372036854775808 to 9223372036854775807
-abbrev pub is_integer : ℤ → Bool
-is_integer (pos n) = nat_lt n 9223372036854775808
-is_integer (negsuc n) = nat_lt n 9223372036854775808
+abbrev pub is_64_bit : ℤ → Bool
+is_64_bit (pos n) = nat_lt n 9223372036854775808
+is_64_bit (negsuc n) = nat_lt n 9223372036854775808
 
 -- a bound of a range, if it is a number
 abbrev pub is_bound : Option ℤ → Bool
 is_bound None = true
-is_bound (Some z) = is_integer z
+is_bound (Some z) = is_64_bit z
 
 -- a field in braces has a name, so what has none is a list, and a record has one at least
 abbrev pub is_value_step : v.Value-F Bool Bool → Bool
-is_value_step (v.Int z) = is_integer z
+is_value_step (v.Int z) = is_64_bit z
 is_value_step (v.Bool b) = true
 is_value_step (v.Text bs) = true
 is_value_step (v.Name n) = true
@@ -101,7 +101,7 @@ is_plain c = not (list_any (λ m. c == m) meta_characters)
 
 -- alternatives, those of `complement`, and the fields of a record are one at least; a pattern has plain characters
 abbrev pub is_template_step : t.Template-F Bool Bool → Bool
-is_template_step (t.Int z) = is_integer z
+is_template_step (t.Int z) = is_64_bit z
 is_template_step (t.Bool b) = true
 is_template_step (t.Text bs) = true
 is_template_step (t.Name n) = true
@@ -127,7 +127,7 @@ unfoldable pub is_template_field : TemplateField → Bool
 is_template_field = fold-TemplateField Bool Bool is_template_step is_template_field_step
 
 -- what is sent: a message has a value of the grammar
-abbrev pub is_sent : Sent → Bool
+abbrev pub is_sent : SentExpression → Bool
 is_sent (sent.Message m) = is_value m.value
 is_sent (sent.Variable n) = true
 
@@ -167,7 +167,7 @@ branch_part_step b =
 abbrev pub counted_part_step : s.Counted-F Part Part Part Part Part Part → Part
 counted_part_step f =
     record {
-      is_right = is_integer f.turns.first && (is_integer f.turns.bound && are_parts f.block.items);
+      is_right = is_64_bit f.turns.first && (is_64_bit f.turns.bound && are_parts f.block.items);
       is_ended = true;
     }
 

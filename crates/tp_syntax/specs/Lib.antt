@@ -1,6 +1,7 @@
 pub mod Ahead
 pub mod Contents
 pub mod Definitions
+pub mod Faults
 pub mod Forward
 pub mod Grammar
 pub mod Lines
@@ -12,5 +13,6 @@ pub mod Same
 pub mod Sequences
 pub mod Standing
 pub mod Statements
+pub mod Stuck
 pub mod Templates
 pub mod Values

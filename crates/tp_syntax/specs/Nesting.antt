@@ -9,10 +9,10 @@ use Rattle.tp_tree.specs.declared.message.Template.TheOpen as t
 use Rattle.tp_tree.specs.declared.message.Template.TheFolds.{fold-Template, fold-TemplateField}
 use Rattle.tp_tree.specs.declared.message.TemplateField.{TemplateField}
 use Rattle.tp_tree.specs.declared.message.MessageTemplate.{MessageTemplate}
-use Rattle.tp_tree.specs.declared.tree.Sent.{Sent}
-use Rattle.tp_tree.specs.declared.tree.Sent.TheVariants as sent
-use Rattle.tp_queue.specs.declared.operation.ReceiveKind.{ReceiveKind}
-use Rattle.tp_queue.specs.declared.operation.ReceiveKind.TheVariants as receive_kind
+use Rattle.tp_tree.specs.declared.tree.SentExpression.{SentExpression}
+use Rattle.tp_tree.specs.declared.tree.SentExpression.TheVariants as sent
+use Rattle.tp_event.specs.declared.operation.ReceiveKind.{ReceiveKind}
+use Rattle.tp_event.specs.declared.operation.ReceiveKind.TheVariants as receive_kind
 use Rattle.tp_tree.specs.declared.tree.Receive.{Receive}
 use Rattle.tp_tree.specs.declared.tree.Statement.{Statement}
 use Rattle.tp_tree.specs.declared.tree.Action.{Action}
@@ -81,7 +81,7 @@ unfoldable pub template_field_depth : TemplateField → ℕ
 template_field_depth = fold-TemplateField ℕ ℕ template_depth_step template_field_depth_step
 
 -- how deep what is sent nests, the parentheses around it not counted
-abbrev pub sent_depth : Sent → ℕ
+abbrev pub sent_depth : SentExpression → ℕ
 sent_depth (sent.Message m) = value_depth m.value
 sent_depth (sent.Variable n) = 0
 

@@ -1,25 +1,25 @@
 -- That what is right is read: the tokens of a part are passed, whatever stands behind them, or memory was refused.
-use Rattle.std.specs.Prelude.{◌≡◌, Bool, true, false, ◌&&◌, ◌⊎◌, IsTrue, List, [], ◌∷◌, ◌++◌, Option, Some, None, Result, MatchResult}
+use Rattle.std.specs.Prelude.{◌≡◌, ℕ, Bool, true, false, ◌&&◌, ◌⊎◌, IsTrue, List, [], ◌∷◌, ◌++◌, Option, Some, None, Result, MatchResult}
 use Rattle.std.specs.declared.alloc.Global.{Global}
 use Rattle.std.specs.declared.string.String.{String}
-use Rattle.tp_token.specs.declared.fault.ScriptFault.{ScriptFault}
-use Rattle.tp_token.specs.Fault.{IsMemory}
 use Rattle.tp_token.specs.declared.word.Word.{Word}
 use Rattle.tp_token.specs.declared.word.Word.TheVariants as w
 use Rattle.tp_token.specs.declared.token.Placed.{Placed}
 use Rattle.tp_token.specs.declared.token.Symbol.TheVariants.{Assign, Dot, DotDot, Minus, LeftBrace, LeftBracket, LeftParen, RightBrace, RightParen, Semicolon}
 use Rattle.tp_token.specs.Lexeme.{Lexeme, name, word, symbol}
-use Rattle.tp_queue.specs.declared.operation.ReceiveKind.{ReceiveKind}
-use Rattle.tp_queue.specs.declared.operation.ReceiveKind.TheVariants as receive_kind
+use Rattle.tp_event.specs.declared.operation.ReceiveKind.{ReceiveKind}
+use Rattle.tp_event.specs.declared.operation.ReceiveKind.TheVariants as receive_kind
 use Rattle.tp_tree.specs.declared.tree.Defined.{Defined}
 use Rattle.tp_tree.specs.declared.tree.Defined.TheVariants as defined
 use Rattle.tp_syntax.specs.declared.cursor.Parser.{Parser}
+use Rattle.tp_syntax.specs.declared.stuck.Stuck.{Stuck}
 use Rattle.tp_syntax.specs.Ahead.{ahead, is_name_in, is_number_in, token_at}
 use Rattle.tp_syntax.specs.Grammar.{Part}
+use Rattle.tp_syntax.specs.Stuck.{IsForMemory}
 
 -- where these tokens come next, they are passed, and what stands behind them comes next, or memory was refused
-abbrev pub Reads : {A : Type 0} → Parser → List Lexeme → List Lexeme → Result A ScriptFault → Parser → Type 0
-Reads p ts more result q = ahead p.rest.now ≡ ts ++ more → MatchResult result (λ _. ahead q.rest.now ≡ more) IsMemory
+abbrev pub Reads : {A : Type 0} → Parser → List Lexeme → List Lexeme → Result A Stuck → Parser → Type 0
+Reads p ts more result q = ahead p.rest.now ≡ ts ++ more → MatchResult result (λ _. ahead q.rest.now ≡ more) IsForMemory
 
 -- the first of the tokens
 abbrev pub first : List Lexeme → Option Lexeme
@@ -27,31 +27,31 @@ first [] = None
 first (t ∷ ts) = Some t
 
 -- whether an operation, or one of several with a comma between two, may stand before this token: `;`, `{`, `}` or `)`
-abbrev pub is_stop : Option Lexeme → Bool
-is_stop (Some (symbol Semicolon)) = true
-is_stop (Some (symbol LeftBrace)) = true
-is_stop (Some (symbol RightBrace)) = true
-is_stop (Some (symbol RightParen)) = true
-is_stop _ = false
+abbrev pub ends_operation : Option Lexeme → Bool
+ends_operation (Some (symbol Semicolon)) = true
+ends_operation (Some (symbol LeftBrace)) = true
+ends_operation (Some (symbol RightBrace)) = true
+ends_operation (Some (symbol RightParen)) = true
+ends_operation _ = false
 
 -- an operation, or several with a comma between two, may stand before these tokens
 abbrev pub Stops : List Lexeme → Type 0
-Stops ts = IsTrue (is_stop (first ts))
+Stops ts = IsTrue (ends_operation (first ts))
 
 -- whether a part may stand before this token: one that isn't ended before a `}` alone, and none before a `;`
-abbrev pub may_stand : Bool → Option Lexeme → Bool
-may_stand is_ended (Some (symbol Semicolon)) = false
-may_stand is_ended (Some (symbol RightBrace)) = true
-may_stand is_ended _ = is_ended
+abbrev pub may_end_before : Bool → Option Lexeme → Bool
+may_end_before is_ended (Some (symbol Semicolon)) = false
+may_end_before is_ended (Some (symbol RightBrace)) = true
+may_end_before is_ended _ = is_ended
 
 -- the part may stand before these tokens
-abbrev pub Stands : Bool → List Lexeme → Type 0
-Stands is_ended ts = IsTrue (may_stand is_ended (first ts))
+abbrev pub MayStandBefore : Bool → List Lexeme → Type 0
+MayStandBefore is_ended ts = IsTrue (may_end_before is_ended (first ts))
 
 -- whether the parts may stand before this token: each is right, and each but the last is ended
 abbrev pub may_all_stand : List Part → Option Lexeme → Bool
 may_all_stand [] t = true
-may_all_stand (p ∷ []) t = p.is_right && may_stand p.is_ended t
+may_all_stand (p ∷ []) t = p.is_right && may_end_before p.is_ended t
 may_all_stand (p ∷ q ∷ qs) t = p.is_right && (p.is_ended && may_all_stand (q ∷ qs) t)
 
 -- the parts may stand before these tokens
@@ -60,7 +60,7 @@ AllStand parts ts = IsTrue (may_all_stand parts (first ts))
 
 -- the part is right, and may stand before these tokens
 abbrev pub IsPlaced : Part → List Lexeme → Type 0
-IsPlaced p ts = IsTrue p.is_right × Stands p.is_ended ts
+IsPlaced p ts = IsTrue p.is_right × MayStandBefore p.is_ended ts
 
 -- what a statement does is ended, or may stand before what comes next
 abbrev pub IsEndedOr : Bool → Type 0 → Type 0
@@ -110,8 +110,8 @@ receive_word receive_kind.Trigger = w.Trigger
 receive_word receive_kind.Check = w.Check
 
 -- a setup statement begins with these tokens
-abbrev pub IsSetup : List Placed → Type 0
-IsSetup ps =
+abbrev pub BeginsSetup : List Placed → Type 0
+BeginsSetup ps =
     (token_at ps 0 ≡ Some (word w.Connect)) ⊎ ((token_at ps 0 ≡ Some (word w.Map))
     ⊎ ((token_at ps 0 ≡ Some (word w.Var)) × (is_name_in (token_at ps 1) ≡ true) × (is_name_in (token_at ps 2) ≡ true)
     × (token_at ps 3 ≡ Some (symbol Assign))))

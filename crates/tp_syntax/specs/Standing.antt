@@ -33,8 +33,8 @@ abbrev pub GoesOn : Parser → Type 0
 GoesOn p = IsClosing p.rest.now → ⊥
 
 -- behind a part: it is ended, or a `}` comes next
-abbrev pub IsEnd : Bool → Parser → Type 0
-IsEnd is_ended p = IsTrue is_ended ⊎ IsClosing p.rest.now
+abbrev pub IsPartEnded : Bool → Parser → Type 0
+IsPartEnded is_ended p = IsTrue is_ended ⊎ IsClosing p.rest.now
 
 -- the part was passed: it is right, and it is ended, or a `}` comes next
 abbrev pub HasPassed : Part → Parser → Type 0

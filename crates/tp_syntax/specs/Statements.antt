@@ -8,18 +8,18 @@ use Rattle.tp_token.specs.declared.token.Symbol.TheVariants.{Dot, LeftParen, Rig
 use Rattle.tp_token.specs.Lexeme.{Lexeme, name, word, number, symbol}
 use Rattle.tp_tree.specs.declared.tree.ComponentName.{ComponentName}
 use Rattle.tp_tree.specs.declared.tree.ComponentName.TheVariants as component_name
-use Rattle.tp_tree.specs.declared.tree.Sent.{Sent}
-use Rattle.tp_tree.specs.declared.tree.Sent.TheVariants as sent
-use Rattle.tp_tree.specs.declared.tree.Destination.{Destination}
-use Rattle.tp_tree.specs.declared.tree.Destination.TheVariants as destination
+use Rattle.tp_tree.specs.declared.tree.SentExpression.{SentExpression}
+use Rattle.tp_tree.specs.declared.tree.SentExpression.TheVariants as sent
+use Rattle.tp_tree.specs.declared.tree.Receivers.{Receivers}
+use Rattle.tp_tree.specs.declared.tree.Receivers.TheVariants as destination
 use Rattle.tp_tree.specs.declared.message.MessageTemplate.{MessageTemplate}
 use Rattle.tp_tree.specs.declared.tree.Send.{Send}
-use Rattle.tp_queue.specs.declared.operation.ReceiveKind.{ReceiveKind}
-use Rattle.tp_queue.specs.declared.operation.ReceiveKind.TheVariants as receive_kind
+use Rattle.tp_event.specs.declared.operation.ReceiveKind.{ReceiveKind}
+use Rattle.tp_event.specs.declared.operation.ReceiveKind.TheVariants as receive_kind
 use Rattle.tp_tree.specs.declared.tree.Redirect.{Redirect}
 use Rattle.tp_tree.specs.declared.tree.Receive.{Receive}
-use Rattle.tp_queue.specs.declared.operation.PortOperation.{PortOperation}
-use Rattle.tp_queue.specs.declared.operation.PortOperation.TheVariants as port_operation
+use Rattle.tp_event.specs.declared.operation.PortOperation.{PortOperation}
+use Rattle.tp_event.specs.declared.operation.PortOperation.TheVariants as port_operation
 use Rattle.tp_tree.specs.declared.tree.Control.{Control}
 use Rattle.tp_tree.specs.declared.tree.VerdictName.{VerdictName}
 use Rattle.tp_tree.specs.declared.tree.VerdictName.TheVariants as verdict_name
@@ -44,12 +44,12 @@ component_lexemes component_name.Mtc = word w.Mtc ∷ []
 component_lexemes component_name.SelfComponent = word w.SelfWord ∷ []
 
 -- TypeName ":" Value | Name
-abbrev pub sent_lexemes : Sent → List Lexeme
+abbrev pub sent_lexemes : SentExpression → List Lexeme
 sent_lexemes (sent.Message m) = message_lexemes m
 sent_lexemes (sent.Variable n) = name (string_bytes n) ∷ []
 
 -- [ "to" ( Comp | "all" "component" ) ]
-abbrev pub to_lexemes : Option Destination → List Lexeme
+abbrev pub to_lexemes : Option Receivers → List Lexeme
 to_lexemes None = []
 to_lexemes (Some (destination.Component c)) = word w.To ∷ component_lexemes c
 to_lexemes (Some destination.AllComponents) = word w.To ∷ word w.All ∷ word w.Component ∷ []

@@ -1,18 +1,17 @@
 //! What is left to read, and its first tokens.
 ghost use Rattle.std.specs.Prelude.{[], ℕ, ◌<◌, ◌≢◌, Bool, true, List, ◌≡◌, ◌+◌, ◌≤◌, ◌∷◌, ◌||◌, ◌↔◌, IsTrue, length, IfErr, IfOk, OnErr, OnOk, Some, string_bytes};
 ghost use Rattle.std.specs.Bool.{OnTrue, OnFalse};
-ghost use Rattle.tp_token.specs.declared.fault.TextRule.TheVariants.{Limit};
 ghost use Rattle.tp_token.specs.Lexeme.{Lexeme, name, symbol, word, lexeme_of};
-ghost use Rattle.tp_syntax.specs.Ahead.{ahead, before, is_name_in, is_number_in, symbol_in, token_at, word_in};
+ghost use Rattle.tp_syntax.specs.Ahead.{ahead, lexemes_from, is_name_in, is_number_in, symbol_in, token_at, word_in};
 ghost use Rattle.tp_syntax.specs.Forward.{GoesForward, next_line};
 ghost use Rattle.tp_syntax.specs.Passing.{Passes};
-ghost use Rattle.tp_syntax.specs.Reading.{Reads, Stands, first};
+ghost use Rattle.tp_syntax.specs.Reading.{Reads, MayStandBefore, first};
 ghost use Rattle.tp_syntax.specs.Sequences.{end_lexemes};
-ghost use Rattle.tp_syntax.specs.Refusals.{IsOfGrammar};
-ghost use Rattle.tp_syntax.specs.Standing.{IsEnd};
+ghost use Rattle.tp_syntax.specs.Standing.{IsPartEnded};
+ghost use Rattle.tp_syntax.specs.Stuck.{IsStuckAt};
 
+use crate::stuck::Stuck;
 use std::alloc::Global;
-use tp_token::fault::ScriptFault;
 use tp_token::token::{Placed, Symbol, Token};
 use tp_token::word::Word;
 
@@ -23,128 +22,128 @@ pub(crate) struct Parser<'a, 't> {
     pub last_line: u32,
 }
 
-/// How many brackets may still be opened behind one more, of so many before it. 15 `Limit` at the
-/// line exactly where it is none.
-pub(crate) fn below(left: u32, line: u32) -> Result<u32, ScriptFault>
-    ensures value { IfOk result (λ inner. inner + 1 ≡ left) }
-    ensures full { OnErr result (left ≡ 0) }
-    ensures fault { IfErr result (λ e. e ≡ ScriptFault.Refused Limit line) }
-{
-    if left == 0 {
-        return Err(ScriptFault::limit(line));
-    }
-    Ok(left - 1)
-}
-
 impl<'a, 't> Parser<'a, 't> {
-    /// The next token, which is passed. 10 `Syntax` at the end of the text: there is none.
-    pub fn take(&mut self) -> Result<&'a Placed<'t>, ScriptFault>
+    /// How many brackets may still be opened behind one more, of so many before it. The parser is
+    /// stuck behind that one exactly where it is none.
+    pub fn below(&self, left: u32) -> Result<u32, Stuck>
+        ensures value { IfOk result (λ inner. inner + 1 ≡ left) }
+        ensures full { OnErr result (left ≡ 0) }
+        ensures behind { IfErr result (λ e. e ≡ Stuck.Next (length self.now.rest.now)) }
+        ensures stuck { IfErr result (IsStuckAt self.now) }
+    {
+        if left == 0 {
+            return Err(Stuck::Next(self.rest.len()));
+        }
+        Ok(left - 1)
+    }
+
+    /// The next token, which is passed. Stuck at the end of the text.
+    pub fn take(&mut self) -> Result<&'a Placed<'t>, Stuck>
         ensures tokens { IfOk result (λ p.
-            ahead self.old.rest.now ≡ before (lexeme_of p.now.token) self.new.rest.now) }
+            ahead self.old.rest.now ≡ lexemes_from (lexeme_of p.now.token) self.new.rest.now) }
         ensures next { IfOk result (λ p. self.old.rest.now ≡ p.now ∷ self.new.rest.now) }
         ensures shorter { OnOk result (length self.new.rest.now + 1 ≡ length self.old.rest.now) }
         ensures forward { OnOk result (GoesForward self.old self.new) }
         ensures last { OnErr result (self.old.rest.now ≡ []) }
-        ensures fault { IfErr result IsOfGrammar }
+        ensures stuck { IfErr result (IsStuckAt self.new) }
     {
         let tokens = self.rest;
         if tokens.is_empty() {
-            return Err(ScriptFault::syntax(self.last_line));
+            return Err(Stuck::Next(0));
         }
         self.rest = &tokens[1..];
         Ok(&tokens[0])
     }
 
-    /// Passes this symbol. 10 `Syntax`: another token comes next, or none.
-    pub fn symbol(&mut self, want: Symbol) -> Result<(), ScriptFault>
+    /// Passes this symbol. Stuck where another token comes next, or none.
+    pub fn symbol(&mut self, want: Symbol) -> Result<(), Stuck>
         ensures tokens { OnOk result
-            (ahead self.old.rest.now ≡ before (symbol want) self.new.rest.now) }
+            (ahead self.old.rest.now ≡ lexemes_from (symbol want) self.new.rest.now) }
         ensures shorter { OnOk result (length self.new.rest.now + 1 ≡ length self.old.rest.now) }
         ensures forward { OnOk result (GoesForward self.old self.new) }
         ensures reads { (more : List Lexeme) →
             Reads self.old (symbol want ∷ []) more result self.new }
-        ensures fault { IfErr result IsOfGrammar }
+        ensures stuck { IfErr result (IsStuckAt self.new) }
     {
         let placed = self.take()?;
         match placed.token {
             Token::Symbol(found) if found.is(want) => Ok(()),
-            _ => Err(ScriptFault::syntax(placed.line)),
+            _ => Err(Stuck::Passed(self.rest.len())),
         }
     }
 
-    /// Passes this bracket, and says how many may be opened behind it, of so many before it. 10
-    /// `Syntax`: another token comes next, or none. 15 `Limit`: it is one bracket too many.
-    pub fn open(&mut self, want: Symbol, left: u32) -> Result<u32, ScriptFault>
+    /// Passes this bracket, and says how many may be opened behind it, of so many before it. Stuck
+    /// where another token comes next, or none, and behind a bracket that is one too many.
+    pub fn open(&mut self, want: Symbol, left: u32) -> Result<u32, Stuck>
         ensures tokens { OnOk result
-            (ahead self.old.rest.now ≡ before (symbol want) self.new.rest.now) }
+            (ahead self.old.rest.now ≡ lexemes_from (symbol want) self.new.rest.now) }
         ensures shorter { OnOk result (length self.new.rest.now + 1 ≡ length self.old.rest.now) }
         ensures forward { OnOk result (GoesForward self.old self.new) }
         ensures inner { IfOk result (λ inner. inner + 1 ≡ left) }
         ensures reads { (more : List Lexeme) →
             0 < left →
             Reads self.old (symbol want ∷ []) more result self.new }
-        ensures fault { IfErr result IsOfGrammar }
+        ensures stuck { IfErr result (IsStuckAt self.new) }
     {
-        let line = self.line();
         self.symbol(want)?;
-        below(left, line)
+        self.below(left)
     }
 
-    /// Passes this word. 10 `Syntax`: another token comes next, or none.
-    pub fn word(&mut self, want: Word) -> Result<(), ScriptFault>
+    /// Passes this word. Stuck where another token comes next, or none.
+    pub fn word(&mut self, want: Word) -> Result<(), Stuck>
         ensures tokens { OnOk result
             (ahead self.old.rest.now ≡ word want ∷ ahead self.new.rest.now) }
         ensures shorter { OnOk result (length self.new.rest.now + 1 ≡ length self.old.rest.now) }
         ensures forward { OnOk result (GoesForward self.old self.new) }
         ensures reads { (more : List Lexeme) →
             Reads self.old (word want ∷ []) more result self.new }
-        ensures fault { IfErr result IsOfGrammar }
+        ensures stuck { IfErr result (IsStuckAt self.new) }
     {
         let placed = self.take()?;
         match placed.token {
             Token::Word(found) if found.is(want) => Ok(()),
-            _ => Err(ScriptFault::syntax(placed.line)),
+            _ => Err(Stuck::Passed(self.rest.len())),
         }
     }
 
-    /// Passes a name. 10 `Syntax`: another token comes next, or none.
-    pub fn name(&mut self, alloc: Global) -> Result<String, ScriptFault>
+    /// Passes a name. Stuck where another token comes next, or none.
+    pub fn name(&mut self, alloc: Global) -> Result<String, Stuck>
         ensures tokens { IfOk result (λ n.
             ahead self.old.rest.now ≡ name (string_bytes n) ∷ ahead self.new.rest.now) }
         ensures shorter { OnOk result (length self.new.rest.now + 1 ≡ length self.old.rest.now) }
         ensures forward { OnOk result (GoesForward self.old self.new) }
         ensures reads { (spelling : List ℕ) (more : List Lexeme) →
             Reads self.old (name spelling ∷ []) more result self.new }
-        ensures fault { IfErr result IsOfGrammar }
+        ensures stuck { IfErr result (IsStuckAt self.new) }
     {
         let placed = self.take()?;
         match placed.token {
             Token::Name(spelling) => Ok(String::from_str(alloc, spelling)?),
-            _ => Err(ScriptFault::syntax(placed.line)),
+            _ => Err(Stuck::Passed(self.rest.len())),
         }
     }
 
-    /// Passes this name. 10 `Syntax`: another token comes next, or none.
-    pub fn same_name(&mut self, want: &String) -> Result<(), ScriptFault>
+    /// Passes this name. Stuck where another token comes next, or none.
+    pub fn same_name(&mut self, want: &String) -> Result<(), Stuck>
         ensures tokens { OnOk result
             (ahead self.old.rest.now ≡ name (string_bytes want.now) ∷ ahead self.new.rest.now) }
         ensures shorter { OnOk result (length self.new.rest.now + 1 ≡ length self.old.rest.now) }
         ensures forward { OnOk result (GoesForward self.old self.new) }
         ensures reads { (more : List Lexeme) →
             Reads self.old (name (string_bytes want.now) ∷ []) more result self.new }
-        ensures fault { IfErr result IsOfGrammar }
+        ensures stuck { IfErr result (IsStuckAt self.new) }
     {
         let placed = self.take()?;
         match placed.token {
             Token::Name(spelling) if spelling == want.as_str() => Ok(()),
-            _ => Err(ScriptFault::syntax(placed.line)),
+            _ => Err(Stuck::Passed(self.rest.len())),
         }
     }
 
     /// Passes this symbol, if it comes next, and says whether it did.
     pub fn has_symbol(&mut self, want: Symbol) -> bool
         ensures yes { OnTrue result
-            (ahead self.old.rest.now ≡ before (symbol want) self.new.rest.now) }
+            (ahead self.old.rest.now ≡ lexemes_from (symbol want) self.new.rest.now) }
         ensures shorter { OnTrue result (length self.new.rest.now + 1 ≡ length self.old.rest.now) }
         ensures forward { GoesForward self.old self.new }
         ensures no { OnFalse result (self.new ≡ self.old) }
@@ -272,16 +271,16 @@ impl<'a, 't> Parser<'a, 't> {
     }
 
     /// Passes a `;`, which may be missing directly before a `}`, and behind what itself ends in one
-    /// before any token. 10 `Syntax`: it is missing elsewhere.
-    pub fn end(&mut self, is_closed: bool) -> Result<bool, ScriptFault>
+    /// before any token. Stuck where it is missing elsewhere.
+    pub fn end(&mut self, is_closed: bool) -> Result<bool, Stuck>
         ensures tokens { IfOk result (λ e. Passes self.old (end_lexemes e) self.new) }
-        ensures grammatical { IfOk result (λ e. IsEnd (is_closed || e) self.new) }
+        ensures grammatical { IfOk result (λ e. IsPartEnded (is_closed || e) self.new) }
         ensures shorter { OnOk result (length self.new.rest.now ≤ length self.old.rest.now) }
         ensures forward { OnOk result (GoesForward self.old self.new) }
         ensures reads { (e : Bool) (more : List Lexeme) →
-            Stands (is_closed || e) more →
+            MayStandBefore (is_closed || e) more →
             Reads self.old (end_lexemes e) more result self.new }
-        ensures fault { IfErr result IsOfGrammar }
+        ensures stuck { IfErr result (IsStuckAt self.new) }
     {
         if self.has_symbol(Symbol::Semicolon) {
             return Ok(true);
@@ -289,6 +288,6 @@ impl<'a, 't> Parser<'a, 't> {
         if is_closed || self.is_symbol_at(0, Symbol::RightBrace) {
             return Ok(false);
         }
-        Err(ScriptFault::syntax(self.line()))
+        Err(Stuck::Next(self.rest.len()))
     }
 }

@@ -1,5 +1,5 @@
 //! Functions, definitions and the module.
-ghost use Rattle.std.specs.Prelude.{◌≢◌, List, Some, ◌≡◌, ◌<◌, ◌≤◌, IsTrue, length, map, IfErr, IfOk, OnOk};
+ghost use Rattle.std.specs.Prelude.{◌≢◌, List, Some, ◌≡◌, ◌<◌, ◌≤◌, IsTrue, length, map, IfOk, OnOk, IfErr};
 ghost use Rattle.tp_token.specs.Lexeme.{Lexeme, symbol};
 ghost use Rattle.tp_syntax.specs.Definitions.{parameter_lexemes, parameters_lexemes, function_lexemes, defined_lexemes, definition_lexemes, definitions_lexemes, module_lexemes};
 ghost use Rattle.tp_syntax.specs.Grammar.{defined_part, definition_part, IsGrammatical};
@@ -8,12 +8,12 @@ ghost use Rattle.tp_syntax.specs.Forward.{PassesLines};
 ghost use Rattle.tp_syntax.specs.Lines.{noted_in_order, noted_by_commas, parameter_notes, function_notes, defined_notes, definition_notes, module_notes};
 ghost use Rattle.tp_syntax.specs.Passing.{Passes};
 ghost use Rattle.tp_syntax.specs.Reading.{AllStand, IsPlaced, Reads, first};
-ghost use Rattle.tp_syntax.specs.Refusals.{IsOfGrammar};
 ghost use Rattle.tp_syntax.specs.Standing.{GoesOver, HasPassed};
+ghost use Rattle.tp_syntax.specs.Stuck.{IsStuckAt};
 
 use crate::cursor::Parser;
+use crate::stuck::Stuck;
 use std::alloc::Global;
-use tp_token::fault::ScriptFault;
 use tp_token::token::Symbol;
 use tp_token::word::Word;
 use tp_tree::tree::{Defined, Definition, Function, Module, Parameter};
@@ -28,13 +28,13 @@ fn ends_in_brace(defined: &Defined) -> bool
 impl<'a, 't> Parser<'a, 't> {
     /// A parameter.
     #[tactic(auto, using(std::proofs::lemmas::List::append_assoc))]
-    fn parameter(&mut self, alloc: Global) -> Result<Parameter, ScriptFault>
+    fn parameter(&mut self, alloc: Global) -> Result<Parameter, Stuck>
         ensures tokens { IfOk result (λ x. Passes self.old (parameter_lexemes x) self.new) }
         ensures shorter { OnOk result (length self.new.rest.now < length self.old.rest.now) }
         ensures lines { IfOk result (λ x. PassesLines self.old (parameter_notes x) self.new) }
         ensures reads { (x : Parameter) (more : List Lexeme) →
             Reads self.old (parameter_lexemes x) more result self.new }
-        ensures fault { IfErr result IsOfGrammar }
+        ensures stuck { IfErr result (IsStuckAt self.new) }
     {
         let type_name = self.name(alloc)?;
         let name = self.declared_name(alloc)?;
@@ -42,7 +42,7 @@ impl<'a, 't> Parser<'a, 't> {
     }
 
     /// The parameters of a function, up to its `)`.
-    fn parameters(&mut self, alloc: Global) -> Result<Vec<Parameter>, ScriptFault>
+    fn parameters(&mut self, alloc: Global) -> Result<Vec<Parameter>, Stuck>
         ensures tokens { IfOk result (λ x. Passes self.old (parameters_lexemes x.items) self.new) }
         ensures shorter { OnOk result (length self.new.rest.now ≤ length self.old.rest.now) }
         ensures lines { IfOk result (λ x.
@@ -50,7 +50,7 @@ impl<'a, 't> Parser<'a, 't> {
         ensures reads { (xs : List Parameter) (more : List Lexeme) →
             first more ≡ Some (symbol Symbol.RightParen) →
             Reads self.old (parameters_lexemes xs) more result self.new }
-        ensures fault { IfErr result IsOfGrammar }
+        ensures stuck { IfErr result (IsStuckAt self.new) }
     {
         let mut parameters = Vec::new(alloc);
         if self.is_symbol_at(0, Symbol::RightParen) {
@@ -67,7 +67,7 @@ impl<'a, 't> Parser<'a, 't> {
 
     /// A function.
     #[tactic(auto, using(std::proofs::lemmas::List::append_assoc), unfolding(crate::specs::Definitions::function_lexemes))]
-    fn function(&mut self, alloc: Global, left: u32) -> Result<Function, ScriptFault>
+    fn function(&mut self, alloc: Global, left: u32) -> Result<Function, Stuck>
         ensures tokens { IfOk result (λ x. Passes self.old (function_lexemes x) self.new) }
         ensures shorter { OnOk result (length self.new.rest.now < length self.old.rest.now) }
         ensures lines { IfOk result (λ x. PassesLines self.old (function_notes x) self.new) }
@@ -78,7 +78,7 @@ impl<'a, 't> Parser<'a, 't> {
             IsTrue (defined_part (Defined.Function x)).is_right →
             defined_depth (Defined.Function x) ≤ left →
             Reads self.old (function_lexemes x) more result self.new }
-        ensures fault { IfErr result IsOfGrammar }
+        ensures stuck { IfErr result (IsStuckAt self.new) }
     {
         self.word(Word::Function)?;
         let name = self.name(alloc)?;
@@ -103,7 +103,7 @@ impl<'a, 't> Parser<'a, 't> {
 
     /// What a definition defines.
     #[tactic(auto, unfolding(crate::specs::Definitions::defined_lexemes))]
-    fn defined(&mut self, alloc: Global, left: u32) -> Result<Defined, ScriptFault>
+    fn defined(&mut self, alloc: Global, left: u32) -> Result<Defined, Stuck>
         ensures tokens { IfOk result (λ x. Passes self.old (defined_lexemes x) self.new) }
         ensures shorter { OnOk result (length self.new.rest.now < length self.old.rest.now) }
         ensures lines { IfOk result (λ x. PassesLines self.old (defined_notes x) self.new) }
@@ -113,7 +113,7 @@ impl<'a, 't> Parser<'a, 't> {
             IsTrue (defined_part x).is_right →
             defined_depth x ≤ left →
             Reads self.old (defined_lexemes x) more result self.new }
-        ensures fault { IfErr result IsOfGrammar }
+        ensures stuck { IfErr result (IsStuckAt self.new) }
     {
         if self.is_word_at(0, Word::Function) {
             let function = self.function(alloc, left)?;
@@ -128,7 +128,7 @@ impl<'a, 't> Parser<'a, 't> {
 
     /// A definition.
     #[tactic(auto, using(std::proofs::lemmas::List::append_assoc))]
-    fn definition(&mut self, alloc: Global, left: u32) -> Result<Definition, ScriptFault>
+    fn definition(&mut self, alloc: Global, left: u32) -> Result<Definition, Stuck>
         ensures tokens { IfOk result (λ x. Passes self.old (definition_lexemes x) self.new) }
         ensures shorter { OnOk result (length self.new.rest.now < length self.old.rest.now) }
         ensures lines { IfOk result (λ x. PassesLines self.old (definition_notes x) self.new) }
@@ -138,7 +138,7 @@ impl<'a, 't> Parser<'a, 't> {
             IsPlaced (definition_part x) more →
             defined_depth x.defined ≤ left →
             Reads self.old (definition_lexemes x) more result self.new }
-        ensures fault { IfErr result IsOfGrammar }
+        ensures stuck { IfErr result (IsStuckAt self.new) }
     {
         let line = self.line();
         let defined = self.defined(alloc, left)?;
@@ -152,7 +152,7 @@ impl<'a, 't> Parser<'a, 't> {
     }
 
     /// The definitions of a module, up to its `}`.
-    fn definitions(&mut self, alloc: Global, left: u32) -> Result<Vec<Definition>, ScriptFault>
+    fn definitions(&mut self, alloc: Global, left: u32) -> Result<Vec<Definition>, Stuck>
         ensures tokens { IfOk result (λ x. Passes self.old (definitions_lexemes x.items) self.new) }
         ensures shorter { OnOk result (length self.new.rest.now ≤ length self.old.rest.now) }
         ensures lines { IfOk result (λ x.
@@ -165,7 +165,7 @@ impl<'a, 't> Parser<'a, 't> {
             definitions_depth xs ≤ left →
             first more ≡ Some (symbol Symbol.RightBrace) →
             Reads self.old (definitions_lexemes xs) more result self.new }
-        ensures fault { IfErr result IsOfGrammar }
+        ensures stuck { IfErr result (IsStuckAt self.new) }
     {
         let mut definitions = Vec::new(alloc);
         'more: while !self.is_symbol_at(0, Symbol::RightBrace) {
@@ -177,7 +177,7 @@ impl<'a, 't> Parser<'a, 't> {
 
     /// A module, in which so many brackets may be open.
     #[tactic(auto, using(std::proofs::lemmas::List::append_assoc))]
-    pub fn module(&mut self, alloc: Global, left: u32) -> Result<Module, ScriptFault>
+    pub fn module(&mut self, alloc: Global, left: u32) -> Result<Module, Stuck>
         ensures tokens { IfOk result (λ x. Passes self.old (module_lexemes x) self.new) }
         ensures shorter { OnOk result (length self.new.rest.now < length self.old.rest.now) }
         ensures lines { IfOk result (λ x. PassesLines self.old (module_notes x) self.new) }
@@ -188,7 +188,7 @@ impl<'a, 't> Parser<'a, 't> {
             module_depth x ≤ left →
             first more ≢ Some (symbol Symbol.Semicolon) →
             Reads self.old (module_lexemes x) more result self.new }
-        ensures fault { IfErr result IsOfGrammar }
+        ensures stuck { IfErr result (IsStuckAt self.new) }
     {
         let line = self.line();
         self.word(Word::Module)?;

@@ -1,5 +1,5 @@
 //! Operations on ports: sends, receiving operations, and those that start or stop a port.
-ghost use Rattle.std.specs.Prelude.{[], true, ◌↔◌, ◌≢◌, List, Option, Some, ◌≡◌, ◌+◌, ◌<◌, ◌≤◌, ◌∷◌, ◌++◌, IsTrue, length, IfErr, IfOk, OnOk};
+ghost use Rattle.std.specs.Prelude.{[], true, ◌↔◌, ◌≢◌, List, Option, Some, ◌≡◌, ◌+◌, ◌<◌, ◌≤◌, ◌∷◌, ◌++◌, IsTrue, length, IfOk, OnOk, IfErr};
 ghost use Rattle.tp_token.specs.Lexeme.{Lexeme, symbol, word};
 ghost use Rattle.tp_syntax.specs.Ahead.{ahead, is_name_in, token_at};
 ghost use Rattle.tp_syntax.specs.Forward.{GoesForward};
@@ -8,16 +8,16 @@ ghost use Rattle.tp_syntax.specs.Statements.{component_lexemes, sent_lexemes, to
 ghost use Rattle.tp_syntax.specs.Grammar.{is_sent, is_template_part};
 ghost use Rattle.tp_syntax.specs.Nesting.{part_depth, receive_depth, sent_depth};
 ghost use Rattle.tp_syntax.specs.Reading.{MaybeName, Reads, Stops, first};
-ghost use Rattle.tp_syntax.specs.Refusals.{IsOfGrammar};
+ghost use Rattle.tp_syntax.specs.Stuck.{IsStuckAt};
 
 use crate::cursor::Parser;
+use crate::stuck::Stuck;
 use std::alloc::Global;
-use tp_queue::operation::{PortOperation, ReceiveKind};
-use tp_token::fault::ScriptFault;
+use tp_event::operation::{PortOperation, ReceiveKind};
 use tp_token::token::{Symbol, Token};
 use tp_token::word::Word;
 use tp_tree::message::MessageTemplate;
-use tp_tree::tree::{ComponentName, Control, Destination, Receive, Redirect, Send, Sent};
+use tp_tree::tree::{ComponentName, Control, Receive, Receivers, Redirect, Send, SentExpression};
 
 /// What stands behind the word of a receiving operation.
 #[derive(Drop)]
@@ -29,13 +29,13 @@ struct Received {
 
 impl<'a, 't> Parser<'a, 't> {
     /// A component.
-    pub fn component(&mut self, alloc: Global) -> Result<ComponentName, ScriptFault>
+    pub fn component(&mut self, alloc: Global) -> Result<ComponentName, Stuck>
         ensures tokens { IfOk result (λ c. Passes self.old (component_lexemes c) self.new) }
         ensures shorter { OnOk result (length self.new.rest.now < length self.old.rest.now) }
         ensures forward { OnOk result (GoesForward self.old self.new) }
         ensures reads { (x : ComponentName) (more : List Lexeme) →
             Reads self.old (component_lexemes x) more result self.new }
-        ensures fault { IfErr result IsOfGrammar }
+        ensures stuck { IfErr result (IsStuckAt self.new) }
     {
         let placed = self.take()?;
         match &placed.token {
@@ -45,7 +45,7 @@ impl<'a, 't> Parser<'a, 't> {
                 let name = String::from_str(alloc, spelling)?;
                 Ok(ComponentName::Named(name))
             }
-            _ => Err(ScriptFault::syntax(placed.line)),
+            _ => Err(Stuck::Passed(self.rest.len())),
         }
     }
 
@@ -58,51 +58,51 @@ impl<'a, 't> Parser<'a, 't> {
     }
 
     /// What is sent.
-    fn sent(&mut self, alloc: Global, left: u32) -> Result<Sent, ScriptFault>
+    fn sent(&mut self, alloc: Global, left: u32) -> Result<SentExpression, Stuck>
         ensures tokens { IfOk result (λ s. Passes self.old (sent_lexemes s) self.new) }
         ensures shorter { OnOk result (length self.new.rest.now < length self.old.rest.now) }
         ensures forward { OnOk result (GoesForward self.old self.new) }
         ensures nested { IfOk result (λ s. sent_depth s ≤ left) }
         ensures grammatical { IfOk result (λ s. IsTrue (is_sent s)) }
-        ensures reads { (x : Sent) (more : List Lexeme) →
+        ensures reads { (x : SentExpression) (more : List Lexeme) →
             IsTrue (is_sent x) →
             sent_depth x ≤ left →
             first more ≡ Some (symbol Symbol.RightParen) →
             Reads self.old (sent_lexemes x) more result self.new }
-        ensures fault { IfErr result IsOfGrammar }
+        ensures stuck { IfErr result (IsStuckAt self.new) }
     {
         if self.is_variable() {
             let name = self.name(alloc)?;
-            return Ok(Sent::Variable(name));
+            return Ok(SentExpression::Variable(name));
         }
         let message = self.message(alloc, left)?;
-        Ok(Sent::Message(message))
+        Ok(SentExpression::Message(message))
     }
 
     /// What stands behind `to`, if it is there.
-    fn to_part(&mut self, alloc: Global) -> Result<Option<Destination>, ScriptFault>
+    fn to_part(&mut self, alloc: Global) -> Result<Option<Receivers>, Stuck>
         ensures tokens { IfOk result (λ d. Passes self.old (to_lexemes d) self.new) }
         ensures shorter { OnOk result (length self.new.rest.now ≤ length self.old.rest.now) }
         ensures forward { OnOk result (GoesForward self.old self.new) }
-        ensures reads { (x : Option Destination) (more : List Lexeme) →
+        ensures reads { (x : Option Receivers) (more : List Lexeme) →
             Stops more →
             Reads self.old (to_lexemes x) more result self.new }
-        ensures fault { IfErr result IsOfGrammar }
+        ensures stuck { IfErr result (IsStuckAt self.new) }
     {
         if !self.has_word(Word::To) {
             return Ok(None);
         }
         if self.has_word(Word::All) {
             self.word(Word::Component)?;
-            return Ok(Some(Destination::AllComponents));
+            return Ok(Some(Receivers::AllComponents));
         }
         let component = self.component(alloc)?;
-        Ok(Some(Destination::Component(component)))
+        Ok(Some(Receivers::Component(component)))
     }
 
     /// A send.
     #[tactic(auto, using(std::proofs::lemmas::List::append_assoc), unfolding(crate::specs::Statements::send_lexemes))]
-    pub fn send(&mut self, alloc: Global, left: u32) -> Result<Send, ScriptFault>
+    pub fn send(&mut self, alloc: Global, left: u32) -> Result<Send, Stuck>
         ensures tokens { IfOk result (λ s. Passes self.old (send_lexemes s) self.new) }
         ensures shorter { OnOk result (length self.new.rest.now < length self.old.rest.now) }
         ensures forward { OnOk result (GoesForward self.old self.new) }
@@ -113,7 +113,7 @@ impl<'a, 't> Parser<'a, 't> {
             sent_depth x.sent + 1 ≤ left →
             Stops more →
             Reads self.old (send_lexemes x) more result self.new }
-        ensures fault { IfErr result IsOfGrammar }
+        ensures stuck { IfErr result (IsStuckAt self.new) }
     {
         let port = self.name(alloc)?;
         self.symbol(Symbol::Dot)?;
@@ -127,11 +127,7 @@ impl<'a, 't> Parser<'a, 't> {
 
     /// The template of a receiving operation in its parentheses, if it is there.
     #[tactic(auto, using(std::proofs::lemmas::List::append_assoc))]
-    fn template_part(
-        &mut self,
-        alloc: Global,
-        left: u32,
-    ) -> Result<Option<MessageTemplate>, ScriptFault>
+    fn template_part(&mut self, alloc: Global, left: u32) -> Result<Option<MessageTemplate>, Stuck>
         ensures tokens { IfOk result (λ t. Passes self.old (template_part t) self.new) }
         ensures shorter { OnOk result (length self.new.rest.now ≤ length self.old.rest.now) }
         ensures forward { OnOk result (GoesForward self.old self.new) }
@@ -142,7 +138,7 @@ impl<'a, 't> Parser<'a, 't> {
             part_depth x ≤ left →
             first more ≢ Some (symbol Symbol.LeftParen) →
             Reads self.old (template_part x) more result self.new }
-        ensures fault { IfErr result IsOfGrammar }
+        ensures stuck { IfErr result (IsStuckAt self.new) }
     {
         if !self.is_symbol_at(0, Symbol::LeftParen) {
             return Ok(None);
@@ -154,14 +150,14 @@ impl<'a, 't> Parser<'a, 't> {
     }
 
     /// The component behind `from`, if it is there.
-    fn from_part(&mut self, alloc: Global) -> Result<Option<ComponentName>, ScriptFault>
+    fn from_part(&mut self, alloc: Global) -> Result<Option<ComponentName>, Stuck>
         ensures tokens { IfOk result (λ c. Passes self.old (from_lexemes c) self.new) }
         ensures shorter { OnOk result (length self.new.rest.now ≤ length self.old.rest.now) }
         ensures forward { OnOk result (GoesForward self.old self.new) }
         ensures reads { (x : Option ComponentName) (more : List Lexeme) →
             first more ≢ Some (word Word.From) →
             Reads self.old (from_lexemes x) more result self.new }
-        ensures fault { IfErr result IsOfGrammar }
+        ensures stuck { IfErr result (IsStuckAt self.new) }
     {
         if !self.has_word(Word::From) {
             return Ok(None);
@@ -171,14 +167,14 @@ impl<'a, 't> Parser<'a, 't> {
     }
 
     /// The name behind this word, if it is there.
-    fn named_part(&mut self, alloc: Global, want: Word) -> Result<Option<String>, ScriptFault>
+    fn named_part(&mut self, alloc: Global, want: Word) -> Result<Option<String>, Stuck>
         ensures tokens { IfOk result (λ n. Passes self.old (named_part want n) self.new) }
         ensures shorter { OnOk result (length self.new.rest.now ≤ length self.old.rest.now) }
         ensures forward { OnOk result (GoesForward self.old self.new) }
         ensures reads { (x : MaybeName) (more : List Lexeme) →
             first more ≢ Some (word want) →
             Reads self.old (named_part want x) more result self.new }
-        ensures fault { IfErr result IsOfGrammar }
+        ensures stuck { IfErr result (IsStuckAt self.new) }
     {
         if !self.has_word(want) {
             return Ok(None);
@@ -189,14 +185,14 @@ impl<'a, 't> Parser<'a, 't> {
 
     /// What stands behind `->`, and the arrow, if it is there.
     #[tactic(auto, using(std::proofs::lemmas::List::append_assoc))]
-    fn redirect(&mut self, alloc: Global) -> Result<Redirect, ScriptFault>
+    fn redirect(&mut self, alloc: Global) -> Result<Redirect, Stuck>
         ensures tokens { IfOk result (λ r. Passes self.old (redirect_lexemes r) self.new) }
         ensures shorter { OnOk result (length self.new.rest.now ≤ length self.old.rest.now) }
         ensures forward { OnOk result (GoesForward self.old self.new) }
         ensures reads { (x : Redirect) (more : List Lexeme) →
             Stops more →
             Reads self.old (redirect_lexemes x) more result self.new }
-        ensures fault { IfErr result IsOfGrammar }
+        ensures stuck { IfErr result (IsStuckAt self.new) }
     {
         if !self.has_symbol(Symbol::Arrow) {
             return Ok(Redirect {
@@ -222,7 +218,7 @@ impl<'a, 't> Parser<'a, 't> {
 
     /// What stands behind the word of a receiving operation.
     #[tactic(auto, using(std::proofs::lemmas::List::append_assoc))]
-    fn received(&mut self, alloc: Global, left: u32) -> Result<Received, ScriptFault>
+    fn received(&mut self, alloc: Global, left: u32) -> Result<Received, Stuck>
         ensures tokens { IfOk result (λ r.
             ahead self.old.rest.now
             ≡ template_part r.template ++ (from_lexemes r.sender
@@ -238,7 +234,7 @@ impl<'a, 't> Parser<'a, 't> {
             Stops more →
             Reads self.old (template_part t ++ (from_lexemes s ++ redirect_lexemes d)) more result
             self.new }
-        ensures fault { IfErr result IsOfGrammar }
+        ensures stuck { IfErr result (IsStuckAt self.new) }
     {
         let template = self.template_part(alloc, left)?;
         let sender = self.from_part(alloc)?;
@@ -252,7 +248,7 @@ impl<'a, 't> Parser<'a, 't> {
 
     /// A receiving operation.
     #[tactic(auto, using(std::proofs::lemmas::List::append_assoc), unfolding(crate::specs::Statements::receive_lexemes, crate::specs::Statements::received_lexemes))]
-    pub fn receive(&mut self, alloc: Global, left: u32) -> Result<Receive, ScriptFault>
+    pub fn receive(&mut self, alloc: Global, left: u32) -> Result<Receive, Stuck>
         ensures tokens { IfOk result (λ r. Passes self.old (receive_lexemes r) self.new) }
         ensures shorter { OnOk result (length self.new.rest.now < length self.old.rest.now) }
         ensures forward { OnOk result (GoesForward self.old self.new) }
@@ -263,7 +259,7 @@ impl<'a, 't> Parser<'a, 't> {
             receive_depth x ≤ left →
             Stops more →
             Reads self.old (receive_lexemes x) more result self.new }
-        ensures fault { IfErr result IsOfGrammar }
+        ensures stuck { IfErr result (IsStuckAt self.new) }
     {
         let port = self.name(alloc)?;
         self.symbol(Symbol::Dot)?;
@@ -302,14 +298,14 @@ impl<'a, 't> Parser<'a, 't> {
     }
 
     /// An operation on ports.
-    fn port_operation(&mut self) -> Result<PortOperation, ScriptFault>
+    fn port_operation(&mut self) -> Result<PortOperation, Stuck>
         ensures tokens { IfOk result (λ o.
             ahead self.old.rest.now ≡ port_operation_lexeme o ∷ ahead self.new.rest.now) }
         ensures shorter { OnOk result (length self.new.rest.now < length self.old.rest.now) }
         ensures forward { OnOk result (GoesForward self.old self.new) }
         ensures reads { (x : PortOperation) (more : List Lexeme) →
             Reads self.old (port_operation_lexeme x ∷ []) more result self.new }
-        ensures fault { IfErr result IsOfGrammar }
+        ensures stuck { IfErr result (IsStuckAt self.new) }
     {
         let placed = self.take()?;
         match &placed.token {
@@ -317,19 +313,19 @@ impl<'a, 't> Parser<'a, 't> {
             Token::Word(Word::Stop) => Ok(PortOperation::Stop),
             Token::Word(Word::Halt) => Ok(PortOperation::Halt),
             Token::Word(Word::Clear) => Ok(PortOperation::Clear),
-            _ => Err(ScriptFault::syntax(placed.line)),
+            _ => Err(Stuck::Passed(self.rest.len())),
         }
     }
 
     /// An operation on one port.
     #[tactic(auto, unfolding(crate::specs::Statements::control_lexemes))]
-    pub fn control(&mut self, alloc: Global) -> Result<Control, ScriptFault>
+    pub fn control(&mut self, alloc: Global) -> Result<Control, Stuck>
         ensures tokens { IfOk result (λ c. Passes self.old (control_lexemes c) self.new) }
         ensures shorter { OnOk result (length self.new.rest.now < length self.old.rest.now) }
         ensures forward { OnOk result (GoesForward self.old self.new) }
         ensures reads { (x : Control) (more : List Lexeme) →
             Reads self.old (control_lexemes x) more result self.new }
-        ensures fault { IfErr result IsOfGrammar }
+        ensures stuck { IfErr result (IsStuckAt self.new) }
     {
         let port = self.name(alloc)?;
         self.symbol(Symbol::Dot)?;
@@ -339,13 +335,13 @@ impl<'a, 't> Parser<'a, 't> {
 
     /// An operation on all ports.
     #[tactic(auto, unfolding(crate::specs::Statements::all_ports_lexemes))]
-    pub fn all_ports(&mut self) -> Result<PortOperation, ScriptFault>
+    pub fn all_ports(&mut self) -> Result<PortOperation, Stuck>
         ensures tokens { IfOk result (λ o. Passes self.old (all_ports_lexemes o) self.new) }
         ensures shorter { OnOk result (length self.new.rest.now < length self.old.rest.now) }
         ensures forward { OnOk result (GoesForward self.old self.new) }
         ensures reads { (x : PortOperation) (more : List Lexeme) →
             Reads self.old (all_ports_lexemes x) more result self.new }
-        ensures fault { IfErr result IsOfGrammar }
+        ensures stuck { IfErr result (IsStuckAt self.new) }
     {
         self.word(Word::All)?;
         self.word(Word::Port)?;

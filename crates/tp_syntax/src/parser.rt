@@ -1,19 +1,24 @@
 //! From a text to its module.
-ghost use Rattle.std.specs.Prelude.{◌≡◌, ◌≤◌, IfErr, IfOk, OnOk, length};
+ghost use Rattle.std.specs.Prelude.{◌≡◌, ◌+◌, ◌≤◌, IfErr, IfOk, OnOk, length};
+ghost use Rattle.tp_token.specs.Cut.{newlines};
+ghost use Rattle.tp_token.specs.Fault.{IsMemory};
 ghost use Rattle.tp_syntax.specs.Definitions.{IsReadAs};
+ghost use Rattle.tp_syntax.specs.Faults.{IsFaultOf, input_of};
 ghost use Rattle.tp_syntax.specs.Grammar.{IsGrammatical};
 ghost use Rattle.tp_syntax.specs.Lines.{HasLines};
 ghost use Rattle.tp_syntax.specs.Nesting.{module_depth};
 ghost use Rattle.tp_syntax.specs.Refusals.{HasTokens, IsUnread};
+ghost use Rattle.tp_syntax.specs.Stuck.{IsForMemory, standing};
 
 use crate::cursor::Parser;
+use crate::faults::{first_fault, most_brackets};
+use crate::stuck::Stuck;
 use std::alloc::Global;
+use tp_refusal::memory::Memory;
 use tp_token::fault::ScriptFault;
 use tp_token::lexer::lex;
+use tp_token::token::Placed;
 use tp_tree::tree::Module;
-
-/// How many brackets `{`, `(` and `[` may be open at once.
-const BRACKETS: u32 = 32;
 
 /// The module that the text spells, all of the text: its tokens are those of the text, none left
 /// out, added or moved, but for a `-` directly before the number 0, which is left out. It is one of
@@ -47,24 +52,34 @@ pub fn parse(alloc: Global, text: &[u8]) -> Result<Module, ScriptFault>
         rest: &tokens,
         last_line,
     };
-    let module = parser.module(alloc, most_brackets())?;
-    if !parser.rest.is_empty() {
-        return Err(ScriptFault::syntax(parser.line()));
+    match parser.module(alloc, most_brackets()) {
+        Ok(module) => {
+            if parser.rest.is_empty() {
+                return Ok(module);
+            }
+            Err(first_fault(&tokens, parser.rest.len(), last_line))
+        }
+        Err(stuck) => Err(fault_of(stuck, &tokens, last_line)),
     }
-    Ok(module)
 }
 
-/// How many brackets may be open at once. It is a function, where the constant alone would do, so
-/// that a clause holds the number 32: an edit of the number is then refused, to a lower one too.
-fn most_brackets() -> u32
-    ensures { result ≡ 32 }
+/// The fault of the text, in whose tokens the parser is stuck.
+fn fault_of(stuck: Stuck, tokens: &[Placed], last_line: u32) -> ScriptFault
+    ensures place { IsFaultOf (input_of tokens.now last_line) (standing stuck (length tokens.now))
+        result }
+    ensures memory { IsForMemory stuck → IsMemory result }
 {
-    BRACKETS
+    match stuck {
+        Stuck::Next(left) => first_fault(tokens, left, last_line),
+        Stuck::Passed(behind) => first_fault(tokens, behind.saturating_add(1), last_line),
+        Stuck::Memory => ScriptFault::Memory(Memory),
+    }
 }
 
 /// The line of the end of the text: one more than the number of bytes 10 in it.
 fn last_line(text: &[u8]) -> u32
     requires { length text.now ≤ 1048576 }
+    ensures { result ≡ newlines text.now + 1 }
 {
     1 + text.iter().filter(|byte| **byte == b'\n').count() as u32
 }

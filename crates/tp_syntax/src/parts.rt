@@ -1,35 +1,34 @@
 //! Parts of statements: variables, verdicts, the turns of a `for` and the mark of `[else]`.
-ghost use Rattle.std.specs.Prelude.{ℤ, [], ◌≢◌, false, List, Some, MatchResult, ◌≡◌, ◌<◌, ◌≤◌, ◌∷◌, IsTrue, length, map, IfErr, IfOk, OnOk, string_bytes};
+ghost use Rattle.std.specs.Prelude.{ℤ, [], ◌≢◌, false, List, Some, MatchResult, ◌≡◌, ◌<◌, ◌≤◌, ◌∷◌, IsTrue, length, map, IfOk, OnOk, string_bytes, IfErr};
 ghost use Rattle.tp_token.specs.Lexeme.{Lexeme, number, symbol, word};
-ghost use Rattle.tp_token.specs.Fault.{IsMemory};
 ghost use Rattle.tp_syntax.specs.Ahead.{ahead};
 ghost use Rattle.tp_syntax.specs.Forward.{GoesForward, PassesLines};
 ghost use Rattle.tp_syntax.specs.Lines.{noted_in_order, variable_notes};
 ghost use Rattle.tp_syntax.specs.Passing.{Passes};
 ghost use Rattle.tp_syntax.specs.Values.{int_lexemes};
 ghost use Rattle.tp_syntax.specs.Statements.{step_lexemes, turns_lexemes, verdict_lexeme, set_verdict_lexemes, variable_lexemes, variables_lexemes};
-ghost use Rattle.tp_syntax.specs.Grammar.{is_integer, variable_part};
+ghost use Rattle.tp_syntax.specs.Grammar.{is_64_bit, variable_part};
 ghost use Rattle.tp_syntax.specs.Reading.{AllStand, IsPlaced, Reads, first};
-ghost use Rattle.tp_syntax.specs.Refusals.{IsOfGrammar};
 ghost use Rattle.tp_syntax.specs.Standing.{GoesOver, HasPassed};
+ghost use Rattle.tp_syntax.specs.Stuck.{IsForMemory, IsStuckAt};
 
 use crate::cursor::Parser;
+use crate::stuck::Stuck;
 use std::alloc::Global;
-use tp_token::fault::ScriptFault;
 use tp_token::token::{Symbol, Token};
 use tp_token::word::Word;
 use tp_tree::tree::{Turns, Variable, VerdictName};
 
 impl<'a, 't> Parser<'a, 't> {
     /// A verdict.
-    fn verdict(&mut self) -> Result<VerdictName, ScriptFault>
+    fn verdict(&mut self) -> Result<VerdictName, Stuck>
         ensures tokens { IfOk result (λ v.
             ahead self.old.rest.now ≡ verdict_lexeme v ∷ ahead self.new.rest.now) }
         ensures shorter { OnOk result (length self.new.rest.now < length self.old.rest.now) }
         ensures forward { OnOk result (GoesForward self.old self.new) }
         ensures reads { (x : VerdictName) (more : List Lexeme) →
             Reads self.old (verdict_lexeme x ∷ []) more result self.new }
-        ensures fault { IfErr result IsOfGrammar }
+        ensures stuck { IfErr result (IsStuckAt self.new) }
     {
         let placed = self.take()?;
         match &placed.token {
@@ -38,13 +37,13 @@ impl<'a, 't> Parser<'a, 't> {
             Token::Word(Word::Inconc) => Ok(VerdictName::Inconc),
             Token::Word(Word::Fail) => Ok(VerdictName::Fail),
             Token::Word(Word::Error) => Ok(VerdictName::Error),
-            _ => Err(ScriptFault::syntax(placed.line)),
+            _ => Err(Stuck::Passed(self.rest.len())),
         }
     }
 
     /// A `setverdict`.
     #[tactic(auto, unfolding(crate::specs::Statements::set_verdict_lexemes))]
-    pub fn set_verdict(&mut self, left: u32) -> Result<VerdictName, ScriptFault>
+    pub fn set_verdict(&mut self, left: u32) -> Result<VerdictName, Stuck>
         ensures tokens { IfOk result (λ v. Passes self.old (set_verdict_lexemes v) self.new) }
         ensures shorter { OnOk result (length self.new.rest.now < length self.old.rest.now) }
         ensures forward { OnOk result (GoesForward self.old self.new) }
@@ -52,7 +51,7 @@ impl<'a, 't> Parser<'a, 't> {
         ensures reads { (x : VerdictName) (more : List Lexeme) →
             0 < left →
             Reads self.old (set_verdict_lexemes x) more result self.new }
-        ensures fault { IfErr result IsOfGrammar }
+        ensures stuck { IfErr result (IsStuckAt self.new) }
     {
         self.word(Word::Setverdict)?;
         self.open(Symbol::LeftParen, left)?;
@@ -63,7 +62,7 @@ impl<'a, 't> Parser<'a, 't> {
 
     /// A `var` statement.
     #[tactic(auto, using(std::proofs::lemmas::List::append_assoc))]
-    fn variable(&mut self, alloc: Global) -> Result<Variable, ScriptFault>
+    fn variable(&mut self, alloc: Global) -> Result<Variable, Stuck>
         ensures tokens { IfOk result (λ v. Passes self.old (variable_lexemes v) self.new) }
         ensures shorter { OnOk result (length self.new.rest.now < length self.old.rest.now) }
         ensures lines { IfOk result (λ v. PassesLines self.old (variable_notes v) self.new) }
@@ -71,7 +70,7 @@ impl<'a, 't> Parser<'a, 't> {
         ensures reads { (x : Variable) (more : List Lexeme) →
             IsPlaced (variable_part x) more →
             Reads self.old (variable_lexemes x) more result self.new }
-        ensures fault { IfErr result IsOfGrammar }
+        ensures stuck { IfErr result (IsStuckAt self.new) }
     {
         let line = self.line();
         self.word(Word::Var)?;
@@ -87,7 +86,7 @@ impl<'a, 't> Parser<'a, 't> {
     }
 
     /// The `var` statements that come next.
-    pub fn variables(&mut self, alloc: Global) -> Result<Vec<Variable>, ScriptFault>
+    pub fn variables(&mut self, alloc: Global) -> Result<Vec<Variable>, Stuck>
         ensures tokens { IfOk result (λ v. Passes self.old (variables_lexemes v.items) self.new) }
         ensures shorter { OnOk result (length self.new.rest.now ≤ length self.old.rest.now) }
         ensures lines { IfOk result (λ v.
@@ -98,7 +97,7 @@ impl<'a, 't> Parser<'a, 't> {
             AllStand (map variable_part xs) more →
             first more ≢ Some (word Word.Var) →
             Reads self.old (variables_lexemes xs) more result self.new }
-        ensures fault { IfErr result IsOfGrammar }
+        ensures stuck { IfErr result (IsStuckAt self.new) }
     {
         let mut variables = Vec::new(alloc);
         'more: while self.is_word_at(0, Word::Var) {
@@ -108,22 +107,22 @@ impl<'a, 't> Parser<'a, 't> {
         Ok(variables)
     }
 
-    /// A counted `for` without its block. 10 `Syntax` also: its four names aren't one name (the
+    /// A counted `for` without its block. Stuck also where its four names aren't one name (the
     /// line of the first that differs).
     #[tactic(auto, using(std::proofs::lemmas::List::append_assoc), unfolding(crate::specs::Statements::for_lexemes))]
-    pub fn turns(&mut self, alloc: Global, left: u32) -> Result<Turns, ScriptFault>
+    pub fn turns(&mut self, alloc: Global, left: u32) -> Result<Turns, Stuck>
         ensures tokens { IfOk result (λ x.
             ahead self.old.rest.now ≡ turns_lexemes x (ahead self.new.rest.now)) }
         ensures shorter { OnOk result (length self.new.rest.now < length self.old.rest.now) }
         ensures forward { OnOk result (GoesForward self.old self.new) }
         ensures nested { OnOk result (1 ≤ left) }
         ensures reads { (x : Turns) (more : List Lexeme) →
-            IsTrue (is_integer x.first) → IsTrue (is_integer x.bound) → 0 < left →
+            IsTrue (is_64_bit x.first) → IsTrue (is_64_bit x.bound) → 0 < left →
             ahead self.old.rest.now ≡ turns_lexemes x more →
-            MatchResult result (λ _. ahead self.new.rest.now ≡ more) IsMemory }
+            MatchResult result (λ _. ahead self.new.rest.now ≡ more) IsForMemory }
         ensures within { IfOk result (λ x.
-            IsTrue (is_integer x.first) × IsTrue (is_integer x.bound)) }
-        ensures fault { IfErr result IsOfGrammar }
+            IsTrue (is_64_bit x.first) × IsTrue (is_64_bit x.bound)) }
+        ensures stuck { IfErr result (IsStuckAt self.new) }
     {
         self.word(Word::For)?;
         self.open(Symbol::LeftParen, left)?;
@@ -139,19 +138,19 @@ impl<'a, 't> Parser<'a, 't> {
     /// What stands behind the first value of a `for`, up to its `)`: what its variable stays below,
     /// and the step.
     #[tactic(auto, using(std::proofs::lemmas::List::append_assoc))]
-    fn step(&mut self, variable: &String) -> Result<i64, ScriptFault>
+    fn step(&mut self, variable: &String) -> Result<i64, Stuck>
         ensures tokens { IfOk result (λ z.
             ahead self.old.rest.now
             ≡ step_lexemes (string_bytes variable.now) (int_lexemes z) (ahead self.new.rest.now)) }
         ensures shorter { OnOk result (length self.new.rest.now < length self.old.rest.now) }
         ensures forward { OnOk result (GoesForward self.old self.new) }
         ensures reads { (z : ℤ) (more : List Lexeme) →
-            IsTrue (is_integer z) →
+            IsTrue (is_64_bit z) →
             ahead self.old.rest.now
             ≡ step_lexemes (string_bytes variable.now) (int_lexemes z) more →
-            MatchResult result (λ _. ahead self.new.rest.now ≡ more) IsMemory }
-        ensures within { IfOk result (λ z. IsTrue (is_integer z)) }
-        ensures fault { IfErr result IsOfGrammar }
+            MatchResult result (λ _. ahead self.new.rest.now ≡ more) IsForMemory }
+        ensures within { IfOk result (λ z. IsTrue (is_64_bit z)) }
+        ensures stuck { IfErr result (IsStuckAt self.new) }
     {
         self.symbol(Symbol::Semicolon)?;
         self.same_name(variable)?;
@@ -168,24 +167,24 @@ impl<'a, 't> Parser<'a, 't> {
     }
 
     /// The number 1.
-    fn one(&mut self) -> Result<(), ScriptFault>
+    fn one(&mut self) -> Result<(), Stuck>
         ensures tokens { OnOk result
             (ahead self.old.rest.now ≡ number 1 ∷ ahead self.new.rest.now) }
         ensures shorter { OnOk result (length self.new.rest.now < length self.old.rest.now) }
         ensures forward { OnOk result (GoesForward self.old self.new) }
         ensures reads { (more : List Lexeme) →
             Reads self.old (number 1 ∷ []) more result self.new }
-        ensures fault { IfErr result IsOfGrammar }
+        ensures stuck { IfErr result (IsStuckAt self.new) }
     {
         let placed = self.take()?;
         match placed.token {
             Token::Number(1) => Ok(()),
-            _ => Err(ScriptFault::syntax(placed.line)),
+            _ => Err(Stuck::Passed(self.rest.len())),
         }
     }
 
     /// `[else]`
-    pub fn else_mark(&mut self, left: u32) -> Result<(), ScriptFault>
+    pub fn else_mark(&mut self, left: u32) -> Result<(), Stuck>
         ensures tokens { OnOk result
             (ahead self.old.rest.now
             ≡ symbol Symbol.LeftBracket ∷ word Word.Else ∷ symbol Symbol.RightBracket
@@ -198,7 +197,7 @@ impl<'a, 't> Parser<'a, 't> {
             Reads self.old
             (symbol Symbol.LeftBracket ∷ word Word.Else ∷ symbol Symbol.RightBracket ∷ [])
             more result self.new }
-        ensures fault { IfErr result IsOfGrammar }
+        ensures stuck { IfErr result (IsStuckAt self.new) }
     {
         self.open(Symbol::LeftBracket, left)?;
         self.word(Word::Else)?;

@@ -1,8 +1,8 @@
 //! Statements: `alt`, `for`, blocks, and what stands in them.
-ghost use Rattle.std.specs.Prelude.{◌↔◌, ◌++◌, max, ◌≢◌, true, false, List, Option, Some, ◌≡◌, ◌+◌, ◌<◌, ◌≤◌, ◌∷◌, IsTrue, length, IfErr, IfOk, OnOk};
+ghost use Rattle.std.specs.Prelude.{◌↔◌, ◌++◌, max, ◌≢◌, true, false, List, Option, Some, ◌≡◌, ◌+◌, ◌<◌, ◌≤◌, ◌∷◌, IsTrue, length, IfOk, OnOk, IfErr};
 ghost use Rattle.std.specs.Bool.{OnFalse};
-ghost use Rattle.tp_queue.specs.declared.operation.PortOperation.{PortOperation};
-ghost use Rattle.tp_queue.specs.declared.operation.ReceiveKind.{ReceiveKind};
+ghost use Rattle.tp_event.specs.declared.operation.PortOperation.{PortOperation};
+ghost use Rattle.tp_event.specs.declared.operation.ReceiveKind.{ReceiveKind};
 ghost use Rattle.tp_token.specs.Lexeme.{Lexeme, symbol, word};
 ghost use Rattle.tp_syntax.specs.Ahead.{is_name_in, token_at};
 ghost use Rattle.tp_syntax.specs.Forward.{PassesLines};
@@ -13,12 +13,12 @@ ghost use Rattle.tp_syntax.specs.Statements.{port_operation_lexeme, action_lexem
 ghost use Rattle.tp_syntax.specs.Grammar.{action_part, are_parts, body_part, branch_part, branches_parts, counted_part, has_one, otherwise_parts, statement_part, statements_parts};
 ghost use Rattle.tp_syntax.specs.Nesting.{action_depth, body_depth, branch_depth, branches_depth, counted_depth, otherwise_depth, statement_depth, statements_depth};
 ghost use Rattle.tp_syntax.specs.Reading.{AllStand, IsEndOf, IsEndedOr, IsPlaced, Reads, Stops, first, is_branch_ahead, is_end_ahead, receive_word};
-ghost use Rattle.tp_syntax.specs.Refusals.{IsOfGrammar};
 ghost use Rattle.tp_syntax.specs.Standing.{GoesOn, GoesOver, HasPassed};
+ghost use Rattle.tp_syntax.specs.Stuck.{IsStuckAt};
 
 use crate::cursor::Parser;
+use crate::stuck::Stuck;
 use std::alloc::Global;
-use tp_token::fault::ScriptFault;
 use tp_token::token::Symbol;
 use tp_token::word::Word;
 use tp_tree::tree::{Action, Branch, BranchBody, Counted, ElseBranch, Statement};
@@ -109,7 +109,7 @@ impl<'a, 't> Parser<'a, 't> {
     /// A statement, in which so many brackets may be opened.
     #[cycle(statement)]
     #[tactic(auto, using(crate::proofs::StatementTokens::statement_rules, crate::proofs::Nesting::statement_nesting))]
-    fn statement(&mut self, alloc: Global, left: u32) -> Result<Statement, ScriptFault>
+    fn statement(&mut self, alloc: Global, left: u32) -> Result<Statement, Stuck>
         ensures tokens { IfOk result (λ s. Passes self.old (statement_lexemes s) self.new) }
         ensures shorter { OnOk result (length self.new.rest.now < length self.old.rest.now) }
         ensures lines { IfOk result (λ s. PassesLines self.old (statement_notes s) self.new) }
@@ -119,7 +119,7 @@ impl<'a, 't> Parser<'a, 't> {
             IsPlaced (statement_part x) more →
             statement_depth x ≤ left →
             Reads self.old (statement_lexemes x) more result self.new }
-        ensures fault { IfErr result IsOfGrammar }
+        ensures stuck { IfErr result (IsStuckAt self.new) }
     {
         let line = self.line();
         let action = self.action(alloc, left)?;
@@ -134,7 +134,7 @@ impl<'a, 't> Parser<'a, 't> {
     /// What a statement does.
     #[cycle(statement)]
     #[tactic(auto, using(crate::proofs::StatementTokens::statement_rules, crate::proofs::Nesting::statement_nesting))]
-    fn action(&mut self, alloc: Global, left: u32) -> Result<Action, ScriptFault>
+    fn action(&mut self, alloc: Global, left: u32) -> Result<Action, Stuck>
         ensures tokens { IfOk result (λ a. Passes self.old (action_lexemes a) self.new) }
         ensures shorter { OnOk result (length self.new.rest.now < length self.old.rest.now) }
         ensures lines { IfOk result (λ a. PassesLines self.old (action_notes a) self.new) }
@@ -145,7 +145,7 @@ impl<'a, 't> Parser<'a, 't> {
             action_depth x ≤ left →
             IsEndedOr (action_part x).is_ended (Stops more) →
             Reads self.old (action_lexemes x) more result self.new }
-        ensures fault { IfErr result IsOfGrammar }
+        ensures stuck { IfErr result (IsStuckAt self.new) }
     {
         match self.beginning() {
             Beginning::Send => {
@@ -176,10 +176,10 @@ impl<'a, 't> Parser<'a, 't> {
         }
     }
 
-    /// An `alt`. 10 `Syntax` also: it has no branch, or one behind `[else]`.
+    /// An `alt`. Stuck also where it has no branch, or one behind `[else]`.
     #[cycle(statement)]
     #[tactic(auto, using(crate::proofs::StatementTokens::statement_rules, crate::proofs::Nesting::statement_nesting))]
-    fn alt(&mut self, alloc: Global, left: u32) -> Result<Action, ScriptFault>
+    fn alt(&mut self, alloc: Global, left: u32) -> Result<Action, Stuck>
         ensures tokens { IfOk result (λ a. Passes self.old (action_lexemes a) self.new) }
         ensures shorter { OnOk result (length self.new.rest.now < length self.old.rest.now) }
         ensures lines { IfOk result (λ a. PassesLines self.old (action_notes a) self.new) }
@@ -191,14 +191,14 @@ impl<'a, 't> Parser<'a, 't> {
             max (branches_depth xs) (otherwise_depth x) + 1 ≤ left →
             Reads self.old (word Word.Alt ∷ braced (branches_lexemes xs ++ otherwise_lexemes x))
             more result self.new }
-        ensures fault { IfErr result IsOfGrammar }
+        ensures stuck { IfErr result (IsStuckAt self.new) }
     {
         self.word(Word::Alt)?;
         let inner = self.open(Symbol::LeftBrace, left)?;
         let branches = self.branches(alloc, inner)?;
         let otherwise = self.otherwise(alloc, inner)?;
         if branches.is_empty() && otherwise.is_none() {
-            return Err(ScriptFault::syntax(self.line()));
+            return Err(Stuck::Next(self.rest.len()));
         }
         self.symbol(Symbol::RightBrace)?;
         Ok(Action::Alt(branches, otherwise))
@@ -206,7 +206,7 @@ impl<'a, 't> Parser<'a, 't> {
 
     /// The branches that come next, without `[else]`.
     #[cycle(statement)]
-    fn branches(&mut self, alloc: Global, left: u32) -> Result<Vec<Branch>, ScriptFault>
+    fn branches(&mut self, alloc: Global, left: u32) -> Result<Vec<Branch>, Stuck>
         ensures tokens { IfOk result (λ v. Passes self.old (branches_lexemes v.items) self.new) }
         ensures shorter { OnOk result (length self.new.rest.now ≤ length self.old.rest.now) }
         ensures lines { IfOk result (λ v. PassesLines self.old (branches_notes v.items) self.new) }
@@ -218,7 +218,7 @@ impl<'a, 't> Parser<'a, 't> {
             branches_depth xs ≤ left →
             is_branch_ahead more ≡ false →
             Reads self.old (branches_lexemes xs) more result self.new }
-        ensures fault { IfErr result IsOfGrammar }
+        ensures stuck { IfErr result (IsStuckAt self.new) }
     {
         let mut branches = Vec::new(alloc);
         'more: while self.is_branch() {
@@ -240,7 +240,7 @@ impl<'a, 't> Parser<'a, 't> {
     /// A branch behind a receiving operation.
     #[cycle(statement)]
     #[tactic(auto, using(crate::proofs::StatementTokens::statement_rules, crate::proofs::Nesting::statement_nesting))]
-    fn branch(&mut self, alloc: Global, left: u32) -> Result<Branch, ScriptFault>
+    fn branch(&mut self, alloc: Global, left: u32) -> Result<Branch, Stuck>
         ensures tokens { IfOk result (λ b. Passes self.old (branch_lexemes b) self.new) }
         ensures shorter { OnOk result (length self.new.rest.now < length self.old.rest.now) }
         ensures lines { IfOk result (λ b. PassesLines self.old (branch_notes b) self.new) }
@@ -250,7 +250,7 @@ impl<'a, 't> Parser<'a, 't> {
             IsPlaced (branch_part x) more →
             branch_depth x ≤ left →
             Reads self.old (branch_lexemes x) more result self.new }
-        ensures fault { IfErr result IsOfGrammar }
+        ensures stuck { IfErr result (IsStuckAt self.new) }
     {
         let line = self.line();
         self.open(Symbol::LeftBracket, left)?;
@@ -269,7 +269,7 @@ impl<'a, 't> Parser<'a, 't> {
     /// The block of a branch, if it is there.
     #[cycle(statement)]
     #[tactic(auto, using(crate::proofs::StatementTokens::statement_rules, crate::proofs::Nesting::statement_nesting))]
-    fn body(&mut self, alloc: Global, left: u32) -> Result<BranchBody, ScriptFault>
+    fn body(&mut self, alloc: Global, left: u32) -> Result<BranchBody, Stuck>
         ensures tokens { IfOk result (λ b. Passes self.old (body_lexemes b) self.new) }
         ensures shorter { OnOk result (length self.new.rest.now ≤ length self.old.rest.now) }
         ensures lines { IfOk result (λ b. PassesLines self.old (body_notes b) self.new) }
@@ -280,7 +280,7 @@ impl<'a, 't> Parser<'a, 't> {
             body_depth x ≤ left →
             IsEndedOr (body_part x).is_ended (first more ≢ Some (symbol Symbol.LeftBrace)) →
             Reads self.old (body_lexemes x) more result self.new }
-        ensures fault { IfErr result IsOfGrammar }
+        ensures stuck { IfErr result (IsStuckAt self.new) }
     {
         if !self.is_symbol_at(0, Symbol::LeftBrace) {
             return Ok(BranchBody::Nothing);
@@ -292,7 +292,7 @@ impl<'a, 't> Parser<'a, 't> {
     /// The branch `[else]`, if it comes next.
     #[cycle(statement)]
     #[tactic(auto, using(crate::proofs::StatementTokens::statement_rules, crate::proofs::Nesting::statement_nesting))]
-    fn otherwise(&mut self, alloc: Global, left: u32) -> Result<Option<ElseBranch>, ScriptFault>
+    fn otherwise(&mut self, alloc: Global, left: u32) -> Result<Option<ElseBranch>, Stuck>
         ensures tokens { IfOk result (λ e. Passes self.old (otherwise_lexemes e) self.new) }
         ensures shorter { OnOk result (length self.new.rest.now ≤ length self.old.rest.now) }
         ensures lines { IfOk result (λ e. PassesLines self.old (otherwise_notes e) self.new) }
@@ -303,7 +303,7 @@ impl<'a, 't> Parser<'a, 't> {
             otherwise_depth x ≤ left →
             first more ≡ Some (symbol Symbol.RightBrace) →
             Reads self.old (otherwise_lexemes x) more result self.new }
-        ensures fault { IfErr result IsOfGrammar }
+        ensures stuck { IfErr result (IsStuckAt self.new) }
     {
         if !self.is_symbol_at(0, Symbol::LeftBracket) {
             return Ok(None);
@@ -322,7 +322,7 @@ impl<'a, 't> Parser<'a, 't> {
     /// A counted `for`.
     #[cycle(statement)]
     #[tactic(auto, using(crate::proofs::StatementTokens::statement_rules, crate::proofs::Nesting::statement_nesting))]
-    fn counted(&mut self, alloc: Global, left: u32) -> Result<Counted, ScriptFault>
+    fn counted(&mut self, alloc: Global, left: u32) -> Result<Counted, Stuck>
         ensures tokens { IfOk result (λ f. Passes self.old (counted_lexemes f) self.new) }
         ensures shorter { OnOk result (length self.new.rest.now < length self.old.rest.now) }
         ensures lines { IfOk result (λ f. PassesLines self.old (counted_notes f) self.new) }
@@ -332,7 +332,7 @@ impl<'a, 't> Parser<'a, 't> {
             IsTrue (counted_part x).is_right →
             counted_depth x ≤ left →
             Reads self.old (counted_lexemes x) more result self.new }
-        ensures fault { IfErr result IsOfGrammar }
+        ensures stuck { IfErr result (IsStuckAt self.new) }
     {
         let turns = self.turns(alloc, left)?;
         let block = self.block(alloc, left)?;
@@ -342,7 +342,7 @@ impl<'a, 't> Parser<'a, 't> {
     /// A block, in which so many brackets may be opened, its own among them.
     #[cycle(statement)]
     #[tactic(auto, using(crate::proofs::StatementTokens::statement_rules, crate::proofs::Nesting::statement_nesting))]
-    fn block(&mut self, alloc: Global, left: u32) -> Result<Vec<Statement>, ScriptFault>
+    fn block(&mut self, alloc: Global, left: u32) -> Result<Vec<Statement>, Stuck>
         ensures tokens { IfOk result (λ v.
             Passes self.old (braced (statements_lexemes v.items)) self.new) }
         ensures shorter { OnOk result (length self.new.rest.now < length self.old.rest.now) }
@@ -354,7 +354,7 @@ impl<'a, 't> Parser<'a, 't> {
             IsTrue (are_parts (statements_parts xs)) →
             statements_depth xs + 1 ≤ left →
             Reads self.old (braced (statements_lexemes xs)) more result self.new }
-        ensures fault { IfErr result IsOfGrammar }
+        ensures stuck { IfErr result (IsStuckAt self.new) }
     {
         let inner = self.open(Symbol::LeftBrace, left)?;
         let statements = self.statements(alloc, inner, false)?;
@@ -369,7 +369,7 @@ impl<'a, 't> Parser<'a, 't> {
         alloc: Global,
         left: u32,
         is_case: bool,
-    ) -> Result<Vec<Statement>, ScriptFault>
+    ) -> Result<Vec<Statement>, Stuck>
         ensures tokens { IfOk result (λ v. Passes self.old (statements_lexemes v.items) self.new) }
         ensures shorter { OnOk result (length self.new.rest.now ≤ length self.old.rest.now) }
         ensures lines { IfOk result (λ v.
@@ -382,7 +382,7 @@ impl<'a, 't> Parser<'a, 't> {
             statements_depth xs ≤ left →
             is_end_ahead is_case more ≡ true →
             Reads self.old (statements_lexemes xs) more result self.new }
-        ensures fault { IfErr result IsOfGrammar }
+        ensures stuck { IfErr result (IsStuckAt self.new) }
     {
         let mut statements = Vec::new(alloc);
         'more: while !self.is_end(is_case) {

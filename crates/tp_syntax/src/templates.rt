@@ -1,5 +1,5 @@
 //! Templates.
-ghost use Rattle.std.specs.Prelude.{ℕ, ℤ, ◌↔◌, [], List, Option, Some, ◌≡◌, ◌+◌, ◌<◌, ◌≤◌, ◌∷◌, ◌++◌, IsTrue, length, map, IfErr, IfOk, OnOk};
+ghost use Rattle.std.specs.Prelude.{ℕ, ℤ, ◌↔◌, [], List, Option, Some, ◌≡◌, ◌+◌, ◌<◌, ◌≤◌, ◌∷◌, ◌++◌, IsTrue, length, map, IfOk, OnOk, IfErr};
 ghost use Rattle.std.specs.List.{list_all};
 ghost use Rattle.tp_token.specs.Lexeme.{Lexeme, symbol, text, word};
 ghost use Rattle.tp_syntax.specs.Ahead.{ahead, token_at};
@@ -10,12 +10,11 @@ ghost use Rattle.tp_syntax.specs.Templates.{low_lexemes, high_lexemes, template_
 ghost use Rattle.tp_syntax.specs.Grammar.{each, is_bound, is_plain, is_template, is_template_field, one_and_each};
 ghost use Rattle.tp_syntax.specs.Nesting.{deepest, template_depth, template_field_depth};
 ghost use Rattle.tp_syntax.specs.Reading.{Reads, Stops, IsRange};
-ghost use Rattle.tp_syntax.specs.Refusals.{IsOfGrammar};
+ghost use Rattle.tp_syntax.specs.Stuck.{IsStuckAt};
 
-use crate::cursor::{Parser, below};
-use crate::values::positive;
+use crate::cursor::Parser;
+use crate::stuck::Stuck;
 use std::alloc::Global;
-use tp_token::fault::ScriptFault;
 use tp_token::token::{Symbol, Token};
 use tp_token::word::Word;
 use tp_tree::message::{MessageTemplate, Template, TemplateField};
@@ -41,11 +40,7 @@ fn is_pattern(characters: &[u8]) -> bool
 impl<'a, 't> Parser<'a, 't> {
     /// What a message has to match.
     #[tactic(auto, using(std::proofs::lemmas::List::append_assoc))]
-    pub fn message_template(
-        &mut self,
-        alloc: Global,
-        left: u32,
-    ) -> Result<MessageTemplate, ScriptFault>
+    pub fn message_template(&mut self, alloc: Global, left: u32) -> Result<MessageTemplate, Stuck>
         ensures tokens { IfOk result (λ m. Passes self.old (message_template_lexemes m) self.new) }
         ensures shorter { OnOk result (length self.new.rest.now < length self.old.rest.now) }
         ensures forward { OnOk result (GoesForward self.old self.new) }
@@ -55,7 +50,7 @@ impl<'a, 't> Parser<'a, 't> {
             IsTrue (is_template x.template) →
             template_depth x.template ≤ left →
             Reads self.old (message_template_lexemes x) more result self.new }
-        ensures fault { IfErr result IsOfGrammar }
+        ensures stuck { IfErr result (IsStuckAt self.new) }
     {
         let type_name = self.type_name(alloc)?;
         self.symbol(Symbol::Colon)?;
@@ -75,7 +70,7 @@ impl<'a, 't> Parser<'a, 't> {
     }
 
     /// The lower bound of a range.
-    fn low(&mut self) -> Result<Option<i64>, ScriptFault>
+    fn low(&mut self) -> Result<Option<i64>, Stuck>
         ensures tokens { IfOk result (λ b. Passes self.old (low_lexemes b) self.new) }
         ensures shorter { OnOk result (length self.new.rest.now < length self.old.rest.now) }
         ensures forward { OnOk result (GoesForward self.old self.new) }
@@ -83,7 +78,7 @@ impl<'a, 't> Parser<'a, 't> {
             IsTrue (is_bound x) →
             Reads self.old (low_lexemes x) more result self.new }
         ensures within { IfOk result (λ b. IsTrue (is_bound b)) }
-        ensures fault { IfErr result IsOfGrammar }
+        ensures stuck { IfErr result (IsStuckAt self.new) }
     {
         if self.is_minus_infinity() {
             self.symbol(Symbol::Minus)?;
@@ -95,7 +90,7 @@ impl<'a, 't> Parser<'a, 't> {
     }
 
     /// The upper bound of a range.
-    fn high(&mut self) -> Result<Option<i64>, ScriptFault>
+    fn high(&mut self) -> Result<Option<i64>, Stuck>
         ensures tokens { IfOk result (λ b. Passes self.old (high_lexemes b) self.new) }
         ensures shorter { OnOk result (length self.new.rest.now < length self.old.rest.now) }
         ensures forward { OnOk result (GoesForward self.old self.new) }
@@ -103,7 +98,7 @@ impl<'a, 't> Parser<'a, 't> {
             IsTrue (is_bound x) →
             Reads self.old (high_lexemes x) more result self.new }
         ensures within { IfOk result (λ b. IsTrue (is_bound b)) }
-        ensures fault { IfErr result IsOfGrammar }
+        ensures stuck { IfErr result (IsStuckAt self.new) }
     {
         if self.has_word(Word::Infinity) {
             return Ok(None);
@@ -123,10 +118,10 @@ impl<'a, 't> Parser<'a, 't> {
         self.is_number_at(0) && self.is_symbol_at(1, Symbol::DotDot)
     }
 
-    /// The characters of a text behind `pattern`. 10 `Syntax`: another token comes next, or none,
+    /// The characters of a text behind `pattern`. Stuck where another token comes next, or none,
     /// or the text holds one of `\ [ ] { } ( ) | # +` or a quote.
     #[tactic(auto, using(crate::proofs::TemplateTokens::template_rules, crate::proofs::Nesting::template_nesting))]
-    fn pattern(&mut self, alloc: Global) -> Result<Template, ScriptFault>
+    fn pattern(&mut self, alloc: Global) -> Result<Template, Stuck>
         ensures tokens { IfOk result (λ t.
             word Word.Pattern ∷ ahead self.old.rest.now
             ≡ template_lexemes t ++ ahead self.new.rest.now) }
@@ -137,7 +132,7 @@ impl<'a, 't> Parser<'a, 't> {
         ensures reads { (cs : List ℕ) (more : List Lexeme) →
             IsTrue (list_all is_plain cs) →
             Reads self.old (text cs ∷ []) more result self.new }
-        ensures fault { IfErr result IsOfGrammar }
+        ensures stuck { IfErr result (IsStuckAt self.new) }
     {
         let placed = self.take()?;
         match &placed.token {
@@ -145,14 +140,14 @@ impl<'a, 't> Parser<'a, 't> {
                 let characters = Vec::from_slice(alloc, characters)?;
                 Ok(Template::Pattern(characters))
             }
-            _ => Err(ScriptFault::syntax(placed.line)),
+            _ => Err(Stuck::Passed(self.rest.len())),
         }
     }
 
     /// A template, in which so many brackets may be opened.
     #[cycle(template)]
     #[tactic(auto, using(crate::proofs::TemplateTokens::template_rules, crate::proofs::Nesting::template_nesting))]
-    pub fn template(&mut self, alloc: Global, left: u32) -> Result<Template, ScriptFault>
+    pub fn template(&mut self, alloc: Global, left: u32) -> Result<Template, Stuck>
         ensures tokens { IfOk result (λ t. Passes self.old (template_lexemes t) self.new) }
         ensures shorter { OnOk result (length self.new.rest.now < length self.old.rest.now) }
         ensures forward { OnOk result (GoesForward self.old self.new) }
@@ -162,7 +157,7 @@ impl<'a, 't> Parser<'a, 't> {
             IsTrue (is_template x) →
             template_depth x ≤ left →
             Reads self.old (template_lexemes x) more result self.new }
-        ensures fault { IfErr result IsOfGrammar }
+        ensures stuck { IfErr result (IsStuckAt self.new) }
     {
         let placed = self.take()?;
         match &placed.token {
@@ -171,7 +166,7 @@ impl<'a, 't> Parser<'a, 't> {
                 Ok(Template::Int(value))
             }
             Token::Number(n) => {
-                let value = positive(*n, placed.line)?;
+                let value = self.positive(*n)?;
                 Ok(Template::Int(value))
             }
             Token::Word(Word::True) => Ok(Template::Bool(true)),
@@ -187,23 +182,23 @@ impl<'a, 't> Parser<'a, 't> {
             Token::Symbol(Symbol::Question) => Ok(Template::Any),
             Token::Symbol(Symbol::Star) => Ok(Template::AnyOrNone),
             Token::Symbol(Symbol::LeftParen) => {
-                let inner = below(left, placed.line)?;
+                let inner = self.below(left)?;
                 self.alternatives(alloc, inner)
             }
             Token::Word(Word::Complement) => self.complement(alloc, left),
             Token::Word(Word::Pattern) => self.pattern(alloc),
             Token::Symbol(Symbol::LeftBrace) => {
-                let inner = below(left, placed.line)?;
+                let inner = self.below(left)?;
                 self.template_entries(alloc, inner)
             }
-            _ => Err(ScriptFault::syntax(placed.line)),
+            _ => Err(Stuck::Passed(self.rest.len())),
         }
     }
 
     /// What stands behind the `(` of a template, and its `)`.
     #[cycle(template)]
     #[tactic(auto, using(crate::proofs::TemplateTokens::template_rules, crate::proofs::Nesting::template_nesting))]
-    fn alternatives(&mut self, alloc: Global, left: u32) -> Result<Template, ScriptFault>
+    fn alternatives(&mut self, alloc: Global, left: u32) -> Result<Template, Stuck>
         ensures tokens { IfOk result (λ t.
             symbol Symbol.LeftParen ∷ ahead self.old.rest.now
             ≡ template_lexemes t ++ ahead self.new.rest.now) }
@@ -221,7 +216,7 @@ impl<'a, 't> Parser<'a, 't> {
             deepest (map template_depth xs) ≤ left →
             Reads self.old (by_commas (map template_lexemes xs) ++ symbol Symbol.RightParen ∷ [])
             more result self.new }
-        ensures fault { IfErr result IsOfGrammar }
+        ensures stuck { IfErr result (IsStuckAt self.new) }
     {
         if self.is_range() {
             let low = self.low()?;
@@ -238,7 +233,7 @@ impl<'a, 't> Parser<'a, 't> {
     /// What stands behind `complement`.
     #[cycle(template)]
     #[tactic(auto, using(crate::proofs::TemplateTokens::template_rules, crate::proofs::Nesting::template_nesting))]
-    fn complement(&mut self, alloc: Global, left: u32) -> Result<Template, ScriptFault>
+    fn complement(&mut self, alloc: Global, left: u32) -> Result<Template, Stuck>
         ensures tokens { IfOk result (λ t.
             word Word.Complement ∷ ahead self.old.rest.now
             ≡ template_lexemes t ++ ahead self.new.rest.now) }
@@ -251,7 +246,7 @@ impl<'a, 't> Parser<'a, 't> {
             deepest (map template_depth xs) + 1 ≤ left →
             Reads self.old (parenthesised (by_commas (map template_lexemes xs))) more result
             self.new }
-        ensures fault { IfErr result IsOfGrammar }
+        ensures stuck { IfErr result (IsStuckAt self.new) }
     {
         let inner = self.open(Symbol::LeftParen, left)?;
         let templates = self.templates(alloc, inner)?;
@@ -262,7 +257,7 @@ impl<'a, 't> Parser<'a, 't> {
     /// What stands behind the `{` of a template, and its `}`.
     #[cycle(template)]
     #[tactic(auto, using(crate::proofs::TemplateTokens::template_rules, crate::proofs::Nesting::template_nesting))]
-    fn template_entries(&mut self, alloc: Global, left: u32) -> Result<Template, ScriptFault>
+    fn template_entries(&mut self, alloc: Global, left: u32) -> Result<Template, Stuck>
         ensures tokens { IfOk result (λ t.
             symbol Symbol.LeftBrace ∷ ahead self.old.rest.now
             ≡ template_lexemes t ++ ahead self.new.rest.now) }
@@ -281,7 +276,7 @@ impl<'a, 't> Parser<'a, 't> {
             Reads self.old
             (by_commas (map template_field_lexemes xs) ++ symbol Symbol.RightBrace ∷ []) more result
             self.new }
-        ensures fault { IfErr result IsOfGrammar }
+        ensures stuck { IfErr result (IsStuckAt self.new) }
     {
         if self.has_symbol(Symbol::RightBrace) {
             return Ok(Template::List(Vec::new(alloc)));
@@ -298,7 +293,7 @@ impl<'a, 't> Parser<'a, 't> {
 
     /// Templates with a `,` between them.
     #[cycle(template)]
-    fn templates(&mut self, alloc: Global, left: u32) -> Result<Vec<Template>, ScriptFault>
+    fn templates(&mut self, alloc: Global, left: u32) -> Result<Vec<Template>, Stuck>
         ensures tokens { IfOk result (λ v.
             Passes self.old (by_commas (map template_lexemes v.items)) self.new) }
         ensures shorter { OnOk result (length self.new.rest.now < length self.old.rest.now) }
@@ -310,7 +305,7 @@ impl<'a, 't> Parser<'a, 't> {
             deepest (map template_depth xs) ≤ left →
             Stops more →
             Reads self.old (by_commas (map template_lexemes xs)) more result self.new }
-        ensures fault { IfErr result IsOfGrammar }
+        ensures stuck { IfErr result (IsStuckAt self.new) }
     {
         let mut templates = Vec::new(alloc);
         let first = self.template(alloc, left)?;
@@ -324,11 +319,7 @@ impl<'a, 't> Parser<'a, 't> {
 
     /// Fields with a `,` between them.
     #[cycle(template)]
-    fn template_fields(
-        &mut self,
-        alloc: Global,
-        left: u32,
-    ) -> Result<Vec<TemplateField>, ScriptFault>
+    fn template_fields(&mut self, alloc: Global, left: u32) -> Result<Vec<TemplateField>, Stuck>
         ensures tokens { IfOk result (λ v.
             Passes self.old (by_commas (map template_field_lexemes v.items)) self.new) }
         ensures shorter { OnOk result (length self.new.rest.now < length self.old.rest.now) }
@@ -341,7 +332,7 @@ impl<'a, 't> Parser<'a, 't> {
             deepest (map template_field_depth xs) ≤ left →
             Stops more →
             Reads self.old (by_commas (map template_field_lexemes xs)) more result self.new }
-        ensures fault { IfErr result IsOfGrammar }
+        ensures stuck { IfErr result (IsStuckAt self.new) }
     {
         let mut fields = Vec::new(alloc);
         let first = self.template_field(alloc, left)?;
@@ -356,7 +347,7 @@ impl<'a, 't> Parser<'a, 't> {
     /// A field.
     #[cycle(template)]
     #[tactic(auto, using(crate::proofs::TemplateTokens::template_rules, crate::proofs::Nesting::template_nesting))]
-    fn template_field(&mut self, alloc: Global, left: u32) -> Result<TemplateField, ScriptFault>
+    fn template_field(&mut self, alloc: Global, left: u32) -> Result<TemplateField, Stuck>
         ensures tokens { IfOk result (λ f. Passes self.old (template_field_lexemes f) self.new) }
         ensures shorter { OnOk result (length self.new.rest.now < length self.old.rest.now) }
         ensures forward { OnOk result (GoesForward self.old self.new) }
@@ -366,7 +357,7 @@ impl<'a, 't> Parser<'a, 't> {
             IsTrue (is_template_field x) →
             template_field_depth x ≤ left →
             Reads self.old (template_field_lexemes x) more result self.new }
-        ensures fault { IfErr result IsOfGrammar }
+        ensures stuck { IfErr result (IsStuckAt self.new) }
     {
         let name = self.name(alloc)?;
         self.symbol(Symbol::Assign)?;

@@ -1,5 +1,5 @@
 //! Test cases, with their setup statements and starts.
-ghost use Rattle.std.specs.Prelude.{[], ◌≢◌, ◌↔◌, false, List, Option, Some, ◌≡◌, ◌<◌, ◌≤◌, ◌∷◌, IsTrue, length, map, IfErr, IfOk, OnOk};
+ghost use Rattle.std.specs.Prelude.{[], ◌≢◌, ◌↔◌, false, List, Option, Some, ◌≡◌, ◌<◌, ◌≤◌, ◌∷◌, IsTrue, length, map, IfOk, OnOk, IfErr};
 ghost use Rattle.std.specs.Bool.{OnTrue};
 ghost use Rattle.tp_token.specs.Lexeme.{Lexeme, symbol, word};
 ghost use Rattle.tp_syntax.specs.Ahead.{ahead};
@@ -9,13 +9,13 @@ ghost use Rattle.tp_syntax.specs.Nesting.{defined_depth};
 ghost use Rattle.tp_syntax.specs.Forward.{GoesForward, PassesLines};
 ghost use Rattle.tp_syntax.specs.Lines.{noted_in_order, setup_notes, start_notes, test_case_notes};
 ghost use Rattle.tp_syntax.specs.Passing.{Passes};
-ghost use Rattle.tp_syntax.specs.Reading.{AllStand, IsPlaced, IsSetup, IsStart, MaybeName, Reads, first, is_setup_ahead, is_start_ahead};
-ghost use Rattle.tp_syntax.specs.Refusals.{IsOfGrammar};
+ghost use Rattle.tp_syntax.specs.Reading.{AllStand, IsPlaced, BeginsSetup, IsStart, MaybeName, Reads, first, is_setup_ahead, is_start_ahead};
 ghost use Rattle.tp_syntax.specs.Standing.{GoesOn, GoesOver, HasPassed};
+ghost use Rattle.tp_syntax.specs.Stuck.{IsStuckAt};
 
 use crate::cursor::Parser;
+use crate::stuck::Stuck;
 use std::alloc::Global;
-use tp_token::fault::ScriptFault;
 use tp_token::token::{Symbol, Token};
 use tp_token::word::Word;
 use tp_tree::tree::{
@@ -25,14 +25,14 @@ use tp_tree::tree::{
 
 impl<'a, 't> Parser<'a, 't> {
     /// A component in a `connect` or a `map`.
-    fn end_component(&mut self, alloc: Global) -> Result<EndComponent, ScriptFault>
+    fn end_component(&mut self, alloc: Global) -> Result<EndComponent, Stuck>
         ensures tokens { IfOk result (λ x.
             ahead self.old.rest.now ≡ end_component_lexeme x ∷ ahead self.new.rest.now) }
         ensures shorter { OnOk result (length self.new.rest.now < length self.old.rest.now) }
         ensures forward { OnOk result (GoesForward self.old self.new) }
         ensures reads { (x : EndComponent) (more : List Lexeme) →
             Reads self.old (end_component_lexeme x ∷ []) more result self.new }
-        ensures fault { IfErr result IsOfGrammar }
+        ensures stuck { IfErr result (IsStuckAt self.new) }
     {
         let placed = self.take()?;
         match &placed.token {
@@ -43,19 +43,19 @@ impl<'a, 't> Parser<'a, 't> {
                 let name = String::from_str(alloc, spelling)?;
                 Ok(EndComponent::Named(name))
             }
-            _ => Err(ScriptFault::syntax(placed.line)),
+            _ => Err(Stuck::Passed(self.rest.len())),
         }
     }
 
     /// A port of a component.
     #[tactic(auto, using(std::proofs::lemmas::List::append_assoc))]
-    fn end_point(&mut self, alloc: Global) -> Result<PairEnd, ScriptFault>
+    fn end_point(&mut self, alloc: Global) -> Result<PairEnd, Stuck>
         ensures tokens { IfOk result (λ x. Passes self.old (end_point_lexemes x) self.new) }
         ensures shorter { OnOk result (length self.new.rest.now < length self.old.rest.now) }
         ensures forward { OnOk result (GoesForward self.old self.new) }
         ensures reads { (x : PairEnd) (more : List Lexeme) →
             Reads self.old (end_point_lexemes x) more result self.new }
-        ensures fault { IfErr result IsOfGrammar }
+        ensures stuck { IfErr result (IsStuckAt self.new) }
     {
         let component = self.end_component(alloc)?;
         self.symbol(Symbol::Colon)?;
@@ -65,13 +65,13 @@ impl<'a, 't> Parser<'a, 't> {
 
     /// The two ports of a `connect` or a `map`, in their parentheses.
     #[tactic(auto, using(std::proofs::lemmas::List::append_assoc))]
-    fn ends(&mut self, alloc: Global) -> Result<(PairEnd, PairEnd), ScriptFault>
+    fn ends(&mut self, alloc: Global) -> Result<(PairEnd, PairEnd), Stuck>
         ensures tokens { IfOk result (λ x. Passes self.old (ends_lexemes x.0 x.1) self.new) }
         ensures shorter { OnOk result (length self.new.rest.now < length self.old.rest.now) }
         ensures forward { OnOk result (GoesForward self.old self.new) }
         ensures reads { (x : PairEnd) (y : PairEnd) (more : List Lexeme) →
             Reads self.old (ends_lexemes x y) more result self.new }
-        ensures fault { IfErr result IsOfGrammar }
+        ensures stuck { IfErr result (IsStuckAt self.new) }
     {
         self.symbol(Symbol::LeftParen)?;
         let first = self.end_point(alloc)?;
@@ -83,13 +83,13 @@ impl<'a, 't> Parser<'a, 't> {
 
     /// The `var` that makes a component.
     #[tactic(auto, unfolding(crate::specs::Definitions::setup_action_lexemes))]
-    fn creation(&mut self, alloc: Global) -> Result<SetupAction, ScriptFault>
+    fn creation(&mut self, alloc: Global) -> Result<SetupAction, Stuck>
         ensures tokens { IfOk result (λ x. Passes self.old (setup_action_lexemes x) self.new) }
         ensures shorter { OnOk result (length self.new.rest.now < length self.old.rest.now) }
         ensures forward { OnOk result (GoesForward self.old self.new) }
         ensures reads { (x : Creation) (more : List Lexeme) →
             Reads self.old (setup_action_lexemes (SetupAction.Create x)) more result self.new }
-        ensures fault { IfErr result IsOfGrammar }
+        ensures stuck { IfErr result (IsStuckAt self.new) }
     {
         self.word(Word::Var)?;
         let type_name = self.name(alloc)?;
@@ -107,13 +107,13 @@ impl<'a, 't> Parser<'a, 't> {
 
     /// What a setup statement does.
     #[tactic(auto, unfolding(crate::specs::Definitions::setup_action_lexemes))]
-    fn setup_action(&mut self, alloc: Global) -> Result<SetupAction, ScriptFault>
+    fn setup_action(&mut self, alloc: Global) -> Result<SetupAction, Stuck>
         ensures tokens { IfOk result (λ x. Passes self.old (setup_action_lexemes x) self.new) }
         ensures shorter { OnOk result (length self.new.rest.now < length self.old.rest.now) }
         ensures forward { OnOk result (GoesForward self.old self.new) }
         ensures reads { (x : SetupAction) (more : List Lexeme) →
             Reads self.old (setup_action_lexemes x) more result self.new }
-        ensures fault { IfErr result IsOfGrammar }
+        ensures stuck { IfErr result (IsStuckAt self.new) }
     {
         if self.has_word(Word::Connect) {
             let (first, second) = self.ends(alloc)?;
@@ -128,7 +128,7 @@ impl<'a, 't> Parser<'a, 't> {
 
     /// A setup statement.
     #[tactic(auto, using(std::proofs::lemmas::List::append_assoc))]
-    fn setup(&mut self, alloc: Global) -> Result<SetupStatement, ScriptFault>
+    fn setup(&mut self, alloc: Global) -> Result<SetupStatement, Stuck>
         ensures tokens { IfOk result (λ x. Passes self.old (setup_lexemes x) self.new) }
         ensures shorter { OnOk result (length self.new.rest.now < length self.old.rest.now) }
         ensures lines { IfOk result (λ x. PassesLines self.old (setup_notes x) self.new) }
@@ -136,7 +136,7 @@ impl<'a, 't> Parser<'a, 't> {
         ensures reads { (x : SetupStatement) (more : List Lexeme) →
             IsPlaced (setup_part x) more →
             Reads self.old (setup_lexemes x) more result self.new }
-        ensures fault { IfErr result IsOfGrammar }
+        ensures stuck { IfErr result (IsStuckAt self.new) }
     {
         let line = self.line();
         let action = self.setup_action(alloc)?;
@@ -151,7 +151,7 @@ impl<'a, 't> Parser<'a, 't> {
     /// Whether a setup statement comes next. A `var` without `:=` declares a variable.
     fn is_setup(&self) -> bool
         ensures goes_on { OnTrue result (GoesOn self.now) }
-        ensures setup { IsTrue result ↔ IsSetup self.now.rest.now }
+        ensures setup { IsTrue result ↔ BeginsSetup self.now.rest.now }
     {
         self.is_word_at(0, Word::Connect)
             || self.is_word_at(0, Word::Map)
@@ -162,7 +162,7 @@ impl<'a, 't> Parser<'a, 't> {
     }
 
     /// The setup statements that come next.
-    fn setups(&mut self, alloc: Global) -> Result<Vec<SetupStatement>, ScriptFault>
+    fn setups(&mut self, alloc: Global) -> Result<Vec<SetupStatement>, Stuck>
         ensures tokens { IfOk result (λ x. Passes self.old (setups_lexemes x.items) self.new) }
         ensures shorter { OnOk result (length self.new.rest.now ≤ length self.old.rest.now) }
         ensures lines { IfOk result (λ x.
@@ -173,7 +173,7 @@ impl<'a, 't> Parser<'a, 't> {
             AllStand (map setup_part xs) more →
             is_setup_ahead more ≡ false →
             Reads self.old (setups_lexemes xs) more result self.new }
-        ensures fault { IfErr result IsOfGrammar }
+        ensures stuck { IfErr result (IsStuckAt self.new) }
     {
         let mut setups = Vec::new(alloc);
         'more: while self.is_setup() {
@@ -184,14 +184,14 @@ impl<'a, 't> Parser<'a, 't> {
     }
 
     /// The arguments of a start, up to the `)`.
-    fn arguments(&mut self, alloc: Global) -> Result<Vec<ComponentName>, ScriptFault>
+    fn arguments(&mut self, alloc: Global) -> Result<Vec<ComponentName>, Stuck>
         ensures tokens { IfOk result (λ x. Passes self.old (arguments_lexemes x.items) self.new) }
         ensures shorter { OnOk result (length self.new.rest.now ≤ length self.old.rest.now) }
         ensures forward { OnOk result (GoesForward self.old self.new) }
         ensures reads { (xs : List ComponentName) (more : List Lexeme) →
             first more ≡ Some (symbol Symbol.RightParen) →
             Reads self.old (arguments_lexemes xs) more result self.new }
-        ensures fault { IfErr result IsOfGrammar }
+        ensures stuck { IfErr result (IsStuckAt self.new) }
     {
         let mut arguments = Vec::new(alloc);
         if self.is_symbol_at(0, Symbol::RightParen) {
@@ -208,7 +208,7 @@ impl<'a, 't> Parser<'a, 't> {
 
     /// The start of a component.
     #[tactic(auto, using(std::proofs::lemmas::List::append_assoc), unfolding(crate::specs::Definitions::start_lexemes))]
-    fn start(&mut self, alloc: Global) -> Result<ComponentStart, ScriptFault>
+    fn start(&mut self, alloc: Global) -> Result<ComponentStart, Stuck>
         ensures tokens { IfOk result (λ x. Passes self.old (start_lexemes x) self.new) }
         ensures shorter { OnOk result (length self.new.rest.now < length self.old.rest.now) }
         ensures lines { IfOk result (λ x. PassesLines self.old (start_notes x) self.new) }
@@ -216,7 +216,7 @@ impl<'a, 't> Parser<'a, 't> {
         ensures reads { (x : ComponentStart) (more : List Lexeme) →
             IsPlaced (start_part x) more →
             Reads self.old (start_lexemes x) more result self.new }
-        ensures fault { IfErr result IsOfGrammar }
+        ensures stuck { IfErr result (IsStuckAt self.new) }
     {
         let line = self.line();
         let component = self.name(alloc)?;
@@ -250,7 +250,7 @@ impl<'a, 't> Parser<'a, 't> {
     }
 
     /// The starts of components that come next.
-    fn starts(&mut self, alloc: Global) -> Result<Vec<ComponentStart>, ScriptFault>
+    fn starts(&mut self, alloc: Global) -> Result<Vec<ComponentStart>, Stuck>
         ensures tokens { IfOk result (λ x. Passes self.old (starts_lexemes x.items) self.new) }
         ensures shorter { OnOk result (length self.new.rest.now ≤ length self.old.rest.now) }
         ensures lines { IfOk result (λ x.
@@ -261,7 +261,7 @@ impl<'a, 't> Parser<'a, 't> {
             AllStand (map start_part xs) more →
             is_start_ahead more ≡ false →
             Reads self.old (starts_lexemes xs) more result self.new }
-        ensures fault { IfErr result IsOfGrammar }
+        ensures stuck { IfErr result (IsStuckAt self.new) }
     {
         let mut starts = Vec::new(alloc);
         'more: while self.is_start() {
@@ -272,7 +272,7 @@ impl<'a, 't> Parser<'a, 't> {
     }
 
     /// `all component.done`, if it comes next.
-    fn all_done(&mut self) -> Result<Option<AllDone>, ScriptFault>
+    fn all_done(&mut self) -> Result<Option<AllDone>, Stuck>
         ensures tokens { IfOk result (λ x. Passes self.old (all_done_lexemes x) self.new) }
         ensures shorter { OnOk result (length self.new.rest.now ≤ length self.old.rest.now) }
         ensures forward { OnOk result (GoesForward self.old self.new) }
@@ -281,7 +281,7 @@ impl<'a, 't> Parser<'a, 't> {
             AllStand (all_done_parts x) more →
             first more ≡ Some (symbol Symbol.RightBrace) →
             Reads self.old (all_done_lexemes x) more result self.new }
-        ensures fault { IfErr result IsOfGrammar }
+        ensures stuck { IfErr result (IsStuckAt self.new) }
     {
         if !self.is_word_at(0, Word::All) {
             return Ok(None);
@@ -295,14 +295,14 @@ impl<'a, 't> Parser<'a, 't> {
     }
 
     /// The component type behind `system`, if it is there.
-    fn system(&mut self, alloc: Global) -> Result<Option<String>, ScriptFault>
+    fn system(&mut self, alloc: Global) -> Result<Option<String>, Stuck>
         ensures tokens { IfOk result (λ x. Passes self.old (system_lexemes x) self.new) }
         ensures shorter { OnOk result (length self.new.rest.now ≤ length self.old.rest.now) }
         ensures forward { OnOk result (GoesForward self.old self.new) }
         ensures reads { (x : MaybeName) (more : List Lexeme) →
             first more ≢ Some (word Word.System) →
             Reads self.old (system_lexemes x) more result self.new }
-        ensures fault { IfErr result IsOfGrammar }
+        ensures stuck { IfErr result (IsStuckAt self.new) }
     {
         if !self.has_word(Word::System) {
             return Ok(None);
@@ -313,7 +313,7 @@ impl<'a, 't> Parser<'a, 't> {
 
     /// A test case.
     #[tactic(auto, using(std::proofs::lemmas::List::append_assoc), unfolding(crate::specs::Definitions::test_case_lexemes, crate::specs::Definitions::behaviour_lexemes))]
-    pub fn test_case(&mut self, alloc: Global, left: u32) -> Result<TestCase, ScriptFault>
+    pub fn test_case(&mut self, alloc: Global, left: u32) -> Result<TestCase, Stuck>
         ensures tokens { IfOk result (λ x. Passes self.old (test_case_lexemes x) self.new) }
         ensures shorter { OnOk result (length self.new.rest.now < length self.old.rest.now) }
         ensures lines { IfOk result (λ x. PassesLines self.old (test_case_notes x) self.new) }
@@ -324,7 +324,7 @@ impl<'a, 't> Parser<'a, 't> {
             IsTrue (defined_part (Defined.TestCase x)).is_right →
             defined_depth (Defined.TestCase x) ≤ left →
             Reads self.old (test_case_lexemes x) more result self.new }
-        ensures fault { IfErr result IsOfGrammar }
+        ensures stuck { IfErr result (IsStuckAt self.new) }
     {
         self.word(Word::Testcase)?;
         let name = self.name(alloc)?;

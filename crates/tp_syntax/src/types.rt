@@ -1,5 +1,5 @@
 //! Types: of records and lists, of ports, of components.
-ghost use Rattle.std.specs.Prelude.{ℕ, List, Some, [], ◌≡◌, ◌<◌, ◌≤◌, ◌∷◌, IsTrue, length, map, IfErr, IfOk, OnOk};
+ghost use Rattle.std.specs.Prelude.{ℕ, List, Some, [], ◌≡◌, ◌<◌, ◌≤◌, ◌∷◌, IsTrue, length, map, IfOk, OnOk, IfErr};
 ghost use Rattle.tp_token.specs.Lexeme.{Lexeme, name, symbol};
 ghost use Rattle.tp_syntax.specs.Ahead.{ahead};
 ghost use Rattle.tp_syntax.specs.Definitions.{field_type_lexemes, field_types_lexemes, record_type_lexemes, list_type_lexemes, way_lexeme, types_lexemes, direction_lexemes, directions_lexemes, port_type_lexemes, declared_name_lexemes, declared_names_lexemes, port_declaration_lexemes, port_declarations_lexemes, component_type_lexemes, defined_lexemes};
@@ -9,12 +9,12 @@ ghost use Rattle.tp_syntax.specs.Forward.{GoesForward, PassesLines};
 ghost use Rattle.tp_syntax.specs.Lines.{noted_in_order, noted_by_commas, declared_name_notes, field_type_notes, record_type_notes, port_declaration_notes, component_type_notes, defined_notes};
 ghost use Rattle.tp_syntax.specs.Passing.{Passes};
 ghost use Rattle.tp_syntax.specs.Reading.{AllStand, IsPlaced, Reads, Stops, first, is_type};
-ghost use Rattle.tp_syntax.specs.Refusals.{IsOfGrammar};
 ghost use Rattle.tp_syntax.specs.Standing.{GoesOver, HasPassed};
+ghost use Rattle.tp_syntax.specs.Stuck.{IsStuckAt};
 
 use crate::cursor::Parser;
+use crate::stuck::Stuck;
 use std::alloc::Global;
-use tp_token::fault::ScriptFault;
 use tp_token::token::{Symbol, Token};
 use tp_token::word::Word;
 use tp_tree::message::TypeName;
@@ -25,13 +25,13 @@ use tp_tree::tree::{
 
 impl<'a, 't> Parser<'a, 't> {
     /// A name where it is declared.
-    pub fn declared_name(&mut self, alloc: Global) -> Result<DeclaredName, ScriptFault>
+    pub fn declared_name(&mut self, alloc: Global) -> Result<DeclaredName, Stuck>
         ensures tokens { IfOk result (λ x. Passes self.old (declared_name_lexemes x) self.new) }
         ensures shorter { OnOk result (length self.new.rest.now < length self.old.rest.now) }
         ensures lines { IfOk result (λ x. PassesLines self.old (declared_name_notes x) self.new) }
         ensures reads { (spelling : List ℕ) (more : List Lexeme) →
             Reads self.old (name spelling ∷ []) more result self.new }
-        ensures fault { IfErr result IsOfGrammar }
+        ensures stuck { IfErr result (IsStuckAt self.new) }
     {
         let line = self.line();
         let name = self.name(alloc)?;
@@ -40,13 +40,13 @@ impl<'a, 't> Parser<'a, 't> {
 
     /// A field of a record type.
     #[tactic(auto, using(std::proofs::lemmas::List::append_assoc))]
-    fn field_type(&mut self, alloc: Global) -> Result<FieldType, ScriptFault>
+    fn field_type(&mut self, alloc: Global) -> Result<FieldType, Stuck>
         ensures tokens { IfOk result (λ x. Passes self.old (field_type_lexemes x) self.new) }
         ensures shorter { OnOk result (length self.new.rest.now < length self.old.rest.now) }
         ensures lines { IfOk result (λ x. PassesLines self.old (field_type_notes x) self.new) }
         ensures reads { (x : FieldType) (more : List Lexeme) →
             Reads self.old (field_type_lexemes x) more result self.new }
-        ensures fault { IfErr result IsOfGrammar }
+        ensures stuck { IfErr result (IsStuckAt self.new) }
     {
         let type_name = self.type_name(alloc)?;
         let name = self.declared_name(alloc)?;
@@ -54,7 +54,7 @@ impl<'a, 't> Parser<'a, 't> {
     }
 
     /// The fields of a record type, up to its `}`.
-    fn fields(&mut self, alloc: Global) -> Result<Vec<FieldType>, ScriptFault>
+    fn fields(&mut self, alloc: Global) -> Result<Vec<FieldType>, Stuck>
         ensures tokens { IfOk result (λ x. Passes self.old (field_types_lexemes x.items) self.new) }
         ensures shorter { OnOk result (length self.new.rest.now ≤ length self.old.rest.now) }
         ensures lines { IfOk result (λ x.
@@ -62,7 +62,7 @@ impl<'a, 't> Parser<'a, 't> {
         ensures reads { (xs : List FieldType) (more : List Lexeme) →
             first more ≡ Some (symbol Symbol.RightBrace) →
             Reads self.old (field_types_lexemes xs) more result self.new }
-        ensures fault { IfErr result IsOfGrammar }
+        ensures stuck { IfErr result (IsStuckAt self.new) }
     {
         let mut fields = Vec::new(alloc);
         if self.is_symbol_at(0, Symbol::RightBrace) {
@@ -79,13 +79,13 @@ impl<'a, 't> Parser<'a, 't> {
 
     /// A record type.
     #[tactic(auto, using(std::proofs::lemmas::List::append_assoc), unfolding(crate::specs::Definitions::record_type_lexemes))]
-    fn record_type(&mut self, alloc: Global) -> Result<RecordType, ScriptFault>
+    fn record_type(&mut self, alloc: Global) -> Result<RecordType, Stuck>
         ensures tokens { IfOk result (λ x. Passes self.old (record_type_lexemes x) self.new) }
         ensures shorter { OnOk result (length self.new.rest.now < length self.old.rest.now) }
         ensures lines { IfOk result (λ x. PassesLines self.old (record_type_notes x) self.new) }
         ensures reads { (x : RecordType) (more : List Lexeme) →
             Reads self.old (record_type_lexemes x) more result self.new }
-        ensures fault { IfErr result IsOfGrammar }
+        ensures stuck { IfErr result (IsStuckAt self.new) }
     {
         self.word(Word::Type)?;
         self.word(Word::Record)?;
@@ -98,13 +98,13 @@ impl<'a, 't> Parser<'a, 't> {
 
     /// A list type.
     #[tactic(auto, using(std::proofs::lemmas::List::append_assoc), unfolding(crate::specs::Definitions::list_type_lexemes))]
-    fn list_type(&mut self, alloc: Global) -> Result<ListType, ScriptFault>
+    fn list_type(&mut self, alloc: Global) -> Result<ListType, Stuck>
         ensures tokens { IfOk result (λ x. Passes self.old (list_type_lexemes x) self.new) }
         ensures shorter { OnOk result (length self.new.rest.now < length self.old.rest.now) }
         ensures forward { OnOk result (GoesForward self.old self.new) }
         ensures reads { (x : ListType) (more : List Lexeme) →
             Reads self.old (list_type_lexemes x) more result self.new }
-        ensures fault { IfErr result IsOfGrammar }
+        ensures stuck { IfErr result (IsStuckAt self.new) }
     {
         self.word(Word::Type)?;
         self.word(Word::Record)?;
@@ -115,26 +115,26 @@ impl<'a, 't> Parser<'a, 't> {
     }
 
     /// A way through a port.
-    fn way(&mut self) -> Result<Way, ScriptFault>
+    fn way(&mut self) -> Result<Way, Stuck>
         ensures tokens { IfOk result (λ x.
             ahead self.old.rest.now ≡ way_lexeme x ∷ ahead self.new.rest.now) }
         ensures shorter { OnOk result (length self.new.rest.now < length self.old.rest.now) }
         ensures forward { OnOk result (GoesForward self.old self.new) }
         ensures reads { (x : Way) (more : List Lexeme) →
             Reads self.old (way_lexeme x ∷ []) more result self.new }
-        ensures fault { IfErr result IsOfGrammar }
+        ensures stuck { IfErr result (IsStuckAt self.new) }
     {
         let placed = self.take()?;
         match &placed.token {
             Token::Word(Word::In) => Ok(Way::In),
             Token::Word(Word::Out) => Ok(Way::Out),
             Token::Word(Word::Inout) => Ok(Way::InOut),
-            _ => Err(ScriptFault::syntax(placed.line)),
+            _ => Err(Stuck::Passed(self.rest.len())),
         }
     }
 
     /// Types with a `,` between them.
-    fn types(&mut self, alloc: Global) -> Result<Vec<TypeName>, ScriptFault>
+    fn types(&mut self, alloc: Global) -> Result<Vec<TypeName>, Stuck>
         ensures tokens { IfOk result (λ x. Passes self.old (types_lexemes x.items) self.new) }
         ensures shorter { OnOk result (length self.new.rest.now < length self.old.rest.now) }
         ensures forward { OnOk result (GoesForward self.old self.new) }
@@ -143,7 +143,7 @@ impl<'a, 't> Parser<'a, 't> {
             IsTrue (has_one xs) →
             Stops more →
             Reads self.old (types_lexemes xs) more result self.new }
-        ensures fault { IfErr result IsOfGrammar }
+        ensures stuck { IfErr result (IsStuckAt self.new) }
     {
         let mut types = Vec::new(alloc);
         let first = self.type_name(alloc)?;
@@ -157,7 +157,7 @@ impl<'a, 't> Parser<'a, 't> {
 
     /// The types that go one way through a port.
     #[tactic(auto, using(std::proofs::lemmas::List::append_assoc), unfolding(crate::specs::Definitions::direction_lexemes))]
-    fn direction(&mut self, alloc: Global) -> Result<Direction, ScriptFault>
+    fn direction(&mut self, alloc: Global) -> Result<Direction, Stuck>
         ensures tokens { IfOk result (λ x. Passes self.old (direction_lexemes x) self.new) }
         ensures shorter { OnOk result (length self.new.rest.now < length self.old.rest.now) }
         ensures forward { OnOk result (GoesForward self.old self.new) }
@@ -165,7 +165,7 @@ impl<'a, 't> Parser<'a, 't> {
         ensures reads { (x : Direction) (more : List Lexeme) →
             IsPlaced (direction_part x) more →
             Reads self.old (direction_lexemes x) more result self.new }
-        ensures fault { IfErr result IsOfGrammar }
+        ensures stuck { IfErr result (IsStuckAt self.new) }
     {
         let way = self.way()?;
         let types = self.types(alloc)?;
@@ -178,7 +178,7 @@ impl<'a, 't> Parser<'a, 't> {
     }
 
     /// The ways through a port, up to its `}`.
-    fn directions(&mut self, alloc: Global) -> Result<Vec<Direction>, ScriptFault>
+    fn directions(&mut self, alloc: Global) -> Result<Vec<Direction>, Stuck>
         ensures tokens { IfOk result (λ x. Passes self.old (directions_lexemes x.items) self.new) }
         ensures shorter { OnOk result (length self.new.rest.now ≤ length self.old.rest.now) }
         ensures forward { OnOk result (GoesForward self.old self.new) }
@@ -188,7 +188,7 @@ impl<'a, 't> Parser<'a, 't> {
             AllStand (map direction_part xs) more →
             first more ≡ Some (symbol Symbol.RightBrace) →
             Reads self.old (directions_lexemes xs) more result self.new }
-        ensures fault { IfErr result IsOfGrammar }
+        ensures stuck { IfErr result (IsStuckAt self.new) }
     {
         let mut directions = Vec::new(alloc);
         'more: while !self.is_symbol_at(0, Symbol::RightBrace) {
@@ -198,9 +198,9 @@ impl<'a, 't> Parser<'a, 't> {
         Ok(directions)
     }
 
-    /// A port type. 10 `Syntax` also: no way leads through it.
+    /// A port type. Stuck also where no way leads through it.
     #[tactic(auto, using(std::proofs::lemmas::List::append_assoc), unfolding(crate::specs::Definitions::port_type_lexemes))]
-    fn port_type(&mut self, alloc: Global) -> Result<PortType, ScriptFault>
+    fn port_type(&mut self, alloc: Global) -> Result<PortType, Stuck>
         ensures tokens { IfOk result (λ x. Passes self.old (port_type_lexemes x) self.new) }
         ensures shorter { OnOk result (length self.new.rest.now < length self.old.rest.now) }
         ensures forward { OnOk result (GoesForward self.old self.new) }
@@ -208,7 +208,7 @@ impl<'a, 't> Parser<'a, 't> {
         ensures reads { (x : PortType) (more : List Lexeme) →
             IsTrue (defined_part (Defined.Port x)).is_right →
             Reads self.old (port_type_lexemes x) more result self.new }
-        ensures fault { IfErr result IsOfGrammar }
+        ensures stuck { IfErr result (IsStuckAt self.new) }
     {
         self.word(Word::Type)?;
         self.word(Word::Port)?;
@@ -217,14 +217,14 @@ impl<'a, 't> Parser<'a, 't> {
         self.symbol(Symbol::LeftBrace)?;
         let directions = self.directions(alloc)?;
         if directions.is_empty() {
-            return Err(ScriptFault::syntax(self.line()));
+            return Err(Stuck::Next(self.rest.len()));
         }
         self.symbol(Symbol::RightBrace)?;
         Ok(PortType { name, directions })
     }
 
     /// Names with a `,` between them.
-    fn names(&mut self, alloc: Global) -> Result<Vec<DeclaredName>, ScriptFault>
+    fn names(&mut self, alloc: Global) -> Result<Vec<DeclaredName>, Stuck>
         ensures tokens { IfOk result (λ x.
             Passes self.old (declared_names_lexemes x.items) self.new) }
         ensures shorter { OnOk result (length self.new.rest.now < length self.old.rest.now) }
@@ -235,7 +235,7 @@ impl<'a, 't> Parser<'a, 't> {
             IsTrue (has_one xs) →
             Stops more →
             Reads self.old (declared_names_lexemes xs) more result self.new }
-        ensures fault { IfErr result IsOfGrammar }
+        ensures stuck { IfErr result (IsStuckAt self.new) }
     {
         let mut names = Vec::new(alloc);
         let first = self.declared_name(alloc)?;
@@ -249,7 +249,7 @@ impl<'a, 't> Parser<'a, 't> {
 
     /// Ports of one type.
     #[tactic(auto, using(std::proofs::lemmas::List::append_assoc), unfolding(crate::specs::Definitions::port_declaration_lexemes))]
-    fn port_declaration(&mut self, alloc: Global) -> Result<PortDeclaration, ScriptFault>
+    fn port_declaration(&mut self, alloc: Global) -> Result<PortDeclaration, Stuck>
         ensures tokens { IfOk result (λ x. Passes self.old (port_declaration_lexemes x) self.new) }
         ensures shorter { OnOk result (length self.new.rest.now < length self.old.rest.now) }
         ensures lines { IfOk result (λ x.
@@ -258,7 +258,7 @@ impl<'a, 't> Parser<'a, 't> {
         ensures reads { (x : PortDeclaration) (more : List Lexeme) →
             IsPlaced (port_declaration_part x) more →
             Reads self.old (port_declaration_lexemes x) more result self.new }
-        ensures fault { IfErr result IsOfGrammar }
+        ensures stuck { IfErr result (IsStuckAt self.new) }
     {
         self.word(Word::Port)?;
         let type_name = self.name(alloc)?;
@@ -272,7 +272,7 @@ impl<'a, 't> Parser<'a, 't> {
     }
 
     /// The ports of a component type, up to its `}`.
-    fn ports(&mut self, alloc: Global) -> Result<Vec<PortDeclaration>, ScriptFault>
+    fn ports(&mut self, alloc: Global) -> Result<Vec<PortDeclaration>, Stuck>
         ensures tokens { IfOk result (λ x.
             Passes self.old (port_declarations_lexemes x.items) self.new) }
         ensures shorter { OnOk result (length self.new.rest.now ≤ length self.old.rest.now) }
@@ -284,7 +284,7 @@ impl<'a, 't> Parser<'a, 't> {
             AllStand (map port_declaration_part xs) more →
             first more ≡ Some (symbol Symbol.RightBrace) →
             Reads self.old (port_declarations_lexemes xs) more result self.new }
-        ensures fault { IfErr result IsOfGrammar }
+        ensures stuck { IfErr result (IsStuckAt self.new) }
     {
         let mut ports = Vec::new(alloc);
         'more: while !self.is_symbol_at(0, Symbol::RightBrace) {
@@ -296,7 +296,7 @@ impl<'a, 't> Parser<'a, 't> {
 
     /// A component type.
     #[tactic(auto, using(std::proofs::lemmas::List::append_assoc), unfolding(crate::specs::Definitions::component_type_lexemes))]
-    fn component_type(&mut self, alloc: Global) -> Result<ComponentType, ScriptFault>
+    fn component_type(&mut self, alloc: Global) -> Result<ComponentType, Stuck>
         ensures tokens { IfOk result (λ x. Passes self.old (component_type_lexemes x) self.new) }
         ensures shorter { OnOk result (length self.new.rest.now < length self.old.rest.now) }
         ensures lines { IfOk result (λ x. PassesLines self.old (component_type_notes x) self.new) }
@@ -305,7 +305,7 @@ impl<'a, 't> Parser<'a, 't> {
         ensures reads { (x : ComponentType) (more : List Lexeme) →
             IsTrue (defined_part (Defined.Component x)).is_right →
             Reads self.old (component_type_lexemes x) more result self.new }
-        ensures fault { IfErr result IsOfGrammar }
+        ensures stuck { IfErr result (IsStuckAt self.new) }
     {
         self.word(Word::Type)?;
         self.word(Word::Component)?;
@@ -318,7 +318,7 @@ impl<'a, 't> Parser<'a, 't> {
 
     /// What the definition of a type defines.
     #[tactic(auto, unfolding(crate::specs::Definitions::defined_lexemes))]
-    pub fn defined_type(&mut self, alloc: Global) -> Result<Defined, ScriptFault>
+    pub fn defined_type(&mut self, alloc: Global) -> Result<Defined, Stuck>
         ensures tokens { IfOk result (λ x. Passes self.old (defined_lexemes x) self.new) }
         ensures shorter { OnOk result (length self.new.rest.now < length self.old.rest.now) }
         ensures lines { IfOk result (λ x. PassesLines self.old (defined_notes x) self.new) }
@@ -328,7 +328,7 @@ impl<'a, 't> Parser<'a, 't> {
             IsTrue (is_type x) →
             IsTrue (defined_part x).is_right →
             Reads self.old (defined_lexemes x) more result self.new }
-        ensures fault { IfErr result IsOfGrammar }
+        ensures stuck { IfErr result (IsStuckAt self.new) }
     {
         if self.is_word_at(1, Word::Port) {
             let port = self.port_type(alloc)?;

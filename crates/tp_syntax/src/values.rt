@@ -1,92 +1,90 @@
 //! Values, types and messages.
-ghost use Rattle.std.specs.Prelude.{ℤ, List, MatchResult, [], OnErr, ◌≡◌, ◌+◌, ◌<◌, ◌≤◌, ◌∷◌, ◌++◌, IsTrue, length, map, pos, IfErr, IfOk, OnOk};
+ghost use Rattle.std.specs.Prelude.{ℤ, List, MatchResult, [], OnErr, ◌≡◌, ◌+◌, ◌<◌, ◌≤◌, ◌∷◌, ◌++◌, IsTrue, length, map, pos, IfOk, OnOk, IfErr};
 ghost use Rattle.tp_token.specs.Lexeme.{Lexeme, name, symbol};
-ghost use Rattle.tp_token.specs.Fault.{IsMemory};
-ghost use Rattle.tp_syntax.specs.Ahead.{ahead, before};
+ghost use Rattle.tp_syntax.specs.Ahead.{ahead, lexemes_from};
 ghost use Rattle.tp_syntax.specs.Forward.{GoesForward};
 ghost use Rattle.tp_syntax.specs.Passing.{Passes};
 ghost use Rattle.tp_syntax.specs.Sequences.{by_commas};
 ghost use Rattle.tp_syntax.specs.Values.{int_lexemes, type_lexemes, value_lexemes, value_field_lexemes, message_lexemes};
-ghost use Rattle.tp_syntax.specs.Grammar.{each, is_integer, is_value, is_value_field, one_and_each};
+ghost use Rattle.tp_syntax.specs.Grammar.{each, is_64_bit, is_value, is_value_field, one_and_each};
 ghost use Rattle.tp_syntax.specs.Nesting.{deepest, value_depth, value_field_depth};
 ghost use Rattle.tp_syntax.specs.Reading.{Reads, Stops};
-ghost use Rattle.tp_syntax.specs.Refusals.{IsOfGrammar};
+ghost use Rattle.tp_syntax.specs.Stuck.{IsForMemory, IsStuckAt};
 
-use crate::cursor::{Parser, below};
+use crate::cursor::Parser;
+use crate::faults::GREATEST;
+use crate::stuck::Stuck;
 use std::alloc::Global;
-use tp_token::fault::ScriptFault;
 use tp_token::token::{Symbol, Token};
 use tp_token::word::Word;
 use tp_tree::message::{Message, TypeName, Value, ValueField};
 
-/// The greatest number without a `-`.
-const GREATEST: u64 = 9_223_372_036_854_775_807;
-
-/// The integer that a number is. 15 `Limit` at the line: it is 9223372036854775808, which needs a
-/// `-` before it.
-pub(crate) fn positive(number: u64, line: u32) -> Result<i64, ScriptFault>
-    ensures value { IfOk result (λ z. z ≡ pos number) }
-    ensures within { IfOk result (λ z. IsTrue (is_integer z)) }
-    ensures greatest { OnErr result (9223372036854775808 ≤ number) }
-    ensures fault { IfErr result IsOfGrammar }
-{
-    if number > GREATEST {
-        return Err(ScriptFault::limit(line));
-    }
-    Ok(number as i64)
-}
-
 impl<'a, 't> Parser<'a, 't> {
+    /// The integer that a number is. The parser is stuck behind it where it is 9223372036854775808,
+    /// which needs a `-` before it.
+    pub fn positive(&self, number: u64) -> Result<i64, Stuck>
+        ensures value { IfOk result (λ z. z ≡ pos number) }
+        ensures within { IfOk result (λ z. IsTrue (is_64_bit z)) }
+        ensures greatest { OnErr result (9223372036854775808 ≤ number) }
+        ensures behind { IfErr result (λ e. e ≡ Stuck.Next (length self.now.rest.now)) }
+        ensures stuck { IfErr result (IsStuckAt self.now) }
+    {
+        if number > GREATEST {
+            return Err(Stuck::Next(self.rest.len()));
+        }
+        Ok(number as i64)
+    }
+
     /// The number behind a `-`.
-    pub fn negative(&mut self) -> Result<i64, ScriptFault>
+    pub fn negative(&mut self) -> Result<i64, Stuck>
         ensures tokens { IfOk result (λ z.
-            before (symbol Symbol.Minus) self.old.rest.now
+            lexemes_from (symbol Symbol.Minus) self.old.rest.now
             ≡ int_lexemes z ++ ahead self.new.rest.now) }
         ensures shorter { OnOk result (length self.new.rest.now + 1 ≡ length self.old.rest.now) }
         ensures forward { OnOk result (GoesForward self.old self.new) }
         ensures reads { (z : ℤ) (more : List Lexeme) →
-            int_lexemes z ++ more ≡ before (symbol Symbol.Minus) self.old.rest.now →
-            IsTrue (is_integer z) →
-            MatchResult result (λ _. ahead self.new.rest.now ≡ more) IsMemory }
-        ensures within { IfOk result (λ z. IsTrue (is_integer z)) }
-        ensures fault { IfErr result IsOfGrammar }
+            int_lexemes z ++ more ≡ lexemes_from (symbol Symbol.Minus) self.old.rest.now →
+            IsTrue (is_64_bit z) →
+            MatchResult result (λ _. ahead self.new.rest.now ≡ more) IsForMemory }
+        ensures within { IfOk result (λ z. IsTrue (is_64_bit z)) }
+        ensures stuck { IfErr result (IsStuckAt self.new) }
     {
         let placed = self.take()?;
         match placed.token {
             Token::Number(0) => Ok(0),
             Token::Number(n) if n <= GREATEST + 1 => Ok(-1 - (n - 1) as i64),
-            Token::Number(_) => Err(ScriptFault::limit(placed.line)),
-            _ => Err(ScriptFault::syntax(placed.line)),
+            Token::Number(_) => Err(Stuck::Next(self.rest.len())),
+            _ => Err(Stuck::Passed(self.rest.len())),
         }
     }
 
     /// An integer.
-    pub fn integer(&mut self) -> Result<i64, ScriptFault>
+    pub fn integer(&mut self) -> Result<i64, Stuck>
         ensures tokens { IfOk result (λ z. Passes self.old (int_lexemes z) self.new) }
         ensures shorter { OnOk result (length self.new.rest.now < length self.old.rest.now) }
         ensures forward { OnOk result (GoesForward self.old self.new) }
         ensures reads { (z : ℤ) (more : List Lexeme) →
-            IsTrue (is_integer z) →
+            IsTrue (is_64_bit z) →
             Reads self.old (int_lexemes z) more result self.new }
-        ensures within { IfOk result (λ z. IsTrue (is_integer z)) }
-        ensures fault { IfErr result IsOfGrammar }
+        ensures within { IfOk result (λ z. IsTrue (is_64_bit z)) }
+        ensures stuck { IfErr result (IsStuckAt self.new) }
     {
         let placed = self.take()?;
         match &placed.token {
             Token::Symbol(Symbol::Minus) => self.negative(),
-            Token::Number(n) => positive(*n, placed.line),
-            _ => Err(ScriptFault::syntax(placed.line)),
+            Token::Number(n) => self.positive(*n),
+            _ => Err(Stuck::Passed(self.rest.len())),
         }
     }
 
     /// The name of a type.
-    pub fn type_name(&mut self, alloc: Global) -> Result<TypeName, ScriptFault>
+    pub fn type_name(&mut self, alloc: Global) -> Result<TypeName, Stuck>
         ensures tokens { IfOk result (λ t. Passes self.old (type_lexemes t) self.new) }
         ensures shorter { OnOk result (length self.new.rest.now < length self.old.rest.now) }
         ensures forward { OnOk result (GoesForward self.old self.new) }
         ensures reads { (x : TypeName) (more : List Lexeme) →
             Reads self.old (type_lexemes x) more result self.new }
-        ensures fault { IfErr result IsOfGrammar }
+        ensures stuck { IfErr result (IsStuckAt self.new) }
     {
         let placed = self.take()?;
         match &placed.token {
@@ -97,13 +95,13 @@ impl<'a, 't> Parser<'a, 't> {
                 let name = String::from_str(alloc, spelling)?;
                 Ok(TypeName::Named(name))
             }
-            _ => Err(ScriptFault::syntax(placed.line)),
+            _ => Err(Stuck::Passed(self.rest.len())),
         }
     }
 
     /// A message.
     #[tactic(auto, using(std::proofs::lemmas::List::append_assoc))]
-    pub fn message(&mut self, alloc: Global, left: u32) -> Result<Message, ScriptFault>
+    pub fn message(&mut self, alloc: Global, left: u32) -> Result<Message, Stuck>
         ensures tokens { IfOk result (λ m. Passes self.old (message_lexemes m) self.new) }
         ensures shorter { OnOk result (length self.new.rest.now < length self.old.rest.now) }
         ensures forward { OnOk result (GoesForward self.old self.new) }
@@ -113,7 +111,7 @@ impl<'a, 't> Parser<'a, 't> {
             IsTrue (is_value x.value) →
             value_depth x.value ≤ left →
             Reads self.old (message_lexemes x) more result self.new }
-        ensures fault { IfErr result IsOfGrammar }
+        ensures stuck { IfErr result (IsStuckAt self.new) }
     {
         let type_name = self.type_name(alloc)?;
         self.symbol(Symbol::Colon)?;
@@ -124,7 +122,7 @@ impl<'a, 't> Parser<'a, 't> {
     /// A value, in which so many brackets may be opened.
     #[cycle(value)]
     #[tactic(auto, using(crate::proofs::ValueTokens::value_rules, crate::proofs::Nesting::value_nesting))]
-    pub fn value(&mut self, alloc: Global, left: u32) -> Result<Value, ScriptFault>
+    pub fn value(&mut self, alloc: Global, left: u32) -> Result<Value, Stuck>
         ensures tokens { IfOk result (λ v. Passes self.old (value_lexemes v) self.new) }
         ensures shorter { OnOk result (length self.new.rest.now < length self.old.rest.now) }
         ensures forward { OnOk result (GoesForward self.old self.new) }
@@ -134,7 +132,7 @@ impl<'a, 't> Parser<'a, 't> {
             IsTrue (is_value x) →
             value_depth x ≤ left →
             Reads self.old (value_lexemes x) more result self.new }
-        ensures fault { IfErr result IsOfGrammar }
+        ensures stuck { IfErr result (IsStuckAt self.new) }
     {
         let placed = self.take()?;
         match &placed.token {
@@ -143,7 +141,7 @@ impl<'a, 't> Parser<'a, 't> {
                 Ok(Value::Int(value))
             }
             Token::Number(n) => {
-                let value = positive(*n, placed.line)?;
+                let value = self.positive(*n)?;
                 Ok(Value::Int(value))
             }
             Token::Word(Word::True) => Ok(Value::Bool(true)),
@@ -157,17 +155,17 @@ impl<'a, 't> Parser<'a, 't> {
                 Ok(Value::Name(name))
             }
             Token::Symbol(Symbol::LeftBrace) => {
-                let inner = below(left, placed.line)?;
+                let inner = self.below(left)?;
                 self.value_entries(alloc, inner)
             }
-            _ => Err(ScriptFault::syntax(placed.line)),
+            _ => Err(Stuck::Passed(self.rest.len())),
         }
     }
 
     /// What stands behind the `{` of a value, and its `}`.
     #[cycle(value)]
     #[tactic(auto, using(crate::proofs::ValueTokens::value_rules, crate::proofs::Nesting::value_nesting, crate::proofs::Commas::braced_read))]
-    pub fn value_entries(&mut self, alloc: Global, left: u32) -> Result<Value, ScriptFault>
+    pub fn value_entries(&mut self, alloc: Global, left: u32) -> Result<Value, Stuck>
         ensures tokens { IfOk result (λ v.
             symbol Symbol.LeftBrace ∷ ahead self.old.rest.now
             ≡ value_lexemes v ++ ahead self.new.rest.now) }
@@ -185,7 +183,7 @@ impl<'a, 't> Parser<'a, 't> {
             deepest (map value_field_depth xs) ≤ left →
             Reads self.old (by_commas (map value_field_lexemes xs) ++ symbol Symbol.RightBrace ∷ [])
             more result self.new }
-        ensures fault { IfErr result IsOfGrammar }
+        ensures stuck { IfErr result (IsStuckAt self.new) }
     {
         if self.has_symbol(Symbol::RightBrace) {
             return Ok(Value::List(Vec::new(alloc)));
@@ -202,7 +200,7 @@ impl<'a, 't> Parser<'a, 't> {
 
     /// Values with a `,` between them.
     #[cycle(value)]
-    pub fn values(&mut self, alloc: Global, left: u32) -> Result<Vec<Value>, ScriptFault>
+    pub fn values(&mut self, alloc: Global, left: u32) -> Result<Vec<Value>, Stuck>
         ensures tokens { IfOk result (λ v.
             Passes self.old (by_commas (map value_lexemes v.items)) self.new) }
         ensures shorter { OnOk result (length self.new.rest.now < length self.old.rest.now) }
@@ -214,7 +212,7 @@ impl<'a, 't> Parser<'a, 't> {
             deepest (map value_depth xs) ≤ left →
             Stops more →
             Reads self.old (by_commas (map value_lexemes xs)) more result self.new }
-        ensures fault { IfErr result IsOfGrammar }
+        ensures stuck { IfErr result (IsStuckAt self.new) }
     {
         let mut values = Vec::new(alloc);
         let first = self.value(alloc, left)?;
@@ -228,7 +226,7 @@ impl<'a, 't> Parser<'a, 't> {
 
     /// Fields with a `,` between them.
     #[cycle(value)]
-    pub fn value_fields(&mut self, alloc: Global, left: u32) -> Result<Vec<ValueField>, ScriptFault>
+    pub fn value_fields(&mut self, alloc: Global, left: u32) -> Result<Vec<ValueField>, Stuck>
         ensures tokens { IfOk result (λ v.
             Passes self.old (by_commas (map value_field_lexemes v.items)) self.new) }
         ensures shorter { OnOk result (length self.new.rest.now < length self.old.rest.now) }
@@ -241,7 +239,7 @@ impl<'a, 't> Parser<'a, 't> {
             deepest (map value_field_depth xs) ≤ left →
             Stops more →
             Reads self.old (by_commas (map value_field_lexemes xs)) more result self.new }
-        ensures fault { IfErr result IsOfGrammar }
+        ensures stuck { IfErr result (IsStuckAt self.new) }
     {
         let mut fields = Vec::new(alloc);
         let first = self.value_field(alloc, left)?;
@@ -256,7 +254,7 @@ impl<'a, 't> Parser<'a, 't> {
     /// A field.
     #[cycle(value)]
     #[tactic(auto, using(crate::proofs::ValueTokens::value_rules, crate::proofs::Nesting::value_nesting))]
-    pub fn value_field(&mut self, alloc: Global, left: u32) -> Result<ValueField, ScriptFault>
+    pub fn value_field(&mut self, alloc: Global, left: u32) -> Result<ValueField, Stuck>
         ensures tokens { IfOk result (λ f. Passes self.old (value_field_lexemes f) self.new) }
         ensures shorter { OnOk result (length self.new.rest.now < length self.old.rest.now) }
         ensures forward { OnOk result (GoesForward self.old self.new) }
@@ -266,7 +264,7 @@ impl<'a, 't> Parser<'a, 't> {
             IsTrue (is_value_field x) →
             value_field_depth x ≤ left →
             Reads self.old (value_field_lexemes x) more result self.new }
-        ensures fault { IfErr result IsOfGrammar }
+        ensures stuck { IfErr result (IsStuckAt self.new) }
     {
         let name = self.name(alloc)?;
         self.symbol(Symbol::Assign)?;

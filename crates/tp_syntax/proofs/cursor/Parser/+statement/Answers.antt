@@ -10,14 +10,14 @@ use Rattle.tp_syntax.proofs.Commas.{push_read_all}
 use Rattle.tp_syntax.specs.Nesting.{branch_depth, statement_depth, statements_depth, branches_depth, otherwise_depth}
 use Rattle.tp_syntax.proofs.Nesting.{counted_depth_made, else_branch_depth_made, push_nests}
 use Rattle.std.proofs.lemmas.Bool.{and_from, false≢true, iff_false}
-use Rattle.tp_syntax.specs.Grammar.{are_parts, body_part, branch_part, branches_parts, has_one, is_integer, is_template_part, otherwise_parts, statement_part, statements_parts}
+use Rattle.tp_syntax.specs.Grammar.{are_parts, body_part, branch_part, branches_parts, has_one, is_64_bit, is_template_part, otherwise_parts, statement_part, statements_parts}
 use Rattle.tp_syntax.proofs.Grammar as grammar
 use Rattle.tp_syntax.proofs.Standing.{between_one, between_parts, between_push, between_then, bracket_goes_on, between_none}
 use Rattle.tp_syntax.proofs.Branches.{alt_of_branches, alt_of_else}
 use Rattle.std.proofs.lemmas.Grind.{common_steps}
 use Rattle.tp_syntax.proofs.Reading.{handed, end_at, branch_first, first_is}
 use Rattle.tp_syntax.proofs.Remaining.{RemainAll, all_next, all_last, all_deep, parts_stand}
-use Rattle.tp_syntax.specs.Reading.{is_branch_ahead, Stands, may_stand}
+use Rattle.tp_syntax.specs.Reading.{is_branch_ahead, MayStandBefore, may_end_before}
 use Rattle.tp_syntax.proofs.StatementParts.{branch_at, body_next, body_none, no_otherwise, otherwise_next, branches_stand, otherwise_stands, otherwise_no_branch, alt_read, zero_length, Says}
 use Rattle.tp_syntax.proofs.StatementGiven.{action_given, alt_given, branch_ends, branch_given, counted_given, statement_ends, statement_given}
 use Rattle.tp_syntax.proofs.StatementReading.{statement_begins, statement_goes, branch_begins, action_no_zero}
@@ -99,8 +99,8 @@ pub counted-returns-clause-grammatical : goal.counted-returns-clause-grammatical
 counted-returns-clause-grammatical t c =
     let turns = c.in_ok-turns.turns in
     rw grammar.counted_made
-    (and_from (is_integer turns.first) (is_integer turns.bound && are_parts (statements_parts c.in_ok-block.block.items)) c.in_ok-turns.ensures.within.0
-    (and_from (is_integer turns.bound) (are_parts (statements_parts c.in_ok-block.block.items)) c.in_ok-turns.ensures.within.1 c.in_ok-block.ensures.grammatical))
+    (and_from (is_64_bit turns.first) (is_64_bit turns.bound && are_parts (statements_parts c.in_ok-block.block.items)) c.in_ok-turns.ensures.within.0
+    (and_from (is_64_bit turns.bound) (are_parts (statements_parts c.in_ok-block.block.items)) c.in_ok-turns.ensures.within.1 c.in_ok-block.ensures.grammatical))
 
 pub otherwise-returns-clause-grammatical : goal.otherwise-returns-clause-grammatical
 otherwise-returns-clause-grammatical t c =
@@ -341,7 +341,7 @@ otherwise-returns-in_err-has_semicolon-clause-reads t c =
     let room : 0 < c.args.left = omega (arith, b.3) in
     let e1 = c.in_ok-else_mark.ensures.reads _ room b.4 in
     let e2 = c.in_ok-block.ensures.reads b.0 _ b.2 b.3 e1 in
-    let stands : Stands true more = ap (may_stand true) brace in
+    let stands : MayStandBefore true more = ap (may_end_before true) brace in
     handed c.from_residual-in_err-has_semicolon.result _ _ c.from_residual-in_err-has_semicolon.ensures.1 (c.in_err-has_semicolon.ensures.reads b.1 more stands e2)
 
 pub otherwise-returns-clause-reads : goal.otherwise-returns-clause-reads
@@ -351,7 +351,7 @@ otherwise-returns-clause-reads t c =
     let room : 0 < c.args.left = omega (arith, b.3) in
     let e1 = c.in_ok-else_mark.ensures.reads _ room b.4 in
     let e2 = c.in_ok-block.ensures.reads b.0 _ b.2 b.3 e1 in
-    let stands : Stands true more = ap (may_stand true) brace in
+    let stands : MayStandBefore true more = ap (may_end_before true) brace in
     c.in_ok-has_semicolon.ensures.reads b.1 more stands e2
 
 pub counted-returns-in_err-turns-clause-reads : goal.counted-returns-in_err-turns-clause-reads

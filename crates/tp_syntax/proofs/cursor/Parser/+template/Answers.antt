@@ -18,7 +18,7 @@ use Rattle.tp_token.specs.Lexeme.{name, word, number, text, symbol, lexeme_of}
 use Rattle.tp_token.specs.declared.token.Token.{Token}
 use Rattle.tp_token.specs.declared.token.Symbol.TheVariants.{Minus, LeftBrace, RightBrace, LeftParen, RightParen, Question, Star}
 use Rattle.tp_syntax.specs.declared.cursor.Parser.{Parser}
-use Rattle.tp_syntax.specs.Ahead.{ahead, before}
+use Rattle.tp_syntax.specs.Ahead.{ahead, lexemes_from}
 use Rattle.tp_syntax.specs.Sequences.{by_commas}
 use Rattle.tp_syntax.specs.Reading.{first}
 use Rattle.tp_syntax.proofs.Entries.{list_no_field, field_at, each_one, too_great}
@@ -174,61 +174,61 @@ template-returns-in_err-placed-clause-reads t c =
 pub template-returns-in_err-value-in-Symbol-Minus-clause-reads : goal.template-returns-in_err-value-in-Symbol-Minus-clause-reads
 template-returns-in_err-value-in-Symbol-Minus-clause-reads t c =
     λ x more right deep e.
-    let m = template_minus x more c.take.new.self.rest.now right (sym (sym e ∙ c.in_ok-placed.ensures.tokens ∙ ap (λ (k : Token). before (lexeme_of k) c.take.new.self.rest.now) (let first_token : c.in_ok-placed.placed.now.token ≡ token.Symbol Minus = first_of (search rules, grind arith) in first_token))) in
+    let m = template_minus x more c.take.new.self.rest.now right (sym (sym e ∙ c.in_ok-placed.ensures.tokens ∙ ap (λ (k : Token). lexemes_from (lexeme_of k) c.take.new.self.rest.now) (let first_token : c.in_ok-placed.placed.now.token ≡ token.Symbol Minus = first_of (search rules, grind arith) in first_token))) in
     handed c.from_residual-in_err-value-in-Symbol-Minus.result _ _ c.from_residual-in_err-value-in-Symbol-Minus.ensures.1 (c.in_err-value-in-Symbol-Minus.ensures.reads m.0 more m.2 m.1)
 
 pub template-returns-in_ok-value-in-Symbol-Minus-clause-reads : goal.template-returns-in_ok-value-in-Symbol-Minus-clause-reads
 template-returns-in_ok-value-in-Symbol-Minus-clause-reads t c =
     λ x more right deep e.
-    let m = template_minus x more c.take.new.self.rest.now right (sym (sym e ∙ c.in_ok-placed.ensures.tokens ∙ ap (λ (k : Token). before (lexeme_of k) c.take.new.self.rest.now) (let first_token : c.in_ok-placed.placed.now.token ≡ token.Symbol Minus = first_of (search rules, grind arith) in first_token))) in
+    let m = template_minus x more c.take.new.self.rest.now right (sym (sym e ∙ c.in_ok-placed.ensures.tokens ∙ ap (λ (k : Token). lexemes_from (lexeme_of k) c.take.new.self.rest.now) (let first_token : c.in_ok-placed.placed.now.token ≡ token.Symbol Minus = first_of (search rules, grind arith) in first_token))) in
     c.in_ok-value-in-Symbol-Minus.ensures.reads m.0 more m.2 m.1
 
 pub template-returns-in_err-value-in-Number-clause-reads : goal.template-returns-in_err-value-in-Number-clause-reads
 template-returns-in_err-value-in-Number-clause-reads t c =
     λ x more right deep e.
-    let b = template_behind c.args.left x more (number c.in-Number.n) _ right deep (sym e ∙ c.in_ok-placed.ensures.tokens ∙ ap (λ (k : Token). before (lexeme_of k) c.take.new.self.rest.now) (c.in-Number.is)) in
+    let b = template_behind c.args.left x more (number c.in-Number.n) _ right deep (sym e ∙ c.in_ok-placed.ensures.tokens ∙ ap (λ (k : Token). lexemes_from (lexeme_of k) c.take.new.self.rest.now) (c.in-Number.is)) in
     absurd (too_great c.in-Number.n c.in_err-value-in-Number.ensures.greatest b.0)
 
 pub template-returns-in_ok-value-in-Number-clause-reads : goal.template-returns-in_ok-value-in-Number-clause-reads
 template-returns-in_ok-value-in-Number-clause-reads t c =
     λ x more right deep e.
-    let b = template_behind c.args.left x more (number c.in-Number.n) _ right deep (sym e ∙ c.in_ok-placed.ensures.tokens ∙ ap (λ (k : Token). before (lexeme_of k) c.take.new.self.rest.now) (c.in-Number.is)) in
+    let b = template_behind c.args.left x more (number c.in-Number.n) _ right deep (sym e ∙ c.in_ok-placed.ensures.tokens ∙ ap (λ (k : Token). lexemes_from (lexeme_of k) c.take.new.self.rest.now) (c.in-Number.is)) in
     b.1
 
 pub template-returns-in-Word-True-clause-reads : goal.template-returns-in-Word-True-clause-reads
 template-returns-in-Word-True-clause-reads t c =
     λ x more right deep e.
-    let b = template_behind c.args.left x more (word w.True) _ right deep (sym e ∙ c.in_ok-placed.ensures.tokens ∙ ap (λ (k : Token). before (lexeme_of k) c.take.new.self.rest.now) (let first_token : c.in_ok-placed.placed.now.token ≡ token.Word w.True = first_of (search rules, grind arith) in first_token)) in
+    let b = template_behind c.args.left x more (word w.True) _ right deep (sym e ∙ c.in_ok-placed.ensures.tokens ∙ ap (λ (k : Token). lexemes_from (lexeme_of k) c.take.new.self.rest.now) (let first_token : c.in_ok-placed.placed.now.token ≡ token.Word w.True = first_of (search rules, grind arith) in first_token)) in
     b
 
 pub template-returns-in-Word-False-clause-reads : goal.template-returns-in-Word-False-clause-reads
 template-returns-in-Word-False-clause-reads t c =
     λ x more right deep e.
-    let b = template_behind c.args.left x more (word w.False) _ right deep (sym e ∙ c.in_ok-placed.ensures.tokens ∙ ap (λ (k : Token). before (lexeme_of k) c.take.new.self.rest.now) (let first_token : c.in_ok-placed.placed.now.token ≡ token.Word w.False = first_of (search rules, grind arith) in first_token)) in
+    let b = template_behind c.args.left x more (word w.False) _ right deep (sym e ∙ c.in_ok-placed.ensures.tokens ∙ ap (λ (k : Token). lexemes_from (lexeme_of k) c.take.new.self.rest.now) (let first_token : c.in_ok-placed.placed.now.token ≡ token.Word w.False = first_of (search rules, grind arith) in first_token)) in
     b
 
 pub template-returns-in_ok-characters-in-Text-clause-reads : goal.template-returns-in_ok-characters-in-Text-clause-reads
 template-returns-in_ok-characters-in-Text-clause-reads t c =
     λ x more right deep e.
-    let b = template_behind c.args.left x more (text _) _ right deep (sym e ∙ c.in_ok-placed.ensures.tokens ∙ ap (λ (k : Token). before (lexeme_of k) c.take.new.self.rest.now) (c.in-Text.is)) in
+    let b = template_behind c.args.left x more (text _) _ right deep (sym e ∙ c.in_ok-placed.ensures.tokens ∙ ap (λ (k : Token). lexemes_from (lexeme_of k) c.take.new.self.rest.now) (c.in-Text.is)) in
     b
 
 pub template-returns-in_ok-name-in-Name-clause-reads : goal.template-returns-in_ok-name-in-Name-clause-reads
 template-returns-in_ok-name-in-Name-clause-reads t c =
     λ x more right deep e.
-    let b = template_behind c.args.left x more (name _) _ right deep (sym e ∙ c.in_ok-placed.ensures.tokens ∙ ap (λ (k : Token). before (lexeme_of k) c.take.new.self.rest.now) (c.in-Name.is)) in
+    let b = template_behind c.args.left x more (name _) _ right deep (sym e ∙ c.in_ok-placed.ensures.tokens ∙ ap (λ (k : Token). lexemes_from (lexeme_of k) c.take.new.self.rest.now) (c.in-Name.is)) in
     b
 
 pub template-returns-in_err-inner-in-Symbol-LeftBrace-clause-reads : goal.template-returns-in_err-inner-in-Symbol-LeftBrace-clause-reads
 template-returns-in_err-inner-in-Symbol-LeftBrace-clause-reads t c =
     λ x more right deep e.
-    let b = template_behind c.args.left x more (symbol LeftBrace) _ right deep (sym e ∙ c.in_ok-placed.ensures.tokens ∙ ap (λ (k : Token). before (lexeme_of k) c.take.new.self.rest.now) (let first_token : c.in_ok-placed.placed.now.token ≡ token.Symbol LeftBrace = first_of (search rules, grind arith) in first_token)) in
+    let b = template_behind c.args.left x more (symbol LeftBrace) _ right deep (sym e ∙ c.in_ok-placed.ensures.tokens ∙ ap (λ (k : Token). lexemes_from (lexeme_of k) c.take.new.self.rest.now) (let first_token : c.in_ok-placed.placed.now.token ≡ token.Symbol LeftBrace = first_of (search rules, grind arith) in first_token)) in
     absurd (omega (arith, b.1, c.in_err-inner-in-Symbol-LeftBrace.ensures.full))
 
 pub template-returns-in_ok-inner-in-Symbol-LeftBrace-clause-reads : goal.template-returns-in_ok-inner-in-Symbol-LeftBrace-clause-reads
 template-returns-in_ok-inner-in-Symbol-LeftBrace-clause-reads t c =
     λ x more right deep e.
-    let b = template_behind c.args.left x more (symbol LeftBrace) _ right deep (sym e ∙ c.in_ok-placed.ensures.tokens ∙ ap (λ (k : Token). before (lexeme_of k) c.take.new.self.rest.now) (let first_token : c.in_ok-placed.placed.now.token ≡ token.Symbol LeftBrace = first_of (search rules, grind arith) in first_token)) in
+    let b = template_behind c.args.left x more (symbol LeftBrace) _ right deep (sym e ∙ c.in_ok-placed.ensures.tokens ∙ ap (λ (k : Token). lexemes_from (lexeme_of k) c.take.new.self.rest.now) (let first_token : c.in_ok-placed.placed.now.token ≡ token.Symbol LeftBrace = first_of (search rules, grind arith) in first_token)) in
     elim b.2 [
       | inl l ↦ c.template_entries.ensures.reads_list l.0 more l.1 (omega (arith, l.2, b.1, c.in_ok-inner-in-Symbol-LeftBrace.ensures.value)) l.3
       | inr l ↦ c.template_entries.ensures.reads_record l.0 more l.1 (omega (arith, l.2, b.1, c.in_ok-inner-in-Symbol-LeftBrace.ensures.value)) l.3
@@ -314,25 +314,25 @@ template_field-returns-clause-reads t c =
 pub template-returns-in-Symbol-Question-clause-reads : goal.template-returns-in-Symbol-Question-clause-reads
 template-returns-in-Symbol-Question-clause-reads t c =
     λ x more right deep e.
-    let b = template_behind c.args.left x more (symbol Question) _ right deep (sym e ∙ c.in_ok-placed.ensures.tokens ∙ ap (λ (k : Token). before (lexeme_of k) c.take.new.self.rest.now) (let first_token : c.in_ok-placed.placed.now.token ≡ token.Symbol Question = first_of (search rules, grind arith) in first_token)) in
+    let b = template_behind c.args.left x more (symbol Question) _ right deep (sym e ∙ c.in_ok-placed.ensures.tokens ∙ ap (λ (k : Token). lexemes_from (lexeme_of k) c.take.new.self.rest.now) (let first_token : c.in_ok-placed.placed.now.token ≡ token.Symbol Question = first_of (search rules, grind arith) in first_token)) in
     b
 
 pub template-returns-in-Symbol-Star-clause-reads : goal.template-returns-in-Symbol-Star-clause-reads
 template-returns-in-Symbol-Star-clause-reads t c =
     λ x more right deep e.
-    let b = template_behind c.args.left x more (symbol Star) _ right deep (sym e ∙ c.in_ok-placed.ensures.tokens ∙ ap (λ (k : Token). before (lexeme_of k) c.take.new.self.rest.now) (let first_token : c.in_ok-placed.placed.now.token ≡ token.Symbol Star = first_of (search rules, grind arith) in first_token)) in
+    let b = template_behind c.args.left x more (symbol Star) _ right deep (sym e ∙ c.in_ok-placed.ensures.tokens ∙ ap (λ (k : Token). lexemes_from (lexeme_of k) c.take.new.self.rest.now) (let first_token : c.in_ok-placed.placed.now.token ≡ token.Symbol Star = first_of (search rules, grind arith) in first_token)) in
     b
 
 pub template-returns-in_err-inner-in-Symbol-LeftParen-clause-reads : goal.template-returns-in_err-inner-in-Symbol-LeftParen-clause-reads
 template-returns-in_err-inner-in-Symbol-LeftParen-clause-reads t c =
     λ x more right deep e.
-    let b = template_behind c.args.left x more (symbol LeftParen) _ right deep (sym e ∙ c.in_ok-placed.ensures.tokens ∙ ap (λ (k : Token). before (lexeme_of k) c.take.new.self.rest.now) (let first_token : c.in_ok-placed.placed.now.token ≡ token.Symbol LeftParen = first_of (search rules, grind arith) in first_token)) in
+    let b = template_behind c.args.left x more (symbol LeftParen) _ right deep (sym e ∙ c.in_ok-placed.ensures.tokens ∙ ap (λ (k : Token). lexemes_from (lexeme_of k) c.take.new.self.rest.now) (let first_token : c.in_ok-placed.placed.now.token ≡ token.Symbol LeftParen = first_of (search rules, grind arith) in first_token)) in
     absurd (omega (arith, b.1, c.in_err-inner-in-Symbol-LeftParen.ensures.full))
 
 pub template-returns-in_ok-inner-in-Symbol-LeftParen-clause-reads : goal.template-returns-in_ok-inner-in-Symbol-LeftParen-clause-reads
 template-returns-in_ok-inner-in-Symbol-LeftParen-clause-reads t c =
     λ x more right deep e.
-    let b = template_behind c.args.left x more (symbol LeftParen) _ right deep (sym e ∙ c.in_ok-placed.ensures.tokens ∙ ap (λ (k : Token). before (lexeme_of k) c.take.new.self.rest.now) (let first_token : c.in_ok-placed.placed.now.token ≡ token.Symbol LeftParen = first_of (search rules, grind arith) in first_token)) in
+    let b = template_behind c.args.left x more (symbol LeftParen) _ right deep (sym e ∙ c.in_ok-placed.ensures.tokens ∙ ap (λ (k : Token). lexemes_from (lexeme_of k) c.take.new.self.rest.now) (let first_token : c.in_ok-placed.placed.now.token ≡ token.Symbol LeftParen = first_of (search rules, grind arith) in first_token)) in
     elim b.2 [
       | inl l ↦ c.alternatives.ensures.reads_range l.0 l.1 more l.2 l.3 l.4
       | inr l ↦ c.alternatives.ensures.reads_list l.0 more l.1 (omega (arith, l.2, b.1, c.in_ok-inner-in-Symbol-LeftParen.ensures.value)) l.3
@@ -341,13 +341,13 @@ template-returns-in_ok-inner-in-Symbol-LeftParen-clause-reads t c =
 pub template-returns-in-Word-Complement-clause-reads : goal.template-returns-in-Word-Complement-clause-reads
 template-returns-in-Word-Complement-clause-reads t c =
     λ x more right deep e.
-    let b = template_behind c.args.left x more (word w.Complement) _ right deep (sym e ∙ c.in_ok-placed.ensures.tokens ∙ ap (λ (k : Token). before (lexeme_of k) c.take.new.self.rest.now) (let first_token : c.in_ok-placed.placed.now.token ≡ token.Word w.Complement = first_of (search rules, grind arith) in first_token)) in
+    let b = template_behind c.args.left x more (word w.Complement) _ right deep (sym e ∙ c.in_ok-placed.ensures.tokens ∙ ap (λ (k : Token). lexemes_from (lexeme_of k) c.take.new.self.rest.now) (let first_token : c.in_ok-placed.placed.now.token ≡ token.Word w.Complement = first_of (search rules, grind arith) in first_token)) in
     c.complement.ensures.reads b.0 more b.1 b.2 b.3
 
 pub template-returns-in-Word-Pattern-clause-reads : goal.template-returns-in-Word-Pattern-clause-reads
 template-returns-in-Word-Pattern-clause-reads t c =
     λ x more right deep e.
-    let b = template_behind c.args.left x more (word w.Pattern) _ right deep (sym e ∙ c.in_ok-placed.ensures.tokens ∙ ap (λ (k : Token). before (lexeme_of k) c.take.new.self.rest.now) (let first_token : c.in_ok-placed.placed.now.token ≡ token.Word w.Pattern = first_of (search rules, grind arith) in first_token)) in
+    let b = template_behind c.args.left x more (word w.Pattern) _ right deep (sym e ∙ c.in_ok-placed.ensures.tokens ∙ ap (λ (k : Token). lexemes_from (lexeme_of k) c.take.new.self.rest.now) (let first_token : c.in_ok-placed.placed.now.token ≡ token.Word w.Pattern = first_of (search rules, grind arith) in first_token)) in
     c.pattern.ensures.reads b.0 more b.1 b.2
 
 pub alternatives-returns-in_err-low-clause-reads_list : goal.alternatives-returns-in_err-low-clause-reads_list

@@ -17,7 +17,7 @@ use Rattle.tp_token.specs.Lexeme.{name, word, number, text, symbol, lexeme_of}
 use Rattle.tp_token.specs.declared.token.Token.{Token}
 use Rattle.tp_token.specs.declared.token.Symbol.TheVariants.{Minus, LeftBrace, RightBrace}
 use Rattle.tp_syntax.specs.declared.cursor.Parser.{Parser}
-use Rattle.tp_syntax.specs.Ahead.{ahead, before}
+use Rattle.tp_syntax.specs.Ahead.{ahead, lexemes_from}
 use Rattle.tp_syntax.specs.Sequences.{by_commas}
 use Rattle.tp_syntax.specs.Reading.{first}
 use Rattle.tp_syntax.proofs.Entries.{list_no_field, field_at, each_one, too_great}
@@ -157,61 +157,61 @@ value-returns-in_err-placed-clause-reads t c =
 pub value-returns-in_err-value-in-Symbol-Minus-clause-reads : goal.value-returns-in_err-value-in-Symbol-Minus-clause-reads
 value-returns-in_err-value-in-Symbol-Minus-clause-reads t c =
     λ x more right deep e.
-    let m = value_minus x more c.take.new.self.rest.now right (sym (sym e ∙ c.in_ok-placed.ensures.tokens ∙ ap (λ (k : Token). before (lexeme_of k) c.take.new.self.rest.now) (let first_token : c.in_ok-placed.placed.now.token ≡ token.Symbol Minus = first_of (search rules, grind arith) in first_token))) in
+    let m = value_minus x more c.take.new.self.rest.now right (sym (sym e ∙ c.in_ok-placed.ensures.tokens ∙ ap (λ (k : Token). lexemes_from (lexeme_of k) c.take.new.self.rest.now) (let first_token : c.in_ok-placed.placed.now.token ≡ token.Symbol Minus = first_of (search rules, grind arith) in first_token))) in
     handed c.from_residual-in_err-value-in-Symbol-Minus.result _ _ c.from_residual-in_err-value-in-Symbol-Minus.ensures.1 (c.in_err-value-in-Symbol-Minus.ensures.reads m.0 more m.2 m.1)
 
 pub value-returns-in_ok-value-in-Symbol-Minus-clause-reads : goal.value-returns-in_ok-value-in-Symbol-Minus-clause-reads
 value-returns-in_ok-value-in-Symbol-Minus-clause-reads t c =
     λ x more right deep e.
-    let m = value_minus x more c.take.new.self.rest.now right (sym (sym e ∙ c.in_ok-placed.ensures.tokens ∙ ap (λ (k : Token). before (lexeme_of k) c.take.new.self.rest.now) (let first_token : c.in_ok-placed.placed.now.token ≡ token.Symbol Minus = first_of (search rules, grind arith) in first_token))) in
+    let m = value_minus x more c.take.new.self.rest.now right (sym (sym e ∙ c.in_ok-placed.ensures.tokens ∙ ap (λ (k : Token). lexemes_from (lexeme_of k) c.take.new.self.rest.now) (let first_token : c.in_ok-placed.placed.now.token ≡ token.Symbol Minus = first_of (search rules, grind arith) in first_token))) in
     c.in_ok-value-in-Symbol-Minus.ensures.reads m.0 more m.2 m.1
 
 pub value-returns-in_err-value-in-Number-clause-reads : goal.value-returns-in_err-value-in-Number-clause-reads
 value-returns-in_err-value-in-Number-clause-reads t c =
     λ x more right deep e.
-    let b = value_behind c.args.left x more (number c.in-Number.n) _ right deep (sym e ∙ c.in_ok-placed.ensures.tokens ∙ ap (λ (k : Token). before (lexeme_of k) c.take.new.self.rest.now) (c.in-Number.is)) in
+    let b = value_behind c.args.left x more (number c.in-Number.n) _ right deep (sym e ∙ c.in_ok-placed.ensures.tokens ∙ ap (λ (k : Token). lexemes_from (lexeme_of k) c.take.new.self.rest.now) (c.in-Number.is)) in
     absurd (too_great c.in-Number.n c.in_err-value-in-Number.ensures.greatest b.0)
 
 pub value-returns-in_ok-value-in-Number-clause-reads : goal.value-returns-in_ok-value-in-Number-clause-reads
 value-returns-in_ok-value-in-Number-clause-reads t c =
     λ x more right deep e.
-    let b = value_behind c.args.left x more (number c.in-Number.n) _ right deep (sym e ∙ c.in_ok-placed.ensures.tokens ∙ ap (λ (k : Token). before (lexeme_of k) c.take.new.self.rest.now) (c.in-Number.is)) in
+    let b = value_behind c.args.left x more (number c.in-Number.n) _ right deep (sym e ∙ c.in_ok-placed.ensures.tokens ∙ ap (λ (k : Token). lexemes_from (lexeme_of k) c.take.new.self.rest.now) (c.in-Number.is)) in
     b.1
 
 pub value-returns-in-Word-True-clause-reads : goal.value-returns-in-Word-True-clause-reads
 value-returns-in-Word-True-clause-reads t c =
     λ x more right deep e.
-    let b = value_behind c.args.left x more (word w.True) _ right deep (sym e ∙ c.in_ok-placed.ensures.tokens ∙ ap (λ (k : Token). before (lexeme_of k) c.take.new.self.rest.now) (let first_token : c.in_ok-placed.placed.now.token ≡ token.Word w.True = first_of (search rules, grind arith) in first_token)) in
+    let b = value_behind c.args.left x more (word w.True) _ right deep (sym e ∙ c.in_ok-placed.ensures.tokens ∙ ap (λ (k : Token). lexemes_from (lexeme_of k) c.take.new.self.rest.now) (let first_token : c.in_ok-placed.placed.now.token ≡ token.Word w.True = first_of (search rules, grind arith) in first_token)) in
     b
 
 pub value-returns-in-Word-False-clause-reads : goal.value-returns-in-Word-False-clause-reads
 value-returns-in-Word-False-clause-reads t c =
     λ x more right deep e.
-    let b = value_behind c.args.left x more (word w.False) _ right deep (sym e ∙ c.in_ok-placed.ensures.tokens ∙ ap (λ (k : Token). before (lexeme_of k) c.take.new.self.rest.now) (let first_token : c.in_ok-placed.placed.now.token ≡ token.Word w.False = first_of (search rules, grind arith) in first_token)) in
+    let b = value_behind c.args.left x more (word w.False) _ right deep (sym e ∙ c.in_ok-placed.ensures.tokens ∙ ap (λ (k : Token). lexemes_from (lexeme_of k) c.take.new.self.rest.now) (let first_token : c.in_ok-placed.placed.now.token ≡ token.Word w.False = first_of (search rules, grind arith) in first_token)) in
     b
 
 pub value-returns-in_ok-characters-in-Text-clause-reads : goal.value-returns-in_ok-characters-in-Text-clause-reads
 value-returns-in_ok-characters-in-Text-clause-reads t c =
     λ x more right deep e.
-    let b = value_behind c.args.left x more (text _) _ right deep (sym e ∙ c.in_ok-placed.ensures.tokens ∙ ap (λ (k : Token). before (lexeme_of k) c.take.new.self.rest.now) (c.in-Text.is)) in
+    let b = value_behind c.args.left x more (text _) _ right deep (sym e ∙ c.in_ok-placed.ensures.tokens ∙ ap (λ (k : Token). lexemes_from (lexeme_of k) c.take.new.self.rest.now) (c.in-Text.is)) in
     b
 
 pub value-returns-in_ok-name-in-Name-clause-reads : goal.value-returns-in_ok-name-in-Name-clause-reads
 value-returns-in_ok-name-in-Name-clause-reads t c =
     λ x more right deep e.
-    let b = value_behind c.args.left x more (name _) _ right deep (sym e ∙ c.in_ok-placed.ensures.tokens ∙ ap (λ (k : Token). before (lexeme_of k) c.take.new.self.rest.now) (c.in-Name.is)) in
+    let b = value_behind c.args.left x more (name _) _ right deep (sym e ∙ c.in_ok-placed.ensures.tokens ∙ ap (λ (k : Token). lexemes_from (lexeme_of k) c.take.new.self.rest.now) (c.in-Name.is)) in
     b
 
 pub value-returns-in_err-inner-in-Symbol-LeftBrace-clause-reads : goal.value-returns-in_err-inner-in-Symbol-LeftBrace-clause-reads
 value-returns-in_err-inner-in-Symbol-LeftBrace-clause-reads t c =
     λ x more right deep e.
-    let b = value_behind c.args.left x more (symbol LeftBrace) _ right deep (sym e ∙ c.in_ok-placed.ensures.tokens ∙ ap (λ (k : Token). before (lexeme_of k) c.take.new.self.rest.now) (let first_token : c.in_ok-placed.placed.now.token ≡ token.Symbol LeftBrace = first_of (search rules, grind arith) in first_token)) in
+    let b = value_behind c.args.left x more (symbol LeftBrace) _ right deep (sym e ∙ c.in_ok-placed.ensures.tokens ∙ ap (λ (k : Token). lexemes_from (lexeme_of k) c.take.new.self.rest.now) (let first_token : c.in_ok-placed.placed.now.token ≡ token.Symbol LeftBrace = first_of (search rules, grind arith) in first_token)) in
     absurd (omega (arith, b.1, c.in_err-inner-in-Symbol-LeftBrace.ensures.full))
 
 pub value-returns-in_ok-inner-in-Symbol-LeftBrace-clause-reads : goal.value-returns-in_ok-inner-in-Symbol-LeftBrace-clause-reads
 value-returns-in_ok-inner-in-Symbol-LeftBrace-clause-reads t c =
     λ x more right deep e.
-    let b = value_behind c.args.left x more (symbol LeftBrace) _ right deep (sym e ∙ c.in_ok-placed.ensures.tokens ∙ ap (λ (k : Token). before (lexeme_of k) c.take.new.self.rest.now) (let first_token : c.in_ok-placed.placed.now.token ≡ token.Symbol LeftBrace = first_of (search rules, grind arith) in first_token)) in
+    let b = value_behind c.args.left x more (symbol LeftBrace) _ right deep (sym e ∙ c.in_ok-placed.ensures.tokens ∙ ap (λ (k : Token). lexemes_from (lexeme_of k) c.take.new.self.rest.now) (let first_token : c.in_ok-placed.placed.now.token ≡ token.Symbol LeftBrace = first_of (search rules, grind arith) in first_token)) in
     elim b.2 [
       | inl l ↦ c.value_entries.ensures.reads_list l.0 more l.1 (omega (arith, l.2, b.1, c.in_ok-inner-in-Symbol-LeftBrace.ensures.value)) l.3
       | inr l ↦ c.value_entries.ensures.reads_record l.0 more l.1 (omega (arith, l.2, b.1, c.in_ok-inner-in-Symbol-LeftBrace.ensures.value)) l.3

@@ -3,7 +3,7 @@ use Rattle.std.proofs.Common.{◌++◌, ◌||◌, List, ap, sym, subst, ◌∙�
 use Rattle.tp_token.specs.Lexeme.{Lexeme}
 use Rattle.tp_syntax.specs.Sequences.{end_lexemes}
 use Rattle.tp_syntax.specs.Definitions.{defined_lexemes}
-use Rattle.tp_syntax.specs.Reading.{Stands}
+use Rattle.tp_syntax.specs.Reading.{MayStandBefore}
 use Rattle.tp_syntax.proofs.CaseReading.{same_closed}
 use Rattle.tp_syntax.proofs.Reading.{handed}
 use Rattle.tp_syntax.specs.Ahead.{starts_zero}
@@ -24,7 +24,7 @@ returns-in_err-has_semicolon-clause-reads c =
     let e1 = c.in_ok-defined.ensures.reads x.defined _ placed.0 deep e0 in
     let same = same_closed c.in_ok-defined.defined x.defined (end_lexemes x.has_semicolon ++ more)
     (sym (c.in_ok-defined.ensures.tokens ∙ ap (λ (l : List Lexeme). defined_lexemes c.in_ok-defined.defined ++ l) e1) ∙ e0) in
-    let ended = subst (λ b. Stands (b || x.has_semicolon) more) (sym (c.ends_in_brace-is_closed.ensures ∙ same)) placed.1 in
+    let ended = subst (λ b. MayStandBefore (b || x.has_semicolon) more) (sym (c.ends_in_brace-is_closed.ensures ∙ same)) placed.1 in
     handed c.from_residual-in_err-has_semicolon.result _ _ c.from_residual-in_err-has_semicolon.ensures.1 (c.in_err-has_semicolon.ensures.reads x.has_semicolon more ended e1)
 
 pub returns-clause-reads : goal.returns-clause-reads
@@ -34,7 +34,7 @@ returns-clause-reads c =
     let e1 = c.in_ok-defined.ensures.reads x.defined _ placed.0 deep e0 in
     let same = same_closed c.in_ok-defined.defined x.defined (end_lexemes x.has_semicolon ++ more)
     (sym (c.in_ok-defined.ensures.tokens ∙ ap (λ (l : List Lexeme). defined_lexemes c.in_ok-defined.defined ++ l) e1) ∙ e0) in
-    let ended = subst (λ b. Stands (b || x.has_semicolon) more) (sym (c.ends_in_brace-is_closed.ensures ∙ same)) placed.1 in
+    let ended = subst (λ b. MayStandBefore (b || x.has_semicolon) more) (sym (c.ends_in_brace-is_closed.ensures ∙ same)) placed.1 in
     c.in_ok-has_semicolon.ensures.reads x.has_semicolon more ended e1
 
 pub returns-clause-lines : goal.returns-clause-lines

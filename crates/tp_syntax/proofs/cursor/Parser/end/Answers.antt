@@ -7,16 +7,16 @@ use Rattle.tp_token.specs.Lexeme.{Lexeme, symbol}
 use Rattle.tp_syntax.specs.declared.cursor.Parser.{Parser}
 use Rattle.tp_syntax.specs.Ahead.{ahead, token_at}
 use Rattle.tp_syntax.specs.Sequences.{end_lexemes}
-use Rattle.tp_syntax.specs.Reading.{first, may_stand, Stands}
+use Rattle.tp_syntax.specs.Reading.{first, may_end_before, MayStandBefore}
 use Rattle.tp_syntax.proofs.Reading.{brace_at}
 use Rattle.tp_syntax.proofs.cursor.Parser.end.Goals as goal
 
 -- a part that isn't ended stands before a `}`
-before_brace : (t : Option Lexeme) → may_stand false t ≡ true → t ≡ Some (symbol RightBrace)
+before_brace : (t : Option Lexeme) → may_end_before false t ≡ true → t ≡ Some (symbol RightBrace)
 before_brace (Some (symbol RightBrace)) h = refl
 before_brace t h = absurd (false≢true h)
 
-missing : (closed e : Bool) (old : List Lexeme) (ps : List Placed) (more : List Lexeme) → Stands (closed || e) more → old ≡ end_lexemes e ++ more →
+missing : (closed e : Bool) (old : List Lexeme) (ps : List Placed) (more : List Lexeme) → MayStandBefore (closed || e) more → old ≡ end_lexemes e ++ more →
     first old ≢ Some (symbol Semicolon) → ahead ps ≡ old → closed ≡ false → (token_at ps 0 ≡ Some (symbol RightBrace) → ⊥) → ⊥
 missing closed true old ps more stands e other same shut closes = other (ap first e)
 missing true false old ps more stands e other same shut closes = false≢true (sym shut)

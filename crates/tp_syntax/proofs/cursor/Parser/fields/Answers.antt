@@ -5,7 +5,7 @@ use Rattle.tp_syntax.proofs.Commas.{push_read}
 use Rattle.std.proofs.lemmas.Grind.{common_steps}
 use Rattle.tp_syntax.proofs.Reading.{handed, same_ahead, brace_at, brace_first}
 use Rattle.tp_syntax.proofs.Remaining.{Remain, comma_first, comma_next, comma_last, all_any, none_of, some_of}
-use Rattle.tp_syntax.specs.Reading.{first, is_stop}
+use Rattle.tp_syntax.specs.Reading.{first, ends_operation}
 use Rattle.tp_syntax.proofs.Begins.{field_no_brace}
 use Rattle.std.proofs.lemmas.Bool.{iff_false}
 use Rattle.tp_syntax.specs.declared.cursor.Parser.{Parser}
@@ -16,7 +16,7 @@ use Rattle.tp_syntax.proofs.cursor.Parser.fields.Goals as goal
 pub more-preserved : goal.more-preserved
 more-preserved c = record {
   reads = λ xs more close e.
-      let n = comma_next field_type_lexemes (λ _. Unit {0}) more _ _ (c.more.invariant.reads xs more close e) c.more-test.ensures.yes (ap is_stop close) in
+      let n = comma_next field_type_lexemes (λ _. Unit {0}) more _ _ (c.more.invariant.reads xs more close e) c.more-test.ensures.yes (ap ends_operation close) in
       subst (Remain field_type_lexemes (λ _. Unit {0}) more) (sym (c.in_ok-next.ensures.reads n.0 n.2 n.3)) n.4;
   tokens = rw c.in_ok-push-2.ensures.items
       (push_read field_type_lexemes c.more.fields.items c.in_ok-next.next _ _ _ _
@@ -48,7 +48,7 @@ returns-in_err-first-clause-reads c =
 pub returns-in_err-next-clause-reads : goal.returns-in_err-next-clause-reads
 returns-in_err-next-clause-reads c =
     λ xs more close e.
-    let n = comma_next field_type_lexemes (λ _. Unit {0}) more _ _ (c.more.invariant.reads xs more close e) c.more-test.ensures.yes (ap is_stop close) in
+    let n = comma_next field_type_lexemes (λ _. Unit {0}) more _ _ (c.more.invariant.reads xs more close e) c.more-test.ensures.yes (ap ends_operation close) in
     handed c.from_residual-in_err-next.result _ _ c.from_residual-in_err-next.ensures.1 (c.in_err-next.ensures.reads n.0 n.2 n.3)
 
 pub returns-clause-reads : goal.returns-clause-reads

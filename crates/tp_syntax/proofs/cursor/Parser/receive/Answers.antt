@@ -2,7 +2,7 @@
 use Rattle.std.proofs.Common.{◌∷◌, ◌<◌, ◌≤◌, ◌+◌, sym, subst, ◌∙◌, refl, arith}
 use Rattle.tp_token.specs.declared.token.Symbol.TheVariants.{RightParen}
 use Rattle.tp_token.specs.Lexeme.{symbol}
-use Rattle.tp_queue.specs.declared.operation.ReceiveKind.{ReceiveKind}
+use Rattle.tp_event.specs.declared.operation.ReceiveKind.{ReceiveKind}
 use Rattle.tp_syntax.specs.Nesting.{operation_depth, part_depth}
 use Rattle.tp_syntax.specs.Statements.{receive_lexemes, received_lexemes}
 use Rattle.tp_syntax.proofs.OperationReading.{check_of}

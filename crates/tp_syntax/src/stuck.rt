@@ -1,0 +1,33 @@
+//! Where the parser is stuck.
+ghost use Rattle.std.specs.Prelude.{◌≡◌};
+ghost use Rattle.tp_syntax.specs.declared.stuck.Stuck.TheVariants as stuck;
+
+use std::alloc::{AllocError, AllocFailed};
+
+/// Why the parser goes no further. It says where, and the tokens tell which fault that is.
+#[derive(Clone, Copy)]
+pub(crate) enum Stuck {
+    /// So many tokens are left, and the first of them, or the end of the text, can't stand where it
+    /// does. Or the token before them is beyond the limits.
+    Next(usize),
+    /// The token just passed can't stand where it does, and so many are left behind it.
+    Passed(usize),
+    /// Memory was refused, which says nothing about the text.
+    Memory,
+}
+
+impl From<AllocError> for Stuck {
+    ghost from_gives = { λ _ made. made ≡ stuck.Memory };
+
+    fn from(_refused: AllocError) -> Stuck {
+        Stuck::Memory
+    }
+}
+
+impl<T: Drop> From<AllocFailed<T>> for Stuck {
+    ghost from_gives = { λ _ made. made ≡ stuck.Memory };
+
+    fn from(_refused: AllocFailed<T>) -> Stuck {
+        Stuck::Memory
+    }
+}
